@@ -1,0 +1,11 @@
+use Rattle.std.proofs.Common.{sym, subst, lit<, arith}
+use Rattle.zops.specs.Sound.{IsBounded}
+use Rattle.zops.proofs.Bounds.{opening_bounded}
+use Rattle.zops.proofs.machine.Machine.new.Goals as goal
+
+pub invariant_of-result : goal.invariant_of-result
+invariant_of-result c = record {
+  bounded = subst IsBounded (sym c.in_ok-store.ensures.opening) opening_bounded;
+  applied_few = lit< tt;
+  given_few = omega (arith, c.in_ok-store.ensures.given);
+}

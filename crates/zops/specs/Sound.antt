@@ -1,0 +1,26 @@
+-- What a machine keeps of its numbers, so that none of them can grow too large.
+use Rattle.std.specs.Prelude.{◌≡◌, ℕ, ◌+◌, ◌*◌, ◌^◌, ◌<◌, ◌≤◌, Some}
+use Rattle.std.specs.FinMap as finite
+use Rattle.zstore.specs.Tree.{Tree, Nodes, Path}
+use Rattle.zstore.specs.Held.{Held}
+use Rattle.zstore.specs.declared.node.Node.{Node}
+
+-- a fact on every node
+abbrev pub AllNodes : (Node → Type 0) → Nodes → Type 0
+AllNodes P nodes = (path : Path) (n : Node) → finite.get nodes path ≡ Some n → P n
+
+-- one change raises a version or a cversion at most 4,096 times, and a counter has an end of its own
+pub record IsWithin (zxid : ℕ) (n : Node) : Type 0 where
+  pub version : n.version ≤ 4096 * zxid
+  pub cversion : n.cversion ≤ 4096 * zxid
+  pub seq : n.seq ≤ 2147483648
+
+-- every number of the tree leaves room for one more change
+pub record IsBounded (t : Tree) : Type 0 where
+  pub zxid : t.zxid < 2 ^ 40
+  pub counters : AllNodes (IsWithin t.zxid) t.nodes
+
+pub record IsSound (store : Held) (applied : ℕ) : Type 0 where
+  pub bounded : IsBounded store.tree
+  pub applied_few : applied < 2 ^ 62
+  pub given_few : store.given ≤ 64 * applied + 1

@@ -1,0 +1,71 @@
+-- The plain step: what each call does to the plain tree and answers. This is the sequential
+-- specification: the service as it would be if one machine did one call after the other.
+use Rattle.std.specs.Prelude.{ℕ, ◌+◌, ◌-◌, ◌^◌, Bool, Option, None, Some, Result, Ok, Err, if◌then◌else◌, nat_le, refl}
+use Rattle.std.specs.Coded.{Coded, code_by, coded×, coded_ℕ, coded_bool}
+use Rattle.std.specs.FinMap as finite
+use Rattle.zstore.specs.Tree.{Tree, Nodes, Path, stat_of, raised, coded_tree}
+use Rattle.zstore.specs.Tree as tree
+use Rattle.zstore.specs.declared.node.Node.{Node}
+use Rattle.zops.specs.declared.call.Entry.{Entry}
+use Rattle.zops.specs.declared.call.Update.{Update}
+use Rattle.zops.specs.declared.call.Update.TheVariants.{Create}
+use Rattle.zops.specs.declared.call.Query.{Query}
+use Rattle.zops.specs.declared.call.Query.TheVariants.{GetData}
+use Rattle.zops.specs.declared.refusal.Refusal.{Refusal}
+use Rattle.zops.specs.declared.refusal.Refusal.TheVariants.{NoNode, Exhausted}
+use Rattle.zops.specs.declared.reply.PartReply.{PartReply}
+use Rattle.zops.specs.declared.reply.PartReply.TheVariants as part_reply
+use Rattle.zops.specs.declared.reply.Reply.{Reply}
+use Rattle.zops.specs.declared.reply.Reply.TheVariants.{Created, Data, Refused}
+use Rattle.zops.specs.Part.{create_part}
+
+-- no further change has a number
+abbrev pub is_exhausted : Tree → Bool
+is_exhausted t = nat_le (2 ^ 40 - 1) t.zxid
+
+-- the reply to a call of one part
+abbrev pub reply_of : PartReply → Reply
+reply_of (part_reply.Created path) = Created path
+
+-- a change of one part: refused, it leaves the tree; done, it takes the next number
+abbrev pub alone : Tree → Result (Tree × PartReply) Refusal → Tree × Reply
+alone t (Err refusal) = (t, Refused refusal)
+alone t (Ok (u, reply)) = (raised u, reply_of reply)
+
+-- an update of a client: the tree after it, and the reply
+unfoldable pub step : Tree → ℕ → Update → Tree × Reply
+step t client (Create create) = if is_exhausted t then (t, Refused Exhausted) else alone t (create_part t create)
+
+-- the data and the stat of a node
+abbrev pub data_reply : Nodes → Path → Option Node → Reply
+data_reply nodes path None = Refused NoNode
+data_reply nodes path (Some n) = Data n.bytes (stat_of nodes path n)
+
+-- a query: the reply, and the tree stays
+unfoldable pub answer : Tree → Query → Reply
+answer t (GetData path) = data_reply t.nodes path (finite.get t.nodes path)
+
+-- what a machine stands for: its tree, and how many entries it applied
+pub record State : Type 0 where
+  pub tree : Tree
+  pub applied : ℕ
+
+abbrev pub opening : State
+opening = record { tree = tree.opening; applied = 0 }
+
+-- the entry step: an entry acts by the plain step
+unfoldable pub entered : State → Entry → State × Option Reply
+entered s entry =
+    let did = step s.tree entry.client entry.update in
+    (record { tree = did.0; applied = s.applied + 1 }, Some did.1)
+
+-- a machine that still answers, or one that met want of memory
+pub record Seen : Type 0 where
+  pub state : State
+  pub is_broken : Bool
+
+abbrev pub coded_seen : Coded Seen
+coded_seen =
+    code_by (Tree × (ℕ × Bool)) (coded× coded_tree (coded× coded_ℕ coded_bool))
+    (λ m. (m.state.tree, (m.state.applied, m.is_broken)))
+    (λ p. record { state = record { tree = p.0; applied = p.1.0 }; is_broken = p.1.1 }) (λ _. refl)

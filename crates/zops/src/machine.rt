@@ -1,0 +1,100 @@
+//! The machine.
+
+ghost use Rattle.std.specs.Prelude.{◌≡◌, ◌<◌, ◌-◌, ◌^◌, IfOk, OnOk, OnErr, IsErr, true, false};
+
+use crate::call::{Entry, Query};
+use crate::query::answer;
+use crate::reply::Reply;
+use crate::update::update;
+use std::alloc::Global;
+use std::marker::Model;
+use zpath::Memory;
+use zstore::Store;
+
+/// The most entries that a machine applies.
+pub const MAX_APPLIED: u64 = (1 << 62) - 1;
+
+/// One machine: the tree, and the calls on it. After it met want of memory in `apply`, it answers
+/// `Memory` for good, and its tree is never shown again.
+#[derive(Drop)]
+pub struct Machine {
+    alloc: Global,
+    store: Store,
+    applied: u64,
+    is_broken: bool,
+}
+
+impl Model for Machine {
+    ghost use Rattle.zops.specs.Step.{Seen, coded_seen};
+
+    ghost Value = { Seen };
+
+    ghost coded = { coded_seen };
+
+    ghost use Rattle.zops.specs.Sound.{IsSound};
+
+    ghost view = { λ m. record { state = record { tree = m.store.tree; applied = m.applied }; is_broken = m.is_broken } };
+
+    ghost invariant = { λ m. IsSound m.store m.applied };
+}
+
+impl Machine {
+    ghost use Rattle.zops.specs.Step.{opening, answer, entered};
+
+    /// A machine with the opening tree.
+    pub fn new(alloc: Global) -> Result<Machine, Memory>
+        ensures { IfOk result (λ m. m ≡ record { state = opening; is_broken = false }) }
+    {
+        let store = Store::new(alloc)?;
+        Ok(Machine {
+            alloc,
+            store,
+            applied: 0,
+            is_broken: false,
+        })
+    }
+
+    /// How many entries were applied.
+    pub fn applied(&self) -> u64
+        ensures applied { result ≡ self.now.state.applied }
+        ensures few { result < 2 ^ 62 }
+    {
+        let applied = self.applied;
+        applied
+    }
+
+    /// Applies an entry. After `Memory` the machine answers `Memory` for good.
+    #[tactic(auto, unfolding(crate::specs::Step::entered))]
+    pub fn apply(&mut self, entry: Entry) -> Result<Option<Reply>, Memory>
+        requires { self.old.state.applied < 2 ^ 62 - 1 }
+        ensures ok { IfOk result (λ reply. (self.new.state, reply) ≡ entered self.old.state entry) }
+        ensures sound { OnOk result ((self.old.is_broken ≡ false) × (self.new.is_broken ≡ false)) }
+        ensures broken { OnErr result (self.new.is_broken ≡ true) }
+        ensures stays { self.old.is_broken ≡ true → IsErr result }
+    {
+        if self.is_broken {
+            return Err(Memory);
+        }
+        match update(self.alloc, &mut self.store, entry.client, entry.update) {
+            Ok(reply) => {
+                self.applied += 1;
+                Ok(Some(reply))
+            }
+            Err(memory) => {
+                self.is_broken = true;
+                Err(memory)
+            }
+        }
+    }
+
+    /// Answers a query, and changes nothing.
+    pub fn ask(&self, query: &Query) -> Result<Reply, Memory>
+        ensures ok { IfOk result (λ reply. reply ≡ answer self.now.state.tree query.now) }
+        ensures broken { self.now.is_broken ≡ true → IsErr result }
+    {
+        if self.is_broken {
+            return Err(Memory);
+        }
+        answer(self.alloc, &self.store, query)
+    }
+}

@@ -1,0 +1,69 @@
+-- The front of a path, and a path with one more name.
+use Rattle.std.proofs.Common.{◌≡◌, ℕ, ◌≤◌, ◌+◌, List, [], ◌∷◌, ◌++◌, length, None, refl, ap, ◌∙◌, arith, lit≤, length-append}
+use Rattle.std.proofs.lemmas.Grind.{flat_map-append}
+use Rattle.std.proofs.lemmas.List.Sums.{sum_by-cons, sum_by_push}
+use Rattle.std.specs.List.{flat_map, AllByRecursion, sum_by}
+use Rattle.zpath.specs.Grammar.{IsName, segment_of, text_of, IsPath}
+use Rattle.zpath.specs.Faults.{child_tests, child_fault}
+use Rattle.zpath.proofs.First.{no_test_holds}
+use Rattle.zpath.proofs.NameTests.{at_most}
+
+all_front : (front : List (List ℕ)) (back : List (List ℕ)) → AllByRecursion IsName (front ++ back) → AllByRecursion IsName front
+all_front [] back are = tt
+all_front (name ∷ front) back are = (are.0, all_front front back are.1)
+
+all_more : (front : List (List ℕ)) (name : List ℕ) → AllByRecursion IsName front → IsName name → AllByRecursion IsName (front ++ name ∷ [])
+all_more [] name are is = (is, tt)
+all_more (first ∷ front) name are is = (are.0, all_more front name are.1 is)
+
+-- the front of a path is a path
+pub IsPath-front : (front : List (List ℕ)) (name : List ℕ) → IsPath (front ++ name ∷ []) → IsPath front
+IsPath-front [] name is = record { names = tt; short = lit≤ tt; shallow = lit≤ tt; unreserved = refl }
+IsPath-front (first ∷ front) name is =
+    let text = ap length (flat_map-append segment_of (first ∷ front) (name ∷ [])) in
+    let more = length-append (flat_map segment_of (first ∷ front)) (flat_map segment_of (name ∷ [])) in
+    record {
+      names = all_front (first ∷ front) (name ∷ []) is.names;
+      short = let short = is.short in omega arith;
+      shallow = let shallow = is.shallow in omega (arith, length-append (first ∷ front) (name ∷ []));
+      unreserved = is.unreserved;
+    }
+
+-- a path with one more name is a path, where nothing speaks against it
+pub IsPath-child : (path : List (List ℕ)) (name : List ℕ) → IsPath path → IsName name → child_fault path name ≡ None → IsPath (path ++ name ∷ [])
+unfolding child_fault
+IsPath-child path name is is_name none =
+    let off = no_test_holds (child_tests path name) none in
+    record {
+      names = all_more path name is.names is_name;
+      short = at_most 1024 _ off.0;
+      shallow = at_most 32 _ off.1.0;
+      unreserved = off.1.1.0;
+    }
+
+-- how long the segments of names are together
+length-segments : (names : List (List ℕ)) → length (flat_map segment_of names) ≡ sum_by (λ name. length name + 1) names
+length-segments [] = refl
+length-segments (name ∷ names) =
+    omega (arith, length-append name (flat_map segment_of names), length-segments names, sum_by-cons (λ (name : List ℕ). length name + 1) name names)
+
+-- the segments of a path are no longer than its text may be
+pub segments_fit : (path : List (List ℕ)) → IsPath path → sum_by (λ name. length name + 1) path ≤ 1024
+segments_fit [] is = lit≤ tt
+segments_fit (name ∷ names) is = rw (← length-segments (name ∷ names)) is.short
+
+-- how long the text of a path with one more name is
+pub length-text_of-child : (path : List (List ℕ)) (name : List ℕ) → length (text_of (path ++ name ∷ [])) ≡ sum_by (λ name. length name + 1) path + length name + 1
+length-text_of-child path name =
+    ap length (text_of-child path name)
+    ∙ length-segments (path ++ name ∷ [])
+    ∙ sum_by_push (λ name. length name + 1) path name
+    ∙ omega arith
+  where
+    text_of-child : (path : List (List ℕ)) (name : List ℕ) → text_of (path ++ name ∷ []) ≡ flat_map segment_of (path ++ name ∷ [])
+    text_of-child [] name = refl
+    text_of-child (first ∷ path) name = refl
+
+-- how many names a path with one more name has
+pub child_depth : (path : List (List ℕ)) (name : List ℕ) → length (path ++ name ∷ []) ≡ length path + 1
+child_depth path name = length-append path (name ∷ [])

@@ -1,0 +1,6 @@
+pub mod First
+pub mod NameTests
+pub mod Splits
+pub mod Spelling
+pub mod Family
+pub mod UniqueSpelling

@@ -1,0 +1,11 @@
+use Rattle.std.proofs.Common.{rules, tests, lit<}
+use Rattle.std.proofs.lemmas.Iterator.Search.{any_from_yields_List}
+use Rattle.std.proofs.lemmas.Iterator.Splits.{YieldsList-from_str_split}
+use Rattle.zpath.specs.Grammar.{has_bad_byte}
+use Rattle.zpath.proofs.scan.has_bad_name.Goals as goal
+
+pub returns : goal.returns
+returns c =
+    any_from_yields_List has_bad_byte _ _ _ c.any.ensures.ran
+    (YieldsList-from_str_split 47 c.args.rest.now (lit< tt) c.split.ensures.text c.split.ensures.has_more c.split.ensures.pattern)
+    (λ x b q k. search (rules, tests))

@@ -1,0 +1,65 @@
+-- What a path is: a list of names, each a list of bytes. The ZooKeeper Programmer's Guide, section "The ZooKeeper
+-- Data Model", has absolute paths, no control characters, no `.` or `..` alone, and the word `zookeeper` reserved.
+-- Visible ASCII alone and the limits of 255 bytes, 1,024 bytes and 32 names are this project's own profile.
+use Rattle.std.specs.Prelude.{◌≡◌, ℕ, ◌<◌, ◌≤◌, Bool, false, ◌&&◌, ◌||◌, not, ◌==◌, nat_le, nat_lt, List, [], ◌∷◌, length, codes}
+use Rattle.std.specs.List.{list_any, flat_map, AllByRecursion}
+use Rattle.std.specs.Str.{bytes_eq}
+use Rattle.std.specs.declared.cmp.Ordering.{Ordering}
+use Rattle.std.specs.Ordering.{nat_cmp}
+use Rattle.std.specs.Cmp.Lexicographic.{slice_cmp}
+
+-- a visible byte that is no slash
+abbrev pub is_name_byte : ℕ → Bool
+is_name_byte byte = nat_le 0x21 byte && nat_le byte 0x7e && not (byte == 47)
+
+-- there are no bytes
+abbrev pub is_empty : List ℕ → Bool
+is_empty name = length name == 0
+
+-- the name is `.` or `..`
+abbrev pub is_dots : List ℕ → Bool
+is_dots name = bytes_eq name (codes ".") || bytes_eq name (codes "..")
+
+-- some byte of the name may not stand in a name
+abbrev pub has_bad_byte : List ℕ → Bool
+has_bad_byte name = list_any (λ byte. not (is_name_byte byte)) name
+
+-- the name has more than 255 bytes
+abbrev pub is_long : List ℕ → Bool
+is_long name = nat_lt 255 (length name)
+
+-- the first name is `zookeeper`, which the service keeps for itself
+abbrev pub is_reserved : List (List ℕ) → Bool
+is_reserved [] = false
+is_reserved (name ∷ names) = bytes_eq name (codes "zookeeper")
+
+-- 1 to 255 visible bytes without a slash, and neither `.` nor `..`
+pub record IsName (name : List ℕ) : Type 0 where
+  pub filled : 0 < length name
+  pub no_dots : is_dots name ≡ false
+  pub visible : has_bad_byte name ≡ false
+  pub short : length name ≤ 255
+
+-- a name after its slash
+abbrev pub segment_of : List ℕ → List ℕ
+segment_of name = 47 ∷ name
+
+-- the text of a path: a slash at the root, else each name after a slash
+abbrev pub text_of : List (List ℕ) → List ℕ
+text_of [] = 47 ∷ []
+text_of (name ∷ names) = flat_map segment_of (name ∷ names)
+
+-- at most 32 names in a text of at most 1,024 bytes, the first of them not reserved
+pub record IsPath (path : List (List ℕ)) : Type 0 where
+  pub names : AllByRecursion IsName path
+  pub short : length (text_of path) ≤ 1024
+  pub shallow : length path ≤ 32
+  pub unreserved : is_reserved path ≡ false
+
+-- names are ordered by their bytes
+abbrev pub name_cmp : List ℕ → List ℕ → Ordering
+name_cmp = slice_cmp nat_cmp
+
+-- paths are ordered name by name
+abbrev pub path_cmp : List (List ℕ) → List (List ℕ) → Ordering
+path_cmp = slice_cmp name_cmp

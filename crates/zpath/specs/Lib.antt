@@ -1,0 +1,4 @@
+pub mod First
+pub mod Grammar
+pub mod Faults
+pub mod Laws

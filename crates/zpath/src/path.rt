@@ -1,0 +1,175 @@
+//! Paths: parsing, their family, their order and their text.
+
+ghost use Rattle.std.specs.Prelude.{◌≡◌, ◌⊎◌, ◌++◌, ℕ, List, [], ◌∷◌, Some, None, IfOk, IfErr, IfSome, IfNone, OnOk, refl, nat_eq};
+ghost use Rattle.std.specs.Cmp;
+ghost use Rattle.std.specs.Cmp.Lexicographic.{pointwise, nat_list_cmp_total, nat_list_eq_equiv, texts_ties, lists_total, lists_equiv, lists_ties};
+ghost use Rattle.zpath.specs.Grammar.{name_cmp, path_cmp};
+ghost use Rattle.zpath.specs.Faults.{fault_of, child_fault};
+
+use crate::fault::PathFault;
+use crate::memory::Memory;
+use crate::name::Name;
+use crate::scan;
+use std::alloc::Global;
+use std::cmp::Ordering;
+use std::fmt;
+use std::marker::Model;
+
+/// An absolute path, by its names from the root down.
+///
+/// Paths are ordered name by name, so a path comes right before those below it.
+#[derive(Debug, Drop)]
+pub struct Path {
+    names: Vec<Name>,
+}
+
+impl Model for Path {
+    ghost use Rattle.std.specs.Prelude.{ℕ, List};
+    ghost use Rattle.zpath.specs.Grammar.{IsPath};
+
+    ghost Value = { List (List ℕ) };
+
+    ghost view = { λ path. path.names.items };
+
+    ghost invariant = { λ path. IsPath path.names.items };
+}
+
+impl Path {
+    ghost use Rattle.zpath.specs.Grammar.{IsPath, text_of};
+
+    /// The root, which has no name. Nothing is allocated.
+    pub fn root(alloc: Global) -> Path
+        ensures { result ≡ [] }
+    {
+        Path {
+            names: Vec::new(alloc),
+        }
+    }
+
+    /// The path that a text spells, or the first fault of the text.
+    pub fn parse(alloc: Global, text: &str) -> Result<Path, PathFault>
+        ensures found { IfOk result (λ path. IsPath path × (text.now ≡ text_of path)) }
+        // No text of a path is refused, unless memory runs out.
+        ensures only { IfErr result (λ fault. (path : List (List ℕ)) → IsPath path → text.now ≡ text_of path → fault ≡ PathFault.Memory) }
+        ensures fault { IfErr result (λ fault. (fault ≡ PathFault.Memory) ⊎ (fault_of text.now ≡ Some fault)) }
+    {
+        let rest = scan::tested(text)?;
+        let names = scan::names_after(alloc, rest)?;
+        Ok(Path { names })
+    }
+
+    /// The names from the root down.
+    pub fn names(&self) -> &[Name]
+        ensures names { result.now ≡ self.now }
+        ensures path { IsPath self.now }
+    {
+        &self.names
+    }
+
+    /// The last name; none at the root.
+    pub fn name(&self) -> Option<&Name>
+        ensures root { IfNone result (self.now ≡ []) }
+        ensures last { IfSome result (λ name. (front : List (List ℕ)) × (self.now ≡ front ++ name.now ∷ [])) }
+    {
+        self.names.last()
+    }
+
+    /// The path without its last name; none at the root.
+    pub fn parent(&self, alloc: Global) -> Result<Option<Path>, Memory>
+        ensures root { IfOk result (λ parent. IfNone parent (self.now ≡ [])) }
+        ensures path { IsPath self.now }
+        ensures front { IfOk result (λ parent. IfSome parent (λ front. (name : List ℕ) × (self.now ≡ front ++ name ∷ []))) }
+    {
+        let Some((_, front)) = self.names.split_last() else {
+            return Ok(None);
+        };
+        let names = copied(alloc, front)?;
+        Ok(Some(Path { names }))
+    }
+
+    /// The path with one more name, unless it is too long, too deep or reserved.
+    pub fn child(&self, alloc: Global, name: &Name) -> Result<Path, PathFault>
+        ensures child { IfOk result (λ child. IsPath child × (child ≡ self.now ++ name.now ∷ [])) }
+        ensures only { OnOk result (child_fault self.now name.now ≡ None) }
+        ensures fault { IfErr result (λ fault. (fault ≡ PathFault.Memory) ⊎ (child_fault self.now name.now ≡ Some fault)) }
+    {
+        if let Some(fault) = scan::child_fault(&self.names, name) {
+            return Err(fault);
+        }
+        let mut names = copied(alloc, &self.names)?;
+        names.push(name.copied(alloc)?)?;
+        Ok(Path { names })
+    }
+
+    /// A second owner of the same path.
+    pub fn copied(&self, alloc: Global) -> Result<Path, Memory>
+        ensures { IfOk result (λ copy. copy ≡ self.now) }
+    {
+        let names = copied(alloc, &self.names)?;
+        Ok(Path { names })
+    }
+}
+
+fn copied(alloc: Global, names: &[Name]) -> Result<Vec<Name>, Memory>
+    ensures { IfOk result (λ copy. copy.items ≡ names.now) }
+{
+    let mut copy = Vec::new(alloc);
+    for name in names {
+        copy.push(name.copied(alloc)?)?;
+    }
+    Ok(copy)
+}
+
+impl fmt::Display for Path {
+    ghost use Rattle.zpath.specs.Grammar.{text_of};
+
+    ghost output = { λ path. Some (text_of path) };
+
+    fn fmt<W: fmt::Write>(&self, f: &mut fmt::Formatter<W>) -> fmt::Result {
+        if self.names.is_empty() {
+            return f.write_str("/");
+        }
+        for name in &self.names {
+            write!(f, "/{name}")?;
+        }
+        Ok(())
+    }
+}
+
+impl PartialEq for Path {
+    ghost eq = { pointwise (pointwise nat_eq) };
+
+    ghost laws = { Cmp.partial_equiv_from_equiv (lists_equiv nat_list_eq_equiv) };
+
+    fn eq(&self, other: &Path) -> bool {
+        self.names == other.names
+    }
+}
+
+impl Eq for Path {
+    ghost laws = { lists_equiv nat_list_eq_equiv };
+}
+
+impl PartialOrd for Path {
+    ghost partial_cmp = { λ left right. Some (path_cmp left right) };
+
+    ghost laws = { Cmp.po (lists_total nat_list_cmp_total) (lists_ties name_cmp texts_ties) };
+
+    fn partial_cmp(&self, other: &Path) -> Option<Ordering> {
+        Some(self.cmp(other))
+    }
+}
+
+impl Ord for Path {
+    ghost cmp = { path_cmp };
+
+    ghost total = { lists_total nat_list_cmp_total };
+
+    ghost matches_partial_cmp = { λ left right. refl };
+
+    ghost matches_eq = { lists_ties name_cmp texts_ties };
+
+    fn cmp(&self, other: &Path) -> Ordering {
+        self.names.cmp(&other.names)
+    }
+}

@@ -1,0 +1,171 @@
+//! The tests of a text, each a pass over the whole of it, and the cut at its slashes.
+//!
+//! `rest` is what follows the first slash of a text.
+
+ghost use Rattle.std.specs.Prelude.{◌≡◌, ◌∷◌, [], ◌++◌, ◌<◌, ◌≤◌, ◌+◌, Some, None, IfOk, IfErr, length};
+ghost use Rattle.std.specs.List.{AllByRecursion, list_any, sum_by};
+ghost use Rattle.zpath.specs.Grammar.{IsName, IsPath, is_empty, is_dots, has_bad_byte, is_long, is_reserved, text_of};
+ghost use Rattle.zpath.specs.Faults.{parts_of, names_of, fault_of, child_fault};
+
+use crate::fault::PathFault;
+use crate::memory::Memory;
+use crate::name::Name;
+use std::alloc::Global;
+
+fn is_dots(name: &str) -> bool
+    ensures { result ≡ is_dots name.now }
+{
+    name == "." || name == ".."
+}
+
+fn has_bad_byte(name: &str) -> bool
+    ensures { result ≡ has_bad_byte name.now }
+{
+    name.bytes()
+        .any(|byte| !(0x21..=0x7e).contains(&byte) || byte == b'/')
+}
+
+fn has_empty_name(rest: &str) -> bool
+    ensures { result ≡ list_any is_empty (parts_of rest.now) }
+{
+    rest.split('/').any(|name| name.is_empty())
+}
+
+fn has_dot_name(rest: &str) -> bool
+    ensures { result ≡ list_any is_dots (parts_of rest.now) }
+{
+    rest.split('/').any(|name| is_dots(name))
+}
+
+fn has_bad_name(rest: &str) -> bool
+    ensures { result ≡ list_any has_bad_byte (parts_of rest.now) }
+{
+    rest.split('/').any(|name| has_bad_byte(name))
+}
+
+fn has_long_name(rest: &str) -> bool
+    ensures { result ≡ list_any is_long (parts_of rest.now) }
+{
+    rest.split('/').any(|name| name.len() > 255)
+}
+
+fn count_names(rest: &str) -> usize
+    ensures { result ≡ length (parts_of rest.now) }
+{
+    rest.split('/').count()
+}
+
+fn is_reserved(rest: &str) -> bool
+    ensures { result ≡ is_reserved (parts_of rest.now) }
+{
+    match rest.split_once('/') {
+        Some((first, _)) => first == "zookeeper",
+        None => rest == "zookeeper",
+    }
+}
+
+// The first fault of a text that has more than its first slash.
+#[tactic(auto, unfolding(crate::specs::Faults::fault_of))]
+fn names_fault(text: &str, rest: &str) -> Option<PathFault>
+    requires text { text.now ≡ 47 ∷ rest.now }
+    requires below_root { names_of text.now ≡ parts_of rest.now }
+    ensures { result ≡ fault_of text.now }
+{
+    if has_empty_name(rest) {
+        Some(PathFault::EmptyName)
+    } else if has_dot_name(rest) {
+        Some(PathFault::DotName)
+    } else if has_bad_name(rest) {
+        Some(PathFault::BadByte)
+    } else if has_long_name(rest) {
+        Some(PathFault::NameTooLong)
+    } else if text.len() > 1024 {
+        Some(PathFault::PathTooLong)
+    } else if count_names(rest) > 32 {
+        Some(PathFault::TooDeep)
+    } else if is_reserved(rest) {
+        Some(PathFault::Reserved)
+    } else {
+        None
+    }
+}
+
+/// What follows the first slash of a text without a fault, or the text's first fault.
+#[tactic(auto, unfolding(crate::specs::Faults::fault_of))]
+pub(crate) fn tested(text: &str) -> Result<&str, PathFault>
+    ensures ok { IfOk result (λ rest. (fault_of text.now ≡ None) × (text.now ≡ 47 ∷ rest.now)) }
+    ensures err { IfErr result (λ fault. fault_of text.now ≡ Some fault) }
+{
+    if text.is_empty() {
+        return Err(PathFault::Empty);
+    }
+    let Some(rest) = text.strip_prefix('/') else {
+        return Err(PathFault::NotAbsolute);
+    };
+    if rest.is_empty() {
+        return Ok(rest);
+    }
+    match names_fault(text, rest) {
+        Some(fault) => Err(fault),
+        None => Ok(rest),
+    }
+}
+
+/// The names that follow a first slash.
+pub(crate) fn names_after(alloc: Global, rest: &str) -> Result<Vec<Name>, Memory>
+    requires { AllByRecursion IsName (names_of (47 ∷ rest.now)) }
+    ensures { IfOk result (λ names. names.items ≡ names_of (47 ∷ rest.now)) }
+{
+    let mut names = Vec::new(alloc);
+    if rest.is_empty() {
+        return Ok(names);
+    }
+    let mut left = rest;
+    while let Some((name, more)) = left.split_once('/') {
+        names.push(Name::from_tested(alloc, name)?)?;
+        left = more;
+    }
+    names.push(Name::from_tested(alloc, left)?)?;
+    Ok(names)
+}
+
+// The length of the names, each after its slash.
+fn text_len(names: &[Name]) -> usize
+    requires { sum_by (λ name. length name + 1) names.now ≤ 1024 }
+    ensures { result ≡ sum_by (λ name. length name + 1) names.now }
+{
+    names.iter().map(|name| name.as_str().len() + 1).sum()
+}
+
+// The length of the text of a path with one more name.
+fn child_len(path: &[Name], name: &Name) -> usize
+    requires { IsPath path.now }
+    ensures { result ≡ length (text_of (path.now ++ name.now ∷ [])) }
+{
+    text_len(path) + name.as_str().len() + 1
+}
+
+// Only a child of the root can be reserved.
+fn is_reserved_child(path: &[Name], name: &Name) -> bool
+    requires { IsPath path.now }
+    ensures { result ≡ is_reserved (path.now ++ name.now ∷ []) }
+{
+    path.is_empty() && name.as_str() == "zookeeper"
+}
+
+/// Why a path can't have one more name.
+#[tactic(auto, using(crate::proofs::Family::child_depth), unfolding(crate::specs::Faults::child_fault))]
+pub(crate) fn child_fault(path: &[Name], name: &Name) -> Option<PathFault>
+    requires { IsPath path.now }
+    ensures { result ≡ child_fault path.now name.now }
+{
+    if child_len(path, name) > 1024 {
+        Some(PathFault::PathTooLong)
+    } else if path.len() + 1 > 32 {
+        Some(PathFault::TooDeep)
+    } else if is_reserved_child(path, name) {
+        Some(PathFault::Reserved)
+    } else {
+        None
+    }
+}

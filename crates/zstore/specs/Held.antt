@@ -1,0 +1,33 @@
+-- What a store shows: the plain tree that it stands for, and which Ids name its nodes.
+use Rattle.std.specs.Prelude.{◌≡◌, ℕ, Option, None, refl}
+use Rattle.std.specs.Coded.{Coded, code_by, coded×, coded_ℕ}
+use Rattle.std.specs.Option.{option_and_then}
+use Rattle.std.specs.Ordering.{nat_cmp}
+use Rattle.std.specs.FinMap as finite
+use Rattle.std.specs.FinMap.{FinMap, get, insert}
+use Rattle.zstore.specs.declared.id.Id.{Id}
+use Rattle.zstore.specs.declared.node.Node.{Node}
+use Rattle.zstore.specs.Tree.{Tree, Path, coded_tree, coded_path}
+
+-- the tree, the paths of the live Ids, and how many Ids were given so far
+pub record Held : Type 0 where
+  pub tree : Tree
+  pub places : FinMap nat_cmp Path
+  pub given : ℕ
+
+-- the path of the node that an Id names
+abbrev pub path_of : Held → Id → Option Path
+path_of h id = get h.places id.number
+
+-- the node that an Id names
+abbrev pub node_of : Held → Id → Option Node
+node_of h id = option_and_then (get h.tree.nodes) (path_of h id)
+
+-- the Id names this path and no other, and every other Id names what it named
+abbrev pub Names : Held → Held → Id → Path → Type 0
+Names old new id path = (path_of old id ≡ None) × (new.places ≡ insert old.places id.number path)
+
+abbrev pub coded_held : Coded Held
+coded_held =
+    code_by (Tree × (FinMap nat_cmp Path × ℕ)) (coded× coded_tree (coded× (finite.code coded_ℕ coded_path) coded_ℕ))
+    (λ h. (h.tree, (h.places, h.given))) (λ p. record { tree = p.0; places = p.1.0; given = p.1.1 }) (λ _. refl)

@@ -1,0 +1,70 @@
+-- The rows of a store, and what they stand for.
+use Rattle.std.specs.Prelude.{◌≡◌, ℕ, ◌<◌, ◌≤◌, List, [], ◌∷◌, map, length, slice_index_or, None}
+use lib.Dec.{T}
+use Rattle.std.specs.List.{AllByRecursion}
+use Rattle.std.specs.Ordering.{nat_cmp}
+use Rattle.std.specs.declared.cmp.Ordering.TheVariants.{Less, Greater}
+use Rattle.std.specs.FinMap.{from_sorted, from_entries, is_sorted, find}
+use Rattle.zpath.specs.Grammar.{path_cmp}
+use Rattle.zstore.specs.declared.node.Node.{Node}
+use Rattle.zstore.specs.declared.session.Session.{Session}
+use Rattle.zstore.specs.declared.row.Row.{Row}
+use Rattle.zstore.specs.declared.row.SessionRow.{SessionRow}
+use Rattle.zstore.specs.declared.store.Store.TheInside.{Inside}
+use Rattle.zstore.specs.Tree.{Path}
+use Rattle.zstore.specs.Held.{Held}
+
+-- a row as an entry of the map of nodes, of the map of Ids, and of the map of sessions
+abbrev pub node_row : Row → Path × Node
+node_row r = (r.path, r.node)
+
+abbrev pub place_row : Row → ℕ × Path
+place_row r = (r.number, r.path)
+
+abbrev pub session_row : SessionRow → ℕ × Session
+session_row r = (r.number, r.session)
+
+abbrev pub node_rows : List Row → List (Path × Node)
+node_rows rows = map node_row rows
+
+abbrev pub place_rows : List Row → List (ℕ × Path)
+place_rows rows = map place_row rows
+
+abbrev pub session_rows : List SessionRow → List (ℕ × Session)
+session_rows rows = map session_row rows
+
+abbrev pub held_by : Inside → Held
+held_by s =
+    record {
+      tree = record {
+        nodes = from_sorted (node_rows s.rows.items);
+        sessions = from_sorted (session_rows s.sessions.items);
+        time = s.time;
+        zxid = s.zxid;
+      };
+      places = from_entries (place_rows s.rows.items);
+      given = s.given;
+    }
+
+-- no number stands twice
+abbrev pub AllApart : List (ℕ × Path) → Type 0
+AllApart [] = Unit {0}
+AllApart (e ∷ es) = (find nat_cmp e.0 es ≡ None) × AllApart es
+
+-- the rows stand in the order of their paths, and each number is of one row and was given
+pub record IsLaid (nodes : List Row) (alive : List SessionRow) (bound : ℕ) : Type 0 where
+  pub sorted : T (is_sorted path_cmp (node_rows nodes))
+  pub apart : AllApart (place_rows nodes)
+  pub numbers : AllByRecursion (λ (e : ℕ × Path). e.0 < bound) (place_rows nodes)
+  pub sessions : T (is_sorted nat_cmp (session_rows alive))
+
+-- the row at a place has the path
+pub record IsAt (rows : List Row) (path : Path) (at : ℕ) : Type 0 where
+  pub within : at < length rows
+  pub here : (d : Row) → (slice_index_or rows at d).path ≡ path
+
+-- the path has no row, and would go there
+pub record IsGapFor (rows : List Row) (path : Path) (at : ℕ) : Type 0 where
+  pub within : at ≤ length rows
+  pub before : (k : ℕ) (d : Row) → k < at → path_cmp (slice_index_or rows k d).path path ≡ Less
+  pub behind : (k : ℕ) (d : Row) → at ≤ k → k < length rows → path_cmp (slice_index_or rows k d).path path ≡ Greater

@@ -1,0 +1,76 @@
+//! A znode, and what is told of one.
+
+use crate::node_data::Data;
+
+/// A znode. Its fields are those of the guide's stat structure, its data, and its own counter.
+#[derive(Drop)]
+pub struct Node {
+    /// The data.
+    pub bytes: Data,
+    /// The change that made the node.
+    pub czxid: u64,
+    /// The last change of its data.
+    pub mzxid: u64,
+    /// The last change of its children.
+    pub pzxid: u64,
+    /// The tick at which it was made.
+    pub ctime: u64,
+    /// The tick of the last change of its data.
+    pub mtime: u64,
+    /// How often its data was changed.
+    pub version: u64,
+    /// How often a child came or went.
+    pub cversion: u64,
+    /// The session that owns it, or 0: persistent.
+    pub owner: u64,
+    /// What the next sequential create beneath it appends to the name.
+    pub seq: u64,
+}
+
+/// What is told of a node, in the order of the text.
+#[derive(Clone, Copy, Debug, PartialEq, Eq)]
+pub struct Stat {
+    /// The change that made the node.
+    pub czxid: u64,
+    /// The last change of its data.
+    pub mzxid: u64,
+    /// The last change of its children.
+    pub pzxid: u64,
+    /// The tick at which it was made.
+    pub ctime: u64,
+    /// The tick of the last change of its data.
+    pub mtime: u64,
+    /// How often its data was changed.
+    pub version: u64,
+    /// How often a child came or went.
+    pub cversion: u64,
+    /// The session that owns it, or 0.
+    pub owner: u64,
+    /// The bytes of its data.
+    pub length: u64,
+    /// Its children.
+    pub children: u64,
+}
+
+impl Node {
+    ghost use Rattle.std.specs.Prelude.{◌≡◌};
+    ghost use Rattle.zstore.specs.Tree.{stat_with};
+
+    /// What is told of the node where it has so many children.
+    pub(crate) fn stat(&self, children: u64) -> Stat
+        ensures { result ≡ stat_with self.now children }
+    {
+        Stat {
+            czxid: self.czxid,
+            mzxid: self.mzxid,
+            pzxid: self.pzxid,
+            ctime: self.ctime,
+            mtime: self.mtime,
+            version: self.version,
+            cversion: self.cversion,
+            owner: self.owner,
+            length: self.bytes.as_slice().len() as u64,
+            children,
+        }
+    }
+}

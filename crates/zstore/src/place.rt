@@ -1,0 +1,72 @@
+//! Where a node's row is.
+
+ghost use Rattle.std.specs.Prelude.{◌≡◌, ◌≤◌, ◌<◌, ℕ, IfOk, IfErr, IfSome, IfNone, None, length, slice_index_or};
+ghost use lib.Dec.{T};
+ghost use Rattle.std.specs.List.{filter_map};
+ghost use Rattle.std.specs.Prelude.{map, is_some};
+ghost use Rattle.std.specs.Ordering.{nat_cmp};
+ghost use Rattle.std.specs.FinMap.{find, is_sorted};
+ghost use Rattle.zpath.specs.Grammar.{path_cmp};
+ghost use Rattle.zstore.specs.declared.row.Row.{Row};
+ghost use Rattle.zstore.specs.Rows.{IsAt, IsGapFor, node_rows, place_rows};
+ghost use Rattle.zstore.specs.Tree.{child_name};
+
+use crate::id::Id;
+use crate::row::Row;
+use zpath::Path;
+
+/// Where the path's row is, or where it would go.
+pub(crate) fn place_of(rows: &[Row], path: &Path) -> Result<usize, usize>
+    requires { T (is_sorted path_cmp (node_rows rows.now)) }
+    ensures found { IfOk result (IsAt rows.now path.now) }
+    ensures absent { IfErr result (IsGapFor rows.now path.now) }
+{
+    rows.binary_search_by(|row| row.path.cmp(path))
+}
+
+/// Where a path goes that has no row.
+pub(crate) fn gap_of(rows: &[Row], path: &Path) -> usize
+    requires sorted { T (is_sorted path_cmp (node_rows rows.now)) }
+    requires free { find path_cmp path.now (node_rows rows.now) ≡ None }
+    ensures { IsGapFor rows.now path.now result }
+{
+    match place_of(rows, path) {
+        Ok(at) => at,
+        Err(at) => at,
+    }
+}
+
+/// Where the row of an Id is, if its node lives. Mostly the hint is right.
+pub(crate) fn row_of(rows: &[Row], id: Id) -> Option<usize>
+    ensures found { IfSome result (λ at. (at < length rows.now) × ((d : Row) → (slice_index_or rows.now at d).number ≡ id.number)) }
+    ensures absent { IfNone result (find nat_cmp id.number (place_rows rows.now) ≡ None) }
+{
+    if id.hint < rows.len() && rows[id.hint].number == id.number {
+        return Some(id.hint);
+    }
+    for (at, row) in rows.iter().enumerate() {
+        if row.number == id.number {
+            return Some(at);
+        }
+    }
+    None
+}
+
+/// Whether the path is the parent's with one more name.
+pub(crate) fn is_child(parent: &Path, path: &Path) -> bool
+    ensures { result ≡ is_some (child_name parent.now path.now) }
+{
+    match path.names().split_last() {
+        Some((_, front)) => front == parent.names(),
+        None => false,
+    }
+}
+
+/// How many rows are those of the parent's children.
+pub(crate) fn child_count(rows: &[Row], parent: &Path) -> usize
+    ensures { result ≡ length (filter_map (child_name parent.now) (map (λ r. r.path) rows.now)) }
+{
+    rows.iter()
+        .filter(|row| is_child(parent, &row.path))
+        .count()
+}
