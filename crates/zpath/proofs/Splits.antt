@@ -1,6 +1,6 @@
 -- A text that is cut at its slashes, part by part.
-use Rattle.std.proofs.Common.{◌≡◌, ℕ, Bool, true, false, cond, eqb, List, [], ◌∷◌, ◌++◌, length, Option, Some, None, Bor, refl, sym, ap, ◌∙◌, lit<, ◌==◌, arith, append-nil}
-use Rattle.std.specs.List.{onto_first, flat_map, AllByRecursion}
+use Rattle.std.proofs.Common.{◌≡◌, ℕ, ◌<◌, Bool, true, false, cond, eqb, List, [], ◌∷◌, ◌++◌, length, Option, Some, None, Bor, refl, sym, ap, ◌∙◌, lit<, ◌==◌, arith, append-nil}
+use Rattle.std.specs.List.{onto_first, slice_split, flat_map, AllByRecursion}
 use Rattle.std.proofs.lemmas.Bool.Decides.{nat_tests}
 use Rattle.std.proofs.lemmas.List.Elements.{All-from_get_or}
 use Rattle.std.proofs.lemmas.List.Splits.{slice_split_at, slice_split_first, slice_split_none}
@@ -9,19 +9,31 @@ use Rattle.zpath.specs.Grammar.{IsName, segment_of}
 use Rattle.zpath.specs.Faults.{parts_of, parts_if_any}
 use Rattle.zpath.proofs.NameTests.{no_slash}
 
--- where `split_once` cut, the first part stands before the parts of what is left
-pub parts_of-cut : (bytes : List ℕ) (found : Option (Bor (List ℕ) × Bor (List ℕ))) (pair : Bor (List ℕ) × Bor (List ℕ)) → IsSplitOnceResult 47 bytes found → found ≡ Some pair → parts_of bytes ≡ pair.0.now ∷ parts_of pair.1.now
-parts_of-cut bytes found pair says is =
-    let cut = split_once_first 47 bytes found says (lit< tt) in
-    let at = rw is at cut in
-    slice_split_first (λ byte. eqb byte 47) bytes 0 at.0 ∙ (λ i. sym at.1 i ∷ parts_of (sym at.2 i))
+-- what stands between separators
+abbrev pub split_by : ℕ → List ℕ → List (List ℕ)
+split_by separator bytes = slice_split (λ byte. byte == separator) bytes
 
--- and where it did not, there is one part
+module _ (separator : ℕ) (ascii : separator < 128) (bytes : List ℕ) (found : Option (Bor (List ℕ) × Bor (List ℕ))) (says : IsSplitOnceResult separator bytes found) where
+  -- where `split_once` cut, the first part stands before the parts of what is left
+  pub split-cut : (pair : Bor (List ℕ) × Bor (List ℕ)) → found ≡ Some pair → split_by separator bytes ≡ pair.0.now ∷ split_by separator pair.1.now
+  split-cut pair is =
+      let cut = split_once_first separator bytes found says ascii in
+      let at = rw is at cut in
+      slice_split_first (λ byte. eqb byte separator) bytes 0 at.0 ∙ (λ i. sym at.1 i ∷ split_by separator (sym at.2 i))
+
+  -- and where it did not, there is one part
+  pub split-uncut : found ≡ None → split_by separator bytes ≡ bytes ∷ []
+  split-uncut is =
+      let no_cut = split_parts separator bytes found says ascii in
+      let none = rw is at no_cut in
+      slice_split_none (λ byte. eqb byte separator) bytes (All-from_get_or (λ byte. eqb byte separator ≡ false) bytes 0 (λ i l. let other = none i l in grind (arith, nat_tests)))
+
+-- the same of slashes
+pub parts_of-cut : (bytes : List ℕ) (found : Option (Bor (List ℕ) × Bor (List ℕ))) (pair : Bor (List ℕ) × Bor (List ℕ)) → IsSplitOnceResult 47 bytes found → found ≡ Some pair → parts_of bytes ≡ pair.0.now ∷ parts_of pair.1.now
+parts_of-cut bytes found pair says is = split-cut 47 (lit< tt) bytes found says pair is
+
 pub parts_of-uncut : (bytes : List ℕ) (found : Option (Bor (List ℕ) × Bor (List ℕ))) → IsSplitOnceResult 47 bytes found → found ≡ None → parts_of bytes ≡ bytes ∷ []
-parts_of-uncut bytes found says is =
-    let no_cut = split_parts 47 bytes found says (lit< tt) in
-    let none = rw is at no_cut in
-    slice_split_none (λ byte. eqb byte 47) bytes (All-from_get_or (λ byte. eqb byte 47 ≡ false) bytes 0 (λ i l. let other = none i l in grind (arith, nat_tests)))
+parts_of-uncut bytes found says is = split-uncut 47 (lit< tt) bytes found says is
 
 -- where there are bytes, there are parts
 pub parts_if_any-some : (bytes : List ℕ) → (length bytes == 0) ≡ false → parts_if_any bytes ≡ parts_of bytes

@@ -1,9 +1,9 @@
 -- Which fault a text has, and a path that is to have one more name. The rules are those of the grammar; the faults'
 -- names and their order are this project's own profile.
-use Rattle.std.specs.Prelude.{ℕ, Bool, false, not, ◌==◌, nat_lt, List, [], ◌∷◌, ◌++◌, length, Option}
+use Rattle.std.specs.Prelude.{ℕ, Bool, false, not, ◌==◌, nat_lt, List, [], ◌∷◌, ◌++◌, length, codes, Option}
 use Rattle.std.specs.List.{list_any, slice_split}
 use Rattle.zpath.specs.declared.fault.PathFault.{PathFault}
-use Rattle.zpath.specs.declared.fault.PathFault.TheVariants.{Empty, NotAbsolute, EmptyName, DotName, BadByte, NameTooLong, PathTooLong, TooDeep, Reserved}
+use Rattle.zpath.specs.declared.fault.PathFault.TheVariants.{Empty, NotAbsolute, EmptyName, DotName, BadByte, NameTooLong, PathTooLong, TooDeep, Reserved, Memory}
 use Rattle.zpath.specs.First.{first_that_holds}
 use Rattle.zpath.specs.Grammar.{is_empty, is_dots, has_bad_byte, is_long, is_reserved, text_of}
 
@@ -55,3 +55,16 @@ child_tests path name =
 -- why a path can't have one more name
 unfoldable pub child_fault : List (List ℕ) → List ℕ → Option PathFault
 child_fault path name = first_that_holds (child_tests path name)
+
+-- the word for a fault
+abbrev pub fault_name : PathFault → List ℕ
+fault_name Empty = codes "Empty"
+fault_name NotAbsolute = codes "NotAbsolute"
+fault_name EmptyName = codes "EmptyName"
+fault_name DotName = codes "DotName"
+fault_name BadByte = codes "BadByte"
+fault_name NameTooLong = codes "NameTooLong"
+fault_name PathTooLong = codes "PathTooLong"
+fault_name TooDeep = codes "TooDeep"
+fault_name Reserved = codes "Reserved"
+fault_name Memory = codes "Memory"
