@@ -8,7 +8,7 @@ use Rattle.std.proofs.lemmas.Bool.Decides.{nat_tests}
 use Rattle.zpath.specs.Grammar.{path_cmp}
 use Rattle.zpath.specs.First.{first_that_holds}
 use Rattle.zstore.specs.declared.node.Node.{Node}
-use Rattle.zstore.specs.Tree.{opening, Tree, Nodes, Path, new_node, parent_of, changed_at, with_child, added, HasRoom}
+use Rattle.zstore.specs.Tree.{opening, Tree, Nodes, Path, new_node, parent_of, changed_at, with_child, added}
 use Rattle.zstore.proofs.Sorted.{paths_total}
 use Rattle.zops.specs.declared.call.Create.{Create as Wanted}
 use Rattle.zops.specs.declared.call.Update.{Update}
@@ -41,10 +41,6 @@ all_changed Q P nodes path f all others changed = by (finite.get nodes path) ref
     by : (o : Option Node) → finite.get nodes path ≡ o → AllNodes P (option_map_or (λ n. finite.insert nodes path (f n)) o nodes)
     by None e = same
     by (Some n) e = all_insert P nodes path (f n) same (changed n (all path n e))
-
--- counters within the bound of a change have room for one more
-pub has_room : (zxid : ℕ) (n : Node) → zxid < 2 ^ 40 → IsWithin zxid n → HasRoom n
-has_room zxid n small h = (omega (arith, h.version), omega (arith, h.cversion), omega (arith, h.seq))
 
 later : (zxid : ℕ) (n : Node) → IsWithin zxid n → IsWithin (zxid + 1) n
 later zxid n h = record { version = omega (arith, h.version); cversion = omega (arith, h.cversion); seq = h.seq }

@@ -5,16 +5,12 @@ use Rattle.std.specs.List.{list_any, AllByRecursion}
 use Rattle.std.proofs.lemmas.Bool.Decides.{nat_tests}
 use Rattle.zpath.specs.Grammar.{IsName, IsPath, is_long, text_of}
 use Rattle.zstore.specs.Tree.{Path, Name, parent_of}
+use Rattle.zstore.proofs.Nodes.{parent_of-front}
 use Rattle.zops.specs.Part.{is_root, is_over}
 
 pub record IsBelow (path above : Path) : Type 0 where
   pub root : is_root path ≡ false
   pub parent : parent_of path ≡ above
-
-parent_of-front : (above : Path) (name : Name) → parent_of (above ++ name ∷ []) ≡ above
-parent_of-front [] name = refl
-parent_of-front (n ∷ []) name = refl
-parent_of-front (n ∷ (m ∷ above)) name = ap (λ p. n ∷ p) (parent_of-front (m ∷ above) name)
 
 is_root-front : (above : Path) (name : Name) → is_root (above ++ name ∷ []) ≡ false
 is_root-front [] name = refl

@@ -16,6 +16,7 @@ use Rattle.zops.specs.declared.reply.PartReply.TheVariants.{Created}
 use Rattle.zops.specs.declared.part.Stop.{Stop}
 use Rattle.zops.specs.declared.part.Stop.TheVariants.{Refused, Memory}
 
+-- the path is the root's
 abbrev pub is_root : Path → Bool
 is_root [] = true
 is_root (name ∷ path) = false

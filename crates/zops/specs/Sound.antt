@@ -20,6 +20,7 @@ pub record IsBounded (t : Tree) : Type 0 where
   pub zxid : t.zxid < 2 ^ 40
   pub counters : AllNodes (IsWithin t.zxid) t.nodes
 
+-- what a machine keeps: room for the next change, few entries, and few Ids for each entry
 pub record IsSound (store : Held) (applied : ℕ) : Type 0 where
   pub bounded : IsBounded store.tree
   pub applied_few : applied < 2 ^ 62

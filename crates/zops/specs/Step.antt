@@ -1,6 +1,6 @@
 -- The plain step: what each call does to the plain tree and answers. This is the sequential
 -- specification: the service as it would be if one machine did one call after the other.
-use Rattle.std.specs.Prelude.{ℕ, ◌+◌, ◌-◌, ◌^◌, Bool, Option, None, Some, Result, Ok, Err, if◌then◌else◌, nat_le, refl}
+use Rattle.std.specs.Prelude.{ℕ, ◌+◌, ◌-◌, ◌^◌, Bool, Option, None, Some, Result, Ok, Err, if◌then◌else◌, nat_le, refl, List, codes}
 use Rattle.std.specs.Coded.{Coded, code_by, coded×, coded_ℕ, coded_bool}
 use Rattle.std.specs.FinMap as finite
 use Rattle.zstore.specs.Tree.{Tree, Nodes, Path, stat_of, raised, coded_tree}
@@ -12,12 +12,21 @@ use Rattle.zops.specs.declared.call.Update.TheVariants.{Create}
 use Rattle.zops.specs.declared.call.Query.{Query}
 use Rattle.zops.specs.declared.call.Query.TheVariants.{GetData}
 use Rattle.zops.specs.declared.refusal.Refusal.{Refusal}
-use Rattle.zops.specs.declared.refusal.Refusal.TheVariants.{NoNode, Exhausted}
+use Rattle.zops.specs.declared.refusal.Refusal.TheVariants.{NoNode, NodeExists, NoChildrenForEphemerals, PathLimit, Full, Exhausted}
 use Rattle.zops.specs.declared.reply.PartReply.{PartReply}
 use Rattle.zops.specs.declared.reply.PartReply.TheVariants as part_reply
 use Rattle.zops.specs.declared.reply.Reply.{Reply}
 use Rattle.zops.specs.declared.reply.Reply.TheVariants.{Created, Data, Refused}
 use Rattle.zops.specs.Part.{create_part}
+
+-- the word for a refusal
+abbrev pub refusal_name : Refusal → List ℕ
+refusal_name NoNode = codes "NoNode"
+refusal_name NodeExists = codes "NodeExists"
+refusal_name NoChildrenForEphemerals = codes "NoChildrenForEphemerals"
+refusal_name PathLimit = codes "PathLimit"
+refusal_name Full = codes "Full"
+refusal_name Exhausted = codes "Exhausted"
 
 -- no further change has a number
 abbrev pub is_exhausted : Tree → Bool
@@ -50,6 +59,7 @@ pub record State : Type 0 where
   pub tree : Tree
   pub applied : ℕ
 
+-- the opening tree, and no entry applied
 abbrev pub opening : State
 opening = record { tree = tree.opening; applied = 0 }
 
@@ -64,8 +74,9 @@ pub record Seen : Type 0 where
   pub state : State
   pub is_broken : Bool
 
+-- how it is stored
+abbrev pub coded_state : Coded State
+coded_state = code_by (Tree × ℕ) (coded× coded_tree coded_ℕ) (λ s. (s.tree, s.applied)) (λ p. record { tree = p.0; applied = p.1 }) (λ _. refl)
+
 abbrev pub coded_seen : Coded Seen
-coded_seen =
-    code_by (Tree × (ℕ × Bool)) (coded× coded_tree (coded× coded_ℕ coded_bool))
-    (λ m. (m.state.tree, (m.state.applied, m.is_broken)))
-    (λ p. record { state = record { tree = p.0; applied = p.1.0 }; is_broken = p.1.1 }) (λ _. refl)
+coded_seen = code_by (State × Bool) (coded× coded_state coded_bool) (λ m. (m.state, m.is_broken)) (λ p. record { state = p.0; is_broken = p.1 }) (λ _. refl)

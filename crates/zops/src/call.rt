@@ -10,7 +10,7 @@ pub enum Kind {
     Persistent,
 }
 
-/// A create.
+/// What a create asks for (ZooKeeper Programmer's Guide, "ZNodes").
 #[derive(Drop)]
 pub struct Create {
     /// Where the node is to be.
@@ -35,7 +35,17 @@ pub enum Query {
     GetData(Path),
 }
 
-/// An update, with the client that asks for it and that client's number of the call.
+/// A call.
+#[derive(Drop)]
+pub enum Call {
+    /// One that may change the tree.
+    Update(Update),
+    /// One that changes nothing.
+    Query(Query),
+}
+
+/// An update, with the client that asks for it and that client's number of the call: what every
+/// machine applies in the same order.
 #[derive(Drop)]
 pub struct Entry {
     /// Who asks.

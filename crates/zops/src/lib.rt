@@ -11,9 +11,11 @@ mod part;
 mod query;
 mod refusal;
 mod reply;
+#[cfg(test)]
+mod tests;
 mod update;
 
-pub use call::{Create, Entry, Kind, Query, Update};
+pub use call::{Call, Create, Entry, Kind, Query, Update};
 pub use machine::{MAX_APPLIED, Machine};
 pub use refusal::Refusal;
 pub use reply::Reply;

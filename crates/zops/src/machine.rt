@@ -11,7 +11,7 @@ use std::marker::Model;
 use zpath::Memory;
 use zstore::Store;
 
-/// The most entries that a machine applies.
+/// The most entries that a machine applies. The limit is this project's profile.
 pub const MAX_APPLIED: u64 = (1 << 62) - 1;
 
 /// One machine: the tree, and the calls on it. After it met want of memory in `apply`, it answers
@@ -54,16 +54,16 @@ impl Machine {
         })
     }
 
-    /// How many entries were applied.
+    /// How many entries were applied, the refused ones among them.
     pub fn applied(&self) -> u64
         ensures applied { result ≡ self.now.state.applied }
         ensures few { result < 2 ^ 62 }
     {
-        let applied = self.applied;
-        applied
+        self.applied
     }
 
-    /// Applies an entry. After `Memory` the machine answers `Memory` for good.
+    /// Applies an entry by the plain step; the reply is that of its update. After `Memory` the machine
+    /// answers `Memory` for good.
     #[tactic(auto, unfolding(crate::specs::Step::entered))]
     pub fn apply(&mut self, entry: Entry) -> Result<Option<Reply>, Memory>
         requires { self.old.state.applied < 2 ^ 62 - 1 }
@@ -93,8 +93,9 @@ impl Machine {
         ensures broken { self.now.is_broken ≡ true → IsErr result }
     {
         if self.is_broken {
-            return Err(Memory);
+            Err(Memory)
+        } else {
+            answer(self.alloc, &self.store, query)
         }
-        answer(self.alloc, &self.store, query)
     }
 }

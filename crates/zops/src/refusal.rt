@@ -1,26 +1,41 @@
 //! Why a call was refused.
 
-use thiserror::Error;
+use std::error::Error;
+use std::fmt;
 
 /// Why a call was refused. A refused call changes nothing.
-#[derive(Clone, Copy, Debug, PartialEq, Eq, Error)]
+#[derive(Clone, Copy, Debug, PartialEq, Eq)]
 pub enum Refusal {
     /// There is no such node.
-    #[error("NoNode")]
     NoNode,
     /// The node is there already.
-    #[error("NodeExists")]
     NodeExists,
     /// The parent is ephemeral.
-    #[error("NoChildrenForEphemerals")]
     NoChildrenForEphemerals,
     /// The made name or the made path is too long.
-    #[error("PathLimit")]
     PathLimit,
     /// There are 4,096 nodes.
-    #[error("Full")]
     Full,
     /// The last change has the greatest number that there is.
-    #[error("Exhausted")]
     Exhausted,
 }
+
+impl fmt::Display for Refusal {
+    ghost use Rattle.std.specs.Prelude.{Some};
+    ghost use Rattle.zops.specs.Step.{refusal_name};
+
+    ghost output = { λ refusal. Some (refusal_name refusal) };
+
+    fn fmt<W: fmt::Write>(&self, f: &mut fmt::Formatter<W>) -> fmt::Result {
+        f.write_str(match self {
+            Refusal::NoNode => "NoNode",
+            Refusal::NodeExists => "NodeExists",
+            Refusal::NoChildrenForEphemerals => "NoChildrenForEphemerals",
+            Refusal::PathLimit => "PathLimit",
+            Refusal::Full => "Full",
+            Refusal::Exhausted => "Exhausted",
+        })
+    }
+}
+
+impl Error for Refusal {}

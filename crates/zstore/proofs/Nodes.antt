@@ -1,5 +1,5 @@
 -- The maps of nodes and of Ids after one more entry.
-use Rattle.std.proofs.Common.{◌≡◌, ◌≢◌, Bool, true, false, cond, [], ◌∷◌, Some, None, refl, sym, ap, ◌∙◌, arith}
+use Rattle.std.proofs.Common.{◌≡◌, ◌≢◌, Bool, true, false, cond, [], ◌∷◌, ◌++◌, Some, None, refl, sym, ap, ◌∙◌, arith}
 use lib.Dec.{eqb}
 use Rattle.std.specs.declared.cmp.Ordering.{Ordering}
 use Rattle.std.specs.declared.cmp.Ordering.TheVariants.{Less, Equal, Greater}
@@ -12,7 +12,7 @@ use Rattle.std.proofs.Common.{length}
 use Rattle.zpath.specs.Grammar.{path_cmp}
 use Rattle.zstore.specs.declared.id.Id.{Id}
 use Rattle.zstore.specs.declared.node.Node.{Node}
-use Rattle.zstore.specs.Tree.{Path, Nodes, parent_of, changed_at}
+use Rattle.zstore.specs.Tree.{Path, Name, Nodes, parent_of, changed_at}
 use Rattle.zstore.specs.Held.{Held, path_of, Names}
 use Rattle.zstore.proofs.Sorted.{paths_total, same_path, from_sorted-put}
 
@@ -37,6 +37,12 @@ pub parent_is_other : (path : Path) → path ≢ [] → parent_of path ≢ path
 parent_is_other [] below e = below refl
 parent_is_other (n ∷ []) below e = cc
 parent_is_other (n ∷ (m ∷ path)) below e = parent_is_other (m ∷ path) (λ f. cc) (cc e)
+
+-- the parent of a path with one more name
+pub parent_of-front : (above : Path) (name : Name) → parent_of (above ++ name ∷ []) ≡ above
+parent_of-front [] name = refl
+parent_of-front (n ∷ []) name = refl
+parent_of-front (n ∷ (m ∷ above)) name = ap (λ p. n ∷ p) (parent_of-front (m ∷ above) name)
 
 -- an Id that names a path still names it after another Id was given
 pub still_named : (old new : Held) (id : Id) (path : Path) (other : Id) (p : Path) → Names old new id path → path_of old other ≡ Some p → path_of new other ≡ Some p

@@ -27,6 +27,7 @@ node_of h id = option_and_then (get h.tree.nodes) (path_of h id)
 abbrev pub Names : Held → Held → Id → Path → Type 0
 Names old new id path = (path_of old id ≡ None) × (new.places ≡ insert old.places id.number path)
 
+-- how it is stored
 abbrev pub coded_held : Coded Held
 coded_held =
     code_by (Tree × (FinMap nat_cmp Path × ℕ)) (coded× coded_tree (coded× (finite.code coded_ℕ coded_path) coded_ℕ))

@@ -14,25 +14,31 @@ use Rattle.zstore.specs.declared.store.Store.TheInside.{Inside}
 use Rattle.zstore.specs.Tree.{Path}
 use Rattle.zstore.specs.Held.{Held}
 
--- a row as an entry of the map of nodes, of the map of Ids, and of the map of sessions
+-- a row as an entry of the map of nodes
 abbrev pub node_row : Row → Path × Node
 node_row r = (r.path, r.node)
 
+-- a row as an entry of the map of Ids
 abbrev pub place_row : Row → ℕ × Path
 place_row r = (r.number, r.path)
 
+-- a session's row as an entry of the map of sessions
 abbrev pub session_row : SessionRow → ℕ × Session
 session_row r = (r.number, r.session)
 
+-- all rows as entries of the map of nodes
 abbrev pub node_rows : List Row → List (Path × Node)
 node_rows rows = map node_row rows
 
+-- all rows as entries of the map of Ids
 abbrev pub place_rows : List Row → List (ℕ × Path)
 place_rows rows = map place_row rows
 
+-- all rows of sessions as entries of the map of sessions
 abbrev pub session_rows : List SessionRow → List (ℕ × Session)
 session_rows rows = map session_row rows
 
+-- what the fields of a store stand for
 abbrev pub held_by : Inside → Held
 held_by s =
     record {

@@ -14,10 +14,11 @@ use Rattle.zstore.specs.declared.node.Node.{Node}
 use Rattle.zstore.specs.declared.node.Stat.{Stat}
 use Rattle.zstore.specs.declared.session.Session.{Session}
 
--- a name is a list of bytes, and a path is the names from the root down
+-- a name is a list of bytes
 abbrev pub Name : Type 0
 Name = List ℕ
 
+-- a path is the names from the root down
 abbrev pub Path : Type 0
 Path = List Name
 
@@ -117,10 +118,11 @@ raised t = record t { zxid = t.zxid + 1 }
 abbrev pub HasRoom : Node → Type 0
 HasRoom n = (n.version + 1 < 2 ^ 62) × (n.cversion + 1 < 2 ^ 62) × (n.seq + 1 < 2 ^ 62)
 
--- how each part is stored
+-- how a path is stored
 abbrev pub coded_path : Coded Path
 coded_path = coded_list (coded_list coded_ℕ)
 
+-- how a node is stored
 abbrev pub coded_node : Coded Node
 coded_node =
     code_by (List ℕ × (ℕ × (ℕ × (ℕ × (ℕ × (ℕ × (ℕ × (ℕ × (ℕ × ℕ)))))))))
@@ -139,11 +141,13 @@ coded_node =
       seq = p.1.1.1.1.1.1.1.1.1;
     }) (λ _. refl)
 
+-- how a session is stored
 abbrev pub coded_session : Coded Session
 coded_session =
     code_by (ℕ × (ℕ × ℕ)) (coded× coded_ℕ (coded× coded_ℕ coded_ℕ))
     (λ s. (s.client, (s.timeout, s.deadline))) (λ p. record { client = p.0; timeout = p.1.0; deadline = p.1.1 }) (λ _. refl)
 
+-- how a tree is stored
 abbrev pub coded_tree : Coded Tree
 coded_tree =
     code_by (Nodes × (Sessions × (ℕ × ℕ)))

@@ -4,7 +4,7 @@ ghost use Rattle.std.specs.Prelude.{◌≡◌, ◌<◌, ◌≤◌, IfNone, IfSom
 
 use std::marker::Model;
 
-/// One of the 32 clients, by its number: 0 to 31.
+/// One of the 32 clients that this project's profile has, by its number: 0 to 31.
 #[derive(Clone, Copy, Debug, PartialEq, Eq)]
 pub struct ClientId {
     number: u8,

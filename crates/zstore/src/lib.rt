@@ -14,6 +14,8 @@ mod place;
 mod row;
 mod session;
 mod store;
+#[cfg(test)]
+mod tests;
 
 pub use client::ClientId;
 pub use id::Id;

@@ -2,16 +2,17 @@
 
 use crate::node_data::Data;
 
-/// A znode. Its fields are those of the guide's stat structure, its data, and its own counter.
+/// A znode: the fields of the stat structure (ZooKeeper Programmer's Guide, "ZooKeeper Stat
+/// Structure"), its data, and the counter that this project's profile gives each node.
 #[derive(Drop)]
 pub struct Node {
     /// The data.
     pub bytes: Data,
-    /// The change that made the node.
+    /// The number of the change that made the node.
     pub czxid: u64,
-    /// The last change of its data.
+    /// The number of the last change of its data.
     pub mzxid: u64,
-    /// The last change of its children.
+    /// The number of the last change of its children.
     pub pzxid: u64,
     /// The tick at which it was made.
     pub ctime: u64,
@@ -27,14 +28,15 @@ pub struct Node {
     pub seq: u64,
 }
 
-/// What is told of a node, in the order of the text.
+/// What is told of a node: the stat structure of the ZooKeeper Programmer's Guide, in the guide's
+/// order, without `aversion`, since a node has no access control list.
 #[derive(Clone, Copy, Debug, PartialEq, Eq)]
 pub struct Stat {
-    /// The change that made the node.
+    /// The number of the change that made the node.
     pub czxid: u64,
-    /// The last change of its data.
+    /// The number of the last change of its data.
     pub mzxid: u64,
-    /// The last change of its children.
+    /// The number of the last change of its children.
     pub pzxid: u64,
     /// The tick at which it was made.
     pub ctime: u64,
@@ -44,11 +46,11 @@ pub struct Stat {
     pub version: u64,
     /// How often a child came or went.
     pub cversion: u64,
-    /// The session that owns it, or 0.
+    /// The session that owns it, or 0: persistent.
     pub owner: u64,
-    /// The bytes of its data.
+    /// How many bytes its data has.
     pub length: u64,
-    /// Its children.
+    /// How many children it has.
     pub children: u64,
 }
 

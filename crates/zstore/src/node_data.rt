@@ -6,7 +6,7 @@ use std::alloc::Global;
 use std::marker::Model;
 use zpath::Memory;
 
-/// The most bytes that a znode's data may have.
+/// The most bytes that a znode's data may have. The limit is this project's profile.
 pub const MAX_DATA: usize = 4096;
 
 /// A znode's data: at most 4,096 bytes, which are read and written whole.
@@ -26,7 +26,7 @@ impl Model for Data {
 }
 
 impl Data {
-    /// Takes the bytes, or hands back more than 4,096 of them.
+    /// Takes the bytes, and allocates nothing. Where there are more than 4,096, hands them back.
     pub fn new(bytes: Vec<u8>) -> Result<Data, Vec<u8>>
         ensures taken { IfOk result (λ d. (d ≡ bytes.items) × (length bytes.items ≤ 4096)) }
         ensures too_long { IfErr result (λ back. (back.items ≡ bytes.items) × (4096 < length bytes.items)) }
@@ -38,7 +38,7 @@ impl Data {
         }
     }
 
-    /// No bytes.
+    /// No bytes. It allocates nothing.
     pub fn empty(alloc: Global) -> Data
         ensures { result ≡ [] }
     {

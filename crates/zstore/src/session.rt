@@ -2,7 +2,9 @@
 
 use crate::client::ClientId;
 
-/// A session. It ends at the tick that reaches its deadline, unless its client pings before.
+/// A session (ZooKeeper Programmer's Guide, "ZooKeeper Sessions"; that time is counted in ticks is
+/// this project's profile). It ends at the tick that reaches its deadline, unless its client pings
+/// before.
 #[derive(Clone, Copy, Debug, PartialEq, Eq)]
 pub struct Session {
     /// The client that opened it.

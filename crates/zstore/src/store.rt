@@ -14,10 +14,10 @@ use std::alloc::Global;
 use std::marker::Model;
 use zpath::{Memory, Path};
 
-/// The most znodes that a store may hold, the root among them.
+/// The most znodes that a store may hold, the root among them. The limit is this project's profile.
 pub const MAX_NODES: usize = 4096;
 
-/// The znodes and sessions of one machine.
+/// The znodes and sessions of one machine, its clock and the number of its last change.
 #[derive(Drop)]
 pub struct Store {
     rows: Vec<Row>,
@@ -113,7 +113,7 @@ impl Store {
         self.given
     }
 
-    /// The node at a path.
+    /// The node at a path; none where there is none. It is found by binary search.
     pub fn find(&self, path: &Path) -> Option<Id>
         ensures found { IfSome result (λ id. path_of self.now id ≡ Some path.now) }
         ensures node { is_some result ≡ has_node self.now.tree.nodes path.now }
@@ -145,9 +145,11 @@ impl Store {
         Some(node.bytes.as_slice())
     }
 
-    /// What is told of the node that an Id names; none where it names none.
+    /// What is told of the node that an Id names; none where it names none. All rows are looked at,
+    /// to count the children.
     pub fn stat(&self, id: Id) -> Option<Stat>
         ensures stat { IfSome result (λ stat. (path : Path) → path_of self.now id ≡ Some path → stat_at self.now.tree.nodes path ≡ Some stat) }
+        ensures live { IfSome result (λ _. IsSome (path_of self.now id)) }
         ensures gone { IfNone result (path_of self.now id ≡ None) }
     {
         let at = row_of(&self.rows, id)?;

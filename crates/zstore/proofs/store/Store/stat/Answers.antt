@@ -1,4 +1,4 @@
-use Rattle.std.proofs.Common.{◌≡◌, map, length, get_or, sym, ap, ◌∙◌, Some}
+use Rattle.std.proofs.Common.{◌≡◌, map, length, get_or, sym, ap, ◌∙◌, Some, rules}
 use Rattle.std.specs.List.{filter_map}
 use Rattle.zstore.specs.declared.row.Row.{Row}
 use Rattle.zstore.specs.Held.{Held}
@@ -10,6 +10,12 @@ pub returns-in_err-at-clause-gone : goal.returns-in_err-at-clause-gone
 returns-in_err-at-clause-gone c =
     let absent = rw c.deref.ensures.value at c.in_err-at.ensures.absent in
     if_none c.from_residual.result _ (path_of-gone c.self.inside c.self.invariant _ c.self.view_is c.args.id absent)
+
+pub returns-clause-live : goal.returns-clause-live
+returns-clause-live c =
+    let found = rw c.deref.ensures.value at c.in_ok-at.ensures.found in
+    let row = c.index-row.result.now in
+    rw (path_of-held c.self.inside c.self.invariant _ c.self.view_is c.args.id c.in_ok-at.at row found.0 (found.1 row)) (search rules)
 
 pub returns-clause-stat : goal.returns-clause-stat
 returns-clause-stat c = λ path named.

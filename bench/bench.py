@@ -1,0 +1,108 @@
+#!/usr/bin/env python3
+"""Measures the built program on scripts of its own, and prints a table.
+
+    bench/bench.py [NAME=PROGRAM ..]
+
+Without words it measures ../zk alone; each NAME=PROGRAM names one more program of the same text, called as
+`PROGRAM script --servers 1`, to stand beside it. For each script: instructions a line (counted by valgrind, which no
+neighbour on the machine disturbs; left out where there is no valgrind), lines a second of processor time (median of
+five rounds, in turns) and the peak of resident memory. The outputs of all programs are compared; where they differ,
+the row says so and the exit status is 1.
+"""
+import hashlib
+import os
+import re
+import resource
+import shutil
+import statistics
+import subprocess
+import sys
+import tempfile
+
+HERE = os.path.dirname(os.path.abspath(__file__))
+ROUNDS = 5
+
+
+def get_one(lines):
+    """One node of 16 bytes, read again and again."""
+    yield '1 create /a p QUJDREVGR0hJSktMTU5PUA=='
+    for _ in range(lines):
+        yield '1 get /a'
+
+
+def create_and_get(lines):
+    """Nodes beneath one directory, each made and read."""
+    yield '1 create /d p -'
+    for i in range(lines // 2):
+        yield '%d create /d/n%d p QUJD' % (1 + i % 31, i % 4000)
+        yield '%d get /d/n%d' % (1 + i % 31, i % 4000)
+
+
+def missing(lines):
+    """Reads of nodes that are not there, and lines that are refused."""
+    for i in range(lines // 2):
+        yield '1 get /none/n%d' % (i % 100)
+        yield '1 get a//b'
+
+
+SCRIPTS = [('get of one node', get_one, 200000), ('create and get', create_and_get, 8000), ('refused', missing, 100000)]
+
+
+def timed(program, script):
+    """Processor seconds, peak in KiB, and the output's hash."""
+    with open(script, 'rb') as source, tempfile.TemporaryFile() as out:
+        child = subprocess.Popen(program + ['script', '--servers', '1'], stdin=source, stdout=out)
+        _, status, use = os.wait4(child.pid, 0)
+        child.returncode = os.waitstatus_to_exitcode(status)
+        if child.returncode != 0:
+            raise SystemExit('%s: exit status %d' % (program[0], child.returncode))
+        out.seek(0)
+        return use.ru_utime + use.ru_stime, use.ru_maxrss, hashlib.sha256(out.read()).hexdigest()
+
+
+def instructions(program, script):
+    """Instructions of a whole run, or None."""
+    if not shutil.which('valgrind'):
+        return None
+    words = ['valgrind', '--tool=cachegrind', '--cache-sim=no', '--cachegrind-out-file=/dev/null']
+    with open(script, 'rb') as source:
+        done = subprocess.run(words + program + ['script', '--servers', '1'], stdin=source, stdout=subprocess.DEVNULL, stderr=subprocess.PIPE)
+    found = re.search(rb'I +refs: +([0-9,]+)', done.stderr)
+    return int(found.group(1).replace(b',', b'')) if found else None
+
+
+def main():
+    resource.setrlimit(resource.RLIMIT_CORE, (0, 0))
+    subprocess.run([os.path.join(HERE, '..', 'zk'), 'script'], stdin=subprocess.DEVNULL, check=True)
+    programs = [('zk', [os.path.join(HERE, '..', 'crates', 'zk', 'out', 'zk')])]
+    for word in sys.argv[1:]:
+        name, _, path = word.partition('=')
+        programs.append((name, [path]))
+    print('| Script | Program | instructions a line | lines a second | peak KiB |')
+    print('|---|---|---|---|---|')
+    same = True
+    with tempfile.TemporaryDirectory() as folder:
+        empty = os.path.join(folder, 'empty')
+        open(empty, 'w').close()
+        for title, make, count in SCRIPTS:
+            script = os.path.join(folder, 'script')
+            with open(script, 'w') as out:
+                lines = list(make(count))
+                out.write('\n'.join(lines) + '\n')
+            rounds = {name: [] for name, _ in programs}
+            for _ in range(ROUNDS):
+                for name, program in programs:
+                    rounds[name].append(timed(program, script))
+            first = rounds[programs[0][0]][0][2]
+            for name, program in programs:
+                seconds = statistics.median(r[0] for r in rounds[name])
+                whole, start = instructions(program, script), instructions(program, empty)
+                each = '-' if whole is None else '%d' % ((whole - start) / len(lines))
+                differs = '' if rounds[name][0][2] == first else ' (output DIFFERS)'
+                same = same and not differs
+                print('| %s | %s%s | %s | %d | %d |' % (title, name, differs, each, len(lines) / max(seconds, 1e-6), rounds[name][0][1]), flush=True)
+    return 0 if same else 1
+
+
+if __name__ == '__main__':
+    sys.exit(main())

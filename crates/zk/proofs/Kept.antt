@@ -1,0 +1,91 @@
+-- What is kept of a line stands for the line.
+use Rattle.std.proofs.Common.{◌+◌, ◌-◌, Bool, true, false, nat_le, ◌≡◌, ◌<◌, ◌≤◌, ◌⊎◌, inl, inr, ℕ, zero, suc, List, [], ◌∷◌, ◌++◌, length, take, map, refl, sym, ap, ◌∙◌, arith, min}
+use Rattle.std.proofs.lemmas.List.{take_all, take_min, length-take, append-nil}
+use Rattle.std.proofs.lemmas.Bool.Decides.{nat_tests}
+use Rattle.std.proofs.Math.Seq.{take-append-add}
+use Rattle.zops.specs.Step.{State}
+use Rattle.zk.specs.Line.{answer, after}
+use Rattle.zk.specs.Script.{after_all, answers}
+use Rattle.zk.specs.Playing.{kept}
+use Rattle.zk.proofs.LongLine.{answer-long, after-long}
+
+take-take-append : (n : ℕ) (a b : List ℕ) → take n (take n a ++ b) ≡ take n (a ++ b)
+take-take-append zero a b = refl
+take-take-append (suc n) [] b = refl
+take-take-append (suc n) (x ∷ a) b = ap (λ t. x ∷ t) (take-take-append n a b)
+
+pub kept-append : (a b : List ℕ) → kept (kept a ++ b) ≡ kept (a ++ b)
+unfolding kept
+kept-append a b = take-take-append 524289 a b
+
+pub kept-nil : kept [] ≡ []
+unfolding kept
+kept-nil = refl
+
+pub kept-short : (line : List ℕ) → length line ≤ 524289 → kept line ≡ line
+unfolding kept
+kept-short line h = take_all 524289 line h
+
+length-kept : (line : List ℕ) → 524288 < length line → 524288 < length (kept line)
+unfolding kept
+length-kept line h = omega (arith, length-take 524289 line)
+
+short_or_long : (n : ℕ) → (n ≤ 524289) ⊎ (524288 < n)
+short_or_long n = cases (nat_le n 524289) refl
+  where
+    cases : (t : Bool) → nat_le n 524289 ≡ t → (n ≤ 524289) ⊎ (524288 < n)
+    cases true e = inl (grind (arith, nat_tests))
+    cases false e = inr (grind (arith, nat_tests))
+
+-- a line that has begun shows in what is kept of it
+pub some-kept : (line : List ℕ) → 0 < length line → 0 < length (kept line)
+unfolding kept
+some-kept line h = omega (arith, length-take 524289 line)
+
+take-room : (m : ℕ) (part : List ℕ) → take (min (length part) m) part ≡ take m part
+take-room m part =
+    let e : min (length part) m ≡ min m (length part) = omega arith in
+    ap (λ k. take k part) e ∙ take_min m part
+
+-- what is kept is filled up to its room
+pub kept-room : (line part : List ℕ) → length line ≤ 524289 → kept (line ++ part) ≡ line ++ take (min (length part) (524289 - length line)) part
+unfolding kept
+kept-room line part h =
+    let room = 524289 - length line in
+    let e : 524289 ≡ length line + room = omega arith in
+    ap (λ n. take n (line ++ part)) e ∙ take-append-add line part room ∙ ap (λ t. line ++ t) (sym (take-room room part))
+
+pub answer-kept : (state : State) (line : List ℕ) → answer state (kept line) ≡ answer state line
+answer-kept state line =
+    elim (short_or_long (length line)) [
+      | inl h ↦ ap (answer state) (kept-short line h)
+      | inr h ↦ answer-long state (kept line) (length-kept line h) ∙ sym (answer-long state line h)
+    ]
+
+pub after-kept : (state : State) (line : List ℕ) → after state (kept line) ≡ after state line
+after-kept state line =
+    elim (short_or_long (length line)) [
+      | inl h ↦ ap (after state) (kept-short line h)
+      | inr h ↦ after-long state (kept line) (length-kept line h) ∙ sym (after-long state line h)
+    ]
+
+answers-kept : (lines : List (List ℕ)) (state : State) → answers state (map kept lines) ≡ answers state lines
+answers-kept [] state = refl
+answers-kept (line ∷ lines) state =
+    (λ i. answer-kept state line i ++ answers (after-kept state line i) (map kept lines))
+    ∙ ap (λ t. answer state line ++ t) (answers-kept lines (after state line))
+
+after_all-kept : (lines : List (List ℕ)) (state : State) → after_all state (map kept lines) ≡ after_all state lines
+after_all-kept [] state = refl
+after_all-kept (line ∷ lines) state = ap (λ s. after_all s (map kept lines)) (after-kept state line) ∙ after_all-kept lines (after state line)
+
+-- lines of which the same is kept do the same
+pub answers-alike : (state : State) (xs ys : List (List ℕ)) → map kept xs ≡ map kept ys → answers state xs ≡ answers state ys
+answers-alike state xs ys e = sym (answers-kept xs state) ∙ ap (answers state) e ∙ answers-kept ys state
+
+pub after_all-alike : (state : State) (xs ys : List (List ℕ)) → map kept xs ≡ map kept ys → after_all state xs ≡ after_all state ys
+after_all-alike state xs ys e = sym (after_all-kept xs state) ∙ ap (after_all state) e ∙ after_all-kept ys state
+
+pub kept-none : (line part : List ℕ) → length line ≤ 524289 → length part ≡ 0 → line ≡ kept (line ++ part)
+kept-none line [] h e = sym (ap kept (append-nil line) ∙ kept-short line h)
+kept-none line (x ∷ part) h e = absurd (omega (arith, e))

@@ -1,0 +1,12 @@
+-- What a cursor over a line has left.
+use Rattle.std.specs.Prelude.{ℕ, List, [], Option, None, Some}
+use Rattle.std.specs.Borrow.{Bor}
+use Rattle.zk.specs.declared.cursor.Cursor.TheInside.{Inside}
+use Rattle.zk.specs.LineWords.{words_of, Word}
+
+abbrev pub words_in : Option (Bor (List ℕ)) → List Word
+words_in None = []
+words_in (Some line) = words_of line.now
+
+abbrev pub words_left : Inside → List Word
+words_left cursor = words_in cursor.left

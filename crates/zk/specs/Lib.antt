@@ -1,0 +1,10 @@
+pub mod Device
+pub mod Line
+pub mod Script
+pub mod Playing
+pub mod Outcome
+pub mod Words
+pub mod LineWords
+pub mod Request
+pub mod Reply
+pub mod Left

@@ -1,0 +1,38 @@
+-- What a player keeps between two blocks of a script.
+use Rattle.std.specs.Prelude.{◌≡◌, ℕ, List, [], ◌++◌, take}
+use Rattle.std.specs.Coded.{Coded, code_by, coded×, coded_ℕ, coded_list}
+use Rattle.std.proofs.Common.{refl}
+use Rattle.zops.specs.Step.{State, coded_state, opening}
+use Rattle.zk.specs.Script.{whole_lines_after, line_left, after_all}
+
+-- The state, what is kept of the line that has begun, and the replies that were not written yet.
+pub record Playing : Type 0 where
+  pub state : State
+  pub line : List ℕ
+  pub held : List ℕ
+
+abbrev pub coded_playing : Coded Playing
+coded_playing = code_by (State × (List ℕ × List ℕ)) (coded× coded_state (coded× (coded_list coded_ℕ) (coded_list coded_ℕ)))
+    (λ p. (p.state, (p.line, p.held)))
+    (λ q. record { state = q.0; line = q.1.0; held = q.1.1 }) (λ _. refl)
+
+abbrev pub start : Playing
+start = record { state = opening; line = []; held = [] }
+
+-- What is kept of a line: no more than shows that it is too long.
+unfoldable pub kept : List ℕ → List ℕ
+kept line = take 524289 line
+
+-- The player after some bytes, once the replies to their lines are written.
+abbrev pub heard : Playing → List ℕ → Playing
+heard p bytes = record {
+  state = after_all p.state (whole_lines_after p.line bytes);
+  line = kept (line_left p.line bytes);
+  held = [];
+}
+
+-- A text was told: its front went out, and the rest is held.
+pub record Tells (took : List ℕ → Type 0) (text held : List ℕ) : Type 0 where
+  pub front : List ℕ
+  pub taken : took front
+  pub split : text ≡ front ++ held

@@ -1,0 +1,47 @@
+//! `zk script` plays a script from its input, and writes the answers to its output.
+#![tactic(auto)]
+
+mod cursor;
+mod device;
+mod fault;
+mod memory;
+mod node_bytes;
+mod number;
+mod output;
+mod player;
+mod program;
+mod reading;
+mod reply;
+mod request;
+mod script;
+mod settings;
+mod step;
+mod stream;
+#[cfg(test)]
+mod tests;
+mod words;
+
+use crate::program::command;
+use crate::stream::{ReaderSource, WriterSink};
+use std::process::ExitCode;
+use std::{env, io};
+
+fn main(rt: HostRuntime) -> ExitCode {
+    let mut source = ReaderSource::new(rt.reader());
+    let mut sink = WriterSink::new(rt.stdout());
+    let mut faults = WriterSink::new(rt.stderr());
+    let given = program_words(&rt);
+    let words = match &given {
+        Ok(words) => words.iter().map(|word| word.as_str()).collect(rt.alloc()),
+        Err(_) => Ok(Vec::new(rt.alloc())),
+    };
+    let words = words.unwrap_or(Vec::new(rt.alloc()));
+    let status = command(rt.alloc(), &words, &mut source, &mut sink, &mut faults);
+    ExitCode::from(status)
+}
+
+/// The words that the program was started with.
+fn program_words(rt: &HostRuntime) -> io::Result<Vec<String>> {
+    let words = env::args(rt)?.collect(rt.alloc())?;
+    Ok(words)
+}

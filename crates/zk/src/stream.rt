@@ -1,0 +1,101 @@
+//! Devices over the readers and writers of std, as a program's own input and output.
+//!
+//! What bytes such a reader gave, or a writer took, is not known to a contract: the relations hold for all bytes.
+
+ghost use Rattle.std.specs.Prelude.{◌≡◌, ◌<◌, ◌≤◌, ◌+◌, ℕ, List, [], ◌++◌, length, take, IsTrue};
+ghost use Rattle.zk.specs.Device.{Raises, never_raises, raises_both};
+
+use crate::device::{DeviceFault, Sink, Source};
+use std::io::{Read, Write};
+
+/// Reads from any reader. After `u64::MAX` reads it fails, so that no reader can keep a player forever.
+#[derive(Drop)]
+pub struct ReaderSource<R> {
+    reader: R,
+    budget: u64,
+    has_failed: bool,
+    told_end: bool,
+}
+
+impl<R: Read> ReaderSource<R> {
+    /// Reads from this reader.
+    pub fn new(reader: R) -> ReaderSource<R> {
+        ReaderSource {
+            reader,
+            budget: u64::MAX,
+            has_failed: false,
+            told_end: false,
+        }
+    }
+}
+
+impl<R: Read> Source for ReaderSource<R> {
+    ghost gave = { λ s bytes t. Unit {0} };
+
+    ghost failed = { λ s count t. Raises s.has_failed count t.has_failed };
+
+    ghost has_ended = { λ s. IsTrue s.told_end };
+
+    ghost reads_left = { λ s. s.budget };
+
+    fn read(&mut self, buffer: &mut [u8]) -> Result<usize, DeviceFault> {
+        if self.budget > 0
+            && let Ok(count) = self.reader.read(buffer)
+        {
+            self.budget -= 1;
+            self.told_end = count == 0;
+            return Ok(count);
+        }
+        self.has_failed = true;
+        Err(DeviceFault)
+    }
+
+    ghost gave_nothing = { λ s. tt };
+
+    ghost gave_both = { λ s t u a b first second. tt };
+
+    ghost failed_never = { λ s. never_raises s.has_failed };
+
+    ghost failed_both = { λ s t u m n first second. raises_both s.has_failed t.has_failed u.has_failed m n first second };
+}
+
+/// Writes to any writer. A write that takes no byte is a failure.
+#[derive(Drop)]
+pub struct WriterSink<W> {
+    writer: W,
+    has_failed: bool,
+}
+
+impl<W: Write> WriterSink<W> {
+    /// Writes to this writer.
+    pub fn new(writer: W) -> WriterSink<W> {
+        WriterSink {
+            writer,
+            has_failed: false,
+        }
+    }
+}
+
+impl<W: Write> Sink for WriterSink<W> {
+    ghost took = { λ s bytes t. Unit {0} };
+
+    ghost failed = { λ s count t. Raises s.has_failed count t.has_failed };
+
+    fn write(&mut self, bytes: &[u8]) -> Result<usize, DeviceFault> {
+        if let Ok(count) = self.writer.write(bytes)
+            && count > 0
+        {
+            return Ok(count);
+        }
+        self.has_failed = true;
+        Err(DeviceFault)
+    }
+
+    ghost took_nothing = { λ s. tt };
+
+    ghost took_both = { λ s t u a b first second. tt };
+
+    ghost failed_never = { λ s. never_raises s.has_failed };
+
+    ghost failed_both = { λ s t u m n first second. raises_both s.has_failed t.has_failed u.has_failed m n first second };
+}

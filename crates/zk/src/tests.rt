@@ -1,0 +1,219 @@
+//! Tests of what no clause says: that calls succeed, and what stands in no contract's reach.
+
+ghost use Rattle.std.specs.Prelude.{◌<◌};
+
+use crate::fault::PlayFault;
+use crate::memory::{SliceSource, VecSink};
+use crate::program::command;
+use crate::script::play;
+use crate::settings::{Servers, Settings, WordsFault};
+use crate::words::settings;
+use std::alloc::{AllocError, Global};
+use std::test::Fail;
+
+/// Plays a script by at most so many bytes a read and a write.
+fn played(alloc: Global, script: &[u8], at_most: usize) -> (Result<(), PlayFault>, VecSink)
+    requires { 0 < at_most }
+{
+    let mut source = SliceSource::new(script, at_most);
+    let mut sink = VecSink::new(alloc, at_most);
+    let result = play(alloc, &mut source, &mut sink, Servers::new(1));
+    (result, sink)
+}
+
+// What a script answers, by blocks of any size and byte by byte.
+const ROWS: [(&str, &str); 11] = [
+    ("", ""),
+    (
+        "1 create /a p aGk=\n1 get /a\n",
+        "ok /a\nok data aGk= stat 1 1 1 0 0 0 0 0 2 0\n",
+    ),
+    (
+        "1 create /a p aGk=\n1 get /a",
+        "ok /a\nok data aGk= stat 1 1 1 0 0 0 0 0 2 0\n",
+    ),
+    (
+        "1 get a\n1 get /a//b\n1 get /a/\n1 get /..\n1 get /zookeeper/x\n",
+        "bad path NotAbsolute\nbad path EmptyName\nbad path EmptyName\nbad path DotName\nbad path Reserved\n",
+    ),
+    (
+        "1 create /a p aGk\n1 multi\n1 get\n1 tick\n\n",
+        "bad data\nbad line\nbad line\nbad line\nbad line\n",
+    ),
+    (
+        "1 get /none\n1 create /x/y p -\n1 create /a p -\n1 create /a p -\n1 create / p -\n1 get /a\n",
+        "no NoNode\nno NoNode\nok /a\nno NodeExists\nno NodeExists\nok data - stat 1 1 1 0 0 0 0 0 0 0\n",
+    ),
+    (
+        "1 create /a p -\n31 create /a/b p eA==\n2 get /a\n2 get /\n",
+        "ok /a\nok /a/b\nok data - stat 1 1 2 0 0 0 1 0 0 1\nok data - stat 0 0 1 0 0 0 1 0 0 1\n",
+    ),
+    (
+        "0 get /\n32 get /\n01 get /\n1  get /\n 1 get /\n1 get / \n1 get /\r\n1 get /a /b\n1 put /a p -\n",
+        "bad line\nbad line\nbad line\nbad line\nbad line\nbad line\nbad line\nbad line\nbad line\n",
+    ),
+    (
+        "1 create /a ps -\n1 create a e:1 aGk\n1 create a p aGk\n1 create /a p aGk\n1 create /a p =\n",
+        "bad line\nbad line\nbad path NotAbsolute\nbad data\nbad data\n",
+    ),
+    (
+        "1 create /a p aGl=\n1 create /a p YQ\n1 create /a p YQ==\n1 get /a\n",
+        "bad data\nbad data\nok /a\nok data YQ== stat 1 1 1 0 0 0 0 0 1 0\n",
+    ),
+    (
+        "1 get /a;b\n; get /\n1 get ;\n",
+        "no NoNode\nbad line\nbad path NotAbsolute\n",
+    ),
+];
+
+#[test]
+fn plays_the_rows(rt: HostRuntime) {
+    for (script, text) in ROWS {
+        let (result, sink) = played(rt.alloc(), script.as_bytes(), 65536);
+        assert_eq!(rt; result, Ok(()), "{script:?}");
+        assert_eq!(rt; sink.bytes(), text.as_bytes(), "{script:?}");
+        let (result, sink) = played(rt.alloc(), script.as_bytes(), 1);
+        assert_eq!(rt; result, Ok(()), "{script:?}, byte by byte");
+        assert_eq!(rt; sink.bytes(), text.as_bytes(), "{script:?}, byte by byte");
+    }
+}
+
+#[test]
+fn knows_its_limits(rt: HostRuntime) -> Result<(), Fail> {
+    let alloc = rt.alloc();
+    let name = "a".repeat(alloc, 255)?;
+    let most = "QUFB".repeat(alloc, 1365)?;
+    for (script, text) in [
+        (
+            format!(in alloc; "1 create /{name} p -\n")?,
+            format!(in alloc; "ok /{name}\n")?,
+        ),
+        (
+            format!(in alloc; "1 create /{name}a p -\n")?,
+            format!(in alloc; "bad path NameTooLong\n")?,
+        ),
+        (
+            format!(in alloc; "1 create /a p {most}QQ==\n1 create /b p {most}QUE=\n")?,
+            format!(in alloc; "ok /a\nbad data\n")?,
+        ),
+    ] {
+        let (result, sink) = played(alloc, script.as_bytes(), 65536);
+        assert_eq!(rt; result, Ok(()));
+        assert_eq!(rt; sink.bytes(), text.as_bytes(), "{script}");
+    }
+    Ok(())
+}
+
+/// A line of so many bytes, and another line.
+fn lines(alloc: Global, len: usize) -> Result<Vec<u8>, AllocError> {
+    let mut script = vec![in alloc; b'x'; len]?;
+    script.extend_from_slice(b"\n1 get /a\n")?;
+    Ok(script)
+}
+
+#[test]
+fn answers_long_lines(rt: HostRuntime) -> Result<(), Fail> {
+    for len in [524288, 524289, 700000] {
+        let script = lines(rt.alloc(), len)?;
+        let (result, sink) = played(rt.alloc(), &script, 65536);
+        assert_eq!(rt; result, Ok(()));
+        assert_eq!(rt;
+            sink.bytes(),
+            b"bad line\nno NoNode\n".as_slice(),
+            "a line of {len} bytes"
+        );
+    }
+    Ok(())
+}
+
+#[test]
+fn a_failed_read_cuts_the_last_line(rt: HostRuntime) {
+    let mut source = SliceSource::new(b"1 create /a p -\n1 get /a\n1 get /", 24).failing_after(1);
+    let mut sink = VecSink::new(rt.alloc(), 65536);
+    let result = play(rt.alloc(), &mut source, &mut sink, Servers::new(1));
+    assert_eq!(rt; result, Err(PlayFault::Read));
+    assert_eq!(rt; sink.bytes(), b"ok /a\n".as_slice());
+}
+
+#[test]
+fn a_failed_write_leaves_a_beginning(rt: HostRuntime) {
+    let mut source = SliceSource::new(b"1 create /a p -\n1 get /a\n", 65536);
+    let mut sink = VecSink::new(rt.alloc(), 4).failing_after(2);
+    let result = play(rt.alloc(), &mut source, &mut sink, Servers::new(1));
+    assert_eq!(rt; result, Err(PlayFault::Write));
+    assert_eq!(rt; sink.bytes(), b"ok /a\nok".as_slice());
+}
+
+// The example of RFC 4648, section 9, and the alphabet of its table 1.
+#[test]
+fn data_is_the_rfcs_base64(rt: HostRuntime) {
+    let (result, sink) = played(
+        rt.alloc(),
+        b"1 create /a p FPucA9l+\n1 get /a\n1 create /b p ABCDEFGHIJKLMNOPQRSTUVWXYZabcdefghijklmnopqrstuvwxyz0123456789+/\n1 get /b\n",
+        65536,
+    );
+    assert_eq!(rt; result, Ok(()));
+    assert_eq!(rt;
+        sink.bytes(),
+        b"ok /a\nok data FPucA9l+ stat 1 1 1 0 0 0 0 0 6 0\nok /b\nok data ABCDEFGHIJKLMNOPQRSTUVWXYZabcdefghijklmnopqrstuvwxyz0123456789+/ stat 2 2 2 0 0 0 0 0 48 0\n".as_slice()
+    );
+}
+
+#[test]
+fn reads_its_words(rt: HostRuntime) -> Result<(), Fail> {
+    for text in [
+        "zk script",
+        "zk script --servers 1",
+        "zk script --servers=1",
+    ] {
+        let words: Vec<&str> = text.split(' ').collect(rt.alloc())?;
+        let read = settings(rt.alloc(), &words);
+        assert_eq!(rt; read, Ok(Settings::Script(Servers::new(1))), "{text}");
+    }
+    for text in [
+        "zk",
+        "zk race",
+        "zk --help",
+        "zk help",
+        "zk script --help",
+        "zk script more",
+        "zk script --servers",
+        "zk script --servers 0",
+        "zk script --servers 2",
+        "zk script --servers 9",
+        "zk script --servers one",
+        "zk script --servers 1 --servers 1",
+        "zk --servers 1 script",
+    ] {
+        let words: Vec<&str> = text.split(' ').collect(rt.alloc())?;
+        let read = settings(rt.alloc(), &words);
+        assert_eq!(rt; read, Err(WordsFault::BadWords), "{text}");
+    }
+    assert_eq!(rt; settings(rt.alloc(), &[]), Err(WordsFault::BadWords));
+    Ok(())
+}
+
+/// Runs the program over memory by these words: one read fails, and one write, each after so many.
+fn told(alloc: Global, text: &str, reads: u64, writes: u64) -> Result<(u8, VecSink), AllocError> {
+    let words: Vec<&str> = text.split(' ').collect(alloc)?;
+    let mut source = SliceSource::new(b"a\nb", 65536).failing_after(reads);
+    let mut sink = VecSink::new(alloc, 65536).failing_after(writes);
+    let mut faults = VecSink::new(alloc, 65536);
+    let status = command(alloc, &words, &mut source, &mut sink, &mut faults);
+    Ok((status, faults))
+}
+
+#[test]
+fn tells_its_faults(rt: HostRuntime) -> Result<(), Fail> {
+    for (text, reads, writes, status, line) in [
+        ("zk script", 9, 9, 0, ""),
+        ("zk script", 1, 9, 1, "zk: read failed\n"),
+        ("zk script", 9, 0, 1, "zk: write failed\n"),
+        ("zk", 9, 9, 2, "zk: bad words\n"),
+    ] {
+        let (answered, faults) = told(rt.alloc(), text, reads, writes)?;
+        assert_eq!(rt; answered, status, "{line}");
+        assert_eq!(rt; faults.bytes(), line.as_bytes(), "{line}");
+    }
+    Ok(())
+}

@@ -1,0 +1,9 @@
+use Rattle.std.proofs.Common.{Some, sym, ap, ◌∙◌}
+use Rattle.zstore.specs.Tree.{parent_of}
+use Rattle.zstore.proofs.Nodes.{parent_of-front}
+use Rattle.zstore.proofs.tests.change.Goals as goal
+
+pub add-requires-clause-live : goal.add-requires-clause-live
+add-requires-clause-live g c =
+    let last = rw c.in-Some.is at c.in_ok-above.ensures.front in
+    c.in-Some-find.ensures.found ∙ ap Some (sym (ap parent_of last.1 ∙ parent_of-front c.in-Some.above last.0))
