@@ -9,3 +9,4 @@ pub mod Runs
 pub mod Cutting
 pub mod Numerals
 pub mod LeftOver
+pub mod Spacing

@@ -8,3 +8,4 @@ pub mod LineWords
 pub mod Request
 pub mod Reply
 pub mod Left
+pub mod Spaced

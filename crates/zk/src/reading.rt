@@ -2,10 +2,8 @@
 
 ghost use Rattle.std.specs.Prelude.{◌≡◌, ◌⊎◌, Ok, Err, None, Some, IfOk, IfErr, IfNone, IfSome, true, false};
 ghost use Rattle.zk.specs.Request.{request_of, call_in, create_in, get_in, path_in, data_in, kind_of, caller_of};
-ghost use Rattle.std.specs.Prelude.{not};
-ghost use Rattle.std.specs.List.{list_any};
-ghost use Rattle.zpath.specs.Grammar.{is_empty};
-ghost use Rattle.zk.specs.LineWords.{is_malformed, is_plain, words_of};
+ghost use Rattle.zk.specs.LineWords.{is_malformed};
+ghost use Rattle.zk.specs.Spaced.{is_spaced};
 
 use crate::cursor::Cursor;
 use crate::node_bytes::{DataFault, read_data};
@@ -40,33 +38,35 @@ pub(crate) fn read_line(alloc: Global, line: &[u8]) -> Result<Request, LineFault
 }
 
 // The line as a text, if it is well formed: not too long, of plain bytes, and with no empty word.
-#[tactic(auto, unfolding(crate::specs::LineWords::is_long))]
 fn well_formed(line: &[u8]) -> Option<&str>
     ensures text { IfSome result (λ text. (text.now ≡ line.now) × (is_malformed line.now ≡ false)) }
     ensures none { IfNone result (is_malformed line.now ≡ true) }
 {
-    if line.len() > LIMIT || has_odd_byte(line) {
+    if line.len() > LIMIT {
         return None;
     }
-    let Ok(text) = str::from_utf8(line) else {
-        return None;
-    };
-    if has_empty_word(text) {
+    if !is_spaced(line) {
         return None;
     }
-    Some(text)
+    match str::from_utf8(line) {
+        Ok(text) => Some(text),
+        Err(_) => None,
+    }
 }
 
-fn has_odd_byte(line: &[u8]) -> bool
-    ensures { result ≡ list_any (λ byte. not (is_plain byte)) line.now }
+// Whether a line has plain bytes alone and no empty word: no space at an end, and no two beside each other.
+fn is_spaced(line: &[u8]) -> bool
+    ensures { result ≡ is_spaced true line.now }
 {
-    line.iter().any(|byte| !(0x20..=0x7e).contains(byte))
-}
-
-fn has_empty_word(line: &str) -> bool
-    ensures { result ≡ list_any is_empty (words_of line.now) }
-{
-    line.split(' ').any(|word| word.is_empty())
+    let mut after_space = true;
+    for &byte in line {
+        let is_space = byte == b' ';
+        if !(0x20..=0x7e).contains(&byte) || is_space && after_space {
+            return false;
+        }
+        after_space = is_space;
+    }
+    !after_space
 }
 
 // The client that a word names: 1 to 31.

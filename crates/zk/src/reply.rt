@@ -5,6 +5,7 @@ ghost use Rattle.std.specs.List.{flat_map};
 ghost use Rattle.zk.specs.Reply.{reply_text, stat_text, spaced};
 
 use crate::node_bytes::write_data;
+use itoa::Buffer;
 use zops::{Reply, Stat};
 use zpath::Memory;
 
@@ -48,8 +49,10 @@ fn write_stat(stat: &Stat, out: &mut String) -> Result<(), Memory>
 fn write_numbers(numbers: &[u64], out: &mut String) -> Result<(), Memory>
     ensures { OnOk result (string_bytes out.new ≡ string_bytes out.old ++ flat_map spaced numbers.now) }
 {
+    let mut buffer = Buffer::new();
     for number in numbers {
-        write!(out, " {number}")?;
+        out.push_str(" ")?;
+        out.push_str(buffer.format(*number))?;
     }
     Ok(())
 }

@@ -1,4 +1,4 @@
-use Rattle.std.proofs.Common.{◌∷◌, [], ◌++◌, inr}
+use Rattle.std.proofs.Common.{inr}
 use Rattle.zk.specs.declared.fault.PlayFault.TheVariants.{Memory}
 use Rattle.zk.proofs.program.command.Goals as goal
 

@@ -1,4 +1,4 @@
-use Rattle.std.proofs.Common.{◌≡◌, ap, ◌∙◌, refl}
+use Rattle.std.proofs.Common.{ap, ◌∙◌, refl}
 use Rattle.zpath.specs.Faults.{fault_of, names_of}
 use Rattle.zpath.proofs.Spelling.{text_has_no_fault, names_of-text_of}
 use Rattle.zk.proofs.reading.read_path.Goals as goal

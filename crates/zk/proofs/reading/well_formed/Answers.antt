@@ -1,9 +1,24 @@
-use Rattle.std.proofs.Common.{sym}
+use Rattle.std.proofs.Common.{◌≡◌, false, not, sym, ap, ◌∙◌, arith}
 use Rattle.std.proofs.lemmas.Str.{IsUtf8-from_ascii}
+use Rattle.std.proofs.lemmas.Bool.Decides.{nat_tests}
+use Rattle.zk.specs.LineWords.{is_long}
 use Rattle.zk.proofs.Numerals.{ascii_of_plain}
+use Rattle.zk.proofs.Spacing.{is_malformed-spaced, spaced_is_plain}
 use Rattle.zk.proofs.reading.well_formed.Goals as goal
 
-pub returns-in_default-clause-none : goal.returns-in_default-clause-none
-returns-in_default-clause-none c =
-    let plain = sym c.if-has_odd_byte.ensures in
-    absurd (c.in_default.ensures.cases.0 (IsUtf8-from_ascii c.args.line.now (ascii_of_plain c.args.line.now plain)))
+pub returns-then-not-is_spaced-clause-none : goal.returns-then-not-is_spaced-clause-none
+returns-then-not-is_spaced-clause-none c =
+    let line = c.args.line.now in
+    let short : is_long line ≡ false = grind (arith, nat_tests) in
+    is_malformed-spaced line short ∙ ap not (sym c.if-not-is_spaced.ensures)
+
+pub returns-in-Ok-clause-text : goal.returns-in-Ok-clause-text
+returns-in-Ok-clause-text c =
+    let line = c.args.line.now in
+    let short : is_long line ≡ false = grind (arith, nat_tests) in
+    (c.in-Ok.ensures.cases.0, is_malformed-spaced line short ∙ ap not (sym c.if-not-is_spaced.ensures))
+
+pub returns-in-Err-clause-none : goal.returns-in-Err-clause-none
+returns-in-Err-clause-none c =
+    let line = c.args.line.now in
+    absurd (c.in-Err.ensures.cases.0 (IsUtf8-from_ascii line (ascii_of_plain line (spaced_is_plain line c.if-not-is_spaced.ensures))))

@@ -1,4 +1,4 @@
-use Rattle.std.proofs.Common.{◌≡◌, List, ℕ, [], ◌∷◌, subst}
+use Rattle.std.proofs.Common.{◌≡◌, List, [], ◌∷◌, subst}
 use Rattle.std.specs.Bool.{OnTrue, OnFalse}
 use Rattle.zk.specs.LineWords.{Word}
 use Rattle.zk.proofs.LeftOver.{none_left, some_left}
