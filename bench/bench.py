@@ -18,6 +18,7 @@ import statistics
 import subprocess
 import sys
 import tempfile
+import time
 
 HERE = os.path.dirname(os.path.abspath(__file__))
 ROUNDS = 5
@@ -49,7 +50,7 @@ SCRIPTS = [('get of one node', get_one, 200000), ('create and get', create_and_g
 
 
 def timed(program, script):
-    """Processor seconds, peak in KiB, and the output's hash."""
+    """Processor seconds, and the output's hash and length."""
     with open(script, 'rb') as source, tempfile.TemporaryFile() as out:
         child = subprocess.Popen(program + ['script', '--servers', '1'], stdin=source, stdout=out)
         _, status, use = os.wait4(child.pid, 0)
@@ -57,7 +58,25 @@ def timed(program, script):
         if child.returncode != 0:
             raise SystemExit('%s: exit status %d' % (program[0], child.returncode))
         out.seek(0)
-        return use.ru_utime + use.ru_stime, use.ru_maxrss, hashlib.sha256(out.read()).hexdigest()
+        text = out.read()
+        return use.ru_utime + use.ru_stime, hashlib.sha256(text).hexdigest(), len(text)
+
+
+def peak(program, script, length):
+    """The most resident memory in KiB, read when all is answered and the input is still held open."""
+    with open(script, 'rb') as source, tempfile.TemporaryFile() as out:
+        child = subprocess.Popen(program + ['script', '--servers', '1'], stdin=subprocess.PIPE, stdout=out)
+        child.stdin.write(source.read())
+        child.stdin.flush()
+        for _ in range(1000):
+            if os.fstat(out.fileno()).st_size >= length:
+                break
+            time.sleep(0.01)
+        with open('/proc/%d/status' % child.pid) as status:
+            found = re.search(r'VmHWM:\s+(\d+)', status.read())
+        child.stdin.close()
+        child.wait()
+        return int(found.group(1))
 
 
 def instructions(program, script):
@@ -93,14 +112,14 @@ def main():
             for _ in range(ROUNDS):
                 for name, program in programs:
                     rounds[name].append(timed(program, script))
-            first = rounds[programs[0][0]][0][2]
+            first = rounds[programs[0][0]][0][1]
             for name, program in programs:
                 seconds = statistics.median(r[0] for r in rounds[name])
                 whole, start = instructions(program, script), instructions(program, empty)
                 each = '-' if whole is None else '%d' % ((whole - start) / len(lines))
-                differs = '' if rounds[name][0][2] == first else ' (output DIFFERS)'
+                differs = '' if rounds[name][0][1] == first else ' (output DIFFERS)'
                 same = same and not differs
-                print('| %s | %s%s | %s | %d | %d |' % (title, name, differs, each, len(lines) / max(seconds, 1e-6), rounds[name][0][1]), flush=True)
+                print('| %s | %s%s | %s | %d | %d |' % (title, name, differs, each, len(lines) / max(seconds, 1e-6), peak(program, script, rounds[name][0][2])), flush=True)
     return 0 if same else 1
 
 

@@ -10,3 +10,4 @@ pub mod Cutting
 pub mod Numerals
 pub mod LeftOver
 pub mod Spacing
+pub mod OneNumeral

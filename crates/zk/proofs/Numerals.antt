@@ -10,7 +10,7 @@ use Rattle.std.proofs.lemmas.Bool.Decides.{nat_tests}
 use Rattle.zpath.specs.Grammar.{is_empty}
 use Rattle.zk.specs.LineWords.{is_plain, has_leading_zero, number_of}
 
-both_false : (a b : Bool) → (a || b) ≡ false → (a ≡ false) × (b ≡ false)
+pub both_false : (a b : Bool) → (a || b) ≡ false → (a ≡ false) × (b ≡ false)
 both_false true b e = cc
 both_false false b e = (refl, e)
 
@@ -23,13 +23,13 @@ ascii_of_plain [] h i = lit< tt
 ascii_of_plain (b ∷ line) h zero = plain_is_low b (both_false (not (is_plain b)) _ h).0
 ascii_of_plain (b ∷ line) h (suc i) = ascii_of_plain line (both_false (not (is_plain b)) _ h).1 i
 
-own : IsNumeralModel (λ ds. list_all is_ascii_digit ds ≡ true) (digits_value 10)
+pub own : IsNumeralModel (λ ds. list_all is_ascii_digit ds ≡ true) (digits_value 10)
 own = numerals_by_value (λ ds. list_all is_ascii_digit ds ≡ true) (search rules)
 
-filled : (word : List ℕ) → 0 < length word → is_empty word ≡ false
+pub filled : (word : List ℕ) → 0 < length word → is_empty word ≡ false
 filled word h = grind (arith, nat_tests)
 
-under : (n : ℕ) → n < 2 ^ 62 → nat_le (2 ^ 62) n ≡ false
+pub under : (n : ℕ) → n < 2 ^ 62 → nat_le (2 ^ 62) n ≡ false
 under n h = grind (arith, nat_tests)
 
 over : (n : ℕ) → 2 ^ 62 ≤ n → nat_le (2 ^ 62) n ≡ true

@@ -9,3 +9,4 @@ pub mod Request
 pub mod Reply
 pub mod Left
 pub mod Spaced
+pub mod Laws

@@ -4,6 +4,7 @@
 mod cursor;
 mod device;
 mod fault;
+mod laws;
 mod memory;
 mod node_bytes;
 mod number;

@@ -1,0 +1,52 @@
+-- A number below 2^62 is spelled by its decimal text alone.
+use Rattle.std.proofs.Common.{◌≡◌, ℕ, zero, suc, ◌<◌, ◌≤◌, ◌^◌, Bool, true, false, not, ◌||◌, ◌&&◌, List, [], ◌∷◌, length, get_or, Option, Some, None, if◌then◌else◌, refl, sym, ap, ◌∙◌, arith, rules, decimal}
+use Rattle.std.specs.Prelude.{nat_le}
+use Rattle.std.specs.Char.{is_ascii_digit}
+use Rattle.std.specs.List.{list_all}
+use Rattle.std.specs.Str.Parse.{digits_value}
+use Rattle.std.proofs.lemmas.Bool.Decides.{nat_tests}
+use Rattle.std.proofs.lemmas.Fmt.{digits_decimal, digits_value-decimal, decimal-digits_value, decimal_nonempty, decimal_digit, first_decimal}
+use Rattle.zpath.specs.Grammar.{is_empty}
+use Rattle.zk.specs.LineWords.{has_leading_zero, number_of}
+use Rattle.zk.specs.Laws.{ReadsDecimal, IsDecimal}
+use Rattle.zk.proofs.Numerals.{own, filled, under, both_false}
+
+no_zero : (word : List ℕ) → 48 < get_or word 0 0 → has_leading_zero word ≡ false
+no_zero [] h = refl
+no_zero (d ∷ word) h = grind (arith, nat_tests)
+
+no_leading_zero : (n : ℕ) → n < 2 ^ 64 → has_leading_zero (decimal n) ≡ false
+no_leading_zero zero h = ap has_leading_zero (decimal_digit 0 (omega arith))
+no_leading_zero (suc n) h = no_zero (decimal (suc n)) (first_decimal (suc n) (omega arith) h)
+
+pub reads_decimal : ReadsDecimal
+reads_decimal n h =
+    let small : n < 2 ^ 64 = omega arith in
+    rw (digits_decimal own n small, no_leading_zero n small, filled (decimal n) (decimal_nonempty n small), digits_value-decimal own n small, under n h) refl
+
+some_of : (t : Bool) (v n : ℕ) → (if t then None else Some v) ≡ Some n → (t ≡ false) × (v ≡ n)
+some_of true v n e = cc
+some_of false v n e = (refl, cc)
+
+some_byte : (word : List ℕ) → is_empty word ≡ false → 0 < length word
+some_byte word h = grind (arith, nat_tests)
+
+one_zero : (word : List ℕ) → has_leading_zero word ≡ false → 0 < length word → get_or word 0 0 ≡ 48 → length word ≡ 1
+one_zero [] h some e = absurd (omega arith)
+one_zero (d ∷ word) h some e = grind (arith, nat_tests)
+
+digits : (b : Bool) → not b ≡ false → b ≡ true
+digits true h = refl
+digits false h = cc
+
+below : (v : ℕ) → nat_le (2 ^ 62) v ≡ false → v < 2 ^ 64
+below v h = grind (arith, nat_tests)
+
+pub is_decimal : IsDecimal
+is_decimal word n e =
+    let s = some_of (is_empty word || not (list_all is_ascii_digit word) || has_leading_zero word || nat_le (2 ^ 62) (digits_value 10 word)) (digits_value 10 word) n e in
+    let a = both_false (is_empty word) _ s.0 in
+    let b = both_false (not (list_all is_ascii_digit word)) _ a.1 in
+    let c = both_false (has_leading_zero word) _ b.1 in
+    let some = some_byte word a.0 in
+    sym (decimal-digits_value own word (digits _ b.0) some (one_zero word c.0 some) (below (digits_value 10 word) c.1)) ∙ ap decimal s.1

@@ -1,0 +1,70 @@
+//! What holds of the definitions themselves: each function's contract is a law, and its body does nothing.
+
+ghost use Rattle.std.specs.Prelude.{◌≡◌, [], ◌∷◌, ◌++◌, Some, None, Ok, Err, codes};
+ghost use Rattle.zpath.specs.declared.fault.PathFault.TheVariants.{NotAbsolute};
+ghost use Rattle.zops.specs.declared.call.Kind.TheVariants.{Persistent};
+ghost use Rattle.zops.specs.declared.call.Update.TheVariants.{Create};
+ghost use Rattle.zops.specs.declared.call.Query.TheVariants.{GetData};
+ghost use Rattle.zops.specs.declared.call.Call.TheVariants.{Update, Query};
+ghost use Rattle.zops.specs.declared.refusal.Refusal.TheVariants.{NoNode};
+ghost use Rattle.zops.specs.declared.reply.Reply.TheVariants.{Created, Refused};
+ghost use Rattle.zk.specs.declared.request.LineFault.TheVariants.{BadLine, BadPath, BadData};
+ghost use Rattle.zk.specs.LineWords.{number_of, client_of, data_of, data_text};
+ghost use Rattle.zk.specs.Request.{request_of, caller_of};
+ghost use Rattle.zk.specs.Reply.{reply_text, stat_text};
+ghost use Rattle.zk.specs.Script.{lines_of, whole_lines_of};
+ghost use Rattle.zk.specs.Laws.{ReadsDecimal, IsDecimal};
+
+/// A number below 2^62 is spelled by its decimal text, and by no other word.
+pub fn number_is_decimal()
+    ensures reads { ReadsDecimal }
+    ensures one_word { IsDecimal }
+{}
+
+/// Worked rows of the words: numbers, clients and data.
+pub fn worked_words()
+    ensures zero { number_of (codes "0") ≡ Some 0 }
+    ensures leading_zero { number_of (codes "01") ≡ None }
+    ensures plus { number_of (codes "+1") ≡ None }
+    ensures no_digit { number_of (codes "") ≡ None }
+    ensures most { number_of (codes "4611686018427387903") ≡ Some 4611686018427387903 }
+    ensures too_large { number_of (codes "4611686018427387904") ≡ None }
+    ensures last_client { client_of (codes "31") ≡ Some 31 }
+    ensures no_client { client_of (codes "32") ≡ None }
+    ensures no_caller { caller_of (codes "0") ≡ None }
+    ensures no_bytes { data_of (codes "-") ≡ Some [] }
+    ensures two_bytes { data_of (codes "aGk=") ≡ Some (104 ∷ 105 ∷ []) }
+    ensures no_padding { data_of (codes "aGk") ≡ None }
+    ensures loose_bits { data_of (codes "aGl=") ≡ None }
+    ensures empty_word { data_of [] ≡ None }
+    ensures shown { data_text (104 ∷ 105 ∷ []) ≡ codes "aGk=" }
+    ensures none_shown { data_text [] ≡ codes "-" }
+{}
+
+/// Worked rows of the lines: what each asks for, or why it asks for nothing.
+#[tactic(auto, unfolding(crate::specs::Request::request_of))]
+pub fn worked_lines()
+    ensures unknown { request_of (codes "1 multi") ≡ Err BadLine }
+    ensures empty { request_of (codes "") ≡ Err BadLine }
+    ensures double_space { request_of (codes "1  get /") ≡ Err BadLine }
+    ensures control { request_of (49 ∷ 32 ∷ 103 ∷ 101 ∷ 116 ∷ 32 ∷ 47 ∷ 13 ∷ []) ≡ Err BadLine }
+    ensures no_caller { request_of (codes "0 get /") ≡ Err BadLine }
+    ensures relative { request_of (codes "1 get a") ≡ Err (BadPath NotAbsolute) }
+    ensures no_padding { request_of (codes "1 create /a p aGk") ≡ Err BadData }
+    ensures path_first { request_of (codes "1 create a p aGk") ≡ Err (BadPath NotAbsolute) }
+    ensures kind_first { request_of (codes "1 create a ps aGk") ≡ Err BadLine }
+    ensures get { request_of (codes "1 get /a") ≡ Ok (record { client = 1; call = Query (GetData ((97 ∷ []) ∷ [])) }) }
+    ensures create { request_of (codes "31 create / p -") ≡ Ok (record { client = 31; call = Update (Create (record { path = []; kind = Persistent; bytes = [] })) }) }
+{}
+
+/// Worked rows of the texts: a script's lines, and replies.
+#[tactic(auto, unfolding(std::specs::Fmt::digits))]
+pub fn worked_texts()
+    ensures two_lines { lines_of (97 ∷ 10 ∷ 98 ∷ []) ≡ codes "a" ∷ codes "b" ∷ [] }
+    ensures last_end { lines_of (97 ∷ 10 ∷ []) ≡ codes "a" ∷ [] }
+    ensures empty_line { lines_of (10 ∷ 10 ∷ []) ≡ [] ∷ [] ∷ [] }
+    ensures one_whole_line { whole_lines_of (97 ∷ 10 ∷ 98 ∷ []) ≡ codes "a" ∷ [] }
+    ensures refused { reply_text (Refused NoNode) ≡ codes "no NoNode" }
+    ensures created { reply_text (Created ((97 ∷ []) ∷ (98 ∷ []) ∷ [])) ≡ codes "ok /a/b" }
+    ensures stat { stat_text (record { czxid = 1; mzxid = 1; pzxid = 1; ctime = 0; mtime = 0; version = 0; cversion = 0; owner = 0; length = 2; children = 0 }) ≡ codes " 1 1 1 0 0 0 0 0 2 0" }
+{}
