@@ -1,5 +1,5 @@
 -- Digits in words, and plain bytes as text.
-use Rattle.std.proofs.Common.{◌≡◌, ℕ, zero, suc, ◌<◌, ◌≤◌, ◌^◌, Bool, true, false, not, ◌||◌, List, [], ◌∷◌, length, Some, None, Result, Ok, Err, refl, arith, lit<, rules}
+use Rattle.std.proofs.Common.{◌≡◌, ℕ, zero, suc, ◌<◌, ◌^◌, Bool, true, false, not, ◌||◌, List, [], ◌∷◌, length, None, Result, Err, refl, arith, lit<, rules}
 use Rattle.std.specs.Char.{is_ascii_digit}
 use Rattle.std.specs.List.{list_any, list_all}
 use Rattle.std.specs.Prelude.{nat_le}
@@ -10,6 +10,7 @@ use Rattle.std.proofs.lemmas.Bool.Decides.{nat_tests}
 use Rattle.zpath.specs.Grammar.{is_empty}
 use Rattle.zk.specs.LineWords.{is_plain, has_leading_zero, number_of}
 
+-- neither test holds where their "or" does not
 pub both_false : (a b : Bool) → (a || b) ≡ false → (a ≡ false) × (b ≡ false)
 both_false true b e = cc
 both_false false b e = (refl, e)
@@ -23,31 +24,19 @@ ascii_of_plain [] h i = lit< tt
 ascii_of_plain (b ∷ line) h zero = plain_is_low b (both_false (not (is_plain b)) _ h).0
 ascii_of_plain (b ∷ line) h (suc i) = ascii_of_plain line (both_false (not (is_plain b)) _ h).1 i
 
+-- digits and their value, as the lemmas of std take them
 pub own : IsNumeralModel (λ ds. list_all is_ascii_digit ds ≡ true) (digits_value 10)
 own = numerals_by_value (λ ds. list_all is_ascii_digit ds ≡ true) (search rules)
 
+-- a word of some bytes is not empty
 pub filled : (word : List ℕ) → 0 < length word → is_empty word ≡ false
 filled word h = grind (arith, nat_tests)
 
+-- a number below the limit is not refused
 pub under : (n : ℕ) → n < 2 ^ 62 → nat_le (2 ^ 62) n ≡ false
 under n h = grind (arith, nat_tests)
 
-over : (n : ℕ) → 2 ^ 62 ≤ n → nat_le (2 ^ 62) n ≡ true
-over n h = grind (arith, nat_tests)
-
--- a word of digits that was read as a number spells that number, where it is small
-pub number_of-read : {E : Type 0} (word : List ℕ) (r : Result ℕ E) (n : ℕ) → ParsesUnsigned 64 10 word r → list_all is_ascii_digit word ≡ true → has_leading_zero word ≡ false → r ≡ Ok n → n < 2 ^ 62 → number_of word ≡ Some n
-number_of-read {E = E} word r n parsed digits leading is small =
-    let found = rw is at (parse_digits own 64 word r parsed digits) in
-    rw (digits, leading, filled word found.0.0, ← found.1, under n small) refl
-
--- and none where it is large
-pub number_of-large : {E : Type 0} (word : List ℕ) (r : Result ℕ E) (n : ℕ) → ParsesUnsigned 64 10 word r → list_all is_ascii_digit word ≡ true → has_leading_zero word ≡ false → r ≡ Ok n → 2 ^ 62 ≤ n → number_of word ≡ None
-number_of-large {E = E} word r n parsed digits leading is large =
-    let found = rw is at (parse_digits own 64 word r parsed digits) in
-    rw (digits, leading, filled word found.0.0, ← found.1, over n large) refl
-
--- and none where it was not read: it is empty, or larger still
+-- a word of digits that was not read as a number spells none: it is empty, or the number is larger still
 pub number_of-unread : {E : Type 0} (word : List ℕ) (r : Result ℕ E) (e : E) → ParsesUnsigned 64 10 word r → list_all is_ascii_digit word ≡ true → has_leading_zero word ≡ false → r ≡ Err e → number_of word ≡ None
 number_of-unread {E = E} word r e parsed digits leading is =
     let none = rw is at (parse_digits own 64 word r parsed digits) in

@@ -1,5 +1,5 @@
 -- A number below 2^62 is spelled by its decimal text alone.
-use Rattle.std.proofs.Common.{◌≡◌, ℕ, zero, suc, ◌<◌, ◌≤◌, ◌^◌, Bool, true, false, not, ◌||◌, ◌&&◌, List, [], ◌∷◌, length, get_or, Option, Some, None, if◌then◌else◌, refl, sym, ap, ◌∙◌, arith, rules, decimal}
+use Rattle.std.proofs.Common.{◌≡◌, ℕ, zero, suc, ◌<◌, ◌^◌, Bool, true, false, not, ◌||◌, List, [], ◌∷◌, length, get_or, Some, None, if◌then◌else◌, refl, sym, ap, ◌∙◌, arith, decimal}
 use Rattle.std.specs.Prelude.{nat_le}
 use Rattle.std.specs.Char.{is_ascii_digit}
 use Rattle.std.specs.List.{list_all}
@@ -7,10 +7,11 @@ use Rattle.std.specs.Str.Parse.{digits_value}
 use Rattle.std.proofs.lemmas.Bool.Decides.{nat_tests}
 use Rattle.std.proofs.lemmas.Fmt.{digits_decimal, digits_value-decimal, decimal-digits_value, decimal_nonempty, decimal_digit, first_decimal}
 use Rattle.zpath.specs.Grammar.{is_empty}
-use Rattle.zk.specs.LineWords.{has_leading_zero, number_of}
+use Rattle.zk.specs.LineWords.{has_leading_zero}
 use Rattle.zk.specs.Laws.{ReadsDecimal, IsDecimal}
 use Rattle.zk.proofs.Numerals.{own, filled, under, both_false}
 
+-- a word that begins with another digit has no leading zero
 no_zero : (word : List ℕ) → 48 < get_or word 0 0 → has_leading_zero word ≡ false
 no_zero [] h = refl
 no_zero (d ∷ word) h = grind (arith, nat_tests)
@@ -24,6 +25,7 @@ reads_decimal n h =
     let small : n < 2 ^ 64 = omega arith in
     rw (digits_decimal own n small, no_leading_zero n small, filled (decimal n) (decimal_nonempty n small), digits_value-decimal own n small, under n h) refl
 
+-- a number is given only where no test holds
 some_of : (t : Bool) (v n : ℕ) → (if t then None else Some v) ≡ Some n → (t ≡ false) × (v ≡ n)
 some_of true v n e = cc
 some_of false v n e = (refl, cc)
@@ -44,9 +46,12 @@ below v h = grind (arith, nat_tests)
 
 pub is_decimal : IsDecimal
 is_decimal word n e =
-    let s = some_of (is_empty word || not (list_all is_ascii_digit word) || has_leading_zero word || nat_le (2 ^ 62) (digits_value 10 word)) (digits_value 10 word) n e in
-    let a = both_false (is_empty word) _ s.0 in
-    let b = both_false (not (list_all is_ascii_digit word)) _ a.1 in
-    let c = both_false (has_leading_zero word) _ b.1 in
-    let some = some_byte word a.0 in
-    sym (decimal-digits_value own word (digits _ b.0) some (one_zero word c.0 some) (below (digits_value 10 word) c.1)) ∙ ap decimal s.1
+    let empty = is_empty word in
+    let other = not (list_all is_ascii_digit word) in
+    let large = nat_le (2 ^ 62) (digits_value 10 word) in
+    let s = some_of (empty || other || has_leading_zero word || large) (digits_value 10 word) n e in
+    let small = both_false (empty || other || has_leading_zero word) large s.0 in
+    let leading = both_false (empty || other) (has_leading_zero word) small.0 in
+    let filled = both_false empty other leading.0 in
+    let some = some_byte word filled.0 in
+    sym (decimal-digits_value own word (digits _ filled.1) some (one_zero word leading.1 some) (below (digits_value 10 word) small.1)) ∙ ap decimal s.1

@@ -1,5 +1,5 @@
 -- What holds of the definitions themselves: a number and its decimal text can stand for one another.
-use Rattle.std.specs.Prelude.{◌≡◌, ℕ, ◌<◌, ◌^◌, List, Some}
+use Rattle.std.specs.Prelude.{◌≡◌, ℕ, ◌<◌, ◌^◌, Some}
 use Rattle.std.specs.Fmt.{decimal}
 use Rattle.zk.specs.LineWords.{Word, number_of}
 

@@ -1,4 +1,4 @@
--- What a line does, and what it is answered with.
+-- What a line does, and what it is answered with. The texts are this project's own profile.
 use Rattle.std.specs.Prelude.{ℕ, ◌+◌, ◌-◌, ◌^◌, List, [], ◌∷◌, ◌++◌, codes, Ok, Err, if◌then◌else◌, nat_le}
 use Rattle.std.specs.Option.{option_map_or}
 use Rattle.zpath.specs.Faults.{fault_name}
@@ -32,6 +32,7 @@ abbrev pub called : State → ℕ → Call → State × List ℕ
 called s client (Update update) = updated s client update
 called s client (Query query) = (s, reply_text (query_answer s.tree query))
 
+-- what was read of a line, done and answered
 abbrev pub respond : State → Read Request → State × List ℕ
 respond s (Err fault) = (s, fault_text fault)
 respond s (Ok request) = called s request.client request.call

@@ -10,6 +10,7 @@ use Rattle.base64.specs.GeneralPurpose.{decode_of, encode_of}
 use Rattle.base64.specs.declared.decode.DecodeError.{DecodeError}
 use Rattle.zpath.specs.Grammar.{is_empty}
 
+-- the bytes of a word
 abbrev pub Word : Type 0
 Word = List ℕ
 
@@ -47,7 +48,7 @@ client_of word = small (number_of word)
     small None = None
     small (Some n) = if nat_lt n 32 then Some n else None
 
--- at most 4,096 bytes, and at least one
+-- what was decoded, if it has 1 to 4,096 bytes
 abbrev pub full_data : Result (List ℕ) DecodeError → Option (List ℕ)
 full_data (Err fault) = None
 full_data (Ok bytes) = if is_empty bytes || nat_lt 4096 (length bytes) then None else Some bytes

@@ -11,11 +11,13 @@ pub record Playing : Type 0 where
   pub line : List ℕ
   pub held : List ℕ
 
+-- How it is stored.
 abbrev pub coded_playing : Coded Playing
 coded_playing = code_by (State × (List ℕ × List ℕ)) (coded× coded_state (coded× (coded_list coded_ℕ) (coded_list coded_ℕ)))
     (λ p. (p.state, (p.line, p.held)))
     (λ q. record { state = q.0; line = q.1.0; held = q.1.1 }) (λ _. refl)
 
+-- A player that has heard nothing.
 abbrev pub start : Playing
 start = record { state = opening; line = []; held = [] }
 

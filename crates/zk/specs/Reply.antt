@@ -1,4 +1,4 @@
--- The texts of replies.
+-- The texts of replies: this project's own profile. Data in them is base64 by RFC 4648, section 4.
 use Rattle.std.specs.Prelude.{ℕ, List, [], ◌∷◌, ◌++◌, codes}
 use Rattle.std.specs.Fmt.{decimal}
 use Rattle.std.specs.List.{flat_map}
@@ -18,6 +18,7 @@ numbers_of s =
 abbrev pub spaced : ℕ → List ℕ
 spaced n = 32 ∷ decimal n
 
+-- the numbers of a stat, each after a space
 abbrev pub stat_text : Stat → List ℕ
 stat_text s = flat_map spaced (numbers_of s)
 

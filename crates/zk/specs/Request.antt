@@ -1,4 +1,4 @@
--- What a line asks for: the script's grammar.
+-- What a line asks for: the script's grammar. It is this project's own profile.
 use Rattle.std.specs.Prelude.{ℕ, List, [], ◌∷◌, codes, nat_eq, Option, None, Some, Result, Ok, Err, if◌then◌else◌}
 use Rattle.std.specs.Option.{option_map_or}
 use Rattle.std.specs.Str.{bytes_eq}
@@ -63,7 +63,7 @@ call_in (verb ∷ words) =
     if bytes_eq verb (codes "get") then get_in words else
     Err BadLine
 
--- clients 1 to 31 give commands
+-- the client that may give a command: 1 to 31
 abbrev pub caller_of : Word → Option ℕ
 caller_of word = above_zero (client_of word)
   where

@@ -18,6 +18,7 @@ abbrev pub last_line : List ℕ → List (List ℕ)
 last_line [] = []
 last_line (b ∷ bs) = (b ∷ bs) ∷ []
 
+-- Those lines, and the one that the end of the script ends.
 abbrev pub lines_after : List ℕ → List ℕ → List (List ℕ)
 lines_after line bytes = whole_lines_after line bytes ++ last_line (line_left line bytes)
 

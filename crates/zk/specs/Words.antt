@@ -1,4 +1,4 @@
--- What a program's words come to.
+-- What a program's words come to: this project's own profile.
 use Rattle.std.specs.Prelude.{ℕ, ◌≤◌, List, codes}
 use Rattle.zk.specs.declared.settings.WordsFault.{WordsFault}
 use Rattle.zk.specs.declared.settings.WordsFault.TheVariants.{Memory, BadWords}

@@ -22,6 +22,7 @@ pub fn number_is_decimal()
 {}
 
 /// Worked rows of the words: numbers, clients and data.
+#[tactic(auto, unfolding(base64::proofs::OnLiterals::base64_on_literals))]
 pub fn worked_words()
     ensures zero { number_of (codes "0") ≡ Some 0 }
     ensures leading_zero { number_of (codes "01") ≡ None }
@@ -42,7 +43,7 @@ pub fn worked_words()
 {}
 
 /// Worked rows of the lines: what each asks for, or why it asks for nothing.
-#[tactic(auto, unfolding(crate::specs::Request::request_of))]
+#[tactic(auto, unfolding(crate::specs::Request::request_of, zpath::specs::Faults::fault_of, base64::proofs::OnLiterals::base64_on_literals))]
 pub fn worked_lines()
     ensures unknown { request_of (codes "1 multi") ≡ Err BadLine }
     ensures empty { request_of (codes "") ≡ Err BadLine }
@@ -58,7 +59,6 @@ pub fn worked_lines()
 {}
 
 /// Worked rows of the texts: a script's lines, and replies.
-#[tactic(auto, unfolding(std::specs::Fmt::digits))]
 pub fn worked_texts()
     ensures two_lines { lines_of (97 ∷ 10 ∷ 98 ∷ []) ≡ codes "a" ∷ codes "b" ∷ [] }
     ensures last_end { lines_of (97 ∷ 10 ∷ []) ≡ codes "a" ∷ [] }

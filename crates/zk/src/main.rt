@@ -22,7 +22,8 @@ mod stream;
 mod tests;
 mod words;
 
-use crate::program::command;
+use crate::program::{command, tell};
+use crate::settings::WordsFault;
 use crate::stream::{ReaderSource, WriterSink};
 use std::process::ExitCode;
 use std::{env, io};
@@ -31,17 +32,23 @@ fn main(rt: HostRuntime) -> ExitCode {
     let mut source = ReaderSource::new(rt.reader());
     let mut sink = WriterSink::new(rt.stdout());
     let mut faults = WriterSink::new(rt.stderr());
-    let given = program_words(&rt);
-    let words = match &given {
-        Ok(words) => words.iter().map(|word| word.as_str()).collect(rt.alloc()),
-        Err(_) => Ok(Vec::new(rt.alloc())),
+    let Ok(given) = program_words(&rt) else {
+        tell(&mut faults, WordsFault::Memory.text());
+        return ExitCode::from(1);
     };
-    let words = words.unwrap_or(Vec::new(rt.alloc()));
+    let Ok(words) = given
+        .iter()
+        .map(|word| word.as_str())
+        .collect::<Vec<&str>>(rt.alloc())
+    else {
+        tell(&mut faults, WordsFault::Memory.text());
+        return ExitCode::from(1);
+    };
     let status = command(rt.alloc(), &words, &mut source, &mut sink, &mut faults);
     ExitCode::from(status)
 }
 
-/// The words that the program was started with.
+// The words that the program was started with.
 fn program_words(rt: &HostRuntime) -> io::Result<Vec<String>> {
     let words = env::args(rt)?.collect(rt.alloc())?;
     Ok(words)

@@ -2,7 +2,7 @@
 //!
 //! Both are exact: what was handed out is what is no longer left, and what was taken is what is held.
 
-ghost use Rattle.std.specs.Prelude.{◌≡◌, ◌<◌, ◌≤◌, ◌+◌, ℕ, List, [], ◌++◌, length, take, refl};
+ghost use Rattle.std.specs.Prelude.{◌≡◌, ◌<◌, ◌≤◌, ◌+◌, ℕ, List, [], ◌++◌, length, take, refl, ◌-◌, ◌↔◌, true, false, Some, None, IfSome};
 ghost use Rattle.zk.specs.Device.{Raises, never_raises, raises_both, left_after_both, held_after_both};
 ghost use Rattle.std.proofs.Common.{sym};
 ghost use Rattle.std.proofs.lemmas.List.{append-nil};
@@ -10,15 +10,20 @@ ghost use Rattle.std.proofs.lemmas.List.{append-nil};
 use crate::device::{DeviceFault, Sink, Source};
 use std::alloc::Global;
 
-/// Fails once, after so many calls.
+// Fails once, after so many calls.
 #[derive(Clone, Copy)]
 struct Failure {
     calls_left: Option<u64>,
 }
 
 impl Failure {
-    /// Counts one call down, and answers whether this is the one that fails.
-    fn comes(&mut self) -> bool {
+    // Counts one call down, and answers whether this is the one that fails.
+    fn comes(&mut self) -> bool
+        ensures due { (result ≡ true) ↔ (self.old.calls_left ≡ Some 0) }
+        ensures once { result ≡ true → self.new.calls_left ≡ None }
+        ensures never { self.old.calls_left ≡ None → self.new.calls_left ≡ None }
+        ensures counted { IfSome self.old.calls_left (λ calls. 0 < calls → self.new.calls_left ≡ Some (calls - 1)) }
+    {
         match self.calls_left {
             None => false,
             Some(0) => {
@@ -47,7 +52,10 @@ impl<'a> SliceSource<'a> {
     /// Hands out these bytes, at most so many at a read.
     pub fn new(left: &'a [u8], at_most: usize) -> SliceSource<'a>
         requires { 0 < at_most }
-        ensures { result.left.now ≡ left.entry.now }
+        ensures left { result.left.now ≡ left.entry.now }
+        ensures at_most { result.at_most ≡ at_most }
+        ensures failure { result.failure.calls_left ≡ None }
+        ensures sound { result.has_failed ≡ false }
     {
         SliceSource {
             left,
@@ -60,6 +68,8 @@ impl<'a> SliceSource<'a> {
     /// The same bytes, but one read fails: the one after so many reads.
     pub fn failing_after(self, reads: u64) -> SliceSource<'a>
         ensures left { result.left.now ≡ self.entry.left.now }
+        ensures at_most { result.at_most ≡ self.entry.at_most }
+        ensures sound { result.has_failed ≡ self.entry.has_failed }
         ensures failure { result.failure.calls_left ≡ Some reads }
     {
         SliceSource {
@@ -117,7 +127,10 @@ impl VecSink {
     /// Holds nothing yet, and takes at most so many bytes at a write.
     pub fn new(alloc: Global, at_most: usize) -> VecSink
         requires { 0 < at_most }
-        ensures { result.bytes.items ≡ [] }
+        ensures bytes { result.bytes.items ≡ [] }
+        ensures at_most { result.at_most ≡ at_most }
+        ensures failure { result.failure.calls_left ≡ None }
+        ensures sound { result.has_failed ≡ false }
     {
         VecSink {
             bytes: Vec::new(alloc),
@@ -130,6 +143,8 @@ impl VecSink {
     /// The same, but one write fails: the one after so many writes.
     pub fn failing_after(mut self, writes: u64) -> VecSink
         ensures bytes { result.bytes ≡ self.bytes }
+        ensures at_most { result.at_most ≡ self.at_most }
+        ensures sound { result.has_failed ≡ self.has_failed }
         ensures failure { result.failure.calls_left ≡ Some writes }
     {
         self.failure.calls_left = Some(writes);

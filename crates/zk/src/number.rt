@@ -21,6 +21,7 @@ pub(crate) fn number(word: &str) -> Option<u64>
     if number < LIMIT { Some(number) } else { None }
 }
 
+// No byte but digits, or no byte at all.
 fn has_digits_alone(word: &str) -> bool
     ensures { result ≡ list_all is_ascii_digit word.now }
 {

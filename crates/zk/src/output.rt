@@ -7,7 +7,7 @@ ghost use Rattle.zk.specs.Playing.{Tells};
 use crate::device::{DeviceFault, Sink};
 use std::alloc::Global;
 
-/// So many bytes fill a block.
+// So many bytes fill a block.
 const BLOCK: usize = 65536;
 
 /// Writes all the bytes. After a fault the sink has taken a beginning of them.

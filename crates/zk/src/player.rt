@@ -17,7 +17,7 @@ use std::marker::Model;
 use zops::Machine;
 use zpath::Memory;
 
-/// So many bytes are kept of a line: one more than a line may have, so that it shows as too long.
+// So many bytes are kept of a line: one more than a line may have, so that it shows as too long.
 const KEPT: usize = 524289;
 
 /// Plays a script.
@@ -88,7 +88,7 @@ impl Player {
         Ok(())
     }
 
-    /// Plays each line that ends in these bytes, and answers what follows the last LF.
+    // Plays each line that ends in these bytes, and answers what follows the last LF.
     fn play_lines<'a, K: Sink>(
         &mut self,
         sink: &mut K,
@@ -109,7 +109,7 @@ impl Player {
         Ok(rest)
     }
 
-    /// Ends the line with these bytes, and plays it. Where nothing is kept of it, it is not copied.
+    // Ends the line with these bytes, and plays it. Where nothing is kept of it, it is not copied.
     fn end_line<K: Sink>(&mut self, sink: &mut K, end: &[u8]) -> Result<(), PlayFault>
         ensures state { OnOk result (self.new.state ≡ after self.old.state (self.old.line ++ end.now)) }
         ensures line { OnOk result (self.new.line ≡ []) }
@@ -124,7 +124,7 @@ impl Player {
         Ok(())
     }
 
-    /// The same, but the reply is held.
+    // The same, but the reply is held.
     fn answer(&mut self, end: &[u8]) -> Result<(), Memory>
         ensures state { OnOk result (self.new.state ≡ after self.old.state (self.old.line ++ end.now)) }
         ensures line { OnOk result (self.new.line ≡ []) }
@@ -144,7 +144,7 @@ impl Player {
         Ok(())
     }
 
-    /// Adds these bytes to the line that has begun, so far as they are kept.
+    // Adds these bytes to the line that has begun, so far as they are kept.
     fn keep(&mut self, part: &[u8]) -> Result<(), Memory>
         ensures line { OnOk result (self.new.line ≡ kept (self.old.line ++ part.now)) }
         ensures state { OnOk result (self.new.state ≡ self.old.state) }
@@ -159,7 +159,7 @@ impl Player {
         Ok(())
     }
 
-    /// Writes the replies that are held.
+    // Writes the replies that are held.
     fn write_replies<K: Sink>(&mut self, sink: &mut K) -> Result<(), DeviceFault>
         ensures written { OnOk result (self.new ≡ record self.old { held = [] }) }
         ensures took { OnOk result (K.took sink.old self.old.held sink.new) }
@@ -171,7 +171,7 @@ impl Player {
     }
 }
 
-/// Splits bytes at their first LF: the end of a line, and what follows it.
+// Splits bytes at their first LF: the end of a line, and what follows it.
 fn split_line(bytes: &[u8]) -> Option<(&[u8], &[u8])>
     ensures some { IfSome result (λ parts. IsPart parts.0.now × (bytes.now ≡ parts.0.now ++ 10 ∷ parts.1.now)) }
     ensures none { IfNone result (IsPart bytes.now) }

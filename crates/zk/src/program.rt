@@ -60,7 +60,7 @@ pub fn command<S: Source, K: Sink, F: Sink>(
 }
 
 /// Writes a line. Only a fault of the device ends it early.
-fn tell<F: Sink>(faults: &mut F, text: &str)
+pub(crate) fn tell<F: Sink>(faults: &mut F, text: &str)
     ensures { IsTold (Between F.took faults.old faults.new) (Between F.failed faults.old faults.new) (text.now ++ 10 ∷ []) }
 {
     let Ok(()) = write_all(faults, text.as_bytes()) else {

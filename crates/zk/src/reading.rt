@@ -129,6 +129,7 @@ fn read_get(alloc: Global, mut words: Cursor) -> Result<Call, LineFault>
     Ok(Call::Query(Query::GetData(read_path(alloc, path)?)))
 }
 
+// The kind that a word names.
 fn read_kind(word: &str) -> Option<Kind>
     ensures { result ≡ kind_of word.now }
 {
@@ -139,6 +140,7 @@ fn read_kind(word: &str) -> Option<Kind>
     }
 }
 
+// The path that a word spells, or its fault.
 fn read_path(alloc: Global, word: &str) -> Result<Path, LineFault>
     ensures found { IfOk result (λ path. path_in word.now ≡ Ok path) }
     ensures fault { IfErr result (λ fault. (fault ≡ LineFault.Memory) ⊎ (path_in word.now ≡ Err fault)) }
@@ -150,6 +152,7 @@ fn read_path(alloc: Global, word: &str) -> Result<Path, LineFault>
     }
 }
 
+// The data that a word spells.
 fn read_bytes(alloc: Global, word: &str) -> Result<Data, LineFault>
     ensures found { IfOk result (λ bytes. data_in word.now ≡ Ok bytes) }
     ensures fault { IfErr result (λ fault. (fault ≡ LineFault.Memory) ⊎ (data_in word.now ≡ Err fault)) }

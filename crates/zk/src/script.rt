@@ -10,7 +10,7 @@ use crate::player::Player;
 use crate::settings::Servers;
 use std::alloc::{AllocError, Global};
 
-/// So many bytes are read at once.
+// So many bytes are read at once.
 const BLOCK: usize = 65536;
 
 /// Plays a script to the end that its source tells: each line as soon as its LF is read, and a last line
@@ -48,7 +48,7 @@ pub fn play<S: Source, K: Sink>(
     }
 }
 
-/// Room for so many bytes.
+// Room for so many bytes.
 fn zeros(alloc: Global, len: usize) -> Result<Vec<u8>, AllocError>
     ensures { IfOk result (λ block. vec_len block ≡ len) }
 {

@@ -2,7 +2,7 @@
 //!
 //! What bytes such a reader gave, or a writer took, is not known to a contract: the relations hold for all bytes.
 
-ghost use Rattle.std.specs.Prelude.{◌≡◌, ◌<◌, ◌≤◌, ◌+◌, ℕ, List, [], ◌++◌, length, take, IsTrue};
+ghost use Rattle.std.specs.Prelude.{◌≡◌, ◌<◌, ◌≤◌, ◌+◌, ℕ, List, [], ◌++◌, length, take, IsTrue, false, ◌^◌, ◌-◌};
 ghost use Rattle.zk.specs.Device.{Raises, never_raises, raises_both};
 
 use crate::device::{DeviceFault, Sink, Source};
@@ -19,7 +19,12 @@ pub struct ReaderSource<R> {
 
 impl<R: Read> ReaderSource<R> {
     /// Reads from this reader.
-    pub fn new(reader: R) -> ReaderSource<R> {
+    pub fn new(reader: R) -> ReaderSource<R>
+        ensures reader { result.reader ≡ reader }
+        ensures budget { result.budget ≡ 2 ^ 64 - 1 }
+        ensures sound { result.has_failed ≡ false }
+        ensures untold { result.told_end ≡ false }
+    {
         ReaderSource {
             reader,
             budget: u64::MAX,
@@ -68,7 +73,10 @@ pub struct WriterSink<W> {
 
 impl<W: Write> WriterSink<W> {
     /// Writes to this writer.
-    pub fn new(writer: W) -> WriterSink<W> {
+    pub fn new(writer: W) -> WriterSink<W>
+        ensures writer { result.writer ≡ writer }
+        ensures sound { result.has_failed ≡ false }
+    {
         WriterSink {
             writer,
             has_failed: false,

@@ -11,7 +11,7 @@ use crate::words::settings;
 use std::alloc::{AllocError, Global};
 use std::test::Fail;
 
-/// Plays a script by at most so many bytes a read and a write.
+// Plays a script by at most so many bytes a read and a write.
 fn played(alloc: Global, script: &[u8], at_most: usize) -> (Result<(), PlayFault>, VecSink)
     requires { 0 < at_most }
 {
@@ -104,7 +104,7 @@ fn knows_its_limits(rt: HostRuntime) -> Result<(), Fail> {
     Ok(())
 }
 
-/// A line of so many bytes, and another line.
+// A line of so many bytes, and another line.
 fn lines(alloc: Global, len: usize) -> Result<Vec<u8>, AllocError> {
     let mut script = vec![in alloc; b'x'; len]?;
     script.extend_from_slice(b"\n1 get /a\n")?;
@@ -193,7 +193,7 @@ fn reads_its_words(rt: HostRuntime) -> Result<(), Fail> {
     Ok(())
 }
 
-/// Runs the program over memory by these words: one read fails, and one write, each after so many.
+// Runs the program over memory by these words: one read fails, and one write, each after so many.
 fn told(alloc: Global, text: &str, reads: u64, writes: u64) -> Result<(u8, VecSink), AllocError> {
     let words: Vec<&str> = text.split(' ').collect(alloc)?;
     let mut source = SliceSource::new(b"a\nb", 65536).failing_after(reads);

@@ -35,7 +35,7 @@ pub fn settings<'a>(alloc: Global, words: &'a [&'a str]) -> Result<Settings, Wor
     }
 }
 
-/// The command line that this program understands.
+// The command line that this program understands.
 fn command_line<'a>(alloc: Global) -> Result<Command<'a>, AllocError> {
     let servers = Arg::new(alloc, "servers")
         .long("servers")

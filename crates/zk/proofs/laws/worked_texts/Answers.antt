@@ -1,0 +1,7 @@
+use Rattle.std.proofs.Common.{refl}
+use Rattle.std.specs.Fmt.{digits}
+use Rattle.zk.proofs.laws.worked_texts.Goals as goal
+
+pub returns-clause-stat : goal.returns-clause-stat
+unfolding digits
+returns-clause-stat c = refl
