@@ -8,13 +8,17 @@ use Rattle.zpath.specs.Faults.{child_tests, child_fault}
 use Rattle.zpath.proofs.First.{no_test_holds}
 use Rattle.zpath.proofs.NameTests.{at_most}
 
-all_front : (front : List (List ℕ)) (back : List (List ℕ)) → AllByRecursion IsName (front ++ back) → AllByRecursion IsName front
+pub all_front : (front : List (List ℕ)) (back : List (List ℕ)) → AllByRecursion IsName (front ++ back) → AllByRecursion IsName front
 all_front [] back are = tt
 all_front (name ∷ front) back are = (are.0, all_front front back are.1)
 
-all_more : (front : List (List ℕ)) (name : List ℕ) → AllByRecursion IsName front → IsName name → AllByRecursion IsName (front ++ name ∷ [])
+pub all_more : (front : List (List ℕ)) (name : List ℕ) → AllByRecursion IsName front → IsName name → AllByRecursion IsName (front ++ name ∷ [])
 all_more [] name are is = (is, tt)
 all_more (first ∷ front) name are is = (are.0, all_more front name are.1 is)
+
+pub all_last : (front : List (List ℕ)) (name : List ℕ) → AllByRecursion IsName (front ++ name ∷ []) → IsName name
+all_last [] name are = are.0
+all_last (first ∷ front) name are = all_last front name are.1
 
 -- the front of a path is a path
 pub IsPath-front : (front : List (List ℕ)) (name : List ℕ) → IsPath (front ++ name ∷ []) → IsPath front

@@ -4,3 +4,5 @@ pub mod Splits
 pub mod Spelling
 pub mod Family
 pub mod UniqueSpelling
+pub mod Digits
+pub mod Sequence

@@ -15,6 +15,9 @@ at_most limit n e = grind (arith, nat_tests)
 pub not_above : (limit n : ℕ) → n ≤ limit → ltb limit n ≡ false
 not_above limit n e = grind (arith, nat_tests)
 
+pub above : (limit n : ℕ) → limit < n → ltb limit n ≡ true
+above limit n e = grind (arith, nat_tests)
+
 filled_from_test : (name : List ℕ) → is_empty name ≡ false → 0 < length name
 filled_from_test [] e = cc
 filled_from_test (byte ∷ name) e = omega arith

@@ -2,3 +2,4 @@ pub mod First
 pub mod Grammar
 pub mod Faults
 pub mod Laws
+pub mod Numbered

@@ -2,13 +2,15 @@
 //!
 //! In comes a text, out comes a `Path` or the first fault of the text; a path is shown again as the
 //! one text that spells it. What a path is stands in `specs/Grammar.antt`, which fault a text has in
-//! `specs/Faults.antt`. Contracts see a `Name` as its bytes and a `Path` as the list of its names.
+//! `specs/Faults.antt`, how a sequential node is named in `specs/Numbered.antt`. Contracts see a
+//! `Name` as its bytes and a `Path` as the list of its names.
 #![tactic(auto)]
 
 mod fault;
 pub mod laws;
 mod memory;
 mod name;
+mod numbered;
 mod path;
 mod scan;
 #[cfg(test)]

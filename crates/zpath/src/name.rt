@@ -1,11 +1,13 @@
 //! One name of a path.
 
-ghost use Rattle.std.specs.Prelude.{◌≡◌, Some, IfOk, refl, nat_eq};
+ghost use Rattle.std.specs.Prelude.{◌≡◌, ◌≤◌, ◌++◌, length, Some, IfOk, refl, nat_eq};
 ghost use Rattle.std.specs.Cmp;
 ghost use Rattle.std.specs.Cmp.Lexicographic.{pointwise, nat_list_cmp_total, nat_list_eq_equiv, texts_po, texts_ties};
 ghost use Rattle.zpath.specs.Grammar.{name_cmp};
+ghost use Rattle.zpath.specs.Numbered.{digits};
 
 use crate::memory::Memory;
+use crate::numbered::push_digits;
 use std::alloc::Global;
 use std::cmp::Ordering;
 use std::fmt;
@@ -41,6 +43,16 @@ impl Name {
         Ok(Name {
             text: String::from_str(alloc, text)?,
         })
+    }
+
+    /// The name with a counter's ten digits after it.
+    pub(crate) fn numbered(&self, alloc: Global, counter: u64) -> Result<Name, Memory>
+        requires { length self.now ≤ 245 }
+        ensures { IfOk result (λ name. name ≡ self.now ++ digits 10 counter) }
+    {
+        let mut text = String::from_str(alloc, self.text.as_str())?;
+        push_digits(&mut text, 10, counter)?;
+        Ok(Name { text })
     }
 
     /// The name's text.

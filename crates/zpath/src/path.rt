@@ -1,15 +1,16 @@
 //! Paths: parsing, their family, their order and their text.
 
-ghost use Rattle.std.specs.Prelude.{◌≡◌, ◌⊎◌, ◌++◌, ℕ, List, [], ◌∷◌, Some, None, IfOk, IfErr, IfSome, IfNone, OnOk, refl, nat_eq};
+ghost use Rattle.std.specs.Prelude.{◌≡◌, ◌≢◌, ◌⊎◌, ◌++◌, ℕ, true, false, List, [], ◌∷◌, Some, None, IfOk, IfErr, IfSome, IfNone, OnOk, refl, nat_eq};
 ghost use Rattle.std.specs.Cmp;
 ghost use Rattle.std.specs.Cmp.Lexicographic.{pointwise, nat_list_cmp_total, nat_list_eq_equiv, texts_ties, lists_total, lists_equiv, lists_ties};
 ghost use Rattle.zpath.specs.Grammar.{name_cmp, path_cmp};
 ghost use Rattle.zpath.specs.Faults.{fault_of, child_fault};
+ghost use Rattle.zpath.specs.Numbered.{numbered, is_over, numbered_fault};
 
 use crate::fault::PathFault;
 use crate::memory::Memory;
 use crate::name::Name;
-use crate::scan;
+use crate::{numbered, scan};
 use std::alloc::Global;
 use std::cmp::Ordering;
 use std::fmt;
@@ -98,6 +99,28 @@ impl Path {
         }
         let mut names = copied(alloc, &self.names)?;
         names.push(name.copied(alloc)?)?;
+        Ok(Path { names })
+    }
+
+    /// The path with a counter's ten digits after its last name, as a sequential node is named ("n-" and 1 give
+    /// "n-0000000001"; ZooKeeper Programmer's Guide, "Sequence Nodes -- Unique Naming"), or why there is none.
+    /// Of a counter with more digits the last ten are taken.
+    pub fn numbered(&self, alloc: Global, counter: u64) -> Result<Path, PathFault>
+        requires below_root { self.now ≢ [] }
+        ensures numbered { IfOk result (λ path. IsPath path × (path ≡ numbered self.now counter)) }
+        ensures fits { OnOk result (numbered_fault self.now counter ≡ None) }
+        ensures within { OnOk result (is_over (numbered self.now counter) ≡ false) }
+        ensures fault { IfErr result (λ fault. (fault ≡ PathFault.Memory) ⊎ (numbered_fault self.now counter ≡ Some fault)) }
+        ensures over { IfErr result (λ fault. (fault ≡ PathFault.Memory) ⊎ (is_over (numbered self.now counter) ≡ true)) }
+    {
+        let Some((last, front)) = self.names.split_last() else {
+            return Ok(Path::root(alloc));
+        };
+        if let Some(fault) = numbered::numbered_fault(front, last) {
+            return Err(fault);
+        }
+        let mut names = copied(alloc, front)?;
+        names.push(last.numbered(alloc, counter)?)?;
         Ok(Path { names })
     }
 

@@ -137,8 +137,8 @@ fn text_len(names: &[Name]) -> usize
     names.iter().map(|name| name.as_str().len() + 1).sum()
 }
 
-// The length of the text of a path with one more name.
-fn child_len(path: &[Name], name: &Name) -> usize
+/// The length of the text of a path with one more name.
+pub(crate) fn child_len(path: &[Name], name: &Name) -> usize
     requires { IsPath path.now }
     ensures { result ≡ length (text_of (path.now ++ name.now ∷ [])) }
 {

@@ -86,3 +86,56 @@ fn walks_the_family(rt: HostRuntime) -> Result<(), Fail> {
     assert_eq!(rt; root.child(alloc, name), Err(PathFault::Reserved));
     Ok(())
 }
+
+#[test]
+fn numbers_a_path(rt: HostRuntime) -> Result<(), Fail> {
+    let alloc = rt.alloc();
+    for (text, counter, want) in [
+        ("/q/n-", 0, "/q/n-0000000000"),
+        ("/q/n-", 1234567890, "/q/n-1234567890"),
+        ("/a", 2147483647, "/a2147483647"),
+        ("/a/b/c", 17, "/a/b/c0000000017"),
+    ] {
+        let made = Path::parse(alloc, text)?.numbered(alloc, counter)?;
+        assert_eq!(rt; made, Path::parse(alloc, want)?, "at {text:?}");
+    }
+    Ok(())
+}
+
+// How long the last name becomes by a counter's digits, or why it can't have them.
+fn numbered_len(alloc: Global, text: &str) -> Result<usize, PathFault> {
+    let path = Path::parse(alloc, text)?;
+    if path.names().is_empty() {
+        return Ok(0);
+    }
+    let made = path.numbered(alloc, 7)?;
+    Ok(made.name().map_or(0, |name| name.as_str().len()))
+}
+
+#[test]
+fn numbers_no_longer_than_a_path(rt: HostRuntime) -> Result<(), Fail> {
+    let alloc = rt.alloc();
+    let name = "b".repeat(alloc, 245)?;
+    let longest = format!(in alloc; "/{name}0123456789")?;
+    let most = format!(in alloc; "{longest}{longest}{longest}")?;
+    let middle = "c".repeat(alloc, 200)?;
+    let last = "d".repeat(alloc, 44)?;
+    for (text, want) in [
+        (format!(in alloc; "/{name}")?, Ok(255)),
+        (format!(in alloc; "/{name}b")?, Err(PathFault::NameTooLong)),
+        // Texts of 1,024 and 1,025 bytes, with the digits.
+        (format!(in alloc; "{most}/{middle}/{last}")?, Ok(54)),
+        (
+            format!(in alloc; "{most}/{middle}/{last}d")?,
+            Err(PathFault::PathTooLong),
+        ),
+        // Both are too long.
+        (
+            format!(in alloc; "{most}/{name}b")?,
+            Err(PathFault::NameTooLong),
+        ),
+    ] {
+        assert_eq!(rt; numbered_len(alloc, text.as_str()), want, "at {text}");
+    }
+    Ok(())
+}

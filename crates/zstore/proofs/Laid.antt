@@ -1,11 +1,11 @@
 -- The numbers of Ids: each is of one path, and a new one is of none.
 use Rattle.std.proofs.Common.{◌≡◌, ◌≢◌, ℕ, zero, suc, ◌<◌, ◌+◌, Bool, true, false, cond, List, [], ◌∷◌, length, get_or, Option, Some, None, refl, sym, ap, ◌∙◌, arith}
 use lib.Dec.{eqb}
-use Rattle.std.specs.List.{AllByRecursion, insert}
+use Rattle.std.specs.List.{AllByRecursion, insert, remove}
 use Rattle.std.specs.Ordering.{nat_cmp}
 use Rattle.std.specs.Cmp.{nat_cmp_total, unsigned_tied}
 use Rattle.std.specs.FinMap as finite
-use Rattle.std.specs.FinMap.{nat_cmp-IsAntisymmetric, find, from_entries, same_map, get-from_entries, get-insert}
+use Rattle.std.specs.FinMap.{nat_cmp-IsAntisymmetric, find, from_entries, same_map, get-from_entries, get-insert, get-remove}
 use Rattle.std.proofs.lemmas.Bool.Decides.{nat_tests}
 use Rattle.zstore.specs.Tree.{Path}
 use Rattle.zstore.specs.declared.row.Row.{Row}
@@ -101,3 +101,48 @@ module _ (new : ℕ × Path) where
       get-from_entries nat_cmp_total (insert es i new) q ∙ find_more es i q none
       ∙ (λ j. cond (sym (unsigned_tied q new.0) j) (Some new.1) (sym (get-from_entries nat_cmp_total es q) j))
       ∙ sym (get-insert nat_cmp_total (from_entries es) new.0 new.1 q))
+
+none_either_way : {A : Type 0} (t : Bool) → cond {A = Option A} t None None ≡ None
+none_either_way true = refl
+none_either_way false = refl
+
+-- what a number finds after one place less
+pub find_less : (es : Places) (i : ℕ) (d : ℕ × Path) (q : ℕ) → AllApart es → i < length es → find nat_cmp q (remove es i) ≡ cond (eqb q (get_or es i d).0) None (find nat_cmp q es)
+find_less [] i d q apart l = absurd (omega arith)
+find_less (e ∷ es) zero d q apart l = rw (unsigned_tied q e.0) (by (eqb q e.0) refl)
+  where
+    by : (t : Bool) → eqb q e.0 ≡ t → find nat_cmp q es ≡ cond t None (cond t (Some e.1) (find nat_cmp q es))
+    by true is =
+        let same : q ≡ e.0 = grind (arith, nat_tests) in
+        ap (λ x. find nat_cmp x es) same ∙ apart.0
+    by false is = refl
+find_less (e ∷ es) (suc i) d q apart l =
+    let n = (get_or es i d).0 in
+    rw (unsigned_tied q e.0, find_less es i d q apart.1 (omega arith)) (swapped q n e.0 (Some e.1) None (find nat_cmp q es) (other (eqb n e.0) refl))
+  where
+    other : (t : Bool) → eqb (get_or es i d).0 e.0 ≡ t → eqb (get_or es i d).0 e.0 ≡ false
+    other true is =
+        let same : (get_or es i d).0 ≡ e.0 = grind (arith, nat_tests) in
+        absurd (some_is_not_none _ (sym (find_place es i d apart.1 (omega arith)) ∙ ap (λ x. find nat_cmp x es) same ∙ apart.0))
+    other false is = is
+
+pub apart_remove : (es : Places) (i : ℕ) → AllApart es → i < length es → AllApart (remove es i)
+apart_remove [] i apart l = absurd (omega arith)
+apart_remove (e ∷ es) zero apart l = apart.1
+apart_remove (e ∷ es) (suc i) apart l = (
+  find_less es i e e.0 apart.1 (omega arith) ∙ ap (λ v. cond (eqb e.0 (get_or es i e).0) None v) apart.0 ∙ none_either_way (eqb e.0 (get_or es i e).0),
+  apart_remove es i apart.1 (omega arith),
+)
+
+pub numbers_remove : (es : Places) (i n : ℕ) → AllByRecursion (λ (e : ℕ × Path). e.0 < n) es → AllByRecursion (λ (e : ℕ × Path). e.0 < n) (remove es i)
+numbers_remove [] zero n h = tt
+numbers_remove [] (suc i) n h = tt
+numbers_remove (e ∷ es) zero n h = h.1
+numbers_remove (e ∷ es) (suc i) n h = (h.0, numbers_remove es i n h.1)
+
+-- one place less is one entry less of the map
+pub places_remove : (es : Places) (i : ℕ) (d : ℕ × Path) → AllApart es → i < length es → from_entries {R = nat_cmp} (remove es i) ≡ finite.remove (from_entries es) (get_or es i d).0
+places_remove es i d apart l = same_map nat_cmp_total nat_cmp-IsAntisymmetric _ _ (λ q.
+    get-from_entries nat_cmp_total (remove es i) q ∙ find_less es i d q apart l
+    ∙ (λ j. cond (sym (unsigned_tied q (get_or es i d).0) j) None (sym (get-from_entries nat_cmp_total es q) j))
+    ∙ sym (get-remove nat_cmp_total (from_entries es) (get_or es i d).0 q))

@@ -4,3 +4,4 @@ pub mod Laid
 pub mod Children
 pub mod Shown
 pub mod Nodes
+pub mod Families

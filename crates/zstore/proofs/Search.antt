@@ -27,12 +27,12 @@ later k q x Greater e l =
     rw x_q (omega arith)
 
 -- a path below all rows is below each
-below_at : (k : Path) (rows : List Row) (j : ℕ) (d : Row) → T (below_all path_cmp k (node_rows rows)) → j < length rows → path_cmp k (get_or rows j d).path ≡ Less
+pub below_at : (k : Path) (rows : List Row) (j : ℕ) (d : Row) → T (below_all path_cmp k (node_rows rows)) → j < length rows → path_cmp k (get_or rows j d).path ≡ Less
 below_at k [] j d h l = absurd (omega arith)
 below_at k (r ∷ rows) zero d h l = is_less _ (both_parts _ (below_all path_cmp k (node_rows rows)) h).0
 below_at k (r ∷ rows) (suc j) d h l = below_at k rows j d (both_parts _ (below_all path_cmp k (node_rows rows)) h).1 (omega arith)
 
-tail_sorted : (r : Row) (rows : List Row) → T (is_sorted path_cmp (node_rows (r ∷ rows))) → T (below_all path_cmp r.path (node_rows rows)) × T (is_sorted path_cmp (node_rows rows))
+pub tail_sorted : (r : Row) (rows : List Row) → T (is_sorted path_cmp (node_rows (r ∷ rows))) → T (below_all path_cmp r.path (node_rows rows)) × T (is_sorted path_cmp (node_rows rows))
 tail_sorted r rows s = both_parts (below_all path_cmp r.path (node_rows rows)) (is_sorted path_cmp (node_rows rows)) s
 
 -- along sorted rows the comparisons with one path rise

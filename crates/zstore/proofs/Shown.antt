@@ -1,13 +1,14 @@
 -- What laid rows show: the map of nodes and the map of Ids, and what a write to the rows makes of them.
-use Rattle.std.proofs.Common.{◌≡◌, ℕ, zero, suc, ◌<◌, ◌+◌, false, List, [], ◌∷◌, map, length, get_or, set, Option, Some, None, IfNone, refl, sym, ap, subst, ◌∙◌, arith}
+use Rattle.std.proofs.Common.{◌≡◌, ℕ, zero, suc, ◌<◌, ◌+◌, false, List, [], ◌∷◌, map, length, get_or, set, Option, Some, None, IfNone, Result, Ok, Err, IfOk, refl, sym, ap, subst, ◌∙◌, arith}
 use lib.Dec.{T}
-use Rattle.std.specs.List.{insert, filter_map}
+use Rattle.std.specs.List.{insert, remove, filter_map}
 use Rattle.std.specs.Option.{option_and_then}
 use Rattle.std.specs.Prelude.{is_some}
 use Rattle.std.specs.Ordering.{nat_cmp}
 use Rattle.std.specs.Cmp.{nat_cmp_total}
 use Rattle.std.specs.FinMap as finite
 use Rattle.std.specs.FinMap.{find, put, is_sorted, from_sorted, from_entries, entries-from_sorted, get-from_sorted, get-from_entries}
+use Rattle.std.specs.FinMap.Entries.{where_key}
 use Rattle.std.proofs.lemmas.List.{length-map}
 use Rattle.zpath.specs.Grammar.{path_cmp}
 use Rattle.zstore.specs.declared.id.Id.{Id}
@@ -18,15 +19,22 @@ use Rattle.zstore.specs.declared.store.Store.TheInside.{Inside}
 use Rattle.zstore.specs.Tree.{Path, Nodes, child_name, stat_with, stat_at}
 use Rattle.zstore.specs.Held.{Held, path_of, node_of}
 use Rattle.zstore.specs.Rows.{node_row, node_rows, place_row, place_rows, held_by, IsLaid, IsGapFor}
-use Rattle.zstore.proofs.Sorted.{paths_total, find_at, find_gap, set_at, insert_gap, put_sorted, from_sorted-put}
+use Rattle.zstore.proofs.Sorted.{paths_total, same_path, other_than, remove_at, others_sorted, from_sorted-others, find_at, find_gap, set_at, insert_gap, put_sorted, from_sorted-put}
 use Rattle.zstore.proofs.Search.{at_rows, gap_rows}
-use Rattle.zstore.proofs.Laid.{find_place, find_fresh, numbers_insert, apart_insert, places_insert}
+use Rattle.zstore.proofs.Laid.{find_place, find_fresh, numbers_insert, apart_insert, places_insert, numbers_remove, apart_remove, places_remove}
 
 pub if_none : {A : Type 0} (r : Option A) (P : Type 0) → P → IfNone r P
 if_none None P h = h
 if_none (Some x) P h = tt
 
-at_itself : (rows : List Row) (at : ℕ) (d : Row) → at < length rows → (x : Row) → (get_or rows at x).path ≡ (get_or rows at d).path
+pub if_ok : {A E : Type 0} (r : Result A E) (P Q : A → Type 0) → IfOk r P → ((x : A) → P x → Q x) → IfOk r Q
+if_ok (Ok x) P Q h f = f x h
+if_ok (Err e) P Q h f = tt
+
+pub some_is_not_none : {A : Type 0} (x : A) → Some x ≡ None → ⊥
+some_is_not_none x e = cc
+
+pub at_itself : (rows : List Row) (at : ℕ) (d : Row) → at < length rows → (x : Row) → (get_or rows at x).path ≡ (get_or rows at d).path
 at_itself [] at d l x = absurd (omega arith)
 at_itself (r ∷ rows) zero d l x = refl
 at_itself (r ∷ rows) (suc at) d l x = at_itself rows at d (omega arith) x
@@ -46,6 +54,12 @@ module _ {X : Type 0} (f : Row → X) where
   insert-map rows zero new = refl
   insert-map [] (suc at) new = refl
   insert-map (r ∷ rows) (suc at) new = ap (λ t. f r ∷ t) (insert-map rows at new)
+
+  remove-map : (rows : List Row) (at : ℕ) → map f (remove rows at) ≡ remove (map f rows) at
+  remove-map [] zero = refl
+  remove-map [] (suc at) = refl
+  remove-map (r ∷ rows) zero = refl
+  remove-map (r ∷ rows) (suc at) = ap (λ t. f r ∷ t) (remove-map rows at)
 
   -- a write that leaves what f reads
   set_same-map : (rows : List Row) (at : ℕ) (d new : Row) → f new ≡ f (get_or rows at d) → at < length rows → map f (set rows at new) ≡ map f rows
@@ -85,13 +99,19 @@ module _ (rows : List Row) (s : T (is_sorted path_cmp (node_rows rows))) where
   insert_is_put : (at : ℕ) (new : Row) → IsGapFor rows new.path at → node_rows (insert rows at new) ≡ put path_cmp new.path new.node (node_rows rows)
   insert_is_put at new gap = insert-map node_row rows at new ∙ insert_gap path_cmp paths_total new.path new.node (node_rows rows) at (gap_rows new.path rows at gap)
 
+  -- the rows without one are those of other paths
+  remove_is_others : (at : ℕ) (d : Row) → at < length rows → node_rows (remove rows at) ≡ where_key path_cmp (other_than path_cmp (get_or rows at d).path) (node_rows rows)
+  remove_is_others at d l =
+      let path = (get_or rows at d).path in
+      remove-map node_row rows at ∙ remove_at path_cmp paths_total path (node_rows rows) at s (at_rows path rows at s (record { within = l; here = at_itself rows at d l }))
+
   entries-shown : finite.entries (nodes_of rows) ≡ node_rows rows
   entries-shown = entries-from_sorted path_cmp (node_rows rows) s
 
   pub len-shown : finite.len (nodes_of rows) ≡ length rows
   len-shown = finite.len-entries _ ∙ ap length entries-shown ∙ length-map rows node_row
 
-  keys-shown : finite.keys (nodes_of rows) ≡ map (λ (r : Row). r.path) rows
+  pub keys-shown : finite.keys (nodes_of rows) ≡ map (λ (r : Row). r.path) rows
   keys-shown = ap (map (λ (e : Path × Node). e.0)) entries-shown ∙ keys_of_rows rows
 
   pub stat-at : (at : ℕ) (d : Row) → at < length rows → stat_at (nodes_of rows) (get_or rows at d).path ≡ Some (stat_with (get_or rows at d).node (length (filter_map (child_name (get_or rows at d).path) (map (λ (r : Row). r.path) rows))))
@@ -146,6 +166,26 @@ module _ (rows : List Row) (alive : List SessionRow) (bound : ℕ) (laid : IsLai
 
   pub fresh_place : finite.get (from_entries {R = nat_cmp} (place_rows rows)) bound ≡ None
   fresh_place = get-from_entries nat_cmp_total (place_rows rows) bound ∙ find_fresh (place_rows rows) bound laid.numbers
+
+  -- a row that is taken away leaves the rows laid
+  pub remove_is_laid : (at : ℕ) (d : Row) → at < length rows → IsLaid (remove rows at) alive bound
+  remove_is_laid at d l =
+      let places = remove-map place_row rows at in
+      record {
+        sorted = others_sorted path_cmp paths_total (get_or rows at d).path (node_rows rows) (node_rows (remove rows at)) laid.sorted (remove_is_others rows laid.sorted at d l);
+        apart = rw places (apart_remove (place_rows rows) at laid.apart (rw (length-map rows place_row) l));
+        numbers = rw places (numbers_remove (place_rows rows) at bound laid.numbers);
+        sessions = laid.sessions;
+      }
+
+  pub nodes_of-remove : (at : ℕ) (d : Row) → at < length rows → nodes_of (remove rows at) ≡ finite.remove (nodes_of rows) (get_or rows at d).path
+  nodes_of-remove at d l = from_sorted-others path_cmp paths_total same_path (get_or rows at d).path (node_rows rows) (node_rows (remove rows at)) laid.sorted (remove_is_others rows laid.sorted at d l)
+
+  pub places_of-remove : (at : ℕ) (d : Row) → at < length rows → from_entries {R = nat_cmp} (place_rows (remove rows at)) ≡ finite.remove (from_entries (place_rows rows)) (get_or rows at d).number
+  places_of-remove at d l =
+      ap (from_entries {R = nat_cmp}) (remove-map place_row rows at)
+      ∙ places_remove (place_rows rows) at (place_row d) laid.apart (rw (length-map rows place_row) l)
+      ∙ ap (λ (e : ℕ × Path). finite.remove (from_entries {R = nat_cmp} (place_rows rows)) e.0) (get_or-map place_row rows at d)
 
 module _ (s : Inside) (laid : IsLaid s.rows.items s.sessions.items s.given) (h : Held) (view : held_by s ≡ h) (id : Id) where
   -- an Id names the path and the node of the row with its number

@@ -1,15 +1,17 @@
 -- Rows in the order of their keys: what stands at a place, and what an edit there makes of the map.
-use Rattle.std.proofs.Common.{◌≡◌, ℕ, zero, suc, Bool, true, false, ◌&&◌, List, [], ◌∷◌, ◌++◌, take, drop, get_or, set, Some, None, refl, sym, ap, subst, ◌∙◌}
+use Rattle.std.proofs.Common.{◌≡◌, ℕ, zero, suc, Bool, true, false, not, cond, ◌&&◌, List, [], ◌∷◌, ◌++◌, take, drop, get_or, set, Option, Some, None, refl, sym, ap, subst, ◌∙◌}
 use lib.Dec.{T}
 use Rattle.std.specs.declared.cmp.Ordering.{Ordering}
 use Rattle.std.specs.declared.cmp.Ordering.TheVariants.{Less, Equal, Greater}
-use Rattle.std.specs.Ordering.{is_lt}
-use Rattle.std.specs.Cmp.{IsTotalOrder, tied_itself}
-use Rattle.std.specs.FinMap.{find, put, is_sorted, insert, from_sorted, entries-from_sorted, entries-insert, same_entries_map}
+use Rattle.std.specs.Ordering.{is_lt, is_eq, eq_by_cmp}
+use Rattle.std.specs.Cmp.{IsTotalOrder, tied_itself, alike_right, eq_by_cmp_equiv}
+use Rattle.std.specs.FinMap as finite
+use Rattle.std.specs.FinMap.{find, put, is_sorted, insert, from_sorted, entries-from_sorted, entries-insert, get-from_sorted, get-remove, same_entries_map, same_map}
+use Rattle.std.specs.List.{remove}
 use Rattle.std.specs.Cmp.Lexicographic.{lists_total, nat_list_cmp_total}
 use Rattle.std.specs.FinMap.{IsAntisymmetric, slice_cmp-IsAntisymmetric, nat_cmp-IsAntisymmetric}
 use Rattle.zpath.specs.Grammar.{path_cmp}
-use Rattle.std.specs.FinMap.Entries.{below_all, is_sorted-put}
+use Rattle.std.specs.FinMap.Entries.{below_all, where_key, is_sorted-put, is_sorted-where_key, find-where_key}
 
 pub both_parts : (a b : Bool) → T (a && b) → T a × T b
 both_parts true b h = (tt, h)
@@ -25,6 +27,10 @@ paths_total = lists_total nat_list_cmp_total
 
 pub same_path : IsAntisymmetric path_cmp
 same_path = slice_cmp-IsAntisymmetric (slice_cmp-IsAntisymmetric nat_cmp-IsAntisymmetric)
+
+-- the test for keys that aren't q
+abbrev pub other_than : {K : Type 0} → (K → K → Ordering) → K → K → Bool
+other_than R q x = not (eq_by_cmp R q x)
 
 module _ {K X : Type 0} (R : K → K → Ordering) where
   -- the key is that of the row at the place, and it is above those before it
@@ -83,3 +89,33 @@ module _ {K X : Type 0} (R : K → K → Ordering) where
     from_sorted-put q v es fs s e = same_entries_map _ _ (
         entries-from_sorted R fs (put_sorted q v es fs s e) ∙ e ∙ ap (put R q v) (sym (entries-from_sorted R es s)) ∙ sym (entries-insert o (from_sorted es) q v)
         )
+
+    -- keys above q aren't q
+    all_others : (q k : K) (es : List (K × X)) → k ≡ q → T (below_all R k es) → where_key R (other_than R q) es ≡ es
+    all_others q k [] e h = refl
+    all_others q k (x ∷ es) e h =
+        let parts = both_parts (is_lt (R k x.0)) (below_all R k es) h in
+        let low : R q x.0 ≡ Less = ap (λ y. R y x.0) (sym e) ∙ is_less _ parts.0 in
+        rw low (ap (λ t. x ∷ t) (all_others q k es e parts.1))
+
+    -- the rows without the one at a key's place are those with other keys
+    pub remove_at : (q : K) (es : List (K × X)) (i : ℕ) → T (is_sorted R es) → At q es i → remove es i ≡ where_key R (other_than R q) es
+    remove_at q [] i s a = absurd a
+    remove_at q (e ∷ es) zero s a = rw (a, tied_itself o q) (sym (all_others q e.0 es a (both_parts (below_all R e.0 es) (is_sorted R es) s).0))
+    remove_at q (e ∷ es) (suc i) s a = rw a.0 (ap (λ t. e ∷ t) (remove_at q es i (both_parts (below_all R e.0 es) (is_sorted R es) s).1 a.1))
+
+    -- and they make the map without the key
+    pub others_sorted : (q : K) (es fs : List (K × X)) → T (is_sorted R es) → fs ≡ where_key R (other_than R q) es → T (is_sorted R fs)
+    others_sorted q es fs s e = subst (λ rows. T (is_sorted R rows)) (sym e) (is_sorted-where_key R (other_than R q) es s)
+
+    turned : (b : Bool) (x y : Option X) → cond (not b) x y ≡ cond b y x
+    turned true x y = refl
+    turned false x y = refl
+
+    pub from_sorted-others : IsAntisymmetric R → (q : K) (es fs : List (K × X)) → T (is_sorted R es) → fs ≡ where_key R (other_than R q) es → from_sorted {R = R} fs ≡ finite.remove (from_sorted es) q
+    from_sorted-others same q es fs s e = same_map o same _ _ (λ k.
+        get-from_sorted R fs k (others_sorted q es fs s e) ∙ ap (find R k) e
+        ∙ find-where_key R (other_than R q) k (λ x t. ap (λ r. not (is_eq r)) (sym (alike_right o k x q t))) es
+        ∙ turned (eq_by_cmp R q k) _ _
+        ∙ ap (λ b. cond b None (find R k es)) ((eq_by_cmp_equiv o).symm q k)
+        ∙ sym (get-remove o (from_sorted es) q k ∙ ap (λ v. cond (eq_by_cmp R k q) None v) (get-from_sorted R es k s)))

@@ -1,10 +1,10 @@
 -- What a store shows: the plain tree that it stands for, and which Ids name its nodes.
-use Rattle.std.specs.Prelude.{◌≡◌, ℕ, Option, None, refl}
+use Rattle.std.specs.Prelude.{◌≡◌, ℕ, ◌+◌, Option, None, refl}
 use Rattle.std.specs.Coded.{Coded, code_by, coded×, coded_ℕ}
 use Rattle.std.specs.Option.{option_and_then}
 use Rattle.std.specs.Ordering.{nat_cmp}
 use Rattle.std.specs.FinMap as finite
-use Rattle.std.specs.FinMap.{FinMap, get, insert}
+use Rattle.std.specs.FinMap.{FinMap, get, insert, remove}
 use Rattle.zstore.specs.declared.id.Id.{Id}
 use Rattle.zstore.specs.declared.node.Node.{Node}
 use Rattle.zstore.specs.Tree.{Tree, Path, coded_tree, coded_path}
@@ -23,9 +23,18 @@ path_of h id = get h.places id.number
 abbrev pub node_of : Held → Id → Option Node
 node_of h id = option_and_then (get h.tree.nodes) (path_of h id)
 
--- the Id names this path and no other, and every other Id names what it named
+-- the number of an Id
+abbrev pub number_of : Id → ℕ
+number_of id = id.number
+
+-- the Id is the next that is given, and it names this path and no other, and every other Id names what it named
 abbrev pub Names : Held → Held → Id → Path → Type 0
-Names old new id path = (path_of old id ≡ None) × (new.places ≡ insert old.places id.number path)
+Names old new id path =
+    (path_of old id ≡ None) × (new.places ≡ insert old.places id.number path) × (number_of id ≡ old.given) × (new.given ≡ old.given + 1)
+
+-- the Id names nothing any more, and every other Id names what it named
+abbrev pub Forgets : Held → Held → Id → Type 0
+Forgets old new id = new.places ≡ remove old.places id.number
 
 -- how it is stored
 abbrev pub coded_held : Coded Held

@@ -1,5 +1,6 @@
 -- The rows of a store, and what they stand for.
-use Rattle.std.specs.Prelude.{◌≡◌, ℕ, ◌<◌, ◌≤◌, List, [], ◌∷◌, map, length, slice_index_or, None}
+use Rattle.std.specs.Str.{bytes_eq}
+use Rattle.std.specs.Prelude.{filter_map, Bool, true, false, ◌&&◌, ◌≡◌, ℕ, ◌<◌, ◌≤◌, List, [], ◌∷◌, map, length, slice_index_or, None}
 use lib.Dec.{T}
 use Rattle.std.specs.List.{AllByRecursion}
 use Rattle.std.specs.Ordering.{nat_cmp}
@@ -11,7 +12,7 @@ use Rattle.zstore.specs.declared.session.Session.{Session}
 use Rattle.zstore.specs.declared.row.Row.{Row}
 use Rattle.zstore.specs.declared.row.SessionRow.{SessionRow}
 use Rattle.zstore.specs.declared.store.Store.TheInside.{Inside}
-use Rattle.zstore.specs.Tree.{Path}
+use Rattle.zstore.specs.Tree.{Path, Name, child_name}
 use Rattle.zstore.specs.Held.{Held}
 
 -- a row as an entry of the map of nodes
@@ -74,3 +75,13 @@ pub record IsGapFor (rows : List Row) (path : Path) (at : ℕ) : Type 0 where
   pub within : at ≤ length rows
   pub before : (k : ℕ) (d : Row) → k < at → path_cmp (slice_index_or rows k d).path path ≡ Less
   pub behind : (k : ℕ) (d : Row) → at ≤ k → k < length rows → path_cmp (slice_index_or rows k d).path path ≡ Greater
+
+-- a path is p, or p with more names
+abbrev pub is_beneath : Path → Path → Bool
+is_beneath [] path = true
+is_beneath (a ∷ p) [] = false
+is_beneath (a ∷ p) (b ∷ path) = bytes_eq a b && is_beneath p path
+
+-- the names that rows have beneath a path, in the rows' order
+abbrev pub names_of_children : Path → List Row → List Name
+names_of_children path rows = filter_map (child_name path) (map (λ (r : Row). r.path) rows)

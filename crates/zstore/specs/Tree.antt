@@ -6,7 +6,7 @@ use Rattle.std.specs.Coded.{Coded, code_by, coded×, coded_ℕ, coded_list}
 use Rattle.std.specs.Option.{option_map, option_map_or}
 use Rattle.std.specs.Ordering.{nat_cmp}
 use Rattle.std.specs.FinMap as finite
-use Rattle.std.specs.FinMap.{FinMap, get, insert, keys, entries}
+use Rattle.std.specs.FinMap.{FinMap, get, insert, remove, keys, entries}
 use Rattle.std.specs.List.{filter_map}
 use Rattle.std.specs.Str.{bytes_eq}
 use Rattle.zpath.specs.Grammar.{path_cmp}
@@ -109,6 +109,22 @@ changed_at nodes p f = option_map_or (λ n. insert nodes p (f n)) (get nodes p) 
 abbrev pub added : Tree → Path → List ℕ → ℕ → Bool → Tree
 added t path bytes owner sequential =
     record t { nodes = changed_at (insert t.nodes path (new_node bytes owner (t.zxid + 1) t.time)) (parent_of path) (with_child (t.zxid + 1) sequential) }
+
+-- a node after change z took a child from beneath it
+abbrev pub without_child : ℕ → Node → Node
+without_child z n = record n { pzxid = z; cversion = n.cversion + 1 }
+
+-- one node fewer, taken by the next change: the node gone, and the marks at its parent
+abbrev pub dropped : Tree → Path → Tree
+dropped t path = record t { nodes = changed_at (remove t.nodes path) (parent_of path) (without_child (t.zxid + 1)) }
+
+-- a node after change z wrote its data at a tick
+abbrev pub with_data : List ℕ → ℕ → ℕ → Node → Node
+with_data bytes z time n = record n { bytes = bytes; mzxid = z; mtime = time; version = n.version + 1 }
+
+-- the data of a node, written by the next change
+abbrev pub written : Tree → Path → List ℕ → Tree
+written t path bytes = record t { nodes = changed_at t.nodes path (with_data bytes (t.zxid + 1) t.time) }
 
 -- one more change
 abbrev pub raised : Tree → Tree

@@ -7,15 +7,18 @@
 #![tactic(auto)]
 
 mod client;
+mod family;
 mod id;
 mod node;
 mod node_data;
 mod place;
+mod reading;
 mod row;
 mod session;
 mod store;
 #[cfg(test)]
 mod tests;
+mod writing;
 
 pub use client::ClientId;
 pub use id::Id;

@@ -1,6 +1,8 @@
 //! A znode, and what is told of one.
 
 use crate::node_data::Data;
+use std::alloc::Global;
+use zpath::Memory;
 
 /// A znode: the fields of the stat structure (ZooKeeper Programmer's Guide, "ZooKeeper Stat
 /// Structure"), its data, and the counter that this project's profile gives each node.
@@ -55,7 +57,7 @@ pub struct Stat {
 }
 
 impl Node {
-    ghost use Rattle.std.specs.Prelude.{◌≡◌};
+    ghost use Rattle.std.specs.Prelude.{◌≡◌, IfOk};
     ghost use Rattle.zstore.specs.Tree.{stat_with};
 
     /// What is told of the node where it has so many children.
@@ -74,5 +76,23 @@ impl Node {
             length: self.bytes.as_slice().len() as u64,
             children,
         }
+    }
+
+    /// The same node once more.
+    pub(crate) fn copied(&self, alloc: Global) -> Result<Node, Memory>
+        ensures { IfOk result (λ copy. copy ≡ self.now) }
+    {
+        Ok(Node {
+            bytes: self.bytes.copied(alloc)?,
+            czxid: self.czxid,
+            mzxid: self.mzxid,
+            pzxid: self.pzxid,
+            ctime: self.ctime,
+            mtime: self.mtime,
+            version: self.version,
+            cversion: self.cversion,
+            owner: self.owner,
+            seq: self.seq,
+        })
     }
 }

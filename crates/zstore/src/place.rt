@@ -1,15 +1,13 @@
 //! Where a node's row is.
 
-ghost use Rattle.std.specs.Prelude.{◌≡◌, ◌≤◌, ◌<◌, ℕ, IfOk, IfErr, IfSome, IfNone, None, length, slice_index_or};
+ghost use Rattle.std.specs.Prelude.{◌≡◌, ◌≢◌, [], ◌<◌, IfOk, IfErr, IfSome, IfNone, None, length, slice_index_or};
 ghost use lib.Dec.{T};
-ghost use Rattle.std.specs.List.{filter_map};
-ghost use Rattle.std.specs.Prelude.{map, is_some};
 ghost use Rattle.std.specs.Ordering.{nat_cmp};
 ghost use Rattle.std.specs.FinMap.{find, is_sorted};
 ghost use Rattle.zpath.specs.Grammar.{path_cmp};
 ghost use Rattle.zstore.specs.declared.row.Row.{Row};
 ghost use Rattle.zstore.specs.Rows.{IsAt, IsGapFor, node_rows, place_rows};
-ghost use Rattle.zstore.specs.Tree.{child_name};
+ghost use Rattle.zstore.specs.Tree.{parent_of};
 
 use crate::id::Id;
 use crate::row::Row;
@@ -36,6 +34,18 @@ pub(crate) fn gap_of(rows: &[Row], path: &Path) -> usize
     }
 }
 
+/// Where the row right above a path is, if there is one.
+pub(crate) fn parent_place(rows: &[Row], path: &Path) -> Option<usize>
+    requires sorted { T (is_sorted path_cmp (node_rows rows.now)) }
+    requires below_root { path.now ≢ [] }
+    ensures found { IfSome result (IsAt rows.now (parent_of path.now)) }
+    ensures absent { IfNone result (find path_cmp (parent_of path.now) (node_rows rows.now) ≡ None) }
+{
+    let (_, front) = path.names().split_last()?;
+    rows.binary_search_by(|row| row.path.names().cmp(front))
+        .ok()
+}
+
 /// Where the row of an Id is, if its node lives. Mostly the hint is right.
 pub(crate) fn row_of(rows: &[Row], id: Id) -> Option<usize>
     ensures found { IfSome result (λ at. (at < length rows.now) × ((d : Row) → (slice_index_or rows.now at d).number ≡ id.number)) }
@@ -50,23 +60,4 @@ pub(crate) fn row_of(rows: &[Row], id: Id) -> Option<usize>
         }
     }
     None
-}
-
-/// Whether the path is the parent's with one more name.
-pub(crate) fn is_child(parent: &Path, path: &Path) -> bool
-    ensures { result ≡ is_some (child_name parent.now path.now) }
-{
-    match path.names().split_last() {
-        Some((_, front)) => front == parent.names(),
-        None => false,
-    }
-}
-
-/// How many rows are those of the parent's children.
-pub(crate) fn child_count(rows: &[Row], parent: &Path) -> usize
-    ensures { result ≡ length (filter_map (child_name parent.now) (map (λ r. r.path) rows.now)) }
-{
-    rows.iter()
-        .filter(|row| is_child(parent, &row.path))
-        .count()
 }

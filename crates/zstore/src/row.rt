@@ -1,8 +1,11 @@
 //! A row of the store.
 
+ghost use Rattle.std.specs.Prelude.{◌≡◌, IfOk};
+
 use crate::node::Node;
 use crate::session::Session;
-use zpath::Path;
+use std::alloc::Global;
+use zpath::{Memory, Path};
 
 /// A node, where it is, and the number of its Id.
 #[derive(Drop)]
@@ -17,4 +20,51 @@ pub(crate) struct Row {
 pub(crate) struct SessionRow {
     pub(crate) number: u64,
     pub(crate) session: Session,
+}
+
+impl Row {
+    /// The same row once more.
+    fn copied(&self, alloc: Global) -> Result<Row, Memory>
+        ensures { IfOk result (λ copy. copy ≡ self.now) }
+    {
+        Ok(Row {
+            path: self.path.copied(alloc)?,
+            number: self.number,
+            node: self.node.copied(alloc)?,
+        })
+    }
+}
+
+impl SessionRow {
+    /// The same row once more.
+    fn copied(&self) -> SessionRow
+        ensures { result ≡ self.now }
+    {
+        SessionRow {
+            number: self.number,
+            session: self.session,
+        }
+    }
+}
+
+/// The same rows once more.
+pub(crate) fn copied_rows(alloc: Global, rows: &[Row]) -> Result<Vec<Row>, Memory>
+    ensures { IfOk result (λ copy. copy.items ≡ rows.now) }
+{
+    let mut copy = Vec::new(alloc);
+    for row in rows {
+        copy.push(row.copied(alloc)?)?;
+    }
+    Ok(copy)
+}
+
+/// The same rows of sessions once more.
+pub(crate) fn copied_sessions(alloc: Global, rows: &[SessionRow]) -> Result<Vec<SessionRow>, Memory>
+    ensures { IfOk result (λ copy. copy.items ≡ rows.now) }
+{
+    let mut copy = Vec::new(alloc);
+    for row in rows {
+        copy.push(row.copied())?;
+    }
+    Ok(copy)
 }

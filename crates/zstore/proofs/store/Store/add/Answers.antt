@@ -7,12 +7,12 @@ use Rattle.std.specs.Option.{option_and_then}
 use Rattle.zstore.proofs.Nodes.{get-insert-other, parent_is_other, still_named}
 use Rattle.zstore.proofs.store.Store.add.Goals as goal
 
-pub child_made-requires-clause-live : goal.child_made-requires-clause-live
-child_made-requires-clause-live c =
+pub child_changed-requires-clause-live : goal.child_changed-requires-clause-live
+child_changed-requires-clause-live c =
     rw (still_named c.args.self.now c.insert.new.self c.in_ok-id.id c.args.path c.args.parent (parent_of c.args.path) c.in_ok-id.ensures.named c.requires.live) (search rules)
 
-pub child_made-requires-clause-counters : goal.child_made-requires-clause-counters
-child_made-requires-clause-counters c = λ n is.
+pub child_changed-requires-clause-counters : goal.child_changed-requires-clause-counters
+child_changed-requires-clause-counters c = λ n is.
     let path = c.args.path in
     let live = still_named c.args.self.now c.insert.new.self c.in_ok-id.id path c.args.parent (parent_of path) c.in_ok-id.ensures.named c.requires.live in
     let got = ap (λ (t : Tree). finite.get t.nodes (parent_of path)) c.in_ok-id.ensures.tree ∙ get-insert-other c.args.self.now.tree.nodes path _ (parent_of path) (parent_is_other path c.requires.below_root) in
@@ -24,6 +24,6 @@ returns-clause-added c =
     let path = c.args.path in
     let live = still_named c.args.self.now c.insert.new.self c.in_ok-id.id path c.args.parent (parent_of path) c.in_ok-id.ensures.named c.requires.live in
     let made = ap (λ (h : Held). new_node c.args.bytes c.args.owner (h.tree.zxid + 1) h.tree.time) c.self.view_is in
-    c.child_made.ensures.tree (parent_of path) live
+    c.child_changed.ensures.tree (parent_of path) live
     ∙ ap (λ (t : Tree). record t { nodes = changed_at t.nodes (parent_of path) (with_child (t.zxid + 1) c.args.sequential) }) c.in_ok-id.ensures.tree
     ∙ ap (λ (n : Node). record c.args.self.now.tree { nodes = changed_at (finite.insert c.args.self.now.tree.nodes path n) (parent_of path) (with_child (c.args.self.now.tree.zxid + 1) c.args.sequential) }) made

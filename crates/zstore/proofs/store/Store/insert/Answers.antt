@@ -32,4 +32,4 @@ returns-clause-named c =
     let s = c.self.inside in
     let row : Row = record { path = c.args.path; number = s.given; node = c.args.node } in
     let laid = c.self.invariant in
-    rw (c.in_ok-insert.ensures.items, ← c.self.view_is) (fresh_place s.rows.items s.sessions.items s.given laid, places_of-insert s.rows.items s.sessions.items s.given laid c.gap_of-at.result row refl)
+    rw (c.in_ok-insert.ensures.items, ← c.self.view_is) (fresh_place s.rows.items s.sessions.items s.given laid, places_of-insert s.rows.items s.sessions.items s.given laid c.gap_of-at.result row refl, refl, refl)

@@ -1,12 +1,12 @@
 use Rattle.std.proofs.Common.{sym, ap, ◌∙◌, Some}
 use Rattle.zstore.specs.declared.row.Row.{Row}
-use Rattle.zstore.proofs.Shown.{if_none, node_of-held, node_of-gone}
+use Rattle.zstore.proofs.Shown.{if_none, node_of-held, path_of-gone}
 use Rattle.zstore.proofs.store.Store.node.Goals as goal
 
 pub returns-in_err-at-clause-gone : goal.returns-in_err-at-clause-gone
 returns-in_err-at-clause-gone c =
     let absent = rw c.deref.ensures.value at c.in_err-at.ensures.absent in
-    if_none c.from_residual.result _ (node_of-gone c.self.inside c.self.invariant _ c.self.view_is c.args.id absent)
+    if_none c.from_residual.result _ (path_of-gone c.self.inside c.self.invariant _ c.self.view_is c.args.id absent)
 
 pub returns-clause-node : goal.returns-clause-node
 returns-clause-node c =

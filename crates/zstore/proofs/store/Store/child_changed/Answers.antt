@@ -1,13 +1,13 @@
-use Rattle.std.proofs.Common.{◌≡◌, ◌≤◌, Bool, true, false, ◌+◌, get_or, sym, ap, ◌∙◌, Some, None, cond, arith, refl}
+use Rattle.std.proofs.Common.{◌≡◌, ◌≤◌, Bool, true, false, ◌+◌, get_or, sym, ap, ◌∙◌, Some, cond, arith, refl}
 use Rattle.std.specs.FinMap as finite
 use Rattle.zstore.specs.declared.row.Row.{Row}
 use Rattle.zstore.specs.Held.{Held}
-use Rattle.zstore.specs.Tree.{HasRoom, Path, with_child}
+use Rattle.zstore.specs.Tree.{HasRoom, with_child}
 use Rattle.zstore.specs.Rows.{place_row}
 use mir.Val.{bool_byte}
 use Rattle.zstore.proofs.Nodes.{changed_at-some}
-use Rattle.zstore.proofs.Shown.{nodes_of, get-at, path_of-held, node_of-held, path_of-gone, set_is_laid, nodes_of-set, places_of-set}
-use Rattle.zstore.proofs.store.Store.child_made.Goals as goal
+use Rattle.zstore.proofs.Shown.{nodes_of, some_is_not_none, get-at, path_of-held, node_of-held, path_of-gone, set_is_laid, nodes_of-set, places_of-set}
+use Rattle.zstore.proofs.store.Store.child_changed.Goals as goal
 
 byte_is : (b : Bool) → bool_byte b ≡ cond b 1 0
 byte_is true = refl
@@ -62,9 +62,6 @@ returns-in-Some-clause-same c =
       places_of-set s.rows.items s.sessions.items s.given c.self.invariant c.in-Some.at row _ found.0 (ap place_row c.index_mut.ensures.value) ∙ ap (λ (h : Held). h.places) c.self.view_is,
       ap (λ (h : Held). h.given) c.self.view_is,
     )
-
-some_is_not_none : (x : Path) → Some x ≡ None → ⊥
-some_is_not_none x e = cc
 
 pub returns-in_default-clause-tree : goal.returns-in_default-clause-tree
 returns-in_default-clause-tree c = λ path named.

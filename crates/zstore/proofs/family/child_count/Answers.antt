@@ -1,0 +1,17 @@
+use Rattle.std.proofs.Common.{◌≡◌, length, sym, ap, ◌∙◌, rules}
+use Rattle.std.specs.Prelude.{is_some}
+use Rattle.std.specs.List.{count_by}
+use Rattle.zstore.specs.declared.row.Row.{Row}
+use Rattle.zstore.specs.Tree.{Path, child_name}
+use Rattle.zstore.specs.Rows.{names_of_children}
+use Rattle.zstore.proofs.Children.{length-children}
+use Rattle.zstore.proofs.Shown.{at_itself}
+use Rattle.zstore.proofs.family.child_count.Goals as goal
+
+pub returns : goal.returns
+returns c = λ d.
+    let path = c.index-rows-at.result.path in
+    let family = c.family.result.now in
+    let count : c.count.result ≡ count_by (λ (r : Row). is_some (child_name path r.path)) family = search rules in
+    let here = at_itself c.args.rows.now c.args.at c.index-rows-at.result c.requires.within d ∙ ap (λ (r : Row). r.path) (sym c.index-rows-at.is) in
+    count ∙ sym (length-children path family) ∙ ap (λ (p : Path). length (names_of_children p family)) (sym here) ∙ ap length (c.family.ensures d)
