@@ -10,4 +10,5 @@ pub mod Cutting
 pub mod Numerals
 pub mod LeftOver
 pub mod Spacing
-pub mod OneNumeral
+pub mod PartsShape
+pub mod PartsCount

@@ -4,11 +4,12 @@
 mod cursor;
 mod device;
 mod fault;
-mod laws;
 mod memory;
 mod node_bytes;
 mod number;
 mod output;
+mod part_reading;
+mod part_words;
 mod player;
 mod program;
 mod reading;
@@ -16,6 +17,7 @@ mod reply;
 mod request;
 mod script;
 mod settings;
+mod shape;
 mod step;
 mod stream;
 #[cfg(test)]
