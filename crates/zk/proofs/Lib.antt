@@ -8,6 +8,8 @@ pub mod Stops
 pub mod Runs
 pub mod Cutting
 pub mod Numerals
+pub mod OneNumeral
 pub mod LeftOver
 pub mod Spacing
-pub mod OneNumeral
+pub mod PartsShape
+pub mod PartsCount

@@ -5,6 +5,7 @@ pub mod Playing
 pub mod Outcome
 pub mod Words
 pub mod LineWords
+pub mod Shape
 pub mod Request
 pub mod Reply
 pub mod Left

@@ -1,19 +1,31 @@
 -- What a line asks for: the script's grammar. It is this project's own profile.
+-- A line that has not the shape is a bad line; else the first path or data that is refused, from the left, is named.
 use Rattle.std.specs.Prelude.{ℕ, List, [], ◌∷◌, codes, nat_eq, Option, None, Some, Result, Ok, Err, if◌then◌else◌}
 use Rattle.std.specs.Option.{option_map_or}
 use Rattle.std.specs.Str.{bytes_eq}
 use Rattle.zpath.specs.Faults.{fault_of, names_of}
 use Rattle.zops.specs.declared.call.Kind.{Kind}
-use Rattle.zops.specs.declared.call.Kind.TheVariants.{Persistent}
-use Rattle.zops.specs.declared.call.Update.TheVariants.{Create}
-use Rattle.zops.specs.declared.call.Query.TheVariants.{GetData}
+use Rattle.zops.specs.declared.call.Expected.{Expected}
+use Rattle.zops.specs.declared.call.Create.{Create}
+use Rattle.zops.specs.declared.call.Delete.{Delete}
+use Rattle.zops.specs.declared.call.SetData.{SetData}
+use Rattle.zops.specs.declared.call.Check.{Check}
+use Rattle.zops.specs.declared.call.Part.{Part}
+use Rattle.zops.specs.declared.call.Part.TheVariants as part_of
+use Rattle.zops.specs.declared.call.Update.{Update as Change}
+use Rattle.zops.specs.declared.call.Update.TheVariants as update_of
+use Rattle.zops.specs.declared.call.Query.{Query as Question}
+use Rattle.zops.specs.declared.call.Query.TheVariants.{GetData, Exists, GetChildren}
 use Rattle.zops.specs.declared.call.Call.{Call}
 use Rattle.zops.specs.declared.call.Call.TheVariants.{Update, Query}
 use Rattle.zstore.specs.Tree.{Path}
+use Rattle.zk.specs.declared.part_words.PartWords.{PartWords}
+use Rattle.zk.specs.declared.part_words.PartWords.TheVariants as words_of_part
 use Rattle.zk.specs.declared.request.Request.{Request}
 use Rattle.zk.specs.declared.request.LineFault.{LineFault}
 use Rattle.zk.specs.declared.request.LineFault.TheVariants.{BadLine, BadPath, BadData}
 use Rattle.zk.specs.LineWords.{Word, words_of, is_malformed, client_of, data_of}
+use Rattle.zk.specs.Shape.{part_shape, alone, parts_shape}
 
 -- what is read of a line, or why nothing is
 abbrev pub Read : Type 0 → Type 0
@@ -37,31 +49,79 @@ path_in word = option_map_or (λ fault. Err (BadPath fault)) (fault_of word) (Ok
 abbrev pub data_in : Word → Read (List ℕ)
 data_in word = option_map_or (λ bytes. Ok bytes) (data_of word) (Err BadData)
 
--- how a node is to be made
-abbrev pub kind_of : Word → Option Kind
-kind_of word = if bytes_eq word (codes "p") then Some Persistent else None
-
--- create PATH KIND DATA
-abbrev pub create_in : List Word → Read Call
-create_in (path ∷ (kind ∷ (bytes ∷ []))) =
-    then_read (shaped (kind_of kind)) (λ kind.
+-- create PATH KIND DATA, where the path comes before the data
+abbrev pub create_in : Word → Kind → Word → Read Create
+create_in path kind bytes =
     then_read (path_in path) (λ path.
     then_read (data_in bytes) (λ bytes.
-    Ok (Update (Create (record { path = path; kind = kind; bytes = bytes }))))))
-create_in words = Err BadLine
+    Ok (record { path = path; kind = kind; bytes = bytes })))
 
--- get PATH
-abbrev pub get_in : List Word → Read Call
-get_in (path ∷ []) = then_read (path_in path) (λ path. Ok (Query (GetData path)))
-get_in words = Err BadLine
+-- delete PATH VERSION
+abbrev pub delete_in : Word → Expected → Read Delete
+delete_in path version = then_read (path_in path) (λ path. Ok (record { path = path; version = version }))
+
+-- set PATH VERSION DATA, where the path comes before the data
+abbrev pub set_in : Word → Expected → Word → Read SetData
+set_in path version bytes =
+    then_read (path_in path) (λ path.
+    then_read (data_in bytes) (λ bytes.
+    Ok (record { path = path; bytes = bytes; version = version })))
+
+-- check PATH VERSION
+abbrev pub check_in : Word → Expected → Read Check
+check_in path version = then_read (path_in path) (λ path. Ok (record { path = path; version = version }))
+
+-- a part of a multi
+abbrev pub part_in : PartWords → Read Part
+part_in (words_of_part.Create path kind bytes) = then_read (create_in path kind bytes) (λ create. Ok (part_of.Create create))
+part_in (words_of_part.Delete path version) = then_read (delete_in path version) (λ delete. Ok (part_of.Delete delete))
+part_in (words_of_part.SetData path version bytes) = then_read (set_in path version bytes) (λ set. Ok (part_of.SetData set))
+part_in (words_of_part.Check path version) = then_read (check_in path version) (λ check. Ok (part_of.Check check))
+
+-- the parts of a multi, from the left
+abbrev pub parts_in : List PartWords → Read (List Part)
+parts_in [] = Ok []
+parts_in (words ∷ more) = then_read (part_in words) (λ part. then_read (parts_in more) (λ parts. Ok (part ∷ parts)))
+
+-- a part that stands alone; a check is no call of its own
+abbrev pub update_in : PartWords → Read Change
+update_in (words_of_part.Create path kind bytes) = then_read (create_in path kind bytes) (λ create. Ok (update_of.Create create))
+update_in (words_of_part.Delete path version) = then_read (delete_in path version) (λ delete. Ok (update_of.Delete delete))
+update_in (words_of_part.SetData path version bytes) = then_read (set_in path version bytes) (λ set. Ok (update_of.SetData set))
+update_in (words_of_part.Check path version) = Err BadLine
+
+-- a call of one part
+abbrev pub single_in : Word → List Word → Read Call
+single_in verb words =
+    then_read (shaped (alone (part_shape verb words))) (λ part.
+    then_read (update_in part) (λ update.
+    Ok (Update update)))
+
+-- multi PART ; PART ; PART, with 1 to 64 parts
+abbrev pub multi_in : List Word → Read Call
+multi_in words =
+    then_read (shaped (parts_shape 64 words)) (λ parts.
+    then_read (parts_in parts) (λ parts.
+    Ok (Update (update_of.Multi parts))))
+
+-- the PATH that a query asks about
+abbrev pub asked_in : List Word → Read Path
+asked_in (path ∷ []) = path_in path
+asked_in words = Err BadLine
+
+-- a query
+abbrev pub query_in : (Path → Question) → List Word → Read Call
+query_in query words = then_read (asked_in words) (λ path. Ok (Query (query path)))
 
 -- the call that a command asks for
 abbrev pub call_in : List Word → Read Call
 call_in [] = Err BadLine
 call_in (verb ∷ words) =
-    if bytes_eq verb (codes "create") then create_in words else
-    if bytes_eq verb (codes "get") then get_in words else
-    Err BadLine
+    if bytes_eq verb (codes "get") then query_in GetData words else
+    if bytes_eq verb (codes "exists") then query_in Exists words else
+    if bytes_eq verb (codes "ls") then query_in GetChildren words else
+    if bytes_eq verb (codes "multi") then multi_in words else
+    single_in verb words
 
 -- the client that may give a command: 1 to 31
 abbrev pub caller_of : Word → Option ℕ

@@ -43,7 +43,7 @@ pub fn worked_words()
 {}
 
 /// Worked rows of the lines: what each asks for, or why it asks for nothing.
-#[tactic(auto, unfolding(crate::specs::Request::request_of, zpath::specs::Faults::fault_of, base64::proofs::OnLiterals::base64_on_literals))]
+#[tactic(auto, unfolding(crate::specs::Request::request_of, crate::specs::Shape::parts_shape, zpath::specs::Faults::fault_of, base64::proofs::OnLiterals::base64_on_literals))]
 pub fn worked_lines()
     ensures unknown { request_of (codes "1 multi") ≡ Err BadLine }
     ensures empty { request_of (codes "") ≡ Err BadLine }
@@ -53,7 +53,11 @@ pub fn worked_lines()
     ensures relative { request_of (codes "1 get a") ≡ Err (BadPath NotAbsolute) }
     ensures no_padding { request_of (codes "1 create /a p aGk") ≡ Err BadData }
     ensures path_first { request_of (codes "1 create a p aGk") ≡ Err (BadPath NotAbsolute) }
-    ensures kind_first { request_of (codes "1 create a ps aGk") ≡ Err BadLine }
+    ensures kind_first { request_of (codes "1 create a x aGk") ≡ Err BadLine }
+    ensures mark_is_a_word { request_of (codes "1 multi create ; p -") ≡ Err (BadPath NotAbsolute) }
+    ensures mark_is_data { request_of (codes "1 multi create /a p ; ; check /a any") ≡ Err BadData }
+    ensures mark_ends { request_of (codes "1 multi check /a any ;") ≡ Err BadLine }
+    ensures lone_check { request_of (codes "1 check /a any") ≡ Err BadLine }
     ensures get { request_of (codes "1 get /a") ≡ Ok (record { client = 1; call = Query (GetData ((97 ∷ []) ∷ [])) }) }
     ensures create { request_of (codes "31 create / p -") ≡ Ok (record { client = 31; call = Update (Create (record { path = []; kind = Persistent; bytes = [] })) }) }
 {}

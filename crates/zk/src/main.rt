@@ -9,6 +9,8 @@ mod memory;
 mod node_bytes;
 mod number;
 mod output;
+mod part_reading;
+mod part_words;
 mod player;
 mod program;
 mod reading;
@@ -16,6 +18,7 @@ mod reply;
 mod request;
 mod script;
 mod settings;
+mod shape;
 mod step;
 mod stream;
 #[cfg(test)]

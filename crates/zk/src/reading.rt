@@ -1,18 +1,19 @@
 //! Lines, read.
 
 ghost use Rattle.std.specs.Prelude.{◌≡◌, ◌⊎◌, Ok, Err, None, Some, IfOk, IfErr, IfNone, IfSome, true, false};
-ghost use Rattle.zk.specs.Request.{request_of, call_in, create_in, get_in, path_in, data_in, kind_of, caller_of};
+ghost use Rattle.zk.specs.Request.{request_of, call_in, asked_in, single_in, multi_in, caller_of};
 ghost use Rattle.zk.specs.LineWords.{is_malformed};
 ghost use Rattle.zk.specs.Spaced.{is_spaced};
 
 use crate::cursor::Cursor;
-use crate::node_bytes::{DataFault, read_data};
 use crate::number::number;
+use crate::part_reading::{read_parts, read_path, read_update};
 use crate::request::{LineFault, Request};
+use crate::shape::{all_parts, lone_part};
 use std::alloc::Global;
 use std::str;
-use zops::{Call, ClientId, Create, Data, Kind, Query, Update};
-use zpath::{Path, PathFault};
+use zops::{Call, ClientId, Multi, Query, Update};
+use zpath::Path;
 
 // The most bytes that a line may have.
 const LIMIT: usize = 524_288;
@@ -87,38 +88,19 @@ fn read_call(alloc: Global, mut words: Cursor) -> Result<Call, LineFault>
     let Some(verb) = words.next() else {
         return Err(LineFault::BadLine);
     };
-    if verb == "create" {
-        read_create(alloc, words)
-    } else if verb == "get" {
-        read_get(alloc, words)
-    } else {
-        Err(LineFault::BadLine)
+    match verb {
+        "get" => Ok(Call::Query(Query::GetData(read_asked(alloc, words)?))),
+        "exists" => Ok(Call::Query(Query::Exists(read_asked(alloc, words)?))),
+        "ls" => Ok(Call::Query(Query::GetChildren(read_asked(alloc, words)?))),
+        "multi" => read_multi(alloc, words),
+        _ => read_single(alloc, verb, words),
     }
 }
 
-// create PATH KIND DATA
-fn read_create(alloc: Global, mut words: Cursor) -> Result<Call, LineFault>
-    ensures found { IfOk result (λ call. create_in words.entry ≡ Ok call) }
-    ensures fault { IfErr result (λ fault. (fault ≡ LineFault.Memory) ⊎ (create_in words.entry ≡ Err fault)) }
-{
-    let (Some(path), Some(kind), Some(bytes)) = (words.next(), words.next(), words.next()) else {
-        return Err(LineFault::BadLine);
-    };
-    if !words.is_done() {
-        return Err(LineFault::BadLine);
-    }
-    let Some(kind) = read_kind(kind) else {
-        return Err(LineFault::BadLine);
-    };
-    let path = read_path(alloc, path)?;
-    let bytes = read_bytes(alloc, bytes)?;
-    Ok(Call::Update(Update::Create(Create { path, kind, bytes })))
-}
-
-// get PATH
-fn read_get(alloc: Global, mut words: Cursor) -> Result<Call, LineFault>
-    ensures found { IfOk result (λ call. get_in words.entry ≡ Ok call) }
-    ensures fault { IfErr result (λ fault. (fault ≡ LineFault.Memory) ⊎ (get_in words.entry ≡ Err fault)) }
+// The path that a query asks about, and no further word.
+fn read_asked(alloc: Global, mut words: Cursor) -> Result<Path, LineFault>
+    ensures found { IfOk result (λ path. asked_in words.entry ≡ Ok path) }
+    ensures fault { IfErr result (λ fault. (fault ≡ LineFault.Memory) ⊎ (asked_in words.entry ≡ Err fault)) }
 {
     let Some(path) = words.next() else {
         return Err(LineFault::BadLine);
@@ -126,40 +108,28 @@ fn read_get(alloc: Global, mut words: Cursor) -> Result<Call, LineFault>
     if !words.is_done() {
         return Err(LineFault::BadLine);
     }
-    Ok(Call::Query(Query::GetData(read_path(alloc, path)?)))
+    read_path(alloc, path)
 }
 
-// The kind that a word names.
-fn read_kind(word: &str) -> Option<Kind>
-    ensures { result ≡ kind_of word.now }
+// A call of one part.
+fn read_single(alloc: Global, verb: &str, words: Cursor) -> Result<Call, LineFault>
+    ensures found { IfOk result (λ call. single_in verb.now words.entry ≡ Ok call) }
+    ensures fault { IfErr result (λ fault. (fault ≡ LineFault.Memory) ⊎ (single_in verb.now words.entry ≡ Err fault)) }
 {
-    if word == "p" {
-        Some(Kind::Persistent)
-    } else {
-        None
-    }
+    let Some(part) = lone_part(verb, words) else {
+        return Err(LineFault::BadLine);
+    };
+    Ok(Call::Update(read_update(alloc, &part)?))
 }
 
-// The path that a word spells, or its fault.
-fn read_path(alloc: Global, word: &str) -> Result<Path, LineFault>
-    ensures found { IfOk result (λ path. path_in word.now ≡ Ok path) }
-    ensures fault { IfErr result (λ fault. (fault ≡ LineFault.Memory) ⊎ (path_in word.now ≡ Err fault)) }
+// A call of several parts.
+fn read_multi(alloc: Global, words: Cursor) -> Result<Call, LineFault>
+    ensures found { IfOk result (λ call. multi_in words.entry ≡ Ok call) }
+    ensures fault { IfErr result (λ fault. (fault ≡ LineFault.Memory) ⊎ (multi_in words.entry ≡ Err fault)) }
 {
-    match Path::parse(alloc, word) {
-        Ok(path) => Ok(path),
-        Err(PathFault::Memory) => Err(LineFault::Memory),
-        Err(fault) => Err(LineFault::BadPath(fault)),
-    }
-}
-
-// The data that a word spells.
-fn read_bytes(alloc: Global, word: &str) -> Result<Data, LineFault>
-    ensures found { IfOk result (λ bytes. data_in word.now ≡ Ok bytes) }
-    ensures fault { IfErr result (λ fault. (fault ≡ LineFault.Memory) ⊎ (data_in word.now ≡ Err fault)) }
-{
-    match read_data(alloc, word) {
-        Ok(bytes) => Ok(bytes),
-        Err(DataFault::Bad) => Err(LineFault::BadData),
-        Err(DataFault::Memory) => Err(LineFault::Memory),
+    let parts = all_parts(alloc, words)?;
+    match Multi::new(read_parts(alloc, &parts)?) {
+        Ok(multi) => Ok(Call::Update(Update::Multi(multi))),
+        Err(_) => Err(LineFault::BadLine),
     }
 }

@@ -2,12 +2,12 @@
 
 ghost use Rattle.std.specs.Prelude.{◌≡◌, ◌++◌, OnOk, string_bytes};
 ghost use Rattle.std.specs.List.{flat_map};
-ghost use Rattle.zk.specs.Reply.{reply_text, stat_text, spaced};
+ghost use Rattle.zk.specs.Reply.{reply_text, stat_text, parts_text, part_text, next_part_text, spaced, spaced_name};
 
 use crate::node_bytes::write_data;
 use itoa::Buffer;
-use zops::{Reply, Stat};
-use zpath::Memory;
+use zops::{PartReply, Reply, Stat};
+use zpath::{Memory, Name};
 
 /// Writes a reply, without the end of its line.
 pub(crate) fn write_reply(reply: &Reply, out: &mut String) -> Result<(), Memory>
@@ -15,13 +15,77 @@ pub(crate) fn write_reply(reply: &Reply, out: &mut String) -> Result<(), Memory>
 {
     match reply {
         Reply::Created(path) => write!(out, "ok {path}")?,
+        Reply::Deleted => out.push_str("ok deleted")?,
+        Reply::Set(stat) | Reply::Exists(stat) => {
+            out.push_str("ok stat")?;
+            write_stat(stat, out)?;
+        }
+        Reply::Multi(replies) => {
+            out.push_str("ok multi ")?;
+            write_parts(replies.as_slice(), out)?;
+        }
         Reply::Data(bytes, stat) => {
             out.push_str("ok data ")?;
             write_data(bytes.as_slice(), out)?;
             out.push_str(" stat")?;
             write_stat(stat, out)?;
         }
+        Reply::Children(names) => {
+            let names = names.as_slice();
+            write!(out, "ok {}", names.len())?;
+            write_names(names, out)?;
+        }
         Reply::Refused(refusal) => write!(out, "no {refusal}")?,
+        Reply::MultiRefused(number, refusal) => write!(out, "no multi {number} {refusal}")?,
+    }
+    Ok(())
+}
+
+// What the parts of a multi did, with ` ; ` between.
+fn write_parts(replies: &[PartReply], out: &mut String) -> Result<(), Memory>
+    ensures { OnOk result (string_bytes out.new ≡ string_bytes out.old ++ parts_text replies.now) }
+{
+    let [first, more @ ..] = replies else {
+        return Ok(());
+    };
+    write_part(first, out)?;
+    write_more_parts(more, out)
+}
+
+// What further parts of a multi did.
+fn write_more_parts(replies: &[PartReply], out: &mut String) -> Result<(), Memory>
+    ensures { OnOk result (string_bytes out.new ≡ string_bytes out.old ++ flat_map next_part_text replies.now) }
+{
+    for reply in replies {
+        out.push_str(" ; ")?;
+        write_part(reply, out)?;
+    }
+    Ok(())
+}
+
+// What one part of a multi did.
+fn write_part(reply: &PartReply, out: &mut String) -> Result<(), Memory>
+    ensures { OnOk result (string_bytes out.new ≡ string_bytes out.old ++ part_text reply.now) }
+{
+    match reply {
+        PartReply::Created(path) => write!(out, "{path}")?,
+        PartReply::Deleted => out.push_str("deleted")?,
+        PartReply::Set(stat) => {
+            out.push_str("stat")?;
+            write_stat(stat, out)?;
+        }
+        PartReply::Checked => out.push_str("checked")?,
+    }
+    Ok(())
+}
+
+// Each name, after a space.
+fn write_names(names: &[Name], out: &mut String) -> Result<(), Memory>
+    ensures { OnOk result (string_bytes out.new ≡ string_bytes out.old ++ flat_map spaced_name names.now) }
+{
+    for name in names {
+        out.push_str(" ")?;
+        out.push_str(name.as_str())?;
     }
     Ok(())
 }

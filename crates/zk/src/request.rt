@@ -1,7 +1,9 @@
 //! What a line asks for, or why it asks for nothing.
 
 ghost use Rattle.std.specs.Prelude.{◌≡◌};
+ghost use Rattle.zk.specs.declared.request.LineFault.TheVariants.{Memory};
 
+use std::alloc::AllocFailed;
 use zops::{Call, ClientId};
 use zpath::PathFault;
 
@@ -25,4 +27,12 @@ pub(crate) enum LineFault {
     BadData,
     /// A growth was refused.
     Memory,
+}
+
+impl<T: Drop> From<AllocFailed<T>> for LineFault {
+    ghost from_gives = { λ _ fault. fault ≡ Memory };
+
+    fn from(_fault: AllocFailed<T>) -> LineFault {
+        LineFault::Memory
+    }
 }

@@ -22,7 +22,7 @@ fn played(alloc: Global, script: &[u8], at_most: usize) -> (Result<(), PlayFault
 }
 
 // What a script answers, by blocks of any size and byte by byte.
-const ROWS: [(&str, &str); 11] = [
+const ROWS: [(&str, &str); 20] = [
     ("", ""),
     (
         "1 create /a p aGk=\n1 get /a\n",
@@ -53,7 +53,7 @@ const ROWS: [(&str, &str); 11] = [
         "bad line\nbad line\nbad line\nbad line\nbad line\nbad line\nbad line\nbad line\nbad line\n",
     ),
     (
-        "1 create /a ps -\n1 create a e:1 aGk\n1 create a p aGk\n1 create /a p aGk\n1 create /a p =\n",
+        "1 create /a s -\n1 create a e:1 aGk\n1 create a p aGk\n1 create /a p aGk\n1 create /a p =\n",
         "bad line\nbad line\nbad path NotAbsolute\nbad data\nbad data\n",
     ),
     (
@@ -63,6 +63,45 @@ const ROWS: [(&str, &str); 11] = [
     (
         "1 get /a;b\n; get /\n1 get ;\n",
         "no NoNode\nbad line\nbad path NotAbsolute\n",
+    ),
+    (
+        "1 exists /\n1 ls /\n1 ls /none\n1 exists /none\n",
+        "ok stat 0 0 0 0 0 0 0 0 0 0\nok 0\nno NoNode\nno NoNode\n",
+    ),
+    (
+        "1 create /q p -\n1 create /q/n- ps -\n1 create /q/n- ps -\n1 ls /q\n1 exists /q\n",
+        "ok /q\nok /q/n-0000000000\nok /q/n-0000000001\nok 2 n-0000000000 n-0000000001\nok stat 1 1 3 0 0 0 2 0 0 2\n",
+    ),
+    (
+        "1 create /a p aGk=\n1 set /a 1 -\n1 set /a any -\n1 delete /a 0\n1 delete /a 1\n1 exists /\n",
+        "ok /a\nno BadVersion\nok stat 1 2 1 0 0 1 0 0 0 0\nno BadVersion\nok deleted\nok stat 0 0 3 0 0 0 2 0 0 0\n",
+    ),
+    (
+        "1 create /a p aGk=\n1 multi create /m p - ; set /none any - ; delete /a any\n1 exists /m\n1 exists /\n1 multi create /m p - ; check /a 0 ; set /a 0 eA== ; delete /m any\n1 exists /\n",
+        "ok /a\nno multi 2 NoNode\nno NoNode\nok stat 0 0 1 0 0 0 1 0 0 1\nok multi /m ; checked ; stat 1 2 1 0 0 1 0 0 1 0 ; deleted\nok stat 0 0 2 0 0 0 3 0 0 1\n",
+    ),
+    // `;` is a word like any other where a path or data is wanted.
+    (
+        "1 multi create ; p -\n1 multi create /a p ; ; check /a any\n1 delete ; any\n",
+        "bad path NotAbsolute\nbad data\nbad path NotAbsolute\n",
+    ),
+    // `;` stands between two parts, and nowhere else.
+    (
+        "1 multi create /a p - ;\n1 multi create /a p - ; ; check /a any\n1 multi ; check /a any\n1 multi create /a p - check /a any\n1 multi ;\n1 create /a p - ; check /a any\n",
+        "bad line\nbad line\nbad line\nbad line\nbad line\nbad line\n",
+    ),
+    // The shape of all parts comes before any path or data, and these from the left.
+    (
+        "1 multi create a p - ; put\n1 multi create /a p = ; delete b any\n1 multi delete b any ; create /a p =\n1 multi set b any =\n",
+        "bad line\nbad data\nbad path NotAbsolute\nbad path NotAbsolute\n",
+    ),
+    (
+        "1 check /a any\n1 check a any\n1 delete /a 01\n1 delete /a -1\n1 delete /a 4611686018427387904\n1 set /a any\n1 set /a - any\n1 delete /a any -\n1 exists\n1 ls / /\n",
+        "bad line\nbad line\nbad line\nbad line\nbad line\nbad line\nbad line\nbad line\nbad line\nbad line\n",
+    ),
+    (
+        "1 delete / any\n1 delete /a 4611686018427387903\n1 set /a 0 =\n1 ls a\n",
+        "no RootFixed\nno NoNode\nbad data\nbad path NotAbsolute\n",
     ),
 ];
 
@@ -83,6 +122,8 @@ fn knows_its_limits(rt: HostRuntime) -> Result<(), Fail> {
     let alloc = rt.alloc();
     let name = "a".repeat(alloc, 255)?;
     let most = "QUFB".repeat(alloc, 1365)?;
+    let checks = " ; check / 0".repeat(alloc, 63)?;
+    let checked = " ; checked".repeat(alloc, 63)?;
     for (script, text) in [
         (
             format!(in alloc; "1 create /{name} p -\n")?,
@@ -95,6 +136,14 @@ fn knows_its_limits(rt: HostRuntime) -> Result<(), Fail> {
         (
             format!(in alloc; "1 create /a p {most}QQ==\n1 create /b p {most}QUE=\n")?,
             format!(in alloc; "ok /a\nbad data\n")?,
+        ),
+        (
+            format!(in alloc; "1 multi check / 0{checks}\n")?,
+            format!(in alloc; "ok multi checked{checked}\n")?,
+        ),
+        (
+            format!(in alloc; "1 multi check / 0{checks} ; check / 0\n")?,
+            format!(in alloc; "bad line\n")?,
         ),
     ] {
         let (result, sink) = played(alloc, script.as_bytes(), 65536);

@@ -1,2 +1,9 @@
 pub mod Paths
+pub mod Tables
+pub mod Told
+pub mod Creating
+pub mod Runs
 pub mod Bounds
+pub mod Refused
+pub mod InOrder
+pub mod Zxids

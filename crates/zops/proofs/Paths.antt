@@ -1,12 +1,16 @@
 -- A path and its parent, and that no path is over a limit.
-use Rattle.std.proofs.Common.{◌≡◌, ℕ, ◌≤◌, ◌<◌, true, false, [], ◌∷◌, ◌++◌, length, refl, ap, ◌∙◌, arith}
-use Rattle.std.specs.Prelude.{nat_le, nat_lt}
+use Rattle.std.proofs.Common.{◌≡◌, ◌≢◌, ℕ, ◌≤◌, ◌<◌, true, false, [], ◌∷◌, ◌++◌, length, refl, ap, ◌∙◌, arith}
+use Rattle.std.specs.Prelude.{nat_le, nat_lt, ◌==◌, None}
 use Rattle.std.specs.List.{list_any, AllByRecursion}
 use Rattle.std.proofs.lemmas.Bool.Decides.{nat_tests}
 use Rattle.zpath.specs.Grammar.{IsName, IsPath, is_long, text_of}
-use Rattle.zstore.specs.Tree.{Path, Name, parent_of}
+use Rattle.zpath.specs.First.{first_that_holds}
+use Rattle.zpath.specs.Numbered.{numbered, is_over}
+use Rattle.zstore.specs.Tree.{Path, Name, Nodes, parent_of}
 use Rattle.zstore.proofs.Nodes.{parent_of-front}
-use Rattle.zops.specs.Part.{is_root, is_over}
+use Rattle.zops.specs.declared.call.Kind.{Kind}
+use Rattle.zops.specs.declared.call.Kind.TheVariants.{Persistent, PersistentSequential}
+use Rattle.zops.specs.Part.{is_root, made_path, counter_at, name_refusals}
 
 pub record IsBelow (path above : Path) : Type 0 where
   pub root : is_root path ≡ false
@@ -35,3 +39,35 @@ at_least m n h = grind (arith, nat_tests)
 
 pub less_than : (m n : ℕ) → n < m → nat_le m n ≡ false
 less_than m n h = grind (arith, nat_tests)
+
+-- a counter's digits change the last name alone
+pub parent_of-numbered : (path : Path) (counter : ℕ) → parent_of (numbered path counter) ≡ parent_of path
+parent_of-numbered [] counter = refl
+parent_of-numbered (n ∷ []) counter = refl
+parent_of-numbered (n ∷ m ∷ []) counter = refl
+parent_of-numbered (n ∷ m ∷ k ∷ path) counter = ap (λ p. n ∷ p) (parent_of-numbered (m ∷ k ∷ path) counter)
+
+pub numbered-below_root : (path : Path) (counter : ℕ) → path ≢ [] → numbered path counter ≢ []
+numbered-below_root [] counter below e = below refl
+numbered-below_root (n ∷ []) counter below e = cc
+numbered-below_root (n ∷ m ∷ path) counter below e = cc
+
+pub parent_of-made : (nodes : Nodes) (kind : Kind) (path : Path) → parent_of (made_path nodes kind path) ≡ parent_of path
+parent_of-made nodes Persistent path = refl
+parent_of-made nodes PersistentSequential path = parent_of-numbered path (counter_at nodes (parent_of path))
+
+pub made-below_root : (nodes : Nodes) (kind : Kind) (path : Path) → path ≢ [] → made_path nodes kind path ≢ []
+made-below_root nodes Persistent path below = below
+made-below_root nodes PersistentSequential path below = numbered-below_root path (counter_at nodes (parent_of path)) below
+
+pub not_root : (path : Path) → is_root path ≡ false → path ≢ []
+not_root [] h e = cc
+not_root (n ∷ path) h e = cc
+
+-- a path over no limit is allowed where no counter is added to it
+pub persistent-allowed : (nodes : Nodes) (path : Path) → is_over path ≡ false → first_that_holds (name_refusals nodes Persistent path) ≡ None
+persistent-allowed nodes path short = rw short refl
+
+pub is_root-no_names : (path : Path) → is_root path ≡ (length path == 0)
+is_root-no_names [] = refl
+is_root-no_names (n ∷ path) = grind (arith, nat_tests)

@@ -1,3 +1,6 @@
 pub mod Part
+pub mod Multi
 pub mod Step
 pub mod Sound
+pub mod Laws
+pub mod History

@@ -1,18 +1,27 @@
 -- The part step: one operation of a change, on the plain tree.
--- ZooKeeper Programmer's Guide, "ZNodes" and "Time in ZooKeeper"; the order of refusals and the limits are
--- this project's profile.
-use Rattle.std.specs.Prelude.{◌≡◌, Bool, true, false, not, ◌||◌, List, [], ◌∷◌, length, Option, None, Some, Result, Ok, Err, nat_lt, nat_le, ◌==◌}
+-- ZooKeeper Programmer's Guide, "ZNodes", "Sequence Nodes -- Unique Naming" and "Time in ZooKeeper"; the order of
+-- refusals and the limits are this project's profile.
+use Rattle.std.specs.Prelude.{◌≡◌, ℕ, ◌+◌, Bool, true, false, not, ◌&&◌, List, [], ◌∷◌, ◌++◌, length, Option, None, Some, Result, Ok, Err, if◌then◌else◌, nat_lt, nat_le, ◌==◌}
 use Rattle.std.specs.Option.{option_map_or}
-use Rattle.std.specs.List.{list_any}
 use Rattle.std.specs.FinMap as finite
 use Rattle.zpath.specs.First.{first_that_holds}
-use Rattle.zpath.specs.Grammar.{is_long, text_of}
-use Rattle.zstore.specs.Tree.{Tree, Nodes, Path, parent_of, has_node, added}
+use Rattle.zpath.specs.Numbered.{numbered, is_over}
+use Rattle.zstore.specs.Tree.{Tree, Nodes, Path, parent_of, has_node, children, stat_of, added, dropped, written, with_data}
+use Rattle.zstore.specs.declared.node.Node.{Node}
+use Rattle.zops.specs.declared.call.Kind.{Kind}
+use Rattle.zops.specs.declared.call.Kind.TheVariants.{Persistent, PersistentSequential}
+use Rattle.zops.specs.declared.call.Expected.{Expected}
+use Rattle.zops.specs.declared.call.Expected.TheVariants.{Any, Exactly}
 use Rattle.zops.specs.declared.call.Create.{Create}
+use Rattle.zops.specs.declared.call.Delete.{Delete}
+use Rattle.zops.specs.declared.call.SetData.{SetData}
+use Rattle.zops.specs.declared.call.Check.{Check}
+use Rattle.zops.specs.declared.call.Part.{Part}
+use Rattle.zops.specs.declared.call.Part.TheVariants as part_of
 use Rattle.zops.specs.declared.refusal.Refusal.{Refusal}
-use Rattle.zops.specs.declared.refusal.Refusal.TheVariants.{NoNode, NodeExists, NoChildrenForEphemerals, PathLimit, Full}
+use Rattle.zops.specs.declared.refusal.Refusal.TheVariants.{NoNode, NodeExists, NotEmpty, BadVersion, NoChildrenForEphemerals, SequenceFull, PathLimit, RootFixed, Full}
 use Rattle.zops.specs.declared.reply.PartReply.{PartReply}
-use Rattle.zops.specs.declared.reply.PartReply.TheVariants.{Created}
+use Rattle.zops.specs.declared.reply.PartReply.TheVariants.{Created, Deleted, Set, Checked}
 use Rattle.zops.specs.declared.part.Stop.{Stop}
 use Rattle.zops.specs.declared.part.Stop.TheVariants.{Refused, Memory}
 
@@ -21,27 +30,61 @@ abbrev pub is_root : Path → Bool
 is_root [] = true
 is_root (name ∷ path) = false
 
--- a session owns the node at the path
-abbrev pub is_owned : Nodes → Path → Bool
-is_owned nodes path = option_map_or (λ n. not (n.owner == 0)) (finite.get nodes path) false
+-- the node at the path has this; where there is none, it has not
+abbrev pub node_has : (Node → Bool) → Nodes → Path → Bool
+node_has test nodes path = option_map_or test (finite.get nodes path) false
 
--- a name has over 255 bytes, or the path's text over 1,024
-abbrev pub is_over : Path → Bool
-is_over path = list_any is_long path || nat_lt 1024 (length (text_of path))
+-- a session owns the node
+abbrev pub is_owned : Node → Bool
+is_owned n = not (n.owner == 0)
+
+-- the node's version is not the one that is expected
+abbrev pub has_other_version : Expected → Node → Bool
+has_other_version Any n = false
+has_other_version (Exactly version) n = not (n.version == version)
+
+-- the last number of a node's counter was given
+abbrev pub is_spent : Node → Bool
+is_spent n = nat_lt 2147483647 n.seq
+
+-- the kind takes a number of the parent's counter
+abbrev pub is_sequential : Kind → Bool
+is_sequential Persistent = false
+is_sequential PersistentSequential = true
+
+-- the counter of the node at the path
+abbrev pub counter_at : Nodes → Path → ℕ
+counter_at nodes path = option_map_or (λ n. n.seq) (finite.get nodes path) 0
 
 -- the path of the node that a create makes
-abbrev pub made_path : Create → Path
-made_path create = create.path
+abbrev pub made_path : Nodes → Kind → Path → Path
+made_path nodes kind path = if is_sequential kind then numbered path (counter_at nodes (parent_of path)) else path
+
+-- when a create has no path for its node
+abbrev pub name_refusals : Nodes → Kind → Path → List (Bool × Refusal)
+name_refusals nodes kind path =
+    (is_sequential kind && node_has is_spent nodes (parent_of path), SequenceFull)
+    ∷ (is_over (made_path nodes kind path), PathLimit)
+    ∷ []
 
 -- when a create is refused, in the order of the tests
-abbrev pub create_refusals : Tree → Create → List (Bool × Refusal)
-create_refusals t create =
+abbrev pub create_refusals : Nodes → Create → List (Bool × Refusal)
+create_refusals nodes create =
     (is_root create.path, NodeExists)
-    ∷ (not (has_node t.nodes (parent_of create.path)), NoNode)
-    ∷ (is_owned t.nodes (parent_of create.path), NoChildrenForEphemerals)
-    ∷ (is_over (made_path create), PathLimit)
-    ∷ (has_node t.nodes (made_path create), NodeExists)
-    ∷ (nat_le 4096 (finite.len t.nodes), Full)
+    ∷ (not (has_node nodes (parent_of create.path)), NoNode)
+    ∷ (node_has is_owned nodes (parent_of create.path), NoChildrenForEphemerals)
+    ∷ name_refusals nodes create.kind create.path
+    ++ (has_node nodes (made_path nodes create.kind create.path), NodeExists)
+    ∷ (nat_le 4096 (finite.len nodes), Full)
+    ∷ []
+
+-- when a delete is refused, in the order of the tests
+abbrev pub delete_refusals : Nodes → Delete → List (Bool × Refusal)
+delete_refusals nodes delete =
+    (is_root delete.path, RootFixed)
+    ∷ (not (has_node nodes delete.path), NoNode)
+    ∷ (node_has (has_other_version delete.version) nodes delete.path, BadVersion)
+    ∷ (nat_lt 0 (length (children nodes delete.path)), NotEmpty)
     ∷ []
 
 -- a refusal, or else this
@@ -49,13 +92,44 @@ abbrev pub unless_refused : {A : Type 0} → Option Refusal → A → Result A R
 unless_refused (Some refusal) x = Err refusal
 unless_refused None x = Ok x
 
+-- what is done with a node of the version that is expected
+abbrev pub on_version : {A : Type 0} → Expected → Option Node → (Node → A) → Result A Refusal
+on_version expected None act = Err NoNode
+on_version expected (Some n) act = if has_other_version expected n then Err BadVersion else Ok (act n)
+
 -- a create makes one node, beneath a parent that is there
 unfoldable pub create_part : Tree → Create → Result (Tree × PartReply) Refusal
 create_part t create =
-    unless_refused (first_that_holds (create_refusals t create))
-    (added t (made_path create) create.bytes 0 false, Created (made_path create))
+    let made = made_path t.nodes create.kind create.path in
+    unless_refused (first_that_holds (create_refusals t.nodes create)) (added t made create.bytes 0 (is_sequential create.kind), Created made)
+
+-- a delete takes one node away, beneath which there is none
+unfoldable pub delete_part : Tree → Delete → Result (Tree × PartReply) Refusal
+delete_part t delete = unless_refused (first_that_holds (delete_refusals t.nodes delete)) (dropped t delete.path, Deleted)
+
+-- a set writes one node's data, and tells its stat after it
+unfoldable pub set_part : Tree → SetData → Result (Tree × PartReply) Refusal
+set_part t set =
+    on_version set.version (finite.get t.nodes set.path)
+    (λ n. (written t set.path set.bytes, Set (stat_of (written t set.path set.bytes).nodes set.path (with_data set.bytes (t.zxid + 1) t.time n))))
+
+-- a check changes nothing
+unfoldable pub check_part : Tree → Check → Result (Tree × PartReply) Refusal
+check_part t check = on_version check.version (finite.get t.nodes check.path) (λ n. (t, Checked))
+
+-- the part step
+abbrev pub part_step : Tree → Part → Result (Tree × PartReply) Refusal
+part_step t (part_of.Create create) = create_part t create
+part_step t (part_of.Delete delete) = delete_part t delete
+part_step t (part_of.SetData set) = set_part t set
+part_step t (part_of.Check check) = check_part t check
 
 -- what a part that did nothing says: memory nothing, and a refusal that it is the part's
 abbrev pub IsStop : Result (Tree × PartReply) Refusal → Stop → Type 0
 IsStop part Memory = Unit {0}
 IsStop part (Refused refusal) = part ≡ Err refusal
+
+-- the same of some tests of a part: the refusal is that of the first that holds
+abbrev pub IsStopped : Option Refusal → Stop → Type 0
+IsStopped refused Memory = Unit {0}
+IsStopped refused (Refused refusal) = refused ≡ Some refusal

@@ -9,16 +9,16 @@ use Rattle.zstore.specs.declared.node.Node.{Node}
 abbrev pub AllNodes : (Node → Type 0) → Nodes → Type 0
 AllNodes P nodes = (path : Path) (n : Node) → finite.get nodes path ≡ Some n → P n
 
--- one change raises a version or a cversion at most 4,096 times, and a counter has an end of its own
-pub record IsWithin (zxid : ℕ) (n : Node) : Type 0 where
-  pub version : n.version ≤ 4096 * zxid
-  pub cversion : n.cversion ≤ 4096 * zxid
+-- the version and the cversion of a node were raised at most so often, and a counter has an end of its own
+pub record IsWithin (raises : ℕ) (n : Node) : Type 0 where
+  pub version : n.version ≤ raises
+  pub cversion : n.cversion ≤ raises
   pub seq : n.seq ≤ 2147483648
 
--- every number of the tree leaves room for one more change
+-- every number of the tree leaves room for one more change: each change raises a node's at most 4,096 times
 pub record IsBounded (t : Tree) : Type 0 where
   pub zxid : t.zxid < 2 ^ 40
-  pub counters : AllNodes (IsWithin t.zxid) t.nodes
+  pub counters : AllNodes (IsWithin (4096 * t.zxid)) t.nodes
 
 -- what a machine keeps: room for the next change, few entries, and few Ids for each entry
 pub record IsSound (store : Held) (applied : ℕ) : Type 0 where

@@ -1,30 +1,35 @@
 -- The plain step: what each call does to the plain tree and answers. This is the sequential
 -- specification: the service as it would be if one machine did one call after the other.
-use Rattle.std.specs.Prelude.{ℕ, ◌+◌, ◌-◌, ◌^◌, Bool, Option, None, Some, Result, Ok, Err, if◌then◌else◌, nat_le, refl, List, codes}
+use Rattle.std.specs.Prelude.{ℕ, ◌+◌, ◌-◌, ◌^◌, Bool, Option, None, Some, Result, Ok, Err, if◌then◌else◌, nat_le, refl, List, [], codes}
 use Rattle.std.specs.Coded.{Coded, code_by, coded×, coded_ℕ, coded_bool}
 use Rattle.std.specs.FinMap as finite
-use Rattle.zstore.specs.Tree.{Tree, Nodes, Path, stat_of, raised, coded_tree}
+use Rattle.zstore.specs.Tree.{Tree, Path, children, stat_of, raised, coded_tree}
 use Rattle.zstore.specs.Tree as tree
 use Rattle.zstore.specs.declared.node.Node.{Node}
 use Rattle.zops.specs.declared.call.Entry.{Entry}
 use Rattle.zops.specs.declared.call.Update.{Update}
-use Rattle.zops.specs.declared.call.Update.TheVariants.{Create}
+use Rattle.zops.specs.declared.call.Update.TheVariants.{Create, Delete, SetData, Multi}
 use Rattle.zops.specs.declared.call.Query.{Query}
-use Rattle.zops.specs.declared.call.Query.TheVariants.{GetData}
+use Rattle.zops.specs.declared.call.Query.TheVariants as query
 use Rattle.zops.specs.declared.refusal.Refusal.{Refusal}
-use Rattle.zops.specs.declared.refusal.Refusal.TheVariants.{NoNode, NodeExists, NoChildrenForEphemerals, PathLimit, Full, Exhausted}
+use Rattle.zops.specs.declared.refusal.Refusal.TheVariants.{NoNode, NodeExists, NotEmpty, BadVersion, NoChildrenForEphemerals, SequenceFull, PathLimit, RootFixed, Full, Exhausted}
 use Rattle.zops.specs.declared.reply.PartReply.{PartReply}
 use Rattle.zops.specs.declared.reply.PartReply.TheVariants as part_reply
 use Rattle.zops.specs.declared.reply.Reply.{Reply}
-use Rattle.zops.specs.declared.reply.Reply.TheVariants.{Created, Data, Refused}
-use Rattle.zops.specs.Part.{create_part}
+use Rattle.zops.specs.declared.reply.Reply.TheVariants as reply
+use Rattle.zops.specs.Part.{create_part, delete_part, set_part}
+use Rattle.zops.specs.Multi.{Run, run}
 
 -- the word for a refusal
 abbrev pub refusal_name : Refusal → List ℕ
 refusal_name NoNode = codes "NoNode"
 refusal_name NodeExists = codes "NodeExists"
+refusal_name NotEmpty = codes "NotEmpty"
+refusal_name BadVersion = codes "BadVersion"
 refusal_name NoChildrenForEphemerals = codes "NoChildrenForEphemerals"
+refusal_name SequenceFull = codes "SequenceFull"
 refusal_name PathLimit = codes "PathLimit"
+refusal_name RootFixed = codes "RootFixed"
 refusal_name Full = codes "Full"
 refusal_name Exhausted = codes "Exhausted"
 
@@ -32,27 +37,44 @@ refusal_name Exhausted = codes "Exhausted"
 abbrev pub is_exhausted : Tree → Bool
 is_exhausted t = nat_le (2 ^ 40 - 1) t.zxid
 
--- the reply to a call of one part
+-- the reply to a call of one part; no call is a check alone
 abbrev pub reply_of : PartReply → Reply
-reply_of (part_reply.Created path) = Created path
+reply_of (part_reply.Created path) = reply.Created path
+reply_of part_reply.Deleted = reply.Deleted
+reply_of (part_reply.Set stat) = reply.Set stat
+reply_of part_reply.Checked = reply.Multi []
 
 -- a change of one part: refused, it leaves the tree; done, it takes the next number
 abbrev pub alone : Tree → Result (Tree × PartReply) Refusal → Tree × Reply
-alone t (Err refusal) = (t, Refused refusal)
-alone t (Ok (u, reply)) = (raised u, reply_of reply)
+alone t (Err refusal) = (t, reply.Refused refusal)
+alone t (Ok (u, done)) = (raised u, reply_of done)
+
+-- a multi: refused in one part, it leaves the very same tree; done, it takes one number for all
+abbrev pub together : Tree → Run → Tree × Reply
+together t (Err (number, refusal)) = (t, reply.MultiRefused number refusal)
+together t (Ok (u, replies)) = (raised u, reply.Multi replies)
+
+-- an update of a client, while there is a next number
+abbrev pub changed : Tree → ℕ → Update → Tree × Reply
+changed t client (Create create) = alone t (create_part t create)
+changed t client (Delete delete) = alone t (delete_part t delete)
+changed t client (SetData set) = alone t (set_part t set)
+changed t client (Multi parts) = together t (run t [] parts)
 
 -- an update of a client: the tree after it, and the reply
 unfoldable pub step : Tree → ℕ → Update → Tree × Reply
-step t client (Create create) = if is_exhausted t then (t, Refused Exhausted) else alone t (create_part t create)
+step t client update = if is_exhausted t then (t, reply.Refused Exhausted) else changed t client update
 
--- the data and the stat of a node
-abbrev pub data_reply : Nodes → Path → Option Node → Reply
-data_reply nodes path None = Refused NoNode
-data_reply nodes path (Some n) = Data n.bytes (stat_of nodes path n)
+-- what is told of a node, where there is one
+abbrev pub on_node : Option Node → (Node → Reply) → Reply
+on_node None told = reply.Refused NoNode
+on_node (Some n) told = told n
 
 -- a query: the reply, and the tree stays
 unfoldable pub answer : Tree → Query → Reply
-answer t (GetData path) = data_reply t.nodes path (finite.get t.nodes path)
+answer t (query.GetData path) = on_node (finite.get t.nodes path) (λ n. reply.Data n.bytes (stat_of t.nodes path n))
+answer t (query.Exists path) = on_node (finite.get t.nodes path) (λ n. reply.Exists (stat_of t.nodes path n))
+answer t (query.GetChildren path) = on_node (finite.get t.nodes path) (λ n. reply.Children (children t.nodes path))
 
 -- what a machine stands for: its tree, and how many entries it applied
 pub record State : Type 0 where

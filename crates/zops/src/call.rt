@@ -1,5 +1,6 @@
 //! Calls.
 
+use crate::multi::Multi;
 use zpath::Path;
 use zstore::{ClientId, Data};
 
@@ -8,12 +9,38 @@ use zstore::{ClientId, Data};
 pub enum Kind {
     /// It stays until it is deleted, and has the name that the call gives.
     Persistent,
+    /// It stays until it is deleted, and its name ends in ten digits of its parent's counter.
+    PersistentSequential,
+}
+
+impl Kind {
+    ghost use Rattle.std.specs.Prelude.{◌≡◌};
+    ghost use Rattle.zops.specs.Part.{is_sequential};
+
+    /// Whether the parent's counter goes into the name.
+    pub fn is_sequential(self) -> bool
+        ensures { result ≡ is_sequential self }
+    {
+        match self {
+            Kind::Persistent => false,
+            Kind::PersistentSequential => true,
+        }
+    }
+}
+
+/// Which version of a node a call is meant for.
+#[derive(Clone, Copy, Debug, PartialEq, Eq)]
+pub enum Expected {
+    /// Whichever it is.
+    Any,
+    /// This one alone.
+    Exactly(u64),
 }
 
 /// What a create asks for (ZooKeeper Programmer's Guide, "ZNodes").
 #[derive(Drop)]
 pub struct Create {
-    /// Where the node is to be.
+    /// Where the node is to be; the parent's counter is added to it where the kind is sequential.
     pub path: Path,
     /// How it is made.
     pub kind: Kind,
@@ -21,11 +48,59 @@ pub struct Create {
     pub bytes: Data,
 }
 
+/// What a delete asks for.
+#[derive(Drop)]
+pub struct Delete {
+    /// The node.
+    pub path: Path,
+    /// The version that it must have.
+    pub version: Expected,
+}
+
+/// What a set asks for.
+#[derive(Drop)]
+pub struct SetData {
+    /// The node.
+    pub path: Path,
+    /// Its new data.
+    pub bytes: Data,
+    /// The version that it must have.
+    pub version: Expected,
+}
+
+/// What a check asks for.
+#[derive(Drop)]
+pub struct Check {
+    /// The node.
+    pub path: Path,
+    /// The version that it must have.
+    pub version: Expected,
+}
+
+/// One part of a change.
+#[derive(Drop)]
+pub enum Part {
+    /// Makes a node.
+    Create(Create),
+    /// Takes a node away.
+    Delete(Delete),
+    /// Writes a node's data.
+    SetData(SetData),
+    /// Looks whether a node is there and has the version, and changes nothing.
+    Check(Check),
+}
+
 /// A call that may change the tree.
 #[derive(Drop)]
 pub enum Update {
     /// Makes a node.
     Create(Create),
+    /// Takes a node away.
+    Delete(Delete),
+    /// Writes a node's data.
+    SetData(SetData),
+    /// Does all of its parts, or none.
+    Multi(Multi),
 }
 
 /// A call that changes nothing.
@@ -33,6 +108,10 @@ pub enum Update {
 pub enum Query {
     /// The data and the stat of a node.
     GetData(Path),
+    /// The stat of a node.
+    Exists(Path),
+    /// The names of a node's children.
+    GetChildren(Path),
 }
 
 /// A call.

@@ -6,17 +6,26 @@
 #![tactic(auto)]
 
 mod call;
+mod laws;
+mod listed;
 mod machine;
+mod multi;
 mod part;
 mod query;
 mod refusal;
 mod reply;
+mod run;
 #[cfg(test)]
 mod tests;
 mod update;
 
-pub use call::{Call, Create, Entry, Kind, Query, Update};
+pub use call::{Call, Check, Create, Delete, Entry, Expected, Kind, Part, Query, SetData, Update};
+pub use laws::{
+    names_are_in_order, refused_calls_change_nothing, stat_counts_the_names, zxids_rise,
+};
+pub use listed::{Names, Replies};
 pub use machine::{MAX_APPLIED, Machine};
+pub use multi::{MAX_PARTS, Multi};
 pub use refusal::Refusal;
-pub use reply::Reply;
+pub use reply::{PartReply, Reply};
 pub use zstore::{ClientId, Data, Stat};

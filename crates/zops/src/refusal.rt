@@ -10,10 +10,18 @@ pub enum Refusal {
     NoNode,
     /// The node is there already.
     NodeExists,
+    /// The node has children.
+    NotEmpty,
+    /// The node has another version.
+    BadVersion,
     /// The parent is ephemeral.
     NoChildrenForEphemerals,
+    /// The parent's counter has given its last number.
+    SequenceFull,
     /// The made name or the made path is too long.
     PathLimit,
+    /// The root can't be deleted.
+    RootFixed,
     /// There are 4,096 nodes.
     Full,
     /// The last change has the greatest number that there is.
@@ -30,8 +38,12 @@ impl fmt::Display for Refusal {
         f.write_str(match self {
             Refusal::NoNode => "NoNode",
             Refusal::NodeExists => "NodeExists",
+            Refusal::NotEmpty => "NotEmpty",
+            Refusal::BadVersion => "BadVersion",
             Refusal::NoChildrenForEphemerals => "NoChildrenForEphemerals",
+            Refusal::SequenceFull => "SequenceFull",
             Refusal::PathLimit => "PathLimit",
+            Refusal::RootFixed => "RootFixed",
             Refusal::Full => "Full",
             Refusal::Exhausted => "Exhausted",
         })

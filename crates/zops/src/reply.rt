@@ -1,14 +1,22 @@
 //! Replies.
 
+use crate::listed::{Names, Replies};
 use crate::refusal::Refusal;
+use std::alloc::Global;
 use zpath::Path;
 use zstore::{Data, Stat};
 
 /// What one part of a change did.
 #[derive(Drop)]
-pub(crate) enum PartReply {
+pub enum PartReply {
     /// It made the node at this path.
     Created(Path),
+    /// It took the node away.
+    Deleted,
+    /// It wrote the data of a node, of which this is told now.
+    Set(Stat),
+    /// The node is there, and has the version.
+    Checked,
 }
 
 /// What a call is answered with.
@@ -16,22 +24,37 @@ pub(crate) enum PartReply {
 pub enum Reply {
     /// The node at this path was made.
     Created(Path),
+    /// The node was taken away.
+    Deleted,
+    /// The data of a node was written, and this is told of it now.
+    Set(Stat),
+    /// All parts of a multi were done, and did this.
+    Multi(Replies),
     /// The data of a node, and what is told of it.
     Data(Data, Stat),
+    /// What is told of a node.
+    Exists(Stat),
+    /// The names of a node's children, in the order of their bytes.
+    Children(Names),
     /// The call was refused.
     Refused(Refusal),
+    /// The multi was refused, since this part of it, counted from 1, was.
+    MultiRefused(usize, Refusal),
 }
 
 impl PartReply {
     ghost use Rattle.std.specs.Prelude.{◌≡◌};
     ghost use Rattle.zops.specs.Step.{reply_of};
 
-    /// The reply to a call of this one part.
-    pub(crate) fn into_reply(self) -> Reply
+    /// The reply to a call of this one part. No call is a check alone.
+    pub(crate) fn into_reply(self, alloc: Global) -> Reply
         ensures { result ≡ reply_of self }
     {
         match self {
             PartReply::Created(path) => Reply::Created(path),
+            PartReply::Deleted => Reply::Deleted,
+            PartReply::Set(stat) => Reply::Set(stat),
+            PartReply::Checked => Reply::Multi(Replies::new(Vec::new(alloc))),
         }
     }
 }

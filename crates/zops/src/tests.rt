@@ -1,42 +1,121 @@
 //! What no clause says: worked calls with their answers, the limit on nodes, the words of the
 //! refusals, and that a call which allocates can succeed.
 
+use crate::Expected::{Any, Exactly};
+use crate::Kind::{Persistent, PersistentSequential};
 use crate::{
-    ClientId, Create, Data, Entry, Kind, MAX_APPLIED, Machine, Query, Refusal, Reply, Update,
+    Check, ClientId, Create, Data, Delete, Entry, Expected, Kind, MAX_APPLIED, MAX_PARTS, Machine,
+    Multi, Part, PartReply, Query, Refusal, Reply, SetData, Stat, Update,
 };
 use std::alloc::Global;
 use std::process::Abort;
 use std::test::Fail;
 use zpath::{Memory, Path};
 
-// A reply in words; of data its bytes, and the numbers of its stat in the order of the text.
-fn shown(alloc: Global, reply: Reply) -> Result<String, Memory> {
+// The numbers of a stat in the order of the text.
+fn numbers(alloc: Global, stat: Stat) -> Result<String, Memory> {
+    let mut text = format!(in alloc; "{} {} {}", stat.czxid, stat.mzxid, stat.pzxid)?;
+    write!(text, " {} {}", stat.ctime, stat.mtime)?;
+    write!(text, " {} {} {}", stat.version, stat.cversion, stat.owner)?;
+    write!(text, " {} {}", stat.length, stat.children)?;
+    Ok(text)
+}
+
+// What a part did, in words.
+fn part_shown(alloc: Global, reply: &PartReply) -> Result<String, Memory> {
     match reply {
-        Reply::Created(path) => Ok(format!(in alloc; "created {path}")?),
-        Reply::Data(data, stat) => {
-            let zxids = format!(in alloc; "{} {} {}", stat.czxid, stat.mzxid, stat.pzxid)?;
-            let times = format!(in alloc; "{} {}", stat.ctime, stat.mtime)?;
-            let counts = format!(in alloc; "{} {} {}", stat.version, stat.cversion, stat.owner)?;
-            let sizes = format!(in alloc; "{} {}", stat.length, stat.children)?;
-            let bytes = data.as_slice();
-            Ok(format!(in alloc; "{bytes:?} {zxids} {times} {counts} {sizes}")?)
-        }
-        Reply::Refused(refusal) => Ok(format!(in alloc; "{refusal}")?),
+        PartReply::Created(path) => Ok(format!(in alloc; "created {path}")?),
+        PartReply::Deleted => Ok(format!(in alloc; "deleted")?),
+        PartReply::Set(stat) => Ok(format!(in alloc; "set {}", numbers(alloc, *stat)?)?),
+        PartReply::Checked => Ok(format!(in alloc; "checked")?),
     }
 }
 
-// The answer to a create of a node with the data "hi".
-fn created(
+// A reply in words; of data its bytes, and of each part or child a word after a comma.
+fn shown(alloc: Global, reply: Reply) -> Result<String, Memory> {
+    match reply {
+        Reply::Created(path) => Ok(format!(in alloc; "created {path}")?),
+        Reply::Deleted => Ok(format!(in alloc; "deleted")?),
+        Reply::Set(stat) => Ok(format!(in alloc; "set {}", numbers(alloc, stat)?)?),
+        Reply::Multi(replies) => {
+            let mut text = format!(in alloc; "multi")?;
+            for reply in replies.as_slice() {
+                write!(text, ", {}", part_shown(alloc, reply)?)?;
+            }
+            Ok(text)
+        }
+        Reply::Data(data, stat) => {
+            let bytes = data.as_slice();
+            Ok(format!(in alloc; "{bytes:?} {}", numbers(alloc, stat)?)?)
+        }
+        Reply::Exists(stat) => Ok(format!(in alloc; "exists {}", numbers(alloc, stat)?)?),
+        Reply::Children(names) => {
+            let mut text = format!(in alloc; "children")?;
+            for name in names.as_slice() {
+                write!(text, ", {}", name.as_str())?;
+            }
+            Ok(text)
+        }
+        Reply::Refused(refusal) => Ok(format!(in alloc; "{refusal}")?),
+        Reply::MultiRefused(number, refusal) => Ok(format!(in alloc; "part {number}: {refusal}")?),
+    }
+}
+
+// The data that a text is.
+fn data(alloc: Global, text: &str) -> Result<Data, Fail> {
+    Ok(Data::new(text.as_bytes().to_vec(alloc)?)?)
+}
+
+fn create(alloc: Global, path: &str, kind: Kind, text: &str) -> Result<Part, Fail> {
+    let path = Path::parse(alloc, path)?;
+    let bytes = data(alloc, text)?;
+    Ok(Part::Create(Create { path, kind, bytes }))
+}
+
+fn delete(alloc: Global, path: &str, version: Expected) -> Result<Part, Fail> {
+    let path = Path::parse(alloc, path)?;
+    Ok(Part::Delete(Delete { path, version }))
+}
+
+fn set(alloc: Global, path: &str, text: &str, version: Expected) -> Result<Part, Fail> {
+    let path = Path::parse(alloc, path)?;
+    let bytes = data(alloc, text)?;
+    Ok(Part::SetData(SetData {
+        path,
+        bytes,
+        version,
+    }))
+}
+
+fn check(alloc: Global, path: &str, version: Expected) -> Result<Part, Fail> {
+    let path = Path::parse(alloc, path)?;
+    Ok(Part::Check(Check { path, version }))
+}
+
+// A multi of these parts.
+fn multi(parts: Vec<Part>) -> Result<Update, Fail> {
+    let parts = Multi::new(parts).ok().ok_or("there are 1 to 64")?;
+    Ok(Update::Multi(parts))
+}
+
+// The update of one part; that of a check is a multi.
+fn alone(alloc: Global, part: Part) -> Result<Update, Fail> {
+    match part {
+        Part::Create(wanted) => Ok(Update::Create(wanted)),
+        Part::Delete(wanted) => Ok(Update::Delete(wanted)),
+        Part::SetData(wanted) => Ok(Update::SetData(wanted)),
+        Part::Check(wanted) => multi(vec![in alloc; Part::Check(wanted)]?),
+    }
+}
+
+// Applies an update, and compares the answer.
+fn apply(
     rt: &impl Abort,
     alloc: Global,
     machine: &mut Machine,
-    text: &str,
-) -> Result<String, Fail> {
-    let update = Update::Create(Create {
-        path: Path::parse(alloc, text)?,
-        kind: Kind::Persistent,
-        bytes: Data::new("hi".as_bytes().to_vec(alloc)?)?,
-    });
+    update: Update,
+    want: &str,
+) -> Result<(), Fail> {
     let client = ClientId::new(7).ok_or("there is a client 7")?;
     assert!(rt; machine.applied() < MAX_APPLIED);
     let reply = machine.apply(Entry {
@@ -44,30 +123,139 @@ fn created(
         number: 1,
         update,
     })?;
-    Ok(shown(alloc, reply.ok_or("an update has a reply")?)?)
+    let reply = reply.ok_or("an update has a reply")?;
+    assert_eq!(rt; shown(alloc, reply)?.as_str(), want);
+    Ok(())
+}
+
+// Asks the three queries of a path, and compares what they tell.
+fn ask(
+    rt: &impl Abort,
+    alloc: Global,
+    machine: &Machine,
+    path: &str,
+    wants: [&str; 3],
+) -> Result<(), Fail> {
+    let data = machine.ask(&Query::GetData(Path::parse(alloc, path)?))?;
+    assert_eq!(rt; shown(alloc, data)?.as_str(), wants[0], "at {path}");
+    let exists = machine.ask(&Query::Exists(Path::parse(alloc, path)?))?;
+    assert_eq!(rt; shown(alloc, exists)?.as_str(), wants[1], "at {path}");
+    let children = machine.ask(&Query::GetChildren(Path::parse(alloc, path)?))?;
+    assert_eq!(rt; shown(alloc, children)?.as_str(), wants[2], "at {path}");
+    Ok(())
 }
 
 #[test]
-fn answers_worked_calls(rt: HostRuntime) -> Result<(), Fail> {
+fn creates_nodes(rt: HostRuntime) -> Result<(), Fail> {
     let alloc = rt.alloc();
     let mut machine = Machine::new(alloc)?;
-    for (text, want) in [
-        ("/a", "created /a"),
-        ("/x/y", "NoNode"),
-        ("/a", "NodeExists"),
-        ("/", "NodeExists"),
+    let long = format!(in alloc; "/{}", "a".repeat(alloc, 246)?)?;
+    let most = format!(in alloc; "/{}", "a".repeat(alloc, 245)?)?;
+    let made = format!(in alloc; "created {most}0000000000")?;
+    for (path, kind, want) in [
+        ("/q", Persistent, "created /q"),
+        ("/q/n-", PersistentSequential, "created /q/n-0000000000"),
+        ("/q/n-", PersistentSequential, "created /q/n-0000000001"),
+        ("/x/y", Persistent, "NoNode"),
+        ("/x/n-", PersistentSequential, "NoNode"),
+        ("/q", Persistent, "NodeExists"),
+        ("/", Persistent, "NodeExists"),
+        ("/", PersistentSequential, "NodeExists"),
+        (long.as_str(), PersistentSequential, "PathLimit"),
+        (most.as_str(), PersistentSequential, made.as_str()),
     ] {
-        let reply = created(&rt, alloc, &mut machine, text)?;
-        assert_eq!(rt; reply.as_str(), want, "at {text}");
+        let part = create(alloc, path, kind, "")?;
+        apply(&rt, alloc, &mut machine, alone(alloc, part)?, want)?;
     }
-    assert_eq!(rt; machine.applied(), 4);
-    for (text, want) in [
-        ("/a", "[104, 105] 1 1 1 0 0 0 0 0 2 0"),
-        ("/", "[] 0 0 1 0 0 0 1 0 0 1"),
-        ("/none", "NoNode"),
+    assert_eq!(rt; machine.applied(), 10);
+    let parent = [
+        "[] 1 1 3 0 0 0 2 0 0 2",
+        "exists 1 1 3 0 0 0 2 0 0 2",
+        "children, n-0000000000, n-0000000001",
+    ];
+    ask(&rt, alloc, &machine, "/q", parent)?;
+    ask(&rt, alloc, &machine, "/x", ["NoNode", "NoNode", "NoNode"])
+}
+
+#[test]
+fn sets_checks_and_deletes(rt: HostRuntime) -> Result<(), Fail> {
+    let alloc = rt.alloc();
+    let mut machine = Machine::new(alloc)?;
+    for (part, want) in [
+        (create(alloc, "/a", Persistent, "hi")?, "created /a"),
+        (set(alloc, "/a", "", Exactly(1))?, "BadVersion"),
+        (set(alloc, "/a", "", Any)?, "set 1 2 1 0 0 1 0 0 0 0"),
+        (set(alloc, "/none", "", Any)?, "NoNode"),
+        (check(alloc, "/a", Exactly(1))?, "multi, checked"),
+        (check(alloc, "/a", Exactly(0))?, "part 1: BadVersion"),
+        (check(alloc, "/none", Any)?, "part 1: NoNode"),
+        (create(alloc, "/a/b", Persistent, "")?, "created /a/b"),
+        (delete(alloc, "/a", Exactly(0))?, "BadVersion"),
+        (delete(alloc, "/a", Exactly(1))?, "NotEmpty"),
+        (delete(alloc, "/a/b", Any)?, "deleted"),
+        (delete(alloc, "/a", Exactly(0))?, "BadVersion"),
+        (delete(alloc, "/a", Exactly(1))?, "deleted"),
+        (delete(alloc, "/a", Any)?, "NoNode"),
+        (delete(alloc, "/", Any)?, "RootFixed"),
     ] {
-        let reply = machine.ask(&Query::GetData(Path::parse(alloc, text)?))?;
-        assert_eq!(rt; shown(alloc, reply)?.as_str(), want, "at {text}");
+        apply(&rt, alloc, &mut machine, alone(alloc, part)?, want)?;
+    }
+    Ok(())
+}
+
+#[test]
+fn does_all_parts_or_none(rt: HostRuntime) -> Result<(), Fail> {
+    let alloc = rt.alloc();
+    let mut machine = Machine::new(alloc)?;
+    let refused = vec![in alloc;
+        create(alloc, "/a", Persistent, "hi")?,
+        delete(alloc, "/none", Any)?,
+        check(alloc, "/a", Any)?,
+    ]?;
+    apply(&rt, alloc, &mut machine, multi(refused)?, "part 2: NoNode")?;
+    let opening = [
+        "[] 0 0 0 0 0 0 0 0 0 0",
+        "exists 0 0 0 0 0 0 0 0 0 0",
+        "children",
+    ];
+    ask(&rt, alloc, &machine, "/", opening)?;
+    let made = vec![in alloc;
+        create(alloc, "/b", Persistent, "hi")?,
+        create(alloc, "/a", Persistent, "")?,
+        check(alloc, "/a", Exactly(0))?,
+        set(alloc, "/a", "x", Exactly(0))?,
+        create(alloc, "/a/c", Persistent, "")?,
+        delete(alloc, "/a/c", Any)?,
+    ]?;
+    let want =
+        "multi, created /b, created /a, checked, set 1 1 1 0 0 1 0 0 1 0, created /a/c, deleted";
+    apply(&rt, alloc, &mut machine, multi(made)?, want)?;
+    let root = [
+        "[] 0 0 1 0 0 0 2 0 0 2",
+        "exists 0 0 1 0 0 0 2 0 0 2",
+        "children, a, b",
+    ];
+    ask(&rt, alloc, &machine, "/", root)?;
+    let b = [
+        "[104, 105] 1 1 1 0 0 0 0 0 2 0",
+        "exists 1 1 1 0 0 0 0 0 2 0",
+        "children",
+    ];
+    ask(&rt, alloc, &machine, "/b", b)
+}
+
+#[test]
+fn takes_1_to_64_parts(rt: HostRuntime) -> Result<(), Fail> {
+    let alloc = rt.alloc();
+    for (count, is_taken) in [(0, false), (1, true), (MAX_PARTS, true), (65, false)] {
+        let mut parts = Vec::new(alloc);
+        for _ in 0..count {
+            parts.push(check(alloc, "/", Any)?)?;
+        }
+        match Multi::new(parts) {
+            Ok(_) => assert!(rt; is_taken, "{count} parts"),
+            Err(back) => assert!(rt; !is_taken && back.len() == count, "{count} parts"),
+        }
     }
     Ok(())
 }
@@ -77,13 +265,14 @@ fn holds_4096_nodes(rt: HostRuntime) -> Result<(), Fail> {
     let alloc = rt.alloc();
     let mut machine = Machine::new(alloc)?;
     for number in 1..4096 {
-        let text = format!(in alloc; "/{number}")?;
-        let want = format!(in alloc; "created {text}")?;
-        assert_eq!(rt; created(&rt, alloc, &mut machine, text.as_str())?, want);
+        let path = format!(in alloc; "/{number}")?;
+        let want = format!(in alloc; "created {path}")?;
+        let part = create(alloc, path.as_str(), Persistent, "")?;
+        apply(&rt, alloc, &mut machine, alone(alloc, part)?, want.as_str())?;
     }
-    for (text, want) in [("/0", "Full"), ("/1", "NodeExists"), ("/0/1", "NoNode")] {
-        let reply = created(&rt, alloc, &mut machine, text)?;
-        assert_eq!(rt; reply.as_str(), want, "at {text}");
+    for (path, want) in [("/0", "Full"), ("/1", "NodeExists"), ("/0/1", "NoNode")] {
+        let part = create(alloc, path, Persistent, "")?;
+        apply(&rt, alloc, &mut machine, alone(alloc, part)?, want)?;
     }
     Ok(())
 }
@@ -93,8 +282,12 @@ fn names_each_refusal(rt: HostRuntime) -> Result<(), Fail> {
     for (refusal, want) in [
         (Refusal::NoNode, "NoNode"),
         (Refusal::NodeExists, "NodeExists"),
+        (Refusal::NotEmpty, "NotEmpty"),
+        (Refusal::BadVersion, "BadVersion"),
         (Refusal::NoChildrenForEphemerals, "NoChildrenForEphemerals"),
+        (Refusal::SequenceFull, "SequenceFull"),
         (Refusal::PathLimit, "PathLimit"),
+        (Refusal::RootFixed, "RootFixed"),
         (Refusal::Full, "Full"),
         (Refusal::Exhausted, "Exhausted"),
     ] {

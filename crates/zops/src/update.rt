@@ -1,14 +1,18 @@
 //! An update, done to a store by the plain step.
 
-ghost use Rattle.std.specs.Prelude.{◌≡◌, ◌<◌, ◌+◌, ◌≤◌, ◌^◌, IfOk, OnErr};
-ghost use Rattle.zops.specs.Part.{create_part};
+ghost use Rattle.std.specs.Prelude.{◌≡◌, ◌<◌, ◌+◌, ◌≤◌, ◌^◌, Ok, Err, [], length, IfOk, IfErr, OnOk, OnErr};
+ghost use Rattle.zops.specs.Part.{part_step};
+ghost use Rattle.zops.specs.Multi.{run};
 ghost use Rattle.zops.specs.Sound.{IsBounded};
-ghost use Rattle.zops.specs.Step.{step};
+ghost use Rattle.zops.specs.Step.{step, alone, together};
 
-use crate::call::Update;
-use crate::part::{Stop, create};
+use crate::call::{Part, Update};
+use crate::listed::Replies;
+use crate::multi::Multi;
+use crate::part::{Stop, part};
 use crate::refusal::Refusal;
 use crate::reply::Reply;
+use crate::run::{Halt, run};
 use std::alloc::Global;
 use zpath::Memory;
 use zstore::{ClientId, Store};
@@ -25,23 +29,61 @@ pub(crate) fn update(
     update: Update,
 ) -> Result<Reply, Memory>
     requires bounded { IsBounded store.old.tree }
-    requires given { store.old.given < 2 ^ 127 }
+    requires given { store.old.given + 64 < 2 ^ 127 }
     ensures done { IfOk result (λ reply. (store.new.tree, reply) ≡ step store.old.tree client update) }
-    ensures given { store.new.given ≤ store.old.given + 1 }
+    ensures given { store.new.given ≤ store.old.given + 64 }
+    ensures bounded { OnOk result (IsBounded store.new.tree) }
     ensures same { OnErr result (store.new ≡ store.old) }
 {
     if store.zxid() == MAX_ZXID {
         return Ok(Reply::Refused(Refusal::Exhausted));
     }
-    let done = match update {
-        Update::Create(wanted) => create(alloc, store, wanted),
-    };
-    match done {
+    match update {
+        Update::Create(wanted) => single(alloc, store, Part::Create(wanted)),
+        Update::Delete(wanted) => single(alloc, store, Part::Delete(wanted)),
+        Update::SetData(wanted) => single(alloc, store, Part::SetData(wanted)),
+        Update::Multi(parts) => multi(alloc, store, parts),
+    }
+}
+
+// Does a change of one part.
+fn single(alloc: Global, store: &mut Store, wanted: Part) -> Result<Reply, Memory>
+    requires bounded { IsBounded store.old.tree }
+    requires zxid { store.old.tree.zxid + 1 < 2 ^ 40 }
+    requires given { store.old.given < 2 ^ 127 }
+    ensures done { IfOk result (λ reply. (store.new.tree, reply) ≡ alone store.old.tree (part_step store.old.tree wanted)) }
+    ensures given { store.new.given ≤ store.old.given + 1 }
+    ensures bounded { OnOk result (IsBounded store.new.tree) }
+    ensures same { OnErr result (store.new ≡ store.old) }
+{
+    match part(alloc, store, wanted) {
         Ok(reply) => {
             store.raise();
-            Ok(reply.into_reply())
+            Ok(reply.into_reply(alloc))
         }
         Err(Stop::Refused(refusal)) => Ok(Reply::Refused(refusal)),
         Err(Stop::Memory) => Err(Memory),
+    }
+}
+
+// Does the parts of a multi on a copy of the store, which takes its place where none is refused.
+fn multi(alloc: Global, store: &mut Store, parts: Multi) -> Result<Reply, Memory>
+    requires bounded { IsBounded store.old.tree }
+    requires zxid { store.old.tree.zxid + 1 < 2 ^ 40 }
+    requires given { store.old.given + 64 < 2 ^ 127 }
+    ensures done { IfOk result (λ reply. (store.new.tree, reply) ≡ together store.old.tree (run store.old.tree [] parts)) }
+    ensures given { store.new.given ≤ store.old.given + 64 }
+    ensures bounded { OnOk result (IsBounded store.new.tree) }
+    ensures same { OnErr result (store.new ≡ store.old) }
+{
+    let mut copy = store.copy(alloc)?;
+    match run(alloc, &mut copy, parts.into_parts()) {
+        Ok(replies) => {
+            copy.raise();
+            *store = copy;
+            Ok(Reply::Multi(Replies::new(replies)))
+        }
+        Err(Halt::Refused(number, refusal)) => Ok(Reply::MultiRefused(number, refusal)),
+        Err(Halt::Memory) => Err(Memory),
     }
 }

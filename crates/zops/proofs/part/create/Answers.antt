@@ -1,9 +1,10 @@
-use Rattle.std.proofs.Common.{◌≡◌, ap, sym, ◌∙◌, refl, None, Ok, false}
-use Rattle.zpath.specs.First.{first_that_holds}
-use Rattle.zstore.specs.Tree.{added}
+use Rattle.std.proofs.Common.{ap, sym, ◌∙◌, refl, Some, Ok}
+use Rattle.std.proofs.lemmas.Result.{err_from_is_err_and}
+use Rattle.zstore.specs.Tree.{has_node, parent_of, added}
 use Rattle.zops.specs.declared.reply.PartReply.TheVariants.{Created}
-use Rattle.zops.specs.Part.{create_part, create_refusals, unless_refused}
-use Rattle.zops.proofs.Paths.{below, is_over-path, at_least, less_than}
+use Rattle.zops.specs.Part.{create_part, is_owned, node_has}
+use Rattle.zops.proofs.Paths.{below, is_over-path, at_least, less_than, parent_of-made, made-below_root, not_root}
+use Rattle.zops.proofs.Creating.{created-refused, created-done, nameless, taken, full, all_clear}
 use Rattle.zops.proofs.part.create.Goals as goal
 
 pub returns-in_default-clause-stopped : goal.returns-in_default-clause-stopped
@@ -25,41 +26,75 @@ returns-then-is_ephemeral-clause-stopped c =
     let owned = sym (c.is_ephemeral.ensures c.in-Some.above c.in-Some-find.ensures.found) ∙ c.if-is_ephemeral.true in
     rw (below.root, below.parent, ← c.in-Some-find.ensures.node, owned) refl
 
+pub made_path-requires-clause-live : goal.made_path-requires-clause-live
+made_path-requires-clause-live c =
+    let last = rw c.in-Some.is at c.in_ok-above.ensures.front in
+    let below = below c.args.create.path c.in-Some.above last.0 last.1 in
+    c.in-Some-find.ensures.found ∙ ap Some (sym below.parent)
+
+pub made_path-requires-clause-short : goal.made_path-requires-clause-short
+made_path-requires-clause-short c = is_over-path c.args.create.path c.in_ok-above.ensures.path
+
+pub returns-in_err-made-clause-stopped : goal.returns-in_err-made-clause-stopped
+returns-in_err-made-clause-stopped c =
+    let last = rw c.in-Some.is at c.in_ok-above.ensures.front in
+    let below = below c.args.create.path c.in-Some.above last.0 last.1 in
+    let nodes = c.args.store.now.tree.nodes in
+    let there = ap (has_node nodes) below.parent ∙ sym c.in-Some-find.ensures.node in
+    let owned = ap (node_has is_owned nodes) below.parent ∙ sym (c.is_ephemeral.ensures c.in-Some.above c.in-Some-find.ensures.found) ∙ c.if-is_ephemeral.false in
+    let p = err_from_is_err_and c.from_residual-in_err-made.result c.from_residual-in_err-made.ensures.1 in
+    rw (p.1, p.2) (nameless c.args.store.now.tree c.args.create below.root there owned c.in_err-made.field-0.0 c.in_err-made.ensures.stopped)
+
 pub returns-then-is_some-clause-stopped : goal.returns-then-is_some-clause-stopped
-unfolding create_part
 returns-then-is_some-clause-stopped c =
     let last = rw c.in-Some.is at c.in_ok-above.ensures.front in
     let below = below c.args.create.path c.in-Some.above last.0 last.1 in
-    let owned = sym (c.is_ephemeral.ensures c.in-Some.above c.in-Some-find.ensures.found) ∙ c.if-is_ephemeral.false in
-    let taken = sym c.find-2.ensures.node ∙ sym c.is_some.ensures ∙ c.if-is_some.true in
-    rw (below.root, below.parent, ← c.in-Some-find.ensures.node, owned, is_over-path c.args.create.path c.in_ok-above.ensures.path, taken) refl
+    let nodes = c.args.store.now.tree.nodes in
+    let there = ap (has_node nodes) below.parent ∙ sym c.in-Some-find.ensures.node in
+    let owned = ap (node_has is_owned nodes) below.parent ∙ sym (c.is_ephemeral.ensures c.in-Some.above c.in-Some-find.ensures.found) ∙ c.if-is_ephemeral.false in
+    let here = sym c.find-2.ensures.node ∙ sym c.is_some.ensures ∙ c.if-is_some.true in
+    created-refused c.args.store.now.tree c.args.create _
+    (taken nodes c.args.create below.root there owned c.in_ok-made.made c.in_ok-made.ensures.made c.in_ok-made.ensures.allowed here)
 
 pub returns-then-nodes-ge-MAX_NODES-clause-stopped : goal.returns-then-nodes-ge-MAX_NODES-clause-stopped
-unfolding create_part
 returns-then-nodes-ge-MAX_NODES-clause-stopped c =
     let last = rw c.in-Some.is at c.in_ok-above.ensures.front in
     let below = below c.args.create.path c.in-Some.above last.0 last.1 in
-    let owned = sym (c.is_ephemeral.ensures c.in-Some.above c.in-Some-find.ensures.found) ∙ c.if-is_ephemeral.false in
+    let nodes = c.args.store.now.tree.nodes in
+    let there = ap (has_node nodes) below.parent ∙ sym c.in-Some-find.ensures.node in
+    let owned = ap (node_has is_owned nodes) below.parent ∙ sym (c.is_ephemeral.ensures c.in-Some.above c.in-Some-find.ensures.found) ∙ c.if-is_ephemeral.false in
     let free = sym c.find-2.ensures.node ∙ sym c.is_some.ensures ∙ c.if-is_some.false in
-    let full = at_least 4096 _ (rw c.nodes.ensures at c.if-nodes-ge-MAX_NODES.true) in
-    rw (below.root, below.parent, ← c.in-Some-find.ensures.node, owned, is_over-path c.args.create.path c.in_ok-above.ensures.path, free, full) refl
+    let many = at_least 4096 _ (rw c.nodes.ensures at c.if-nodes-ge-MAX_NODES.true) in
+    created-refused c.args.store.now.tree c.args.create _
+    (full nodes c.args.create below.root there owned c.in_ok-made.made c.in_ok-made.ensures.made c.in_ok-made.ensures.allowed free many)
 
 pub add-requires-clause-live : goal.add-requires-clause-live
 add-requires-clause-live c =
     let last = rw c.in-Some.is at c.in_ok-above.ensures.front in
     let below = below c.args.create.path c.in-Some.above last.0 last.1 in
-    rw below.parent c.in-Some-find.ensures.found
+    let nodes = c.args.store.now.tree.nodes in
+    let parent = ap parent_of c.in_ok-made.ensures.made ∙ parent_of-made nodes c.args.create.kind c.args.create.path ∙ below.parent in
+    c.in-Some-find.ensures.found ∙ ap Some (sym parent)
+
+pub add-requires-clause-below_root : goal.add-requires-clause-below_root
+add-requires-clause-below_root c e =
+    let last = rw c.in-Some.is at c.in_ok-above.ensures.front in
+    let below = below c.args.create.path c.in-Some.above last.0 last.1 in
+    let path = c.args.create.path in
+    made-below_root c.args.store.now.tree.nodes c.args.create.kind path (not_root path below.root) (sym c.in_ok-made.ensures.made ∙ e)
 
 pub returns-clause-done : goal.returns-clause-done
-unfolding create_part
 returns-clause-done c =
     let last = rw c.in-Some.is at c.in_ok-above.ensures.front in
     let below = below c.args.create.path c.in-Some.above last.0 last.1 in
-    let owned = sym (c.is_ephemeral.ensures c.in-Some.above c.in-Some-find.ensures.found) ∙ c.if-is_ephemeral.false in
+    let nodes = c.args.store.now.tree.nodes in
+    let there = ap (has_node nodes) below.parent ∙ sym c.in-Some-find.ensures.node in
+    let owned = ap (node_has is_owned nodes) below.parent ∙ sym (c.is_ephemeral.ensures c.in-Some.above c.in-Some-find.ensures.found) ∙ c.if-is_ephemeral.false in
     let free = sym c.find-2.ensures.node ∙ sym c.is_some.ensures ∙ c.if-is_some.false in
-    let room = less_than 4096 _ (rw c.nodes.ensures at c.if-nodes-ge-MAX_NODES.false) in
+    let few = less_than 4096 _ (rw c.nodes.ensures at c.if-nodes-ge-MAX_NODES.false) in
     let t = c.args.store.now.tree in
     let create = c.args.create in
-    let none : first_that_holds (create_refusals t create) ≡ None = rw (below.root, below.parent, ← c.in-Some-find.ensures.node, owned, is_over-path create.path c.in_ok-above.ensures.path, free, room) refl in
-    ap (λ o. unless_refused o (added t create.path create.bytes 0 false, Created create.path)) none
-    ∙ (λ i. Ok (sym c.in_ok-add.ensures.added i, Created (sym c.in_ok-made.ensures i)))
+    created-done t create
+    (all_clear nodes c.args.create below.root there owned c.in_ok-made.made c.in_ok-made.ensures.made c.in_ok-made.ensures.allowed free few)
+    ∙ (λ i. Ok (added t (sym c.in_ok-made.ensures.made i) create.bytes 0 (sym c.is_sequential-is_sequential.ensures i), Created (sym c.in_ok-made.ensures.made i)))
+    ∙ (λ i. Ok (sym c.in_ok-add.ensures.added i, Created (sym c.in_ok-path.ensures i)))

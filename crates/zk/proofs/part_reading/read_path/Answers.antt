@@ -1,7 +1,7 @@
 use Rattle.std.proofs.Common.{ap, ◌∙◌, refl}
 use Rattle.zpath.specs.Faults.{fault_of, names_of}
 use Rattle.zpath.proofs.Spelling.{text_has_no_fault, names_of-text_of}
-use Rattle.zk.proofs.reading.read_path.Goals as goal
+use Rattle.zk.proofs.part_reading.read_path.Goals as goal
 
 pub returns-in-Ok-clause-found : goal.returns-in-Ok-clause-found
 returns-in-Ok-clause-found c =

@@ -1,0 +1,76 @@
+-- The shape of a part, and of a multi: what is looked at before any path or data is.
+-- Words are taken from the left, as many as the verb wants, so that `;` can stand where a path or data is wanted.
+use Rattle.std.specs.Prelude.{ℕ, zero, suc, List, [], ◌∷◌, codes, Option, None, Some, if◌then◌else◌}
+use Rattle.std.specs.Option.{option_map}
+use Rattle.std.specs.Str.{bytes_eq}
+use Rattle.zops.specs.declared.call.Kind.{Kind}
+use Rattle.zops.specs.declared.call.Kind.TheVariants.{Persistent, PersistentSequential}
+use Rattle.zops.specs.declared.call.Expected.{Expected}
+use Rattle.zops.specs.declared.call.Expected.TheVariants.{Any, Exactly}
+use Rattle.zk.specs.declared.part_words.PartWords.{PartWords}
+use Rattle.zk.specs.declared.part_words.PartWords.TheVariants.{Create, Delete, SetData, Check}
+use Rattle.zk.specs.LineWords.{Word, number_of}
+
+-- how a node is to be made
+abbrev pub kind_of : Word → Option Kind
+kind_of word =
+    if bytes_eq word (codes "p") then Some Persistent else
+    if bytes_eq word (codes "ps") then Some PersistentSequential else
+    None
+
+-- the version that a call is meant for
+abbrev pub version_of : Word → Option Expected
+version_of word = if bytes_eq word (codes "any") then Some Any else option_map Exactly (number_of word)
+
+-- a part, and the words behind it
+abbrev pub Shape : Type 0
+Shape = Option (PartWords × List Word)
+
+-- create PATH KIND DATA
+abbrev pub create_shape : List Word → Shape
+create_shape (path ∷ (kind ∷ (bytes ∷ words))) = option_map (λ kind. (Create path kind bytes, words)) (kind_of kind)
+create_shape words = None
+
+-- delete PATH VERSION
+abbrev pub delete_shape : List Word → Shape
+delete_shape (path ∷ (version ∷ words)) = option_map (λ version. (Delete path version, words)) (version_of version)
+delete_shape words = None
+
+-- set PATH VERSION DATA
+abbrev pub set_shape : List Word → Shape
+set_shape (path ∷ (version ∷ (bytes ∷ words))) =
+    option_map (λ version. (SetData path version bytes, words)) (version_of version)
+set_shape words = None
+
+-- check PATH VERSION
+abbrev pub check_shape : List Word → Shape
+check_shape (path ∷ (version ∷ words)) = option_map (λ version. (Check path version, words)) (version_of version)
+check_shape words = None
+
+-- a verb, and the words that it wants
+abbrev pub part_shape : Word → List Word → Shape
+part_shape verb words =
+    if bytes_eq verb (codes "create") then create_shape words else
+    if bytes_eq verb (codes "delete") then delete_shape words else
+    if bytes_eq verb (codes "set") then set_shape words else
+    if bytes_eq verb (codes "check") then check_shape words else
+    None
+
+-- a part, where no word is left behind it
+abbrev pub alone : Shape → Option PartWords
+alone None = None
+alone (Some (part, [])) = Some part
+alone (Some (part, word ∷ words)) = None
+
+-- a part, and what the words behind it come to, where `;` stands between
+abbrev pub and_parts : Shape → (List Word → Option (List PartWords)) → Option (List PartWords)
+and_parts None next = None
+and_parts (Some (part, [])) next = Some (part ∷ [])
+and_parts (Some (part, word ∷ words)) next =
+    if bytes_eq word (codes ";") then option_map (λ parts. part ∷ parts) (next words) else None
+
+-- the parts that some words come to: at least one, and at most so many
+unfoldable pub parts_shape : ℕ → List Word → Option (List PartWords)
+parts_shape zero words = None
+parts_shape (suc room) [] = None
+parts_shape (suc room) (verb ∷ words) = and_parts (part_shape verb words) (parts_shape room)

@@ -1,0 +1,125 @@
+//! The shape of parts: words taken from the left, as many as each verb wants.
+
+ghost use Rattle.std.specs.Prelude.{◌≡◌, ◌⊎◌, Ok, Err, Some, None, IfOk, IfErr, IfSome, IfNone};
+ghost use Rattle.zk.specs.Shape.{kind_of, version_of, create_shape, delete_shape, set_shape, check_shape, part_shape, alone, parts_shape};
+ghost use Rattle.zk.specs.Request.{shaped};
+
+use crate::cursor::Cursor;
+use crate::number::number;
+use crate::part_words::{PartWords, Word};
+use crate::request::LineFault;
+use std::alloc::Global;
+use zops::{Expected, Kind, MAX_PARTS};
+
+/// The parts that all these words come to, with `;` between them.
+pub(crate) fn all_parts<'a>(
+    alloc: Global,
+    mut words: Cursor<'a>,
+) -> Result<Vec<PartWords<'a>>, LineFault>
+    ensures found { IfOk result (λ parts. shaped (parts_shape 64 words.entry) ≡ Ok parts.items) }
+    ensures fault { IfErr result (λ fault. (fault ≡ LineFault.Memory) ⊎ (shaped (parts_shape 64 words.entry) ≡ Err fault)) }
+{
+    let mut parts = Vec::new(alloc);
+    let mut room = MAX_PARTS;
+    while room > 0 {
+        let Some(verb) = words.next() else {
+            return Err(LineFault::BadLine);
+        };
+        let Some(part) = next_part(verb, &mut words) else {
+            return Err(LineFault::BadLine);
+        };
+        parts.push(part)?;
+        let Some(word) = words.next() else {
+            return Ok(parts);
+        };
+        if word != ";" {
+            return Err(LineFault::BadLine);
+        }
+        room -= 1;
+    }
+    Err(LineFault::BadLine)
+}
+
+/// The part that all words behind a verb come to.
+pub(crate) fn lone_part<'a>(verb: &str, mut words: Cursor<'a>) -> Option<PartWords<'a>>
+    ensures { result ≡ alone (part_shape verb.now words.entry) }
+{
+    let part = next_part(verb, &mut words)?;
+    if words.is_done() { Some(part) } else { None }
+}
+
+// The part that begins with a verb; the words behind it stay.
+fn next_part<'a>(verb: &str, words: &mut Cursor<'a>) -> Option<PartWords<'a>>
+    ensures part { IfSome result (λ part. part_shape verb.now words.old ≡ Some (part, words.new)) }
+    ensures none { IfNone result (part_shape verb.now words.old ≡ None) }
+{
+    match verb {
+        "create" => next_create(words),
+        "delete" => next_delete(words),
+        "set" => next_set(words),
+        "check" => next_check(words),
+        _ => None,
+    }
+}
+
+// PATH KIND DATA
+fn next_create<'a>(words: &mut Cursor<'a>) -> Option<PartWords<'a>>
+    ensures part { IfSome result (λ part. create_shape words.old ≡ Some (part, words.new)) }
+    ensures none { IfNone result (create_shape words.old ≡ None) }
+{
+    let path = Word::new(words.next()?);
+    let kind = words.next()?;
+    let bytes = Word::new(words.next()?);
+    Some(PartWords::Create(path, kind_in(kind)?, bytes))
+}
+
+// PATH VERSION
+fn next_delete<'a>(words: &mut Cursor<'a>) -> Option<PartWords<'a>>
+    ensures part { IfSome result (λ part. delete_shape words.old ≡ Some (part, words.new)) }
+    ensures none { IfNone result (delete_shape words.old ≡ None) }
+{
+    let path = Word::new(words.next()?);
+    let version = version_in(words.next()?)?;
+    Some(PartWords::Delete(path, version))
+}
+
+// PATH VERSION DATA
+fn next_set<'a>(words: &mut Cursor<'a>) -> Option<PartWords<'a>>
+    ensures part { IfSome result (λ part. set_shape words.old ≡ Some (part, words.new)) }
+    ensures none { IfNone result (set_shape words.old ≡ None) }
+{
+    let path = Word::new(words.next()?);
+    let version = words.next()?;
+    let bytes = Word::new(words.next()?);
+    Some(PartWords::SetData(path, version_in(version)?, bytes))
+}
+
+// PATH VERSION
+fn next_check<'a>(words: &mut Cursor<'a>) -> Option<PartWords<'a>>
+    ensures part { IfSome result (λ part. check_shape words.old ≡ Some (part, words.new)) }
+    ensures none { IfNone result (check_shape words.old ≡ None) }
+{
+    let path = Word::new(words.next()?);
+    let version = version_in(words.next()?)?;
+    Some(PartWords::Check(path, version))
+}
+
+fn kind_in(word: &str) -> Option<Kind>
+    ensures { result ≡ kind_of word.now }
+{
+    match word {
+        "p" => Some(Kind::Persistent),
+        "ps" => Some(Kind::PersistentSequential),
+        _ => None,
+    }
+}
+
+// `any`, or a number.
+fn version_in(word: &str) -> Option<Expected>
+    ensures { result ≡ version_of word.now }
+{
+    if word == "any" {
+        return Some(Expected::Any);
+    }
+    Some(Expected::Exactly(number(word)?))
+}

@@ -1,0 +1,173 @@
+-- The zxids of a tree's nodes are those of changes that were made.
+use Rattle.std.proofs.Common.{◌≡◌, ℕ, ◌+◌, Bool, true, false, if◌then◌else◌, List, [], ◌∷◌, ◌++◌, length, Option, Some, None, Result, Ok, Err, refl, sym, ap, subst, lit<, arith}
+use Rattle.std.specs.FinMap as finite
+use Rattle.zpath.specs.First.{first_that_holds}
+use Rattle.zstore.specs.declared.node.Node.{Node}
+use Rattle.zstore.specs.Tree.{Tree, Path, opening, new_node, parent_of, with_child, without_child, with_data, stat_of, added, dropped, written, raised}
+use Rattle.zops.specs.declared.call.Create.{Create as ToCreate}
+use Rattle.zops.specs.declared.call.Delete.{Delete as ToDelete}
+use Rattle.zops.specs.declared.call.SetData.{SetData as ToSet}
+use Rattle.zops.specs.declared.call.Check.{Check as ToCheck}
+use Rattle.zops.specs.declared.call.Expected.{Expected}
+use Rattle.zops.specs.declared.call.Part.{Part}
+use Rattle.zops.specs.declared.call.Part.TheVariants as part_of
+use Rattle.zops.specs.declared.call.Update.{Update}
+use Rattle.zops.specs.declared.call.Update.TheVariants.{Create, Delete, SetData, Multi}
+use Rattle.zops.specs.declared.refusal.Refusal.{Refusal}
+use Rattle.zops.specs.declared.refusal.Refusal.TheVariants.{BadVersion, Exhausted}
+use Rattle.zops.specs.declared.reply.PartReply.{PartReply}
+use Rattle.zops.specs.declared.reply.PartReply.TheVariants.{Created, Deleted, Set, Checked}
+use Rattle.zops.specs.declared.reply.Reply.{Reply}
+use Rattle.zops.specs.declared.reply.Reply.TheVariants as reply
+use Rattle.zops.specs.Part.{create_part, delete_part, set_part, check_part, part_step, create_refusals, delete_refusals, made_path, is_sequential, unless_refused, on_version, has_other_version}
+use Rattle.zops.specs.Multi.{Run, and_then, run}
+use Rattle.zops.specs.Step.{step, changed, alone, together, is_exhausted}
+use Rattle.zops.specs.Sound.{AllNodes}
+use Rattle.zops.specs.History.{after_calls, is_success, IsOlder, ZxidsRise}
+use Rattle.zops.proofs.Bounds.{all_insert, all_remove, all_changed, no_nodes}
+
+-- every zxid of the tree's nodes is that of a change up to the next
+abbrev IsDated : ℕ → Tree → Type 0
+IsDated zxid t = (t.zxid ≡ zxid) × AllNodes (IsOlder (zxid + 2)) t.nodes
+
+-- what a part leaves, where it was done
+abbrev LeavesDated : ℕ → Result (Tree × PartReply) Refusal → Type 0
+LeavesDated zxid (Err refusal) = Unit {0}
+LeavesDated zxid (Ok (u, reply)) = IsDated zxid u
+
+unless_dated : (zxid : ℕ) (o : Option Refusal) (did : Tree × PartReply) → IsDated zxid did.0 → LeavesDated zxid (unless_refused o did)
+unless_dated zxid (Some refusal) did dated = tt
+unless_dated zxid None did dated = dated
+
+on_version-dated : (zxid : ℕ) (expected : Expected) (o : Option Node) (act : Node → Tree × PartReply) → ((n : Node) → IsDated zxid (act n).0) → LeavesDated zxid (on_version expected o act)
+on_version-dated zxid expected None act each = tt
+on_version-dated zxid expected (Some n) act each = by (has_other_version expected n)
+  where
+    by : (b : Bool) → LeavesDated zxid (if b then Err BadVersion else Ok (act n))
+    by true = tt
+    by false = each n
+
+added-dated : (zxid : ℕ) (t : Tree) (path : Path) (bytes : List ℕ) (sequential : Bool) → IsDated zxid t → IsDated zxid (added t path bytes 0 sequential)
+added-dated zxid t path bytes sequential dated =
+    let Old = IsOlder (zxid + 2) in
+    let same = dated.0 in
+    let now : Old (new_node bytes 0 (t.zxid + 1) t.time) = record { czxid = omega (arith, same); mzxid = omega (arith, same); pzxid = omega (arith, same) } in
+    let more = all_insert Old t.nodes path (new_node bytes 0 (t.zxid + 1) t.time) dated.1 now in (
+      same,
+      all_changed Old Old _ (parent_of path) (with_child (t.zxid + 1) sequential) more (λ n old. old)
+          (λ n e. let old = more (parent_of path) n e in record { czxid = old.czxid; mzxid = old.mzxid; pzxid = omega (arith, same) }),
+    )
+
+dropped-dated : (zxid : ℕ) (t : Tree) (path : Path) → IsDated zxid t → IsDated zxid (dropped t path)
+dropped-dated zxid t path dated =
+    let Old = IsOlder (zxid + 2) in
+    let same = dated.0 in
+    let fewer = all_remove Old t.nodes path dated.1 in (
+      same,
+      all_changed Old Old _ (parent_of path) (without_child (t.zxid + 1)) fewer (λ n old. old)
+          (λ n e. let old = fewer (parent_of path) n e in record { czxid = old.czxid; mzxid = old.mzxid; pzxid = omega (arith, same) }),
+    )
+
+written-dated : (zxid : ℕ) (t : Tree) (path : Path) (bytes : List ℕ) → IsDated zxid t → IsDated zxid (written t path bytes)
+written-dated zxid t path bytes dated =
+    let Old = IsOlder (zxid + 2) in
+    let same = dated.0 in (
+      same,
+      all_changed Old Old t.nodes path (with_data bytes (t.zxid + 1) t.time) dated.1 (λ n old. old)
+          (λ n e. let old = dated.1 path n e in record { czxid = old.czxid; mzxid = omega (arith, same); pzxid = old.pzxid }),
+    )
+
+create-dated : (zxid : ℕ) (t : Tree) (create : ToCreate) → IsDated zxid t → LeavesDated zxid (create_part t create)
+unfolding create_part
+create-dated zxid t create dated =
+    let made = made_path t.nodes create.kind create.path in
+    unless_dated zxid (first_that_holds (create_refusals t.nodes create)) (added t made create.bytes 0 (is_sequential create.kind), Created made)
+    (added-dated zxid t made create.bytes (is_sequential create.kind) dated)
+
+delete-dated : (zxid : ℕ) (t : Tree) (delete : ToDelete) → IsDated zxid t → LeavesDated zxid (delete_part t delete)
+unfolding delete_part
+delete-dated zxid t delete dated =
+    unless_dated zxid (first_that_holds (delete_refusals t.nodes delete)) (dropped t delete.path, Deleted) (dropped-dated zxid t delete.path dated)
+
+set-dated : (zxid : ℕ) (t : Tree) (set : ToSet) → IsDated zxid t → LeavesDated zxid (set_part t set)
+unfolding set_part
+set-dated zxid t set dated =
+    on_version-dated zxid set.version (finite.get t.nodes set.path)
+    (λ n. (written t set.path set.bytes, Set (stat_of (written t set.path set.bytes).nodes set.path (with_data set.bytes (t.zxid + 1) t.time n))))
+    (λ n. written-dated zxid t set.path set.bytes dated)
+
+check-dated : (zxid : ℕ) (t : Tree) (check : ToCheck) → IsDated zxid t → LeavesDated zxid (check_part t check)
+unfolding check_part
+check-dated zxid t check dated = on_version-dated zxid check.version (finite.get t.nodes check.path) (λ n. (t, Checked)) (λ n. dated)
+
+part-dated : (zxid : ℕ) (t : Tree) (part : Part) → IsDated zxid t → LeavesDated zxid (part_step t part)
+part-dated zxid t (part_of.Create create) dated = create-dated zxid t create dated
+part-dated zxid t (part_of.Delete delete) dated = delete-dated zxid t delete dated
+part-dated zxid t (part_of.SetData set) dated = set-dated zxid t set dated
+part-dated zxid t (part_of.Check check) dated = check-dated zxid t check dated
+
+-- what a run leaves, where all its parts were done
+abbrev RunDated : ℕ → Run → Type 0
+RunDated zxid (Err stopped) = Unit {0}
+RunDated zxid (Ok (u, replies)) = IsDated zxid u
+
+and_then-dated : (zxid : ℕ) (did : Result (Tree × PartReply) Refusal) (number : ℕ) (go_on : Tree → PartReply → Run) → LeavesDated zxid did → ((u : Tree) (reply : PartReply) → IsDated zxid u → RunDated zxid (go_on u reply)) → RunDated zxid (and_then did number go_on)
+and_then-dated zxid (Err refusal) number go_on dated each = tt
+and_then-dated zxid (Ok (u, reply)) number go_on dated each = each u reply dated
+
+run-dated : (zxid : ℕ) (parts : List Part) (t : Tree) (replies : List PartReply) → IsDated zxid t → RunDated zxid (run t replies parts)
+unfolding run
+run-dated zxid [] t replies dated = dated
+run-dated zxid (part ∷ parts) t replies dated =
+    and_then-dated zxid (part_step t part) (length replies + 1) (λ u reply. run u (replies ++ reply ∷ []) parts)
+    (part-dated zxid t part dated) (λ u reply dated. run-dated zxid parts u (replies ++ reply ∷ []) dated)
+
+-- between two calls, every zxid of a node is that of a change that was made
+abbrev IsSettled : Tree → Type 0
+IsSettled t = AllNodes (IsOlder (t.zxid + 1)) t.nodes
+
+later : (t : Tree) → IsSettled t → IsDated t.zxid t
+later t settled = (refl, λ path n e. let old = settled path n e in record { czxid = omega (arith, old.czxid); mzxid = omega (arith, old.mzxid); pzxid = omega (arith, old.pzxid) })
+
+settled : (t u : Tree) → IsDated t.zxid u → IsSettled (raised u)
+settled t u dated path n e = let same = dated.0 in let old = dated.1 path n e in record { czxid = omega (arith, same, old.czxid); mzxid = omega (arith, same, old.mzxid); pzxid = omega (arith, same, old.pzxid) }
+
+-- what a call leaves: a settled tree, whose zxid is the next where the call was done
+pub record Goes (t : Tree) (did : Tree × Reply) : Type 0 where
+  pub settled : IsSettled did.0
+  pub next : is_success did.1 ≡ true → did.0.zxid ≡ t.zxid + 1
+
+alone-goes : (t : Tree) (part : Result (Tree × PartReply) Refusal) → IsSettled t → LeavesDated t.zxid part → Goes t (alone t part)
+alone-goes t (Err refusal) is dated = record { settled = is; next = λ e. cc }
+alone-goes t (Ok (u, done)) is dated = record { settled = settled t u dated; next = λ e. ap (λ z. z + 1) dated.0 }
+
+together-goes : (t : Tree) (did : Run) → IsSettled t → RunDated t.zxid did → Goes t (together t did)
+together-goes t (Err (number, refusal)) is dated = record { settled = is; next = λ e. cc }
+together-goes t (Ok (u, replies)) is dated = record { settled = settled t u dated; next = λ e. ap (λ z. z + 1) dated.0 }
+
+changed-goes : (t : Tree) (client : ℕ) (update : Update) → IsSettled t → Goes t (changed t client update)
+changed-goes t client (Create create) is = alone-goes t (create_part t create) is (create-dated t.zxid t create (later t is))
+changed-goes t client (Delete delete) is = alone-goes t (delete_part t delete) is (delete-dated t.zxid t delete (later t is))
+changed-goes t client (SetData set) is = alone-goes t (set_part t set) is (set-dated t.zxid t set (later t is))
+changed-goes t client (Multi parts) is = together-goes t (run t [] parts) is (run-dated t.zxid parts t [] (later t is))
+
+step-goes : (t : Tree) (client : ℕ) (update : Update) → IsSettled t → Goes t (step t client update)
+unfolding step
+step-goes t client update is = by (is_exhausted t)
+  where
+    by : (b : Bool) → Goes t (if b then (t, reply.Refused Exhausted) else changed t client update)
+    by true = record { settled = is; next = λ e. cc }
+    by false = changed-goes t client update is
+
+opening-settled : IsSettled opening
+opening-settled = all_insert (IsOlder 1) finite.empty [] (new_node [] 0 0 0) (no_nodes (IsOlder 1)) (record { czxid = lit< tt; mzxid = lit< tt; pzxid = lit< tt })
+
+calls-settled : (calls : List (ℕ × Update)) (t : Tree) → IsSettled t → IsSettled (after_calls t calls)
+calls-settled [] t is = is
+calls-settled (call ∷ calls) t is = calls-settled calls (step t call.0 call.1).0 (step-goes t call.0 call.1 is).settled
+
+pub zxids_rise : ZxidsRise
+zxids_rise calls client update path n done e =
+    let t = after_calls opening calls in
+    let is = calls-settled calls opening opening-settled in
+    subst (λ zxid. IsOlder zxid n) (sym ((step-goes t client update is).next done)) (is path n e)

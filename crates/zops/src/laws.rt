@@ -1,0 +1,26 @@
+//! What holds of the definitions themselves: each function's contract is a law, and its body does nothing.
+
+ghost use Rattle.zops.specs.History.{ZxidsRise};
+ghost use Rattle.zops.specs.Laws.{RefusedChangesNothing, RefusedMultiChangesNothing, CountsTheNames, ListsInOrder};
+
+/// A refused call leaves the whole tree equal, and so does a multi that is refused in one of its parts.
+pub fn refused_calls_change_nothing()
+    ensures call { RefusedChangesNothing }
+    ensures multi { RefusedMultiChangesNothing }
+{}
+
+/// The number of children in a node's stat is the number of names that are listed of it.
+pub fn stat_counts_the_names()
+    ensures { CountsTheNames }
+{}
+
+/// The names that are listed of a node stand in the order of their bytes, each once.
+pub fn names_are_in_order()
+    ensures { ListsInOrder }
+{}
+
+/// After any calls from the opening, the zxid of a successful call is greater than every czxid, mzxid and
+/// pzxid that stood before it.
+pub fn zxids_rise()
+    ensures { ZxidsRise }
+{}

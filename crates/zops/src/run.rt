@@ -1,0 +1,58 @@
+//! The parts of a multi, done one after the other.
+
+ghost use Rattle.std.specs.Prelude.{◌≡◌, ◌<◌, ◌+◌, ◌≤◌, ◌*◌, ◌^◌, Ok, [], drop, length, IfOk, IfErr, OnOk};
+ghost use Rattle.zops.specs.declared.run.Halt.TheVariants.{Memory as no_memory};
+ghost use Rattle.zops.specs.Multi.{run, IsHalt};
+ghost use Rattle.zops.specs.Sound.{IsBounded, AllNodes, IsWithin};
+
+use crate::call::Part;
+use crate::part::{Stop, part};
+use crate::refusal::Refusal;
+use crate::reply::PartReply;
+use std::alloc::{AllocFailed, Global};
+use zstore::Store;
+
+/// Why the parts of a multi were not all done.
+#[derive(Clone, Copy, Debug, PartialEq, Eq)]
+pub(crate) enum Halt {
+    /// This part, counted from 1, was refused.
+    Refused(usize, Refusal),
+    /// A growth was refused.
+    Memory,
+}
+
+impl<T: Drop> From<AllocFailed<T>> for Halt {
+    ghost from_gives = { λ _ halt. halt ≡ no_memory };
+
+    fn from(_error: AllocFailed<T>) -> Halt {
+        Halt::Memory
+    }
+}
+
+/// Does the parts one after the other, up to the first that is refused. The store keeps what those
+/// before it did.
+pub(crate) fn run(
+    alloc: Global,
+    store: &mut Store,
+    parts: Vec<Part>,
+) -> Result<Vec<PartReply>, Halt>
+    requires bounded { IsBounded store.old.tree }
+    requires zxid { store.old.tree.zxid + 1 < 2 ^ 40 }
+    requires few { length parts.items ≤ 64 }
+    requires given { store.old.given + 64 < 2 ^ 127 }
+    ensures done { IfOk result (λ replies. run store.old.tree [] parts.items ≡ Ok (store.new.tree, replies.items)) }
+    ensures stopped { IfErr result (IsHalt (run store.old.tree [] parts.items)) }
+    ensures given { store.new.given ≤ store.old.given + 64 }
+    ensures zxid { OnOk result (store.new.tree.zxid ≡ store.old.tree.zxid) }
+    ensures within { OnOk result (AllNodes (IsWithin (4096 * store.old.tree.zxid + 64)) store.new.tree.nodes) }
+{
+    let mut replies = Vec::new(alloc);
+    for wanted in parts {
+        match part(alloc, store, wanted) {
+            Ok(reply) => replies.push(reply)?,
+            Err(Stop::Refused(refusal)) => return Err(Halt::Refused(replies.len() + 1, refusal)),
+            Err(Stop::Memory) => return Err(Halt::Memory),
+        }
+    }
+    Ok(replies)
+}
