@@ -61,35 +61,11 @@ fn shown(alloc: Global, reply: Reply) -> Result<String, Memory> {
     }
 }
 
-// The data that a text is.
-fn data(alloc: Global, text: &str) -> Result<Data, Fail> {
-    Ok(Data::new(text.as_bytes().to_vec(alloc)?)?)
-}
-
+// A create of a node with this data.
 fn create(alloc: Global, path: &str, kind: Kind, text: &str) -> Result<Part, Fail> {
     let path = Path::parse(alloc, path)?;
-    let bytes = data(alloc, text)?;
+    let bytes = Data::new(text.as_bytes().to_vec(alloc)?)?;
     Ok(Part::Create(Create { path, kind, bytes }))
-}
-
-fn delete(alloc: Global, path: &str, version: Expected) -> Result<Part, Fail> {
-    let path = Path::parse(alloc, path)?;
-    Ok(Part::Delete(Delete { path, version }))
-}
-
-fn set(alloc: Global, path: &str, text: &str, version: Expected) -> Result<Part, Fail> {
-    let path = Path::parse(alloc, path)?;
-    let bytes = data(alloc, text)?;
-    Ok(Part::SetData(SetData {
-        path,
-        bytes,
-        version,
-    }))
-}
-
-fn check(alloc: Global, path: &str, version: Expected) -> Result<Part, Fail> {
-    let path = Path::parse(alloc, path)?;
-    Ok(Part::Check(Check { path, version }))
 }
 
 // A multi of these parts.
@@ -106,6 +82,42 @@ fn alone(alloc: Global, part: Part) -> Result<Update, Fail> {
         Part::SetData(wanted) => Ok(Update::SetData(wanted)),
         Part::Check(wanted) => multi(vec![in alloc; Part::Check(wanted)]?),
     }
+}
+
+// What a row asks for: a create has the data "hi", and a set no bytes.
+#[derive(Clone, Copy)]
+enum Act {
+    Create,
+    Delete,
+    Set,
+    Check,
+}
+
+// The part that a row asks for.
+fn part(alloc: Global, act: Act, path: &str, version: Expected) -> Result<Part, Fail> {
+    if let Act::Create = act {
+        return create(alloc, path, Persistent, "hi");
+    }
+    let path = Path::parse(alloc, path)?;
+    let bytes = Data::empty(alloc);
+    match act {
+        Act::Set => Ok(Part::SetData(SetData {
+            path,
+            bytes,
+            version,
+        })),
+        Act::Check => Ok(Part::Check(Check { path, version })),
+        _ => Ok(Part::Delete(Delete { path, version })),
+    }
+}
+
+// The parts that rows ask for.
+fn parts(alloc: Global, rows: &[(Act, &str, Expected)]) -> Result<Vec<Part>, Fail> {
+    let mut parts = Vec::new(alloc);
+    for (act, path, version) in rows {
+        parts.push(part(alloc, *act, path, *version)?)?;
+    }
+    Ok(parts)
 }
 
 // Applies an update, and compares the answer.
@@ -181,23 +193,24 @@ fn creates_nodes(rt: HostRuntime) -> Result<(), Fail> {
 fn sets_checks_and_deletes(rt: HostRuntime) -> Result<(), Fail> {
     let alloc = rt.alloc();
     let mut machine = Machine::new(alloc)?;
-    for (part, want) in [
-        (create(alloc, "/a", Persistent, "hi")?, "created /a"),
-        (set(alloc, "/a", "", Exactly(1))?, "BadVersion"),
-        (set(alloc, "/a", "", Any)?, "set 1 2 1 0 0 1 0 0 0 0"),
-        (set(alloc, "/none", "", Any)?, "NoNode"),
-        (check(alloc, "/a", Exactly(1))?, "multi, checked"),
-        (check(alloc, "/a", Exactly(0))?, "part 1: BadVersion"),
-        (check(alloc, "/none", Any)?, "part 1: NoNode"),
-        (create(alloc, "/a/b", Persistent, "")?, "created /a/b"),
-        (delete(alloc, "/a", Exactly(0))?, "BadVersion"),
-        (delete(alloc, "/a", Exactly(1))?, "NotEmpty"),
-        (delete(alloc, "/a/b", Any)?, "deleted"),
-        (delete(alloc, "/a", Exactly(0))?, "BadVersion"),
-        (delete(alloc, "/a", Exactly(1))?, "deleted"),
-        (delete(alloc, "/a", Any)?, "NoNode"),
-        (delete(alloc, "/", Any)?, "RootFixed"),
+    for (act, path, version, want) in [
+        (Act::Create, "/a", Any, "created /a"),
+        (Act::Set, "/a", Exactly(1), "BadVersion"),
+        (Act::Set, "/a", Any, "set 1 2 1 0 0 1 0 0 0 0"),
+        (Act::Set, "/none", Any, "NoNode"),
+        (Act::Check, "/a", Exactly(1), "multi, checked"),
+        (Act::Check, "/a", Exactly(0), "part 1: BadVersion"),
+        (Act::Check, "/none", Any, "part 1: NoNode"),
+        (Act::Create, "/a/b", Any, "created /a/b"),
+        (Act::Delete, "/a", Exactly(0), "BadVersion"),
+        (Act::Delete, "/a", Exactly(1), "NotEmpty"),
+        (Act::Delete, "/a/b", Any, "deleted"),
+        (Act::Delete, "/a", Exactly(0), "BadVersion"),
+        (Act::Delete, "/a", Exactly(1), "deleted"),
+        (Act::Delete, "/a", Any, "NoNode"),
+        (Act::Delete, "/", Any, "RootFixed"),
     ] {
+        let part = part(alloc, act, path, version)?;
         apply(&rt, alloc, &mut machine, alone(alloc, part)?, want)?;
     }
     Ok(())
@@ -207,29 +220,35 @@ fn sets_checks_and_deletes(rt: HostRuntime) -> Result<(), Fail> {
 fn does_all_parts_or_none(rt: HostRuntime) -> Result<(), Fail> {
     let alloc = rt.alloc();
     let mut machine = Machine::new(alloc)?;
-    let refused = vec![in alloc;
-        create(alloc, "/a", Persistent, "hi")?,
-        delete(alloc, "/none", Any)?,
-        check(alloc, "/a", Any)?,
-    ]?;
-    apply(&rt, alloc, &mut machine, multi(refused)?, "part 2: NoNode")?;
+    let refused = [
+        (Act::Create, "/a", Any),
+        (Act::Delete, "/none", Any),
+        (Act::Check, "/a", Any),
+    ];
+    apply(
+        &rt,
+        alloc,
+        &mut machine,
+        multi(parts(alloc, &refused)?)?,
+        "part 2: NoNode",
+    )?;
     let opening = [
         "[] 0 0 0 0 0 0 0 0 0 0",
         "exists 0 0 0 0 0 0 0 0 0 0",
         "children",
     ];
     ask(&rt, alloc, &machine, "/", opening)?;
-    let made = vec![in alloc;
-        create(alloc, "/b", Persistent, "hi")?,
-        create(alloc, "/a", Persistent, "")?,
-        check(alloc, "/a", Exactly(0))?,
-        set(alloc, "/a", "x", Exactly(0))?,
-        create(alloc, "/a/c", Persistent, "")?,
-        delete(alloc, "/a/c", Any)?,
-    ]?;
+    let made = [
+        (Act::Create, "/b", Any),
+        (Act::Create, "/a", Any),
+        (Act::Check, "/a", Exactly(0)),
+        (Act::Set, "/a", Exactly(0)),
+        (Act::Create, "/a/c", Any),
+        (Act::Delete, "/a/c", Any),
+    ];
     let want =
-        "multi, created /b, created /a, checked, set 1 1 1 0 0 1 0 0 1 0, created /a/c, deleted";
-    apply(&rt, alloc, &mut machine, multi(made)?, want)?;
+        "multi, created /b, created /a, checked, set 1 1 1 0 0 1 0 0 0 0, created /a/c, deleted";
+    apply(&rt, alloc, &mut machine, multi(parts(alloc, &made)?)?, want)?;
     let root = [
         "[] 0 0 1 0 0 0 2 0 0 2",
         "exists 0 0 1 0 0 0 2 0 0 2",
@@ -250,7 +269,7 @@ fn takes_1_to_64_parts(rt: HostRuntime) -> Result<(), Fail> {
     for (count, is_taken) in [(0, false), (1, true), (MAX_PARTS, true), (65, false)] {
         let mut parts = Vec::new(alloc);
         for _ in 0..count {
-            parts.push(check(alloc, "/", Any)?)?;
+            parts.push(part(alloc, Act::Check, "/", Any)?)?;
         }
         match Multi::new(parts) {
             Ok(_) => assert!(rt; is_taken, "{count} parts"),
