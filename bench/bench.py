@@ -46,7 +46,59 @@ def missing(lines):
         yield '1 get a//b'
 
 
-SCRIPTS = [('get of one node', get_one, 200000), ('create and get', create_and_get, 8000), ('refused', missing, 100000)]
+def among_many(lines):
+    """The stats of 4,000 nodes beneath one directory, in no order."""
+    yield '1 create /d p -'
+    for i in range(4000):
+        yield '1 create /d/node%05d p -' % i
+    for i in range(lines):
+        yield '1 exists /d/node%05d' % (i * 2741 % 4000)
+
+
+def among_directories(lines):
+    """The same with 64 nodes beneath each directory."""
+    for i in range(4000):
+        if i % 64 == 0:
+            yield '1 create /dir%02d p -' % (i // 64)
+        yield '1 create /dir%02d/node%05d p -' % (i // 64, i)
+    for i in range(lines):
+        at = i * 2741 % 4000
+        yield '1 exists /dir%02d/node%05d' % (at // 64, at)
+
+
+def sets(lines):
+    """Writes of 64 bytes to 1,000 nodes."""
+    yield '1 create /d p -'
+    for i in range(1000):
+        yield '1 create /d/node%05d p -' % i
+    for i in range(lines):
+        yield '1 set /d/node%05d any %s' % (i * 741 % 1000, 'QUJD' * 21 + 'QQ==')
+
+
+def multis(lines):
+    """Multis of four parts among 1,000 nodes, every second one refused at its last part."""
+    yield '1 create /d p -'
+    for i in range(1000):
+        yield '1 create /d/node%05d p -' % i
+    for i in range(lines):
+        at = '/d/node%05d' % (i * 741 % 1000)
+        yield '1 multi create /t p - ; set %s any QUJD ; delete /t any ; check %s any' % (at, at if i % 2 else '/none')
+
+
+def listing(lines):
+    """The names of 64 children, again and again."""
+    yield '1 create /d p -'
+    for i in range(64):
+        yield '1 create /d/n%02d p -' % i
+    for _ in range(lines):
+        yield '1 ls /d'
+
+
+SCRIPTS = [
+    ('get of one node', get_one, 200000), ('create and get', create_and_get, 8000), ('refused', missing, 100000),
+    ('exists among 4,000', among_many, 100000), ('exists, 64 a directory', among_directories, 100000),
+    ('set of 64 bytes', sets, 50000), ('multi of 4 parts', multis, 500), ('ls of 64 names', listing, 20000),
+]
 
 
 def timed(program, script):

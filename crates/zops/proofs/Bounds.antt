@@ -78,10 +78,10 @@ with_data_within : (k : ℕ) (bytes : List ℕ) (z time : ℕ) (n : Node) → Is
 with_data_within k bytes z time n h = record { version = omega (arith, h.version); cversion = omega (arith, h.cversion); seq = h.seq }
 
 -- the node at a path, where it takes a number, has one left
-abbrev IsUnspent : Nodes → Path → Bool → Type 0
+abbrev pub IsUnspent : Nodes → Path → Bool → Type 0
 IsUnspent nodes path sequential = (n : Node) → finite.get nodes path ≡ Some n → sequential ≡ true → n.seq ≤ 2147483647
 
-unspent : (nodes : Nodes) (path : Path) (sequential : Bool) → (sequential && node_has is_spent nodes path) ≡ false → IsUnspent nodes path sequential
+pub unspent : (nodes : Nodes) (path : Path) (sequential : Bool) → (sequential && node_has is_spent nodes path) ≡ false → IsUnspent nodes path sequential
 unspent nodes path sequential none n e taken =
     let here : is_spent n ≡ false = sym (ap (λ o. option_map_or is_spent o false) e) ∙ sym (ap (λ b. b && node_has is_spent nodes path) taken) ∙ none in
     grind (arith, nat_tests)

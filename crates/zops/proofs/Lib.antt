@@ -7,3 +7,7 @@ pub mod Bounds
 pub mod Refused
 pub mod InOrder
 pub mod Zxids
+pub mod Folds
+pub mod Traced
+pub mod Versions
+pub mod Numbers

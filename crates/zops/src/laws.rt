@@ -1,6 +1,6 @@
 //! What holds of the definitions themselves: each function's contract is a law, and its body does nothing.
 
-ghost use Rattle.zops.specs.History.{ZxidsRise};
+ghost use Rattle.zops.specs.History.{ZxidsRise, VersionCountsSets, NumbersDiffer};
 ghost use Rattle.zops.specs.Laws.{RefusedChangesNothing, RefusedMultiChangesNothing, CountsTheNames, ListsInOrder};
 
 /// A refused call leaves the whole tree equal, and so does a multi that is refused in one of its parts.
@@ -23,4 +23,16 @@ pub fn names_are_in_order()
 /// pzxid that stood before it.
 pub fn zxids_rise()
     ensures { ZxidsRise }
+{}
+
+/// After any calls from the opening, a node's version is the number of successful sets from the part that
+/// made it on, the parts of a successful multi taken one by one.
+pub fn versions_count_sets()
+    ensures { VersionCountsSets }
+{}
+
+/// After any calls from the opening, two sequential creates beneath one node, between the part that made it
+/// and the part that removed it, never make the same name.
+pub fn numbers_differ()
+    ensures { NumbersDiffer }
 {}

@@ -21,7 +21,8 @@ mod update;
 
 pub use call::{Call, Check, Create, Delete, Entry, Expected, Kind, Part, Query, SetData, Update};
 pub use laws::{
-    names_are_in_order, refused_calls_change_nothing, stat_counts_the_names, zxids_rise,
+    names_are_in_order, numbers_differ, refused_calls_change_nothing, stat_counts_the_names,
+    versions_count_sets, zxids_rise,
 };
 pub use listed::{Names, Replies};
 pub use machine::{MAX_APPLIED, Machine};
