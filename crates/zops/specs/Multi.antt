@@ -18,10 +18,10 @@ abbrev pub and_then : Result (Tree × PartReply) Refusal → ℕ → (Tree → P
 and_then (Err refusal) number go_on = Err (number, refusal)
 and_then (Ok (t, reply)) number go_on = go_on t reply
 
--- the parts that are left, each on the tree that the one before it left, after those that gave these replies
-unfoldable pub run : Tree → List PartReply → List Part → Run
-run t replies [] = Ok (t, replies)
-run t replies (part ∷ parts) = and_then (part_step t part) (length replies + 1) (λ u reply. run u (replies ++ reply ∷ []) parts)
+-- a client's parts that are left, each on the tree that the one before it left, after those that gave these replies
+unfoldable pub run : Tree → ℕ → List PartReply → List Part → Run
+run t client replies [] = Ok (t, replies)
+run t client replies (part ∷ parts) = and_then (part_step t client part) (length replies + 1) (λ u reply. run u client (replies ++ reply ∷ []) parts)
 
 -- what a multi that was not done says: memory nothing, and a refusal that it is the run's
 abbrev pub IsHalt : Run → Halt → Type 0

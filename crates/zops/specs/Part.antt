@@ -6,10 +6,11 @@ use Rattle.std.specs.Option.{option_map_or}
 use Rattle.std.specs.FinMap as finite
 use Rattle.zpath.specs.First.{first_that_holds}
 use Rattle.zpath.specs.Numbered.{numbered, is_over}
-use Rattle.zstore.specs.Tree.{Tree, Nodes, Path, parent_of, has_node, children, stat_of, added, dropped, written, with_data}
+use Rattle.zstore.specs.Tree.{Tree, Nodes, Sessions, Path, parent_of, has_node, children, stat_of, added, dropped, written, with_data}
 use Rattle.zstore.specs.declared.node.Node.{Node}
+use Rattle.zstore.specs.declared.session.Session.{Session}
 use Rattle.zops.specs.declared.call.Kind.{Kind}
-use Rattle.zops.specs.declared.call.Kind.TheVariants.{Persistent, PersistentSequential}
+use Rattle.zops.specs.declared.call.Kind.TheVariants.{Persistent, PersistentSequential, Ephemeral, EphemeralSequential}
 use Rattle.zops.specs.declared.call.Expected.{Expected}
 use Rattle.zops.specs.declared.call.Expected.TheVariants.{Any, Exactly}
 use Rattle.zops.specs.declared.call.Create.{Create}
@@ -19,7 +20,7 @@ use Rattle.zops.specs.declared.call.Check.{Check}
 use Rattle.zops.specs.declared.call.Part.{Part}
 use Rattle.zops.specs.declared.call.Part.TheVariants as part_of
 use Rattle.zops.specs.declared.refusal.Refusal.{Refusal}
-use Rattle.zops.specs.declared.refusal.Refusal.TheVariants.{NoNode, NodeExists, NotEmpty, BadVersion, NoChildrenForEphemerals, SequenceFull, PathLimit, RootFixed, Full}
+use Rattle.zops.specs.declared.refusal.Refusal.TheVariants.{NoNode, NodeExists, NotEmpty, BadVersion, NoChildrenForEphemerals, SessionGone, SequenceFull, PathLimit, RootFixed, Full}
 use Rattle.zops.specs.declared.reply.PartReply.{PartReply}
 use Rattle.zops.specs.declared.reply.PartReply.TheVariants.{Created, Deleted, Set, Checked}
 use Rattle.zops.specs.declared.part.Stop.{Stop}
@@ -51,6 +52,26 @@ is_spent n = nat_lt 2147483647 n.seq
 abbrev pub is_sequential : Kind → Bool
 is_sequential Persistent = false
 is_sequential PersistentSequential = true
+is_sequential (Ephemeral session) = false
+is_sequential (EphemeralSequential session) = true
+
+-- the session that is to own the node, or nobody
+abbrev pub owner_of : Kind → ℕ
+owner_of Persistent = 0
+owner_of PersistentSequential = 0
+owner_of (Ephemeral session) = session
+owner_of (EphemeralSequential session) = session
+
+-- to this client the session is gone: it isn't there, or is another client's
+abbrev pub is_gone : Sessions → ℕ → ℕ → Bool
+is_gone sessions client session = option_map_or (λ (s : Session). not (s.client == client)) (finite.get sessions session) true
+
+-- the node is to be owned by a session that is gone
+abbrev pub has_no_owner : Sessions → ℕ → Kind → Bool
+has_no_owner sessions client Persistent = false
+has_no_owner sessions client PersistentSequential = false
+has_no_owner sessions client (Ephemeral session) = is_gone sessions client session
+has_no_owner sessions client (EphemeralSequential session) = is_gone sessions client session
 
 -- the counter of the node at the path
 abbrev pub counter_at : Nodes → Path → ℕ
@@ -67,15 +88,16 @@ name_refusals nodes kind path =
     ∷ (is_over (made_path nodes kind path), PathLimit)
     ∷ []
 
--- when a create is refused, in the order of the tests
-abbrev pub create_refusals : Nodes → Create → List (Bool × Refusal)
-create_refusals nodes create =
-    (is_root create.path, NodeExists)
-    ∷ (not (has_node nodes (parent_of create.path)), NoNode)
-    ∷ (node_has is_owned nodes (parent_of create.path), NoChildrenForEphemerals)
-    ∷ name_refusals nodes create.kind create.path
-    ++ (has_node nodes (made_path nodes create.kind create.path), NodeExists)
-    ∷ (nat_le 4096 (finite.len nodes), Full)
+-- when a client's create is refused, in the order of the tests
+abbrev pub create_refusals : Tree → ℕ → Create → List (Bool × Refusal)
+create_refusals t client create =
+    (has_no_owner t.sessions client create.kind, SessionGone)
+    ∷ (is_root create.path, NodeExists)
+    ∷ (not (has_node t.nodes (parent_of create.path)), NoNode)
+    ∷ (node_has is_owned t.nodes (parent_of create.path), NoChildrenForEphemerals)
+    ∷ name_refusals t.nodes create.kind create.path
+    ++ (has_node t.nodes (made_path t.nodes create.kind create.path), NodeExists)
+    ∷ (nat_le 4096 (finite.len t.nodes), Full)
     ∷ []
 
 -- when a delete is refused, in the order of the tests
@@ -97,11 +119,11 @@ abbrev pub on_version : {A : Type 0} → Expected → Option Node → (Node → 
 on_version expected None act = Err NoNode
 on_version expected (Some n) act = if has_other_version expected n then Err BadVersion else Ok (act n)
 
--- a create makes one node, beneath a parent that is there
-unfoldable pub create_part : Tree → Create → Result (Tree × PartReply) Refusal
-create_part t create =
+-- a client's create makes one node, beneath a parent that is there and no session owns
+unfoldable pub create_part : Tree → ℕ → Create → Result (Tree × PartReply) Refusal
+create_part t client create =
     let made = made_path t.nodes create.kind create.path in
-    unless_refused (first_that_holds (create_refusals t.nodes create)) (added t made create.bytes 0 (is_sequential create.kind), Created made)
+    unless_refused (first_that_holds (create_refusals t client create)) (added t made create.bytes (owner_of create.kind) (is_sequential create.kind), Created made)
 
 -- a delete takes one node away, beneath which there is none
 unfoldable pub delete_part : Tree → Delete → Result (Tree × PartReply) Refusal
@@ -117,12 +139,12 @@ set_part t set =
 unfoldable pub check_part : Tree → Check → Result (Tree × PartReply) Refusal
 check_part t check = on_version check.version (finite.get t.nodes check.path) (λ n. (t, Checked))
 
--- the part step
-abbrev pub part_step : Tree → Part → Result (Tree × PartReply) Refusal
-part_step t (part_of.Create create) = create_part t create
-part_step t (part_of.Delete delete) = delete_part t delete
-part_step t (part_of.SetData set) = set_part t set
-part_step t (part_of.Check check) = check_part t check
+-- the part step, for a client
+abbrev pub part_step : Tree → ℕ → Part → Result (Tree × PartReply) Refusal
+part_step t client (part_of.Create create) = create_part t client create
+part_step t client (part_of.Delete delete) = delete_part t delete
+part_step t client (part_of.SetData set) = set_part t set
+part_step t client (part_of.Check check) = check_part t check
 
 -- what a part that did nothing says: memory nothing, and a refusal that it is the part's
 abbrev pub IsStop : Result (Tree × PartReply) Refusal → Stop → Type 0

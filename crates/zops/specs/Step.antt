@@ -1,23 +1,24 @@
 -- The plain step: what each call does to the plain tree and answers. This is the sequential
 -- specification: the service as it would be if one machine did one call after the other.
-use Rattle.std.specs.Prelude.{ℕ, ◌+◌, ◌-◌, ◌^◌, Bool, Option, None, Some, Result, Ok, Err, if◌then◌else◌, nat_le, refl, List, [], codes}
+use Rattle.std.specs.Prelude.{ℕ, ◌+◌, ◌-◌, ◌^◌, Bool, Option, None, Some, Result, Ok, Err, if◌then◌else◌, nat_le, nat_lt, ◌||◌, false, refl, List, [], ◌∷◌, length, codes}
 use Rattle.std.specs.Coded.{Coded, code_by, coded×, coded_ℕ, coded_bool}
 use Rattle.std.specs.FinMap as finite
 use Rattle.zstore.specs.Tree.{Tree, Path, children, stat_of, raised, coded_tree}
 use Rattle.zstore.specs.Tree as tree
+use Rattle.zstore.specs.Sessions.{opened, touched, ended, all_ended, due, advanced}
 use Rattle.zstore.specs.declared.node.Node.{Node}
 use Rattle.zops.specs.declared.call.Entry.{Entry}
 use Rattle.zops.specs.declared.call.Update.{Update}
-use Rattle.zops.specs.declared.call.Update.TheVariants.{Create, Delete, SetData, Multi}
+use Rattle.zops.specs.declared.call.Update.TheVariants.{Create, Delete, SetData, Multi, Open, Ping, Close, Tick}
 use Rattle.zops.specs.declared.call.Query.{Query}
 use Rattle.zops.specs.declared.call.Query.TheVariants as query
 use Rattle.zops.specs.declared.refusal.Refusal.{Refusal}
-use Rattle.zops.specs.declared.refusal.Refusal.TheVariants.{NoNode, NodeExists, NotEmpty, BadVersion, NoChildrenForEphemerals, SequenceFull, PathLimit, RootFixed, Full, Exhausted}
+use Rattle.zops.specs.declared.refusal.Refusal.TheVariants.{NoNode, NodeExists, NotEmpty, BadVersion, NoChildrenForEphemerals, SessionGone, SequenceFull, PathLimit, RootFixed, Full, TooManySessions, Exhausted}
 use Rattle.zops.specs.declared.reply.PartReply.{PartReply}
 use Rattle.zops.specs.declared.reply.PartReply.TheVariants as part_reply
 use Rattle.zops.specs.declared.reply.Reply.{Reply}
 use Rattle.zops.specs.declared.reply.Reply.TheVariants as reply
-use Rattle.zops.specs.Part.{create_part, delete_part, set_part}
+use Rattle.zops.specs.Part.{create_part, delete_part, set_part, is_gone}
 use Rattle.zops.specs.Multi.{Run, run}
 
 -- the word for a refusal
@@ -27,15 +28,19 @@ refusal_name NodeExists = codes "NodeExists"
 refusal_name NotEmpty = codes "NotEmpty"
 refusal_name BadVersion = codes "BadVersion"
 refusal_name NoChildrenForEphemerals = codes "NoChildrenForEphemerals"
+refusal_name SessionGone = codes "SessionGone"
 refusal_name SequenceFull = codes "SequenceFull"
 refusal_name PathLimit = codes "PathLimit"
 refusal_name RootFixed = codes "RootFixed"
 refusal_name Full = codes "Full"
+refusal_name TooManySessions = codes "TooManySessions"
 refusal_name Exhausted = codes "Exhausted"
 
--- no further change has a number
-abbrev pub is_exhausted : Tree → Bool
-is_exhausted t = nat_le (2 ^ 40 - 1) t.zxid
+-- no further change has a number, or no further tick; a ping takes neither
+abbrev pub is_exhausted : Tree → Update → Bool
+is_exhausted t (Ping session) = false
+is_exhausted t Tick = nat_le (2 ^ 40 - 1) t.zxid || nat_le (2 ^ 40 - 1) t.time
+is_exhausted t update = nat_le (2 ^ 40 - 1) t.zxid
 
 -- the reply to a call of one part; no call is a check alone
 abbrev pub reply_of : PartReply → Reply
@@ -54,16 +59,42 @@ abbrev pub together : Tree → Run → Tree × Reply
 together t (Err (number, refusal)) = (t, reply.MultiRefused number refusal)
 together t (Ok (u, replies)) = (raised u, reply.Multi replies)
 
+-- the timeout that is given to a session that asks for so many ticks: the nearer of 2 and 20 where it is outside
+abbrev pub granted : ℕ → ℕ
+granted ticks = if nat_lt ticks 2 then 2 else if nat_lt 20 ticks then 20 else ticks
+
+-- a client opens a session; its id is the number of this change
+abbrev pub with_session : Tree → ℕ → ℕ → Tree × Reply
+with_session t client timeout =
+    if nat_le 1024 (finite.len t.sessions) then (t, reply.Refused TooManySessions) else
+    (raised (opened t client timeout), reply.Opened (t.zxid + 1) timeout)
+
+-- what a client does to a session of its own; to every other client the session is gone
+abbrev pub on_session : Tree → ℕ → ℕ → Tree × Reply → Tree × Reply
+on_session t client session did = if is_gone t.sessions client session then (t, reply.Refused SessionGone) else did
+
+-- a tick ends the sessions whose deadline it reaches, by one change where there are any
+abbrev pub ticked : Tree → Tree × Reply
+ticked t = after (due t.sessions (t.time + 1))
+  where
+    after : List ℕ → Tree × Reply
+    after [] = (advanced t, reply.Ticked (t.time + 1) 0)
+    after (id ∷ ids) = (raised (advanced (all_ended t (id ∷ ids))), reply.Ticked (t.time + 1) (length (id ∷ ids)))
+
 -- an update of a client, while there is a next number
 abbrev pub changed : Tree → ℕ → Update → Tree × Reply
-changed t client (Create create) = alone t (create_part t create)
+changed t client (Create create) = alone t (create_part t client create)
 changed t client (Delete delete) = alone t (delete_part t delete)
 changed t client (SetData set) = alone t (set_part t set)
-changed t client (Multi parts) = together t (run t [] parts)
+changed t client (Multi parts) = together t (run t client [] parts)
+changed t client (Open ticks) = with_session t client (granted ticks)
+changed t client (Ping session) = on_session t client session (touched t session, reply.Pinged)
+changed t client (Close session) = on_session t client session (raised (ended t session), reply.Closed)
+changed t client Tick = ticked t
 
 -- an update of a client: the tree after it, and the reply
 unfoldable pub step : Tree → ℕ → Update → Tree × Reply
-step t client update = if is_exhausted t then (t, reply.Refused Exhausted) else changed t client update
+step t client update = if is_exhausted t update then (t, reply.Refused Exhausted) else changed t client update
 
 -- what is told of a node, where there is one
 abbrev pub on_node : Option Node → (Node → Reply) → Reply

@@ -11,19 +11,35 @@ pub enum Kind {
     Persistent,
     /// It stays until it is deleted, and its name ends in ten digits of its parent's counter.
     PersistentSequential,
+    /// It belongs to the session of this id, goes when the session ends, and has the name that the
+    /// call gives.
+    Ephemeral(u64),
+    /// It belongs to the session of this id, goes when the session ends, and its name ends in ten
+    /// digits of its parent's counter.
+    EphemeralSequential(u64),
 }
 
 impl Kind {
     ghost use Rattle.std.specs.Prelude.{◌≡◌};
-    ghost use Rattle.zops.specs.Part.{is_sequential};
+    ghost use Rattle.zops.specs.Part.{is_sequential, owner_of};
 
     /// Whether the parent's counter goes into the name.
     pub fn is_sequential(self) -> bool
         ensures { result ≡ is_sequential self }
     {
         match self {
-            Kind::Persistent => false,
-            Kind::PersistentSequential => true,
+            Kind::Persistent | Kind::Ephemeral(_) => false,
+            Kind::PersistentSequential | Kind::EphemeralSequential(_) => true,
+        }
+    }
+
+    /// The session that is to own the node; 0 where nobody is.
+    pub fn owner(self) -> u64
+        ensures { result ≡ owner_of self }
+    {
+        match self {
+            Kind::Persistent | Kind::PersistentSequential => 0,
+            Kind::Ephemeral(session) | Kind::EphemeralSequential(session) => session,
         }
     }
 }
@@ -101,6 +117,14 @@ pub enum Update {
     SetData(SetData),
     /// Does all of its parts, or none.
     Multi(Multi),
+    /// Opens a session of the client that calls, which asks for a timeout of so many ticks.
+    Open(u64),
+    /// Keeps the client's session of this id alive.
+    Ping(u64),
+    /// Ends the client's session of this id.
+    Close(u64),
+    /// Raises the clock by one tick, which ends each session whose deadline it reaches.
+    Tick,
 }
 
 /// A call that changes nothing.

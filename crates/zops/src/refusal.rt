@@ -16,6 +16,8 @@ pub enum Refusal {
     BadVersion,
     /// The parent is ephemeral.
     NoChildrenForEphemerals,
+    /// The session isn't there, or is another client's.
+    SessionGone,
     /// The parent's counter has given its last number.
     SequenceFull,
     /// The made name or the made path is too long.
@@ -24,7 +26,9 @@ pub enum Refusal {
     RootFixed,
     /// There are 4,096 nodes.
     Full,
-    /// The last change has the greatest number that there is.
+    /// There are 1,024 sessions.
+    TooManySessions,
+    /// The last change has the greatest number that there is; or, at a tick, the clock has.
     Exhausted,
 }
 
@@ -41,10 +45,12 @@ impl fmt::Display for Refusal {
             Refusal::NotEmpty => "NotEmpty",
             Refusal::BadVersion => "BadVersion",
             Refusal::NoChildrenForEphemerals => "NoChildrenForEphemerals",
+            Refusal::SessionGone => "SessionGone",
             Refusal::SequenceFull => "SequenceFull",
             Refusal::PathLimit => "PathLimit",
             Refusal::RootFixed => "RootFixed",
             Refusal::Full => "Full",
+            Refusal::TooManySessions => "TooManySessions",
             Refusal::Exhausted => "Exhausted",
         })
     }

@@ -30,6 +30,14 @@ pub enum Reply {
     Set(Stat),
     /// All parts of a multi were done, and did this.
     Multi(Replies),
+    /// A session was opened: its id, and the timeout that it was given, in ticks.
+    Opened(u64, u64),
+    /// The session lives for its timeout from now.
+    Pinged,
+    /// The session was ended.
+    Closed,
+    /// The clock shows this tick, which ended so many sessions.
+    Ticked(u64, usize),
     /// The data of a node, and what is told of it.
     Data(Data, Stat),
     /// What is told of a node.

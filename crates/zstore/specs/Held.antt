@@ -1,5 +1,5 @@
 -- What a store shows: the plain tree that it stands for, and which Ids name its nodes.
-use Rattle.std.specs.Prelude.{◌≡◌, ℕ, ◌+◌, Option, None, refl}
+use Rattle.std.specs.Prelude.{◌≡◌, ℕ, ◌+◌, Option, None, Some, refl, if◌then◌else◌}
 use Rattle.std.specs.Coded.{Coded, code_by, coded×, coded_ℕ}
 use Rattle.std.specs.Option.{option_and_then}
 use Rattle.std.specs.Ordering.{nat_cmp}
@@ -7,7 +7,7 @@ use Rattle.std.specs.FinMap as finite
 use Rattle.std.specs.FinMap.{FinMap, get, insert, remove}
 use Rattle.zstore.specs.declared.id.Id.{Id}
 use Rattle.zstore.specs.declared.node.Node.{Node}
-use Rattle.zstore.specs.Tree.{Tree, Path, coded_tree, coded_path}
+use Rattle.zstore.specs.Tree.{Tree, Path, Nodes, has_node, coded_tree, coded_path}
 
 -- the tree, the paths of the live Ids, and how many Ids were given so far
 pub record Held : Type 0 where
@@ -35,6 +35,14 @@ Names old new id path =
 -- the Id names nothing any more, and every other Id names what it named
 abbrev pub Forgets : Held → Held → Id → Type 0
 Forgets old new id = new.places ≡ remove old.places id.number
+
+-- a path where it has a node still
+abbrev pub while_there : Nodes → Path → Option Path
+while_there nodes path = if has_node nodes path then Some path else None
+
+-- an Id whose node went names nothing any more, and every other Id names what it named
+abbrev pub ForgetsGone : Held → Held → Type 0
+ForgetsGone old new = (id : Id) → path_of new id ≡ option_and_then (while_there new.tree.nodes) (path_of old id)
 
 -- how it is stored
 abbrev pub coded_held : Coded Held

@@ -15,6 +15,7 @@ mod place;
 mod reading;
 mod row;
 mod session;
+mod sessions;
 mod store;
 #[cfg(test)]
 mod tests;
@@ -25,4 +26,4 @@ pub use id::Id;
 pub use node::{Node, Stat};
 pub use node_data::{Data, MAX_DATA};
 pub use session::Session;
-pub use store::{MAX_NODES, Store};
+pub use store::{MAX_NODES, MAX_SESSIONS, Store};

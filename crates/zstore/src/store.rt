@@ -13,6 +13,9 @@ use zpath::{Memory, Path};
 /// The most znodes that a store may hold, the root among them. The limit is this project's profile.
 pub const MAX_NODES: usize = 4096;
 
+/// The most sessions that a store may hold. The limit is this project's profile.
+pub const MAX_SESSIONS: usize = 1024;
+
 /// The znodes and sessions of one machine, its clock and the number of its last change.
 #[derive(Drop)]
 pub struct Store {
@@ -39,6 +42,7 @@ impl Model for Store {
 
 impl Store {
     ghost use Rattle.zstore.specs.Tree.{opening};
+    ghost use Rattle.zstore.specs.Lawful.{IsLawful};
 
     /// The opening: the root alone.
     pub fn new(alloc: Global) -> Result<Store, Memory>
@@ -98,6 +102,12 @@ impl Store {
         ensures { result ≡ finite.len self.now.tree.sessions }
     {
         self.sessions.len()
+    }
+
+    /// What every store keeps: its tree is lawful.
+    pub fn is_kept_lawful(&self)
+        ensures { IsLawful self.now.tree }
+    {
     }
 
     /// How many Ids were given so far.

@@ -6,6 +6,7 @@ ghost use Rattle.std.specs.FinMap.{get};
 ghost use Rattle.zstore.specs.declared.node.Node.{Node};
 ghost use Rattle.zstore.specs.Tree.{Path, HasRoom, parent_of, has_node, children, changed_at, with_child, added, dropped, written, raised};
 ghost use Rattle.zstore.specs.Held.{path_of, node_of, Names, Forgets};
+ghost use Rattle.zstore.specs.Lawful.{IsPersistent, IsOwner};
 
 use crate::id::Id;
 use crate::node::Node;
@@ -38,6 +39,8 @@ impl Store {
         requires below_root { path ≢ [] }
         requires live { path_of self.old parent ≡ Some (parent_of path) }
         requires free { has_node self.old.tree.nodes path ≡ false }
+        requires persistent { IsPersistent (node_of self.old parent) }
+        requires owner { IsOwner self.old.tree.sessions owner }
         requires counters { (n : Node) → node_of self.old parent ≡ Some n → HasRoom n }
         requires few { finite.len self.old.tree.nodes < 4096 }
         requires zxid { self.old.tree.zxid + 1 < 2 ^ 40 }

@@ -1,0 +1,106 @@
+//! What is read of sessions, and done with them.
+
+ghost use Rattle.std.specs.Prelude.{◌≡◌, ◌<◌, ◌≤◌, ◌+◌, ◌^◌, [], length, None, Some, IfOk, OnOk, OnErr, IsSome};
+ghost use Rattle.std.specs.FinMap as finite;
+ghost use Rattle.std.specs.FinMap.{get};
+ghost use Rattle.zstore.specs.Tree.{ephemerals};
+ghost use Rattle.zstore.specs.Sessions.{opened, touched, ended, due, advanced};
+ghost use Rattle.zstore.specs.Lawful.{AllNodes, AllSessions};
+ghost use Rattle.zstore.specs.Held.{ForgetsGone};
+
+use crate::client::ClientId;
+use crate::session::Session;
+use crate::store::Store;
+use std::alloc::Global;
+use zpath::Memory;
+
+impl Store {
+    /// The session of that id; none where there is none.
+    pub fn session(&self, id: u64) -> Option<Session>
+        ensures { result ≡ get self.now.tree.sessions id }
+    {
+        let at = session_place(&self.sessions, id).ok()?;
+        Some(self.sessions[at].session)
+    }
+
+    /// The ids of the sessions that the next tick ends, in their order: those whose deadline it
+    /// reaches. All sessions are looked at.
+    pub fn due(&self, alloc: Global, tick: u64) -> Result<Vec<u64>, Memory>
+        requires next { tick ≡ self.now.tree.time + 1 }
+        ensures { IfOk result (λ ids. ids.items ≡ due self.now.tree.sessions tick) }
+    {
+        let mut ids = Vec::new(alloc);
+        for row in &self.sessions {
+            if row.session.deadline <= tick {
+                ids.push(row.number)?;
+            }
+        }
+        Ok(ids)
+    }
+
+    /// Opens a session, whose id is the number of the next change and whose deadline is its timeout
+    /// from now. The machine has tested what is asked for. After `Memory` nothing has changed.
+    pub fn open_session(&mut self, client: ClientId, timeout: u64) -> Result<(), Memory>
+        requires free { get self.old.tree.sessions (self.old.tree.zxid + 1) ≡ None }
+        requires few { finite.len self.old.tree.sessions < 1024 }
+        requires lives { 0 < timeout }
+        requires deadline { self.old.tree.time + timeout < 2 ^ 62 }
+        requires zxid { self.old.tree.zxid + 1 < 2 ^ 40 }
+        requires given { self.old.given < 2 ^ 127 }
+        ensures tree { OnOk result (self.new.tree ≡ opened self.old.tree client timeout) }
+        ensures places { self.new.places ≡ self.old.places }
+        ensures given { self.new.given ≤ self.old.given + 1 }
+        ensures err { OnErr result (self.new ≡ self.old) }
+    {
+        let number = self.zxid + 1;
+        let session = Session {
+            client,
+            timeout,
+            deadline: self.time + timeout,
+        };
+        self.sessions.push(SessionRow { number, session })?;
+        Ok(())
+    }
+
+    /// Keeps a session alive: its deadline is its timeout from now. It takes no memory.
+    pub fn touch(&mut self, id: u64)
+        requires live { IsSome (get self.old.tree.sessions id) }
+        requires deadlines { AllSessions (λ id s. (0 < s.timeout) × (self.old.tree.time + s.timeout < 2 ^ 62)) self.old.tree.sessions }
+        ensures tree { self.new.tree ≡ touched self.old.tree id }
+        ensures same { (self.new.places ≡ self.old.places) × (self.new.given ≡ self.old.given) }
+    {
+        if let Ok(at) = session_place(&self.sessions, id) {
+            let session = &mut self.sessions[at].session;
+            session.deadline = self.time + session.timeout;
+        }
+    }
+
+    /// Ends a session by the next change: it goes, and with it every node that it owns; the Ids of
+    /// these name nothing any more. It takes no memory. All rows are looked at, once for each such
+    /// node.
+    pub fn end_session(&mut self, id: u64)
+        requires live { IsSome (get self.old.tree.sessions id) }
+        requires counters { AllNodes (λ n. n.cversion + length (ephemerals self.old.tree.nodes id) < 2 ^ 62) self.old.tree.nodes }
+        requires zxid { self.old.tree.zxid + 1 < 2 ^ 40 }
+        ensures tree { self.new.tree ≡ ended self.old.tree id }
+        ensures forgotten { ForgetsGone self.old self.new }
+        ensures given { self.new.given ≡ self.old.given }
+    {
+        while let Some(ephemeral) = self.first_owned(id) {
+            self.drop_leaf(ephemeral);
+        }
+        if let Ok(at) = session_place(&self.sessions, id) {
+            self.sessions.remove(at);
+        }
+    }
+
+    /// One tick more. No session may be due then.
+    pub fn advance(&mut self)
+        requires none_due { due self.old.tree.sessions (self.old.tree.time + 1) ≡ [] }
+        requires ticks { self.old.tree.time + 1 < 2 ^ 40 }
+        ensures tree { self.new.tree ≡ advanced self.old.tree }
+        ensures same { (self.new.places ≡ self.old.places) × (self.new.given ≡ self.old.given) }
+    {
+        self.time += 1;
+    }
+}
