@@ -1,7 +1,9 @@
 pub mod Sorted
+pub mod Maps
 pub mod Search
 pub mod Laid
 pub mod Children
+pub mod Lawful
 pub mod Shown
 pub mod Nodes
 pub mod Families

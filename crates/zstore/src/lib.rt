@@ -15,6 +15,7 @@ mod place;
 mod reading;
 mod row;
 mod session;
+mod session_place;
 mod sessions;
 mod store;
 #[cfg(test)]

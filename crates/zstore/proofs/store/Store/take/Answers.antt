@@ -10,26 +10,26 @@ use Rattle.zstore.proofs.store.Store.take.Goals as goal
 pub returns-in_err-at-clause-gone : goal.returns-in_err-at-clause-gone
 returns-in_err-at-clause-gone c =
     let absent = rw c.deref.ensures.value at c.in_err-at.ensures.absent in
-    if_none c.from_residual.result _ (path_of-gone c.self.inside c.self.invariant _ c.self.view_is c.args.id absent)
+    if_none c.from_residual.result _ (path_of-gone c.self.inside c.self.invariant.laid _ c.self.view_is c.args.id absent)
 
 pub invariant_of-self : goal.invariant_of-self
 invariant_of-self c =
     let s = c.self.inside in
     let found = rw c.deref.ensures.value at c.in_ok-at.ensures.found in
-    rw c.remove-row.ensures.items (remove_is_laid s.rows.items s.sessions.items s.given c.self.invariant c.in_ok-at.at c.remove-row.result found.0)
+    rw c.remove-row.ensures.items (remove_is_laid s.rows.items s.sessions.items s.given c.self.invariant.laid c.in_ok-at.at c.remove-row.result found.0)
 
 pub returns-clause-path : goal.returns-clause-path
 returns-clause-path c =
     let row = c.remove-row.result in
     let found = rw c.deref.ensures.value at c.in_ok-at.ensures.found in
-    path_of-held c.self.inside c.self.invariant _ c.self.view_is c.args.id c.in_ok-at.at row found.0 (found.1 row) ∙ ap (λ (r : Row). Some r.path) (sym c.remove-row.ensures.value)
+    path_of-held c.self.inside c.self.invariant.laid _ c.self.view_is c.args.id c.in_ok-at.at row found.0 (found.1 row) ∙ ap (λ (r : Row). Some r.path) (sym c.remove-row.ensures.value)
 
 pub returns-clause-tree : goal.returns-clause-tree
 returns-clause-tree c =
     let s = c.self.inside in
     let row = c.remove-row.result in
     let found = rw c.deref.ensures.value at c.in_ok-at.ensures.found in
-    let gone = nodes_of-remove s.rows.items s.sessions.items s.given c.self.invariant c.in_ok-at.at row found.0 ∙ ap (λ (r : Row). finite.remove (nodes_of s.rows.items) r.path) (sym c.remove-row.ensures.value) in
+    let gone = nodes_of-remove s.rows.items s.sessions.items s.given c.self.invariant.laid c.in_ok-at.at row found.0 ∙ ap (λ (r : Row). finite.remove (nodes_of s.rows.items) r.path) (sym c.remove-row.ensures.value) in
     rw (c.remove-row.ensures.items, ← c.self.view_is, gone) refl
 
 pub returns-clause-forgotten : goal.returns-clause-forgotten
@@ -37,5 +37,5 @@ returns-clause-forgotten c =
     let s = c.self.inside in
     let row = c.remove-row.result in
     let found = rw c.deref.ensures.value at c.in_ok-at.ensures.found in
-    let gone = places_of-remove s.rows.items s.sessions.items s.given c.self.invariant c.in_ok-at.at row found.0 in
+    let gone = places_of-remove s.rows.items s.sessions.items s.given c.self.invariant.laid c.in_ok-at.at row found.0 in
     rw (c.remove-row.ensures.items, ← c.self.view_is) (gone ∙ ap (finite.remove (from_entries {R = nat_cmp} (place_rows s.rows.items))) (found.1 row))
