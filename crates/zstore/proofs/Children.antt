@@ -77,7 +77,8 @@ parent_of_child [] (a ∷ (b ∷ q)) n e = absurd (none_some n e)
 parent_of_child (a ∷ p) [] n e = absurd (none_some n e)
 parent_of_child (a ∷ p) (b ∷ q) n e = same_first a b p q n (parent_of_child p q n) (bytes_eq a b) refl e
 
-names_of_keys : {X : Type 0} (p : Path) (es : List (Path × X)) → filter_map (λ (e : Path × X). child_name p e.0) es ≡ filter_map (child_name p) (map (λ (e : Path × X). e.0) es)
+-- the names of keys, and those of entries
+pub names_of_keys : {X : Type 0} (p : Path) (es : List (Path × X)) → filter_map (λ (e : Path × X). child_name p e.0) es ≡ filter_map (child_name p) (map (λ (e : Path × X). e.0) es)
 names_of_keys p [] = refl
 names_of_keys p (e ∷ es) = ap (cons_option (child_name p e.0)) (names_of_keys p es)
 

@@ -1,8 +1,7 @@
 -- What keeps a tree lawful: each change of a tree, where what it asks for is met.
-use Rattle.std.proofs.Common.{◌≡◌, ◌≢◌, ◌⊎◌, inl, inr, ℕ, ◌<◌, ◌≤◌, ◌+◌, Bool, true, false, cond, List, [], ◌∷◌, map, Option, Some, None, IsSome, refl, sym, ap, subst, ◌∙◌, arith, lit<}
+use Rattle.std.proofs.Common.{◌≡◌, ◌≢◌, ◌⊎◌, inl, inr, ℕ, ◌<◌, ◌≤◌, ◌+◌, Bool, true, false, cond, List, [], Option, Some, None, IsSome, refl, sym, ap, subst, ◌∙◌, arith}
 use Rattle.std.specs.Prelude.{is_some, nat_le}
 use Rattle.std.specs.Option.{option_map_or}
-use Rattle.std.specs.List.{filter_map}
 use Rattle.std.specs.Ordering.{nat_cmp}
 use Rattle.std.specs.Cmp.{nat_cmp_total}
 use Rattle.std.specs.FinMap as finite
@@ -11,7 +10,7 @@ use Rattle.std.proofs.lemmas.Bool.Decides.{nat_tests}
 use Rattle.zpath.specs.Grammar.{path_cmp}
 use Rattle.zstore.specs.declared.node.Node.{Node}
 use Rattle.zstore.specs.declared.session.Session.{Session}
-use Rattle.zstore.specs.Tree.{Tree, Path, Name, Nodes, Sessions, opening, new_node, parent_of, child_name, has_node, children, changed_at, with_child, added, without_child, dropped, with_data, written, raised}
+use Rattle.zstore.specs.Tree.{Tree, Path, Nodes, Sessions, opening, new_node, parent_of, has_node, children, changed_at, with_child, added, without_child, dropped, with_data, written, raised}
 use Rattle.zstore.specs.Sessions.{new_session, opened, renewed, touched, due, advanced}
 use Rattle.zstore.specs.Lawful.{IsPersistent, IsOwner, IsLawful}
 use Rattle.zstore.proofs.Sorted.{paths_total, same_path}

@@ -4,6 +4,9 @@ pub mod Search
 pub mod Laid
 pub mod Children
 pub mod Lawful
+pub mod Ephemerals
+pub mod Ending
+pub mod LawfulEnd
 pub mod Shown
 pub mod Nodes
 pub mod Families

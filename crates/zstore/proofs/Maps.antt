@@ -1,5 +1,5 @@
 -- What a map finds at a key and elsewhere, after an insert or a remove there; and what a filter over its entries says.
-use Rattle.std.proofs.Common.{◌≡◌, ◌≢◌, ◌⊎◌, inl, inr, ℕ, ◌<◌, ◌≤◌, ◌+◌, ◌-◌, Bool, true, false, cond, List, [], ◌∷◌, map, Option, Some, None, IsSome, refl, sym, ap, subst, ◌∙◌, arith}
+use Rattle.std.proofs.Common.{◌≡◌, ◌≢◌, ◌⊎◌, inl, inr, ℕ, ◌<◌, ◌≤◌, ◌+◌, ◌-◌, Bool, true, false, cond, List, [], ◌∷◌, Option, Some, None, refl, sym, ap, ◌∙◌, arith}
 use Rattle.std.specs.declared.cmp.Ordering.{Ordering}
 use Rattle.std.specs.declared.cmp.Ordering.TheVariants.{Less, Equal, Greater}
 use Rattle.std.specs.Ordering.{is_eq, eq_by_cmp}
@@ -8,7 +8,10 @@ use Rattle.std.specs.List.{filter_map, cons_option}
 use Rattle.std.specs.Cmp.{IsTotalOrder, tied_itself}
 use Rattle.std.specs.FinMap as finite
 use Rattle.std.specs.FinMap.{FinMap, IsAntisymmetric, get-insert, get-remove, len-insert, len-remove, get-entries}
-use Rattle.std.specs.FinMap.{find}
+use Rattle.std.specs.FinMap.{find, is_sorted, entries_sorted}
+use Rattle.std.specs.FinMap.Entries.{below_all}
+use lib.Dec.{T}
+use Rattle.zstore.proofs.Sorted.{both_parts, is_less}
 
 pub same_some : {A : Type 0} (x y : A) → Some x ≡ Some y → x ≡ y
 same_some x y e = cc
@@ -31,6 +34,14 @@ module _ {K : Type 0} {R : K → K → Ordering} (o : IsTotalOrder R) (same : Is
       by Less e = inr (λ f. let bad : Less ≡ Equal = sym e ∙ ap (R p) (sym f) ∙ tied_itself o p in cc)
       by Equal e = inl (same p q e)
       by Greater e = inr (λ f. let bad : Greater ≡ Equal = sym e ∙ ap (R p) (sym f) ∙ tied_itself o p in cc)
+
+  pub tied_same : (p q : K) → eq_by_cmp R p q ≡ true → p ≡ q
+  tied_same p q e = by (R p q) refl e
+    where
+      by : (r : Ordering) → R p q ≡ r → is_eq r ≡ true → p ≡ q
+      by Less is tie = cc
+      by Equal is tie = same p q is
+      by Greater is tie = cc
 
   tied : (k : K) → eq_by_cmp R k k ≡ true
   tied k = ap is_eq (tied_itself o k)
@@ -106,3 +117,29 @@ module _ {K X : Type 0} {R : K → K → Ordering} (o : IsTotalOrder R) (same : 
 
   pub none_of_entries : {Y : Type 0} (h : K × X → Option Y) (m : FinMap R X) (q : K) (x : X) → filter_map h (finite.entries m) ≡ [] → finite.get m q ≡ Some x → h (q, x) ≡ None
   none_of_entries h m q x none e = none_of_found h (finite.entries m) q x none (sym (get-entries m q) ∙ e)
+
+  -- a key below all keys is not among them
+  pub not_among : (q : K) (es : List (K × X)) → T (below_all R q es) → find R q es ≡ None
+  not_among q [] h = refl
+  not_among q (e ∷ es) h =
+      let parts = both_parts _ (below_all R q es) h in
+      rw (is_less _ parts.0) (not_among q es parts.1)
+
+  -- what is found behind a first entry is found with it
+  pub found_behind : (e : K × X) (es : List (K × X)) → T (below_all R e.0 es) → (q : K) (x : X) → find R q es ≡ Some x → find R q (e ∷ es) ≡ Some x
+  found_behind e es low q x found = by (R q e.0) refl
+    where
+      by : (r : Ordering) → R q e.0 ≡ r → cond (is_eq r) (Some e.1) (find R q es) ≡ Some x
+      by Less is = found
+      by Greater is = found
+      by Equal is = absurd (none_some x (sym (not_among e.0 es low) ∙ ap (λ k. find R k es) (sym (same q e.0 is)) ∙ found))
+
+  none_of_all : {Y : Type 0} (h : K × X → Option Y) (es : List (K × X)) → T (is_sorted R es) → ((q : K) (x : X) → find R q es ≡ Some x → h (q, x) ≡ None) → filter_map h es ≡ []
+  none_of_all h [] s none = refl
+  none_of_all h (e ∷ es) s none =
+      let parts = both_parts (below_all R e.0 es) (is_sorted R es) s in
+      rw (none e.0 e.1 (rw (tied_itself o e.0) refl)) (none_of_all h es parts.1 (λ q x found. none q x (found_behind e es parts.0 q x found)))
+
+  -- a filter that gives nothing of what is found gives nothing of all entries
+  pub none_of_map : {Y : Type 0} (h : K × X → Option Y) (m : FinMap R X) → ((q : K) (x : X) → finite.get m q ≡ Some x → h (q, x) ≡ None) → filter_map h (finite.entries m) ≡ []
+  none_of_map h m none = none_of_all h (finite.entries m) (entries_sorted m) (λ q x found. none q x (get-entries m q ∙ found))
