@@ -42,6 +42,7 @@ module _ (session : ℕ) where
       let value : e.1 ≡ n = same_some e.1 n (rw is at found) in
       rw is (ap (λ o. cons_option o (owned_in session es)) (owner_same e.0 v e.1 (keeps ∙ ap (λ (m : Node). m.owner) (sym value))))
   put_first e es q n v low further keeps Greater is found = rw is (ap (cons_option (path_if_owned session e)) (further (rw is at found)))
+
   put_owned : (es : List (Path × Node)) (q : Path) (n v : Node) → T (is_sorted path_cmp es) → find path_cmp q es ≡ Some n → v.owner ≡ n.owner → owned_in session (put path_cmp q v es) ≡ owned_in session es
   put_owned [] q n v s found keeps = absurd (none_some n found)
   put_owned (e ∷ es) q n v s found keeps =

@@ -7,7 +7,7 @@ use Rattle.std.specs.FinMap as finite
 use Rattle.std.specs.FinMap.{nat_cmp-IsAntisymmetric}
 use Rattle.zstore.specs.declared.node.Node.{Node}
 use Rattle.zstore.specs.declared.session.Session.{Session}
-use Rattle.zstore.specs.Tree.{Tree, Path, Sessions, ephemerals, dropped}
+use Rattle.zstore.specs.Tree.{Tree, Path, Sessions, ephemerals, children, dropped}
 use Rattle.zstore.specs.Sessions.{all_dropped, ended, all_ended, due, advanced}
 use Rattle.zstore.specs.Lawful.{IsOwner, IsLawful}
 use Rattle.zstore.proofs.Sorted.{paths_total, same_path}
@@ -19,12 +19,18 @@ use Rattle.zstore.proofs.Ending.{sessions-all_dropped, time-all_ended, all_entri
 is_not_0 : (id owner : ℕ) → 0 < id → owner ≡ id → owner ≢ 0
 is_not_0 id owner above is e = omega (arith, above, is, e)
 
--- the first node of a session can be taken away from a lawful tree
-pub lawful_first_dropped : (t : Tree) (id : ℕ) (path : Path) (paths : List Path) → IsLawful t → 0 < id → ephemerals t.nodes id ≡ path ∷ paths → IsLawful (dropped t path)
-lawful_first_dropped t id path paths lawful above all =
+-- the first node of a session is a leaf of a lawful tree, below the root
+pub first_is_leaf : (t : Tree) (id : ℕ) (path : Path) (paths : List Path) → IsLawful t → 0 < id → ephemerals t.nodes id ≡ path ∷ paths → (path ≢ []) × (children t.nodes path ≡ [])
+first_is_leaf t id path paths lawful above all =
     let n = first_is_there id t.nodes path paths all in
     let owned = is_not_0 id n.0.owner above n.2 in
-    lawful_dropped t path lawful (owned_is_below t path n.0 lawful n.1 owned) (owned_is_leaf t path n.0 lawful n.1 owned)
+    (owned_is_below t path n.0 lawful n.1 owned, owned_is_leaf t path n.0 lawful n.1 owned)
+
+-- so it can be taken away
+lawful_first_dropped : (t : Tree) (id : ℕ) (path : Path) (paths : List Path) → IsLawful t → 0 < id → ephemerals t.nodes id ≡ path ∷ paths → IsLawful (dropped t path)
+lawful_first_dropped t id path paths lawful above all =
+    let leaf = first_is_leaf t id path paths lawful above all in
+    lawful_dropped t path lawful leaf.0 leaf.1
 
 -- and so can they all, one after the other
 pub lawful_all_dropped : (paths : List Path) (t : Tree) (id : ℕ) → IsLawful t → 0 < id → ephemerals t.nodes id ≡ paths → IsLawful (all_dropped t paths) × (ephemerals (all_dropped t paths).nodes id ≡ [])

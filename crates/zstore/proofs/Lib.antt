@@ -7,6 +7,11 @@ pub mod Lawful
 pub mod Ephemerals
 pub mod Ending
 pub mod LawfulEnd
+pub mod UnderWay
+pub mod Keyed
+pub mod Alive
+pub mod Owned
 pub mod Shown
 pub mod Nodes
+pub mod Kept
 pub mod Families

@@ -1,6 +1,6 @@
 -- The rows of a store, and what they stand for.
 use Rattle.std.specs.Str.{bytes_eq}
-use Rattle.std.specs.Prelude.{filter_map, Bool, true, false, ◌&&◌, ◌≡◌, ℕ, ◌<◌, ◌≤◌, List, [], ◌∷◌, map, length, slice_index_or, None, Some, if◌then◌else◌, ◌==◌}
+use Rattle.std.specs.Prelude.{filter_map, Bool, true, false, ◌&&◌, ◌≡◌, ℕ, ◌<◌, ◌≤◌, List, [], ◌∷◌, map, length, Option, slice_index_or, None, Some, if◌then◌else◌, ◌==◌, nat_le}
 use lib.Dec.{T}
 use Rattle.std.specs.List.{AllByRecursion}
 use Rattle.std.specs.Ordering.{nat_cmp}
@@ -107,6 +107,14 @@ names_of_children path rows = filter_map (child_name path) (map (λ (r : Row). r
 -- the paths of the rows whose nodes a session owns, in the rows' order
 abbrev pub owned_by : ℕ → List Row → List Path
 owned_by session rows = filter_map (λ e. if e.1.owner == session then Some e.0 else None) (node_rows rows)
+
+-- the id of a session, where a tick reaches its deadline
+abbrev pub id_if_due : ℕ → ℕ × Session → Option ℕ
+id_if_due tick e = if nat_le e.1.deadline tick then Some e.0 else None
+
+-- the ids of the rows' sessions whose deadline a tick reaches, in the rows' order
+abbrev pub due_among : List SessionRow → ℕ → List ℕ
+due_among rows tick = filter_map (id_if_due tick) (session_rows rows)
 
 -- the Id names the first of the nodes that a session owns
 abbrev pub IsFirstOwned : Held → ℕ → Id → Type 0

@@ -18,6 +18,7 @@ mod session;
 mod session_place;
 mod sessions;
 mod store;
+mod taking;
 #[cfg(test)]
 mod tests;
 mod writing;

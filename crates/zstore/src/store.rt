@@ -108,6 +108,7 @@ impl Store {
     pub fn is_kept_lawful(&self)
         ensures { IsLawful self.now.tree }
     {
+        let _ = &self.rows;
     }
 
     /// How many Ids were given so far.

@@ -6,7 +6,8 @@ use Rattle.zstore.specs.Tree.{HasRoom, with_child}
 use Rattle.zstore.specs.Rows.{place_row}
 use mir.Val.{bool_byte}
 use Rattle.zstore.proofs.Nodes.{changed_at-some}
-use Rattle.zstore.proofs.Shown.{nodes_of, some_is_not_none, get-at, path_of-held, node_of-held, path_of-gone, set_is_laid, nodes_of-set, places_of-set}
+use Rattle.zstore.proofs.Shown.{nodes_of, some_is_not_none, get-at, path_of-held, node_of-held, path_of-gone, nodes_of-set, places_of-set}
+use Rattle.zstore.proofs.Kept.{kept_set}
 use Rattle.zstore.proofs.store.Store.child_changed.Goals as goal
 
 byte_is : (b : Bool) → bool_byte b ≡ cond b 1 0
@@ -39,7 +40,7 @@ invariant_of-self c =
     let found = rw c.deref.ensures.value at c.in-Some.ensures.found in
     let s = c.self.inside in
     let row = c.index_mut.result.now in
-    set_is_laid s.rows.items s.sessions.items s.given c.self.invariant.laid c.in-Some.at row _ found.0 (ap place_row c.index_mut.ensures.value)
+    kept_set s.rows.items s.sessions.items s.time s.zxid s.given c.self.invariant c.in-Some.at row _ found.0 (ap place_row c.index_mut.ensures.value) (ap (λ (r : Row). r.node.owner) c.index_mut.ensures.value)
 
 pub returns-in-Some-clause-tree : goal.returns-in-Some-clause-tree
 returns-in-Some-clause-tree c = λ path named.

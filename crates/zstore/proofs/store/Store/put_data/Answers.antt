@@ -5,7 +5,8 @@ use Rattle.zstore.specs.Held.{Held}
 use Rattle.zstore.specs.Tree.{HasRoom, with_data}
 use Rattle.zstore.specs.Rows.{place_row}
 use Rattle.zstore.proofs.Nodes.{changed_at-some}
-use Rattle.zstore.proofs.Shown.{nodes_of, some_is_not_none, get-at, path_of-held, node_of-held, path_of-gone, set_is_laid, nodes_of-set, places_of-set}
+use Rattle.zstore.proofs.Shown.{nodes_of, some_is_not_none, get-at, path_of-held, node_of-held, path_of-gone, nodes_of-set, places_of-set}
+use Rattle.zstore.proofs.Kept.{kept_set}
 use Rattle.zstore.proofs.store.Store.put_data.Goals as goal
 
 pub overflow_add-node-in-Some : goal.overflow_add-node-in-Some
@@ -20,7 +21,7 @@ pub invariant_of-self : goal.invariant_of-self
 invariant_of-self c =
     let found = rw c.deref.ensures.value at c.in-Some.ensures.found in
     let s = c.self.inside in
-    set_is_laid s.rows.items s.sessions.items s.given c.self.invariant.laid c.in-Some.at c.index_mut.result.now _ found.0 (ap place_row c.index_mut.ensures.value)
+    kept_set s.rows.items s.sessions.items s.time s.zxid s.given c.self.invariant c.in-Some.at c.index_mut.result.now _ found.0 (ap place_row c.index_mut.ensures.value) (ap (λ (r : Row). r.node.owner) c.index_mut.ensures.value)
 
 pub returns-in-Some-clause-tree : goal.returns-in-Some-clause-tree
 returns-in-Some-clause-tree c = λ path named.
