@@ -1,5 +1,5 @@
 -- What keeps the rows laid and their tree lawful: a write to a row, one more row, one row less.
-use Rattle.std.proofs.Common.{◌≡◌, ◌≢◌, ℕ, ◌<◌, ◌+◌, Bool, true, false, cond, List, [], ◌∷◌, map, length, get_or, set, Option, Some, None, refl, sym, ap, subst, ◌∙◌, arith}
+use Rattle.std.proofs.Common.{◌≡◌, ◌≢◌, ℕ, ◌<◌, ◌+◌, Bool, true, false, cond, List, [], ◌∷◌, length, get_or, set, Option, Some, None, refl, sym, ap, subst, ◌∙◌, arith}
 use lib.Dec.{T, eqb}
 use Rattle.std.specs.Prelude.{is_some}
 use Rattle.std.specs.Option.{option_and_then}
@@ -7,22 +7,21 @@ use Rattle.std.specs.List.{insert, remove}
 use Rattle.std.specs.Ordering.{nat_cmp, eq_by_cmp}
 use Rattle.std.specs.Cmp.{unsigned_Decides, tied_itself}
 use Rattle.std.specs.FinMap as finite
-use Rattle.std.specs.FinMap.{find, is_sorted, from_sorted, get-from_sorted}
-use Rattle.std.proofs.lemmas.Bool.Decides.{nat_tests}
+use Rattle.std.specs.FinMap.{find, is_sorted, get-from_sorted}
 use Rattle.std.proofs.lemmas.List.{length-map}
 use Rattle.zpath.specs.Grammar.{path_cmp}
 use Rattle.zstore.specs.declared.node.Node.{Node}
 use Rattle.zstore.specs.declared.row.Row.{Row}
 use Rattle.zstore.specs.declared.row.SessionRow.{SessionRow}
-use Rattle.zstore.specs.Tree.{Path, Nodes, parent_of, has_node, children, changed_at}
+use Rattle.zstore.specs.Tree.{Path, Nodes, opening, new_node, parent_of, has_node, children}
 use Rattle.zstore.specs.Lawful.{IsPersistent, IsOwner, IsLawful}
 use Rattle.zstore.specs.Held.{while_there}
-use Rattle.zstore.specs.Rows.{node_rows, place_row, place_rows, tree_of, IsLaid, IsKept, IsGapFor}
+use Rattle.zstore.specs.Rows.{node_rows, place_row, place_rows, tree_of, IsKept, IsGapFor}
 use Rattle.zstore.proofs.Sorted.{paths_total, same_path}
 use Rattle.zstore.proofs.Maps.{get-remove-here}
-use Rattle.zstore.proofs.Nodes.{changed_at-some}
+use Rattle.zstore.proofs.Nodes.{changed_at-some, no_entries, one_entry}
 use Rattle.zstore.proofs.Laid.{find_place, find_less}
-use Rattle.zstore.proofs.Lawful.{lawful_changed, lawful_inserted, lawful_removed}
+use Rattle.zstore.proofs.Lawful.{lawful_opening, lawful_changed, lawful_inserted, lawful_removed}
 use Rattle.zstore.proofs.Alive.{sessions_of}
 use Rattle.zstore.proofs.Shown.{nodes_of, get-at, get-gap, get_or-map, remove-map, set_is_laid, nodes_of-set, insert_is_laid, nodes_of-insert, remove_is_laid, nodes_of-remove}
 
@@ -48,6 +47,19 @@ still_there rows s n None e = refl
 still_there rows s n (Some q) e =
     let there = ap is_some (get-from_sorted path_cmp (node_rows rows) q s) ∙ named_is_there rows n q e in
     rw there refl
+
+-- the row of the opening's root
+abbrev pub root_row : Row
+root_row = record { path = []; number = 0; node = new_node [] 0 0 0 }
+
+-- the opening's rows
+pub kept_opening : IsKept (root_row ∷ []) [] 0 0 1
+kept_opening =
+    let opens : tree_of (root_row ∷ []) [] 0 0 ≡ opening = λ i. record { nodes = one_entry [] (new_node [] 0 0 0) i; sessions = no_entries nat_cmp i; time = 0; zxid = 0 } in
+    record {
+      laid = record { sorted = tt; apart = (refl, tt); numbers = (omega arith, tt); sessions = tt };
+      lawful = subst IsLawful (sym opens) lawful_opening;
+    }
 
 module _ (rows : List Row) (alive : List SessionRow) (time zxid bound : ℕ) (kept : IsKept rows alive time zxid bound) where
   -- a write to a node that leaves its owner
@@ -97,9 +109,9 @@ module _ (rows : List Row) (alive : List SessionRow) (time zxid bound : ℕ) (ke
         by true e =
             let same : n ≡ (get_or (place_rows rows) at (place_row d)).0 = (unsigned_Decides n (get_or (place_rows rows) at (place_row d)).0).0 e in
             let found : find nat_cmp n (place_rows rows) ≡ Some (get_or rows at d).path =
-                ap (λ k. find nat_cmp k (place_rows rows)) same
-                ∙ find_place (place_rows rows) at (place_row d) kept.laid.apart (rw (length-map rows place_row) l)
-                ∙ ap (λ (e : ℕ × Path). Some e.1) (get_or-map place_row rows at d) in
+            ap (λ k. find nat_cmp k (place_rows rows)) same
+            ∙ find_place (place_rows rows) at (place_row d) kept.laid.apart (rw (length-map rows place_row) l)
+            ∙ ap (λ (e : ℕ × Path). Some e.1) (get_or-map place_row rows at d) in
             less true e ∙ sym (ap (option_and_then (while_there (nodes_of (remove rows at)))) found ∙ ap (λ b. cond b (Some (get_or rows at d).path) None) gone)
         by false e =
             less false e ∙ still_there (remove rows at) (remove_is_laid rows alive bound kept.laid at d l).sorted n (find nat_cmp n (place_rows rows)) (less false e)

@@ -1,5 +1,5 @@
 -- Rows in the order of their keys: where a search ends, and what an edit there makes of the map that the rows stand for.
-use Rattle.std.proofs.Common.{◌≡◌, ℕ, zero, suc, ◌<◌, ◌≤◌, List, [], ◌∷◌, ◌++◌, map, length, take, drop, get_or, set, Option, Some, None, Result, Ok, Err, IfOk, IfErr, refl, sym, ap, subst, ◌∙◌, arith}
+use Rattle.std.proofs.Common.{◌≡◌, ℕ, zero, suc, ◌<◌, ◌≤◌, List, [], ◌∷◌, map, length, get_or, set, Some, None, Result, Ok, Err, IfOk, IfErr, refl, sym, ap, ◌∙◌, arith}
 use lib.Dec.{T}
 use Rattle.std.specs.declared.cmp.Ordering.{Ordering}
 use Rattle.std.specs.declared.cmp.Ordering.TheVariants.{Less, Equal, Greater}
@@ -8,9 +8,9 @@ use Rattle.std.specs.List.{insert, remove}
 use Rattle.std.specs.List.Sorted.{IsNonDecreasingBy, IsSearchInRange, IsBinarySearchResult}
 use Rattle.std.specs.Cmp.{IsTotalOrder}
 use Rattle.std.specs.FinMap as finite
-use Rattle.std.specs.FinMap.{IsAntisymmetric, is_sorted, from_sorted, get-from_sorted, put}
-use Rattle.std.specs.FinMap.Entries.{below_all, where_key}
-use Rattle.zstore.proofs.Sorted.{At, Gap, both_parts, is_less, other_than, find_at, find_gap, set_at, insert_gap, remove_at, put_sorted, from_sorted-put, others_sorted, from_sorted-others}
+use Rattle.std.specs.FinMap.{IsAntisymmetric, is_sorted, from_sorted, get-from_sorted}
+use Rattle.std.specs.FinMap.Entries.{below_all}
+use Rattle.zstore.proofs.Sorted.{At, Gap, both_parts, is_less, find_at, find_gap, set_at, insert_gap, remove_at, put_sorted, from_sorted-put, others_sorted, from_sorted-others}
 
 module _ {A X : Type 0} (f : A → X) where
   get_or-map : (rows : List A) (at : ℕ) (d : A) → get_or (map f rows) at (f d) ≡ f (get_or rows at d)

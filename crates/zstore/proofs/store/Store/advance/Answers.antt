@@ -1,4 +1,4 @@
-use Rattle.std.proofs.Common.{◌+◌, sym, ap, ◌∙◌}
+use Rattle.std.proofs.Common.{◌+◌, ap, ◌∙◌}
 use Rattle.zstore.specs.Held.{Held}
 use Rattle.zstore.specs.Sessions.{due}
 use Rattle.zstore.specs.Rows.{tree_of}

@@ -1,9 +1,9 @@
 use Rattle.std.proofs.Common.{◌≡◌, ◌≢◌, [], length, sym, ap, subst, ◌∙◌, arith}
-use Rattle.zstore.specs.Tree.{Tree, Path, children, ephemerals}
+use Rattle.zstore.specs.Tree.{Tree, children, ephemerals}
 use Rattle.zstore.proofs.Maps.{same_some}
 use Rattle.zstore.proofs.Ephemerals.{ephemerals-dropped}
 use Rattle.zstore.proofs.LawfulEnd.{live_above, first_is_leaf}
-use Rattle.zstore.proofs.UnderWay.{under_way_next, under_way_last, under_way_named}
+use Rattle.zstore.proofs.UnderWay.{under_way_next}
 use Rattle.zstore.proofs.store.Store.end_session.Goals as goal
 
 pub take_leaf-requires-clause-below_root : goal.take_leaf-requires-clause-below_root

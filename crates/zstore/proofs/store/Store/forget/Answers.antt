@@ -33,7 +33,7 @@ pub returns-in-Ok-clause-same : goal.returns-in-Ok-clause-same
 returns-in-Ok-clause-same c = (ap (λ (h : Held). h.places) c.self.view_is, ap (λ (h : Held). h.given) c.self.view_is)
 
 pub returns-in_default-clause-tree : goal.returns-in_default-clause-tree
-returns-in_default-clause-tree c = 
+returns-in_default-clause-tree c =
     let s = c.self.inside in
     let gap = rw c.deref.ensures.value at c.in_default.ensures.absent in
     let none = ap (λ (h : Held). finite.get h.tree.sessions c.args.session) (sym c.self.view_is) ∙ alive_nowhere s.sessions.items c.args.session c.in_default.field-0 c.self.invariant.laid.sessions gap in

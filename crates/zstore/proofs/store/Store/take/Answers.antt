@@ -57,6 +57,6 @@ returns-clause-gone_alone c =
     let left = remove rows c.in_ok-at.at in
     let found = rw c.deref.ensures.value at c.in_ok-at.ensures.found in
     rw (c.remove-row.ensures.items, ← c.self.view_is) (λ id.
-        get-from_entries nat_cmp_total (place_rows left) id.number
-        ∙ forgets_removed rows s.sessions.items s.time s.zxid s.given c.self.invariant c.in_ok-at.at c.remove-row.result found.0 id.number
-        ∙ ap (option_and_then (while_there (nodes_of left))) (sym (get-from_entries nat_cmp_total (place_rows rows) id.number)))
+    get-from_entries nat_cmp_total (place_rows left) id.number
+    ∙ forgets_removed rows s.sessions.items s.time s.zxid s.given c.self.invariant c.in_ok-at.at c.remove-row.result found.0 id.number
+    ∙ ap (option_and_then (while_there (nodes_of left))) (sym (get-from_entries nat_cmp_total (place_rows rows) id.number)))

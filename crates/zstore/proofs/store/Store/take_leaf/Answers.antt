@@ -3,8 +3,8 @@ use Rattle.std.specs.Option.{option_and_then}
 use Rattle.std.specs.FinMap as finite
 use Rattle.std.specs.Ordering.{nat_cmp}
 use Rattle.std.specs.FinMap.{FinMap, get-remove}
-use Rattle.zstore.specs.Tree.{Tree, Path, Nodes, parent_of, has_node, without_child}
-use Rattle.zstore.specs.Held.{path_of, while_there}
+use Rattle.zstore.specs.Tree.{Tree, Path, parent_of, has_node, without_child}
+use Rattle.zstore.specs.Held.{path_of}
 use Rattle.zstore.proofs.Ending.{has_node-changed}
 use Rattle.zstore.proofs.UnderWay.{while_there_same}
 use Rattle.zstore.proofs.Sorted.{paths_total}
@@ -29,7 +29,7 @@ returns-in-Some-above-clause-gone c = λ id.
     let above = parent_of c.in-Some.path in
     let marks = c.child_gone.ensures.tree above c.in-Some-above.ensures.found in
     let same : (q : Path) → has_node left q ≡ has_node c.child_gone.new.self.tree.nodes q =
-        λ q. sym (ap (λ (t : Tree). has_node t.nodes q) marks ∙ has_node-changed left above (without_child (c.take.new.self.tree.zxid + 1)) q) in
+    λ q. sym (ap (λ (t : Tree). has_node t.nodes q) marks ∙ has_node-changed left above (without_child (c.take.new.self.tree.zxid + 1)) q) in
     ap (λ (places : FinMap nat_cmp Path). finite.get places id.number) c.child_gone.ensures.same.0
     ∙ c.in-Some.ensures.gone_alone id
     ∙ while_there_same left c.child_gone.new.self.tree.nodes same (path_of c.args.self.now id)

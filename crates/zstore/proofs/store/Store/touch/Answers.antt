@@ -1,4 +1,4 @@
-use Rattle.std.proofs.Common.{◌≡◌, sym, ap, subst, ◌∙◌, refl, Some, arith, ◌<◌, set}
+use Rattle.std.proofs.Common.{◌≡◌, sym, ap, subst, ◌∙◌, Some, arith, ◌<◌, set}
 use lib.Dec.{T}
 use Rattle.std.specs.Ordering.{nat_cmp}
 use Rattle.std.specs.FinMap as finite
@@ -10,7 +10,6 @@ use Rattle.zstore.specs.Tree.{Tree, Sessions}
 use Rattle.zstore.specs.Sessions.{renewed, touched}
 use Rattle.zstore.specs.Lawful.{IsLawful}
 use Rattle.zstore.specs.Rows.{tree_of, session_rows}
-use Rattle.zstore.proofs.Shown.{nodes_of}
 use Rattle.zstore.proofs.Alive.{sessions_of, alive_at, alive_set, alive_nowhere, touched-some}
 use Rattle.zstore.proofs.Maps.{not_none}
 use Rattle.zstore.proofs.Lawful.{lawful_touched}
@@ -49,7 +48,7 @@ invariant_of-self c =
     let laid = c.self.invariant.laid in
     let did = row_touched c in
     let some : (x : Session) → finite.get (sessions_of s.sessions.items) c.args.id ≡ Some x → 0 < x.timeout =
-        λ x is. (c.requires.deadlines c.args.id x (ap (λ (h : Held). finite.get h.tree.sessions c.args.id) (sym c.self.view_is) ∙ is)).0 in
+    λ x is. (c.requires.deadlines c.args.id x (ap (λ (h : Held). finite.get h.tree.sessions c.args.id) (sym c.self.view_is) ∙ is)).0 in
     record {
       laid = record { sorted = laid.sorted; apart = laid.apart; numbers = laid.numbers; sessions = did.0 };
       lawful = subst IsLawful (sym did.1) (lawful_touched (tree_of s.rows.items s.sessions.items s.time s.zxid) c.args.id c.self.invariant.lawful some);
@@ -63,7 +62,7 @@ pub returns-in-Ok-clause-same : goal.returns-in-Ok-clause-same
 returns-in-Ok-clause-same c = (ap (λ (h : Held). h.places) c.self.view_is, ap (λ (h : Held). h.given) c.self.view_is)
 
 pub returns-in_default-clause-tree : goal.returns-in_default-clause-tree
-returns-in_default-clause-tree c = 
+returns-in_default-clause-tree c =
     let s = c.self.inside in
     let gap = rw c.deref.ensures.value at c.in_default.ensures.absent in
     let none = ap (λ (h : Held). finite.get h.tree.sessions c.args.id) (sym c.self.view_is) ∙ alive_nowhere s.sessions.items c.args.id c.in_default.field-0 c.self.invariant.laid.sessions gap in
