@@ -19,6 +19,10 @@ mod run;
 mod session_calls;
 mod session_laws;
 #[cfg(test)]
+mod session_tests;
+#[cfg(test)]
+mod testing;
+#[cfg(test)]
 mod tests;
 mod update;
 
