@@ -5,12 +5,6 @@ use Rattle.zops.proofs.Ends.{ended-ends, few_ephemerals}
 use Rattle.zops.proofs.Timed.{ended_bounded}
 use Rattle.zops.proofs.session_calls.close.Goals as goal
 
-pub is_kept_lawful-requires : goal.is_kept_lawful-requires
-is_kept_lawful-requires c = ?
-
-pub end_session-requires-clause-stub : goal.end_session-requires-clause-stub
-end_session-requires-clause-stub c = ?
-
 pub end_session-requires-clause-counters : goal.end_session-requires-clause-counters
 end_session-requires-clause-counters c path n e =
     let t = c.args.store.now.tree in

@@ -4,12 +4,6 @@ use Rattle.zstore.specs.Sessions.{all_ended}
 use Rattle.zops.proofs.Ends.{RoomForEnds, AreLive, room_before, ended-room, few_ephemerals, ended-ends, due_live}
 use Rattle.zops.proofs.session_calls.end_all.Goals as goal
 
-pub is_kept_lawful-requires : goal.is_kept_lawful-requires
-is_kept_lawful-requires c = ?
-
-pub end_session-requires-clause-stub : goal.end_session-requires-clause-stub
-end_session-requires-clause-stub c = ?
-
 pub loop-id-init : goal.loop-id-init
 loop-id-init c =
     let t = c.args.store.now.tree in

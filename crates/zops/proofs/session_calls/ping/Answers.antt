@@ -3,8 +3,5 @@ use Rattle.zops.specs.Sound.{IsBounded}
 use Rattle.zops.proofs.Timed.{touched_bounded}
 use Rattle.zops.proofs.session_calls.ping.Goals as goal
 
-pub touch-requires-clause-stub : goal.touch-requires-clause-stub
-touch-requires-clause-stub c = ?
-
 pub returns-clause-bounded : goal.returns-clause-bounded
 returns-clause-bounded c = subst IsBounded (sym c.touch.ensures.tree) (touched_bounded c.args.store.now.tree c.args.session c.requires.bounded)

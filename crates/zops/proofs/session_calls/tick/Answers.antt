@@ -10,12 +10,6 @@ use Rattle.zops.proofs.Ends.{all_ended-ends}
 use Rattle.zops.proofs.Timed.{advanced_bounded, ticked_bounded, ticked-none, ticked-some}
 use Rattle.zops.proofs.session_calls.tick.Goals as goal
 
-pub is_kept_lawful-requires : goal.is_kept_lawful-requires
-is_kept_lawful-requires c = ?
-
-pub advance-requires-clause-stub : goal.advance-requires-clause-stub
-advance-requires-clause-stub c = ?
-
 pub advance-requires-clause-none_due : goal.advance-requires-clause-none_due
 advance-requires-clause-none_due c =
     let t = c.args.store.now.tree in

@@ -9,6 +9,3 @@ invariant_of-result c = record {
   applied_few = lit< tt;
   given_few = omega (arith, c.in_ok-store.ensures.given);
 }
-
-pub is_kept_lawful-requires : goal.is_kept_lawful-requires
-is_kept_lawful-requires c = ?

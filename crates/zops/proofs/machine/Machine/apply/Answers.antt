@@ -1,4 +1,0 @@
-use Rattle.zops.proofs.machine.Machine.apply.Goals as goal
-
-pub is_kept_lawful-requires : goal.is_kept_lawful-requires
-is_kept_lawful-requires c = ?
