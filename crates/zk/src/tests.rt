@@ -11,8 +11,12 @@ use crate::words::settings;
 use std::alloc::{AllocError, Global};
 use std::test::Fail;
 
-// Plays a script by at most so many bytes a read and a write.
-fn played(alloc: Global, script: &[u8], at_most: usize) -> (Result<(), PlayFault>, VecSink)
+/// Plays a script by at most so many bytes a read and a write.
+pub(crate) fn played(
+    alloc: Global,
+    script: &[u8],
+    at_most: usize,
+) -> (Result<(), PlayFault>, VecSink)
     requires { 0 < at_most }
 {
     let mut source = SliceSource::new(script, at_most);
@@ -53,7 +57,7 @@ const ROWS: [(&str, &str); 20] = [
         "bad line\nbad line\nbad line\nbad line\nbad line\nbad line\nbad line\nbad line\nbad line\n",
     ),
     (
-        "1 create /a s -\n1 create a e:1 aGk\n1 create a p aGk\n1 create /a p aGk\n1 create /a p =\n",
+        "1 create /a s -\n1 create a e: aGk\n1 create a p aGk\n1 create /a p aGk\n1 create /a p =\n",
         "bad line\nbad line\nbad path NotAbsolute\nbad data\nbad data\n",
     ),
     (
