@@ -1,6 +1,6 @@
 //! Tests of the lines of sessions: worked scripts with their answers, and the limit on sessions.
 
-use crate::tests::played;
+use crate::tests::plays;
 use std::test::Fail;
 
 // What a script answers.
@@ -54,23 +54,18 @@ const ROWS: [(&str, &str); 9] = [
 #[test]
 fn plays_the_session_rows(rt: HostRuntime) {
     for (script, text) in ROWS {
-        let (result, sink) = played(rt.alloc(), script.as_bytes(), 65536);
-        assert_eq!(rt; result, Ok(()), "{script:?}");
-        assert_eq!(rt; sink.bytes(), text.as_bytes(), "{script:?}");
+        plays(&rt, rt.alloc(), script, text, 65536);
     }
 }
 
 #[test]
 fn opens_1024_sessions(rt: HostRuntime) -> Result<(), Fail> {
-    let alloc = rt.alloc();
-    let script = "1 open 2\n".repeat(alloc, 1025)?;
-    let mut text = String::new(alloc);
+    let script = "1 open 2\n".repeat(rt.alloc(), 1025)?;
+    let mut text = String::new(rt.alloc());
     for number in 1..1025 {
         write!(text, "ok session {number} timeout 2\n")?;
     }
     text.push_str("no TooManySessions\n")?;
-    let (result, sink) = played(alloc, script.as_bytes(), 65536);
-    assert_eq!(rt; result, Ok(()));
-    assert_eq!(rt; sink.bytes(), text.as_bytes());
+    plays(&rt, rt.alloc(), &script, &text, 65536);
     Ok(())
 }
