@@ -7,6 +7,7 @@ pub mod Progress
 pub mod Stops
 pub mod Runs
 pub mod Cutting
+pub mod Prefixes
 pub mod Numerals
 pub mod OneNumeral
 pub mod LeftOver

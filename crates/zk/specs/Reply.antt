@@ -5,7 +5,7 @@ use Rattle.std.specs.List.{flat_map}
 use Rattle.zpath.specs.Grammar.{text_of}
 use Rattle.zstore.specs.declared.node.Stat.{Stat}
 use Rattle.zops.specs.declared.reply.Reply.{Reply}
-use Rattle.zops.specs.declared.reply.Reply.TheVariants.{Created, Deleted, Set, Multi, Data, Exists, Children, Refused, MultiRefused}
+use Rattle.zops.specs.declared.reply.Reply.TheVariants.{Created, Deleted, Set, Multi, Opened, Pinged, Closed, Ticked, Data, Exists, Children, Refused, MultiRefused}
 use Rattle.zops.specs.declared.reply.PartReply.{PartReply}
 use Rattle.zops.specs.declared.reply.PartReply.TheVariants as part
 use Rattle.zops.specs.Step.{refusal_name}
@@ -50,6 +50,10 @@ reply_text (Created path) = codes "ok " ++ text_of path
 reply_text Deleted = codes "ok deleted"
 reply_text (Set stat) = codes "ok stat" ++ stat_text stat
 reply_text (Multi replies) = codes "ok multi " ++ parts_text replies
+reply_text (Opened session timeout) = codes "ok session " ++ decimal session ++ codes " timeout " ++ decimal timeout
+reply_text Pinged = codes "ok pinged"
+reply_text Closed = codes "ok closed"
+reply_text (Ticked time ended) = codes "ok tick " ++ decimal time ++ codes " ended " ++ decimal ended
 reply_text (Data bytes stat) = codes "ok data " ++ data_text bytes ++ codes " stat" ++ stat_text stat
 reply_text (Exists stat) = codes "ok stat" ++ stat_text stat
 reply_text (Children names) = codes "ok " ++ decimal (length names) ++ flat_map spaced_name names

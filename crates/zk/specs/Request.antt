@@ -24,7 +24,7 @@ use Rattle.zk.specs.declared.part_words.PartWords.TheVariants as words_of_part
 use Rattle.zk.specs.declared.request.Request.{Request}
 use Rattle.zk.specs.declared.request.LineFault.{LineFault}
 use Rattle.zk.specs.declared.request.LineFault.TheVariants.{BadLine, BadPath, BadData}
-use Rattle.zk.specs.LineWords.{Word, words_of, is_malformed, client_of, data_of}
+use Rattle.zk.specs.LineWords.{Word, words_of, is_malformed, number_of, client_of, data_of}
 use Rattle.zk.specs.Shape.{part_shape, alone, parts_shape}
 
 -- what is read of a line, or why nothing is
@@ -113,6 +113,15 @@ asked_in words = Err BadLine
 abbrev pub query_in : (Path → Question) → List Word → Read Call
 query_in query words = then_read (asked_in words) (λ path. Ok (Query (query path)))
 
+-- the NUMBER of a session, or of the ticks that a session is to live
+abbrev pub number_in : List Word → Read ℕ
+number_in (word ∷ []) = shaped (number_of word)
+number_in words = Err BadLine
+
+-- a call of sessions
+abbrev pub session_in : (ℕ → Change) → List Word → Read Call
+session_in update words = then_read (number_in words) (λ n. Ok (Update (update n)))
+
 -- the call that a command asks for
 abbrev pub call_in : List Word → Read Call
 call_in [] = Err BadLine
@@ -121,22 +130,26 @@ call_in (verb ∷ words) =
     if bytes_eq verb (codes "exists") then query_in Exists words else
     if bytes_eq verb (codes "ls") then query_in GetChildren words else
     if bytes_eq verb (codes "multi") then multi_in words else
+    if bytes_eq verb (codes "open") then session_in update_of.Open words else
+    if bytes_eq verb (codes "ping") then session_in update_of.Ping words else
+    if bytes_eq verb (codes "close") then session_in update_of.Close words else
     single_in verb words
 
--- the client that may give a command: 1 to 31
-abbrev pub caller_of : Word → Option ℕ
-caller_of word = above_zero (client_of word)
-  where
-    above_zero : Option ℕ → Option ℕ
-    above_zero None = None
-    above_zero (Some n) = if nat_eq n 0 then None else Some n
+-- tick, and nothing behind it
+abbrev pub tick_in : List Word → Read Call
+tick_in (verb ∷ []) = if bytes_eq verb (codes "tick") then Ok (Update update_of.Tick) else Err BadLine
+tick_in words = Err BadLine
+
+-- the call that a client's command asks for: client 0 is the clock, which gives `tick` alone, and no other client gives it
+abbrev pub command_in : ℕ → List Word → Read Call
+command_in client command = if nat_eq client 0 then tick_in command else call_in command
 
 -- a client and its command
 abbrev pub request_in : List Word → Read Request
 request_in [] = Err BadLine
 request_in (client ∷ command) =
-    then_read (shaped (caller_of client)) (λ client.
-    then_read (call_in command) (λ call.
+    then_read (shaped (client_of client)) (λ client.
+    then_read (command_in client command) (λ call.
     Ok (record { client = client; call = call })))
 
 -- what a line asks for

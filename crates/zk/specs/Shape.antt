@@ -1,22 +1,30 @@
 -- The shape of a part, and of a multi: what is looked at before any path or data is.
 -- Words are taken from the left, as many as the verb wants, so that `;` can stand where a path or data is wanted.
-use Rattle.std.specs.Prelude.{ℕ, zero, suc, List, [], ◌∷◌, codes, Option, None, Some, if◌then◌else◌}
+use Rattle.std.specs.Prelude.{ℕ, zero, suc, nat_eq, List, [], ◌∷◌, drop, codes, Option, None, Some, if◌then◌else◌}
 use Rattle.std.specs.Option.{option_map}
+use Rattle.std.specs.List.{starts_with}
 use Rattle.std.specs.Str.{bytes_eq}
 use Rattle.zops.specs.declared.call.Kind.{Kind}
-use Rattle.zops.specs.declared.call.Kind.TheVariants.{Persistent, PersistentSequential}
+use Rattle.zops.specs.declared.call.Kind.TheVariants.{Persistent, PersistentSequential, Ephemeral, EphemeralSequential}
 use Rattle.zops.specs.declared.call.Expected.{Expected}
 use Rattle.zops.specs.declared.call.Expected.TheVariants.{Any, Exactly}
 use Rattle.zk.specs.declared.part_words.PartWords.{PartWords}
 use Rattle.zk.specs.declared.part_words.PartWords.TheVariants.{Create, Delete, SetData, Check}
 use Rattle.zk.specs.LineWords.{Word, number_of}
 
+-- how a node of a session is to be made: `e:` or `es:`, and the session's number
+abbrev pub owned_kind_of : Word → Option Kind
+owned_kind_of word =
+    if starts_with nat_eq word (codes "e:") then option_map Ephemeral (number_of (drop 2 word)) else
+    if starts_with nat_eq word (codes "es:") then option_map EphemeralSequential (number_of (drop 3 word)) else
+    None
+
 -- how a node is to be made
-abbrev pub kind_of : Word → Option Kind
+unfoldable pub kind_of : Word → Option Kind
 kind_of word =
     if bytes_eq word (codes "p") then Some Persistent else
     if bytes_eq word (codes "ps") then Some PersistentSequential else
-    None
+    owned_kind_of word
 
 -- the version that a call is meant for
 abbrev pub version_of : Word → Option Expected

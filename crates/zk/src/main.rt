@@ -17,6 +17,8 @@ mod reading;
 mod reply;
 mod request;
 mod script;
+#[cfg(test)]
+mod session_tests;
 mod settings;
 mod shape;
 mod step;

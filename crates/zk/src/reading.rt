@@ -1,8 +1,8 @@
 //! Lines, read.
 
 ghost use Rattle.std.specs.Prelude.{◌≡◌, ◌⊎◌, Ok, Err, None, Some, IfOk, IfErr, IfNone, IfSome, true, false};
-ghost use Rattle.zk.specs.Request.{request_of, call_in, asked_in, single_in, multi_in, caller_of};
-ghost use Rattle.zk.specs.LineWords.{is_malformed};
+ghost use Rattle.zk.specs.Request.{request_of, command_in, tick_in, call_in, number_in, asked_in, single_in, multi_in};
+ghost use Rattle.zk.specs.LineWords.{is_malformed, client_of};
 ghost use Rattle.zk.specs.Spaced.{is_spaced};
 
 use crate::cursor::Cursor;
@@ -31,10 +31,10 @@ pub(crate) fn read_line(alloc: Global, line: &[u8]) -> Result<Request, LineFault
     let Some(word) = words.next() else {
         return Err(LineFault::BadLine);
     };
-    let Some(client) = caller(word) else {
+    let Some(client) = client_in(word) else {
         return Err(LineFault::BadLine);
     };
-    let call = read_call(alloc, words)?;
+    let call = read_command(alloc, client, words)?;
     Ok(Request { client, call })
 }
 
@@ -70,13 +70,41 @@ fn is_spaced(line: &[u8]) -> bool
     !after_space
 }
 
-// The client that a word names: 1 to 31.
-fn caller(word: &str) -> Option<ClientId>
-    ensures { result ≡ caller_of word.now }
+// The client that a word names: 0 to 31.
+fn client_in(word: &str) -> Option<ClientId>
+    ensures { result ≡ client_of word.now }
 {
     match number(word) {
-        Some(number) if 0 < number && number < 32 => ClientId::new(number as u8),
+        Some(number) if number < 32 => ClientId::new(number as u8),
         _ => None,
+    }
+}
+
+// The call that a client's command asks for. Client 0 is the clock: it gives `tick` alone, and no
+// other client gives it.
+fn read_command(alloc: Global, client: ClientId, words: Cursor) -> Result<Call, LineFault>
+    ensures found { IfOk result (λ call. command_in client words.entry ≡ Ok call) }
+    ensures fault { IfErr result (λ fault. (fault ≡ LineFault.Memory) ⊎ (command_in client words.entry ≡ Err fault)) }
+{
+    if client.number() == 0 {
+        read_tick(words)
+    } else {
+        read_call(alloc, words)
+    }
+}
+
+// `tick`, and no further word.
+fn read_tick(mut words: Cursor) -> Result<Call, LineFault>
+    ensures found { IfOk result (λ call. tick_in words.entry ≡ Ok call) }
+    ensures fault { IfErr result (λ fault. tick_in words.entry ≡ Err fault) }
+{
+    let Some(verb) = words.next() else {
+        return Err(LineFault::BadLine);
+    };
+    if verb == "tick" && words.is_done() {
+        Ok(Call::Update(Update::Tick))
+    } else {
+        Err(LineFault::BadLine)
     }
 }
 
@@ -93,6 +121,9 @@ fn read_call(alloc: Global, mut words: Cursor) -> Result<Call, LineFault>
         "exists" => Ok(Call::Query(Query::Exists(read_asked(alloc, words)?))),
         "ls" => Ok(Call::Query(Query::GetChildren(read_asked(alloc, words)?))),
         "multi" => read_multi(alloc, words),
+        "open" => Ok(Call::Update(Update::Open(read_number(words)?))),
+        "ping" => Ok(Call::Update(Update::Ping(read_number(words)?))),
+        "close" => Ok(Call::Update(Update::Close(read_number(words)?))),
         _ => read_single(alloc, verb, words),
     }
 }
@@ -109,6 +140,20 @@ fn read_asked(alloc: Global, mut words: Cursor) -> Result<Path, LineFault>
         return Err(LineFault::BadLine);
     }
     read_path(alloc, path)
+}
+
+// A number, and no further word.
+fn read_number(mut words: Cursor) -> Result<u64, LineFault>
+    ensures found { IfOk result (λ number. number_in words.entry ≡ Ok number) }
+    ensures fault { IfErr result (λ fault. number_in words.entry ≡ Err fault) }
+{
+    let Some(word) = words.next() else {
+        return Err(LineFault::BadLine);
+    };
+    if !words.is_done() {
+        return Err(LineFault::BadLine);
+    }
+    number(word).ok_or(LineFault::BadLine)
 }
 
 // A call of one part.

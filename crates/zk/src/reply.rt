@@ -24,6 +24,10 @@ pub(crate) fn write_reply(reply: &Reply, out: &mut String) -> Result<(), Memory>
             out.push_str("ok multi ")?;
             write_parts(replies.as_slice(), out)?;
         }
+        Reply::Opened(session, timeout) => write!(out, "ok session {session} timeout {timeout}")?,
+        Reply::Pinged => out.push_str("ok pinged")?,
+        Reply::Closed => out.push_str("ok closed")?,
+        Reply::Ticked(time, ended) => write!(out, "ok tick {time} ended {ended}")?,
         Reply::Data(bytes, stat) => {
             out.push_str("ok data ")?;
             write_data(bytes.as_slice(), out)?;

@@ -1,7 +1,8 @@
 //! The shape of parts: words taken from the left, as many as each verb wants.
 
-ghost use Rattle.std.specs.Prelude.{◌≡◌, ◌⊎◌, Ok, Err, Some, None, IfOk, IfErr, IfSome, IfNone};
-ghost use Rattle.zk.specs.Shape.{kind_of, version_of, create_shape, delete_shape, set_shape, check_shape, part_shape, alone, parts_shape};
+ghost use Rattle.std.specs.Prelude.{◌≡◌, ◌⊎◌, Ok, Err, Some, None, IfOk, IfErr, IfSome, IfNone, true, false, nat_eq, drop, length};
+ghost use Rattle.std.specs.List.{starts_with};
+ghost use Rattle.zk.specs.Shape.{kind_of, owned_kind_of, version_of, create_shape, delete_shape, set_shape, check_shape, part_shape, alone, parts_shape};
 ghost use Rattle.zk.specs.Request.{shaped};
 
 use crate::cursor::Cursor;
@@ -104,14 +105,34 @@ fn next_check<'a>(words: &mut Cursor<'a>) -> Option<PartWords<'a>>
     Some(PartWords::Check(path, version))
 }
 
+#[tactic(auto, unfolding(crate::specs::Shape::kind_of))]
 fn kind_in(word: &str) -> Option<Kind>
     ensures { result ≡ kind_of word.now }
 {
     match word {
         "p" => Some(Kind::Persistent),
         "ps" => Some(Kind::PersistentSequential),
-        _ => None,
+        _ => owned_kind_in(word),
     }
+}
+
+// `e:` or `es:`, and a session.
+fn owned_kind_in(word: &str) -> Option<Kind>
+    ensures { result ≡ owned_kind_of word.now }
+{
+    if let Some(session) = behind("e:", word) {
+        return Some(Kind::Ephemeral(number(session)?));
+    }
+    let session = behind("es:", word)?;
+    Some(Kind::EphemeralSequential(number(session)?))
+}
+
+// What follows these bytes in a word that begins with them.
+fn behind<'a>(front: &str, word: &'a str) -> Option<&'a str>
+    ensures rest { IfSome result (λ rest. (starts_with nat_eq word.now front.now ≡ true) × (rest.now ≡ drop (length front.now) word.now)) }
+    ensures none { IfNone result (starts_with nat_eq word.now front.now ≡ false) }
+{
+    word.strip_prefix(front)
 }
 
 // `any`, or a number.

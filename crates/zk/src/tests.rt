@@ -9,16 +9,18 @@ use crate::script::play;
 use crate::settings::{Servers, Settings, WordsFault};
 use crate::words::settings;
 use std::alloc::{AllocError, Global};
+use std::process::Abort;
 use std::test::Fail;
 
-// Plays a script by at most so many bytes a read and a write.
-fn played(alloc: Global, script: &[u8], at_most: usize) -> (Result<(), PlayFault>, VecSink)
+/// Plays a script by at most so many bytes a read and a write, and asserts that this is its answer.
+pub(crate) fn plays(rt: &impl Abort, alloc: Global, script: &str, text: &str, at_most: usize)
     requires { 0 < at_most }
 {
-    let mut source = SliceSource::new(script, at_most);
+    let mut source = SliceSource::new(script.as_bytes(), at_most);
     let mut sink = VecSink::new(alloc, at_most);
     let result = play(alloc, &mut source, &mut sink, Servers::new(1));
-    (result, sink)
+    assert_eq!(rt; result, Ok(()), "{script:?}");
+    assert_eq!(rt; sink.bytes(), text.as_bytes(), "{script:?}");
 }
 
 // What a script answers, by blocks of any size and byte by byte.
@@ -53,7 +55,7 @@ const ROWS: [(&str, &str); 20] = [
         "bad line\nbad line\nbad line\nbad line\nbad line\nbad line\nbad line\nbad line\nbad line\n",
     ),
     (
-        "1 create /a s -\n1 create a e:1 aGk\n1 create a p aGk\n1 create /a p aGk\n1 create /a p =\n",
+        "1 create /a s -\n1 create a e: aGk\n1 create a p aGk\n1 create /a p aGk\n1 create /a p =\n",
         "bad line\nbad line\nbad path NotAbsolute\nbad data\nbad data\n",
     ),
     (
@@ -108,69 +110,43 @@ const ROWS: [(&str, &str); 20] = [
 #[test]
 fn plays_the_rows(rt: HostRuntime) {
     for (script, text) in ROWS {
-        let (result, sink) = played(rt.alloc(), script.as_bytes(), 65536);
-        assert_eq!(rt; result, Ok(()), "{script:?}");
-        assert_eq!(rt; sink.bytes(), text.as_bytes(), "{script:?}");
-        let (result, sink) = played(rt.alloc(), script.as_bytes(), 1);
-        assert_eq!(rt; result, Ok(()), "{script:?}, byte by byte");
-        assert_eq!(rt; sink.bytes(), text.as_bytes(), "{script:?}, byte by byte");
+        plays(&rt, rt.alloc(), script, text, 65536);
+        plays(&rt, rt.alloc(), script, text, 1);
     }
 }
 
 #[test]
-fn knows_its_limits(rt: HostRuntime) -> Result<(), Fail> {
+fn knows_the_longest_words(rt: HostRuntime) -> Result<(), Fail> {
     let alloc = rt.alloc();
     let name = "a".repeat(alloc, 255)?;
+    let script = format!(in alloc; "1 create /{name} p -\n1 create /{name}a p -\n")?;
+    let text = format!(in alloc; "ok /{name}\nbad path NameTooLong\n")?;
+    plays(&rt, rt.alloc(), &script, &text, 65536);
     let most = "QUFB".repeat(alloc, 1365)?;
-    let checks = " ; check / 0".repeat(alloc, 63)?;
-    let checked = " ; checked".repeat(alloc, 63)?;
-    for (script, text) in [
-        (
-            format!(in alloc; "1 create /{name} p -\n")?,
-            format!(in alloc; "ok /{name}\n")?,
-        ),
-        (
-            format!(in alloc; "1 create /{name}a p -\n")?,
-            format!(in alloc; "bad path NameTooLong\n")?,
-        ),
-        (
-            format!(in alloc; "1 create /a p {most}QQ==\n1 create /b p {most}QUE=\n")?,
-            format!(in alloc; "ok /a\nbad data\n")?,
-        ),
-        (
-            format!(in alloc; "1 multi check / 0{checks}\n")?,
-            format!(in alloc; "ok multi checked{checked}\n")?,
-        ),
-        (
-            format!(in alloc; "1 multi check / 0{checks} ; check / 0\n")?,
-            format!(in alloc; "bad line\n")?,
-        ),
-    ] {
-        let (result, sink) = played(alloc, script.as_bytes(), 65536);
-        assert_eq!(rt; result, Ok(()));
-        assert_eq!(rt; sink.bytes(), text.as_bytes(), "{script}");
-    }
+    let script = format!(in alloc; "1 create /a p {most}QQ==\n1 create /b p {most}QUE=\n")?;
+    plays(&rt, rt.alloc(), &script, "ok /a\nbad data\n", 65536);
     Ok(())
 }
 
-// A line of so many bytes, and another line.
-fn lines(alloc: Global, len: usize) -> Result<Vec<u8>, AllocError> {
-    let mut script = vec![in alloc; b'x'; len]?;
-    script.extend_from_slice(b"\n1 get /a\n")?;
-    Ok(script)
+#[test]
+fn knows_the_most_parts(rt: HostRuntime) -> Result<(), Fail> {
+    let alloc = rt.alloc();
+    let checks = " ; check / 0".repeat(alloc, 63)?;
+    let checked = " ; checked".repeat(alloc, 63)?;
+    let script = format!(in alloc;
+        "1 multi check / 0{checks}\n1 multi check / 0{checks} ; check / 0\n"
+    )?;
+    let text = format!(in alloc; "ok multi checked{checked}\nbad line\n")?;
+    plays(&rt, rt.alloc(), &script, &text, 65536);
+    Ok(())
 }
 
 #[test]
 fn answers_long_lines(rt: HostRuntime) -> Result<(), Fail> {
     for len in [524288, 524289, 700000] {
-        let script = lines(rt.alloc(), len)?;
-        let (result, sink) = played(rt.alloc(), &script, 65536);
-        assert_eq!(rt; result, Ok(()));
-        assert_eq!(rt;
-            sink.bytes(),
-            b"bad line\nno NoNode\n".as_slice(),
-            "a line of {len} bytes"
-        );
+        let line = "x".repeat(rt.alloc(), len)?;
+        let script = format!(in rt.alloc(); "{line}\n1 get /a\n")?;
+        plays(&rt, rt.alloc(), &script, "bad line\nno NoNode\n", 65536);
     }
     Ok(())
 }
@@ -196,15 +172,12 @@ fn a_failed_write_leaves_a_beginning(rt: HostRuntime) {
 // The example of RFC 4648, section 9, and the alphabet of its table 1.
 #[test]
 fn data_is_the_rfcs_base64(rt: HostRuntime) {
-    let (result, sink) = played(
+    plays(
+        &rt,
         rt.alloc(),
-        b"1 create /a p FPucA9l+\n1 get /a\n1 create /b p ABCDEFGHIJKLMNOPQRSTUVWXYZabcdefghijklmnopqrstuvwxyz0123456789+/\n1 get /b\n",
+        "1 create /a p FPucA9l+\n1 get /a\n1 create /b p ABCDEFGHIJKLMNOPQRSTUVWXYZabcdefghijklmnopqrstuvwxyz0123456789+/\n1 get /b\n",
+        "ok /a\nok data FPucA9l+ stat 1 1 1 0 0 0 0 0 6 0\nok /b\nok data ABCDEFGHIJKLMNOPQRSTUVWXYZabcdefghijklmnopqrstuvwxyz0123456789+/ stat 2 2 2 0 0 0 0 0 48 0\n",
         65536,
-    );
-    assert_eq!(rt; result, Ok(()));
-    assert_eq!(rt;
-        sink.bytes(),
-        b"ok /a\nok data FPucA9l+ stat 1 1 1 0 0 0 0 0 6 0\nok /b\nok data ABCDEFGHIJKLMNOPQRSTUVWXYZabcdefghijklmnopqrstuvwxyz0123456789+/ stat 2 2 2 0 0 0 0 0 48 0\n".as_slice()
     );
 }
 
