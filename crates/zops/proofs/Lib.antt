@@ -11,6 +11,7 @@ pub mod Timed
 pub mod Refused
 pub mod InOrder
 pub mod Taking
+pub mod KeptReplies
 pub mod Zxids
 pub mod LawfulParts
 pub mod LawfulCalls
