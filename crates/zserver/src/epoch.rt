@@ -1,0 +1,46 @@
+//! The  the master gives each pair that it makes a number of its own, and each rises above those before it. Epochs, which the paper has no need of, are this project's profile.:epoch.
+
+ghost use Rattle.std.specs.Prelude.{◌≡◌, ◌<◌, ◌≤◌, ◌^◌, IfNone, IfSome};
+
+use std::marker::Model;
+
+/// The epoch of a pair of neighbours in the chain
+/// It is below 2^62.
+#[derive(Clone, Copy, Debug, PartialEq, Eq)]
+pub struct Epoch {
+    number: u64,
+}
+
+impl Model for Epoch {
+    ghost use Rattle.std.specs.Prelude.{ℕ, ◌<◌, ◌^◌};
+
+    ghost Value = { ℕ };
+
+    ghost view = { λ n. n.number };
+
+    ghost invariant = { λ n. n.number < 2 ^ 62 };
+
+    ghost inverse = { λ n. record { number = n } };
+}
+
+impl Epoch {
+    /// The one of that number; none from 2^62 on.
+    pub fn new(number: u64) -> Option<Epoch>
+        ensures same { IfSome result (λ n. (n ≡ number) × (number < 2 ^ 62)) }
+        ensures none { IfNone result (2 ^ 62 ≤ number) }
+    {
+        if number < 1 << 62 {
+            Some(Epoch { number })
+        } else {
+            None
+        }
+    }
+
+    /// Its number.
+    pub fn number(self) -> u64
+        ensures same { result ≡ self }
+        ensures small { result < 2 ^ 62 }
+    {
+        self.number
+    }
+}
