@@ -51,38 +51,42 @@ is_enabled w (Join s) = is_none (master.join_fault w.master s)
 abbrev pub server_does : {M : Type 0} → World M → ℕ → ServerView M × List (Post M) → World M
 server_does w s did = record w { servers = at s did.0 w.servers; links = put w.links (Server s) did.1 }
 
--- the master's
+-- the master's new view, and what it puts
 abbrev pub master_does : {M : Type 0} → World M → MasterView × List (Post M) → World M
 master_does w did = record w { master = did.0; links = put w.links Master did.1 }
 
--- a client's
-abbrev pub client_does : {M : Type 0} → World M → ℕ → ClientView × List (Post M) → World M
-client_does w c did = record w { clients = at c did.0 w.clients; links = put w.links (Client c) did.1 }
+-- a client's new view, and what it puts
+abbrev pub client_does : {M : Type 0} → World M → ℕ → ClientView → List (Post M) → World M
+client_does w c view posts = record w { clients = at c view w.clients; links = put w.links (Client c) posts }
 
--- a client's, which hands out a reply where it took the answer that it waits for: the history tells that answer
-abbrev pub answered : {M : Type 0} → World M → ℕ → ℕ → Option Reply → World M
-answered w c number None = w
-answered w c number (Some reply) = record w { history = w.history ++ call_event.Answer c number reply ∷ [] }
+-- the history tells of the answer that a client hands out, if it does, under its call's number
+abbrev pub answered : {M : Type 0} → World M → ℕ → Option (ℕ × Reply) → World M
+answered w c None = w
+answered w c (Some reply) = record w { history = w.history ++ call_event.Answer c reply.0 reply.1 ∷ [] }
+
+-- a client's new view, what it puts, and the reply that it hands out
+abbrev pub client_took : {M : Type 0} → World M → ℕ → client.Taken M → World M
+client_took w c did = answered (client_does w c did.0 did.1) c did.2
+
+-- a client's call begins: the history tells of it
+abbrev pub client_began : {M : Type 0} → World M → ℕ → Call → ClientView × List (Post M) → World M
+client_began w c call did = record (client_does w c did.0 did.1) { history = w.history ++ call_event.Begin c did.0.number call ∷ [] }
 
 -- the taker acts on a message by its table
 abbrev pub takes : {M : Type 0} → Does M → World M → Process → Process → MessageOf M → World M
 takes machine w from Master message = master_does w (master.takes w.master from message)
 takes machine w from (Server s) message = server_does w s (server.takes machine (w.servers s) from message)
-takes machine w from (Client c) message = client_does w c (client.takes (w.clients c) from message)
+takes machine w from (Client c) message = client_took w c (client.takes (w.clients c) from message)
 
 -- the front of a link is taken, if there is one
 abbrev pub takes_front : {M : Type 0} → Does M → World M → Process → Process → List (MessageOf M) → World M
 takes_front machine w from to [] = w
 takes_front machine w from to (message ∷ more) = takes machine (record w { links = without_front w.links from to }) from to message
 
--- a call begins: the client sends it, and the history tells its beginning
-abbrev pub begins : {M : Type 0} → World M → ℕ → Call → ClientView × List (Post M) → World M
-begins w c call did = record (client_does w c did) { history = w.history ++ call_event.Begin c did.0.number call ∷ [] }
-
 -- what an enabled event does
 abbrev pub acts : {M : Type 0} → Does M → World M → Event → World M
-acts machine w (Begin c call) = begins w c call (client.begins (w.clients c) call)
-acts machine w (Retry c) = client_does w c (client.retries (w.clients c))
+acts machine w (Begin c call) = client_began w c call (client.begins (w.clients c) call)
+acts machine w (Retry c) = client_does w c (w.clients c) (client.retries (w.clients c))
 acts machine w (Take from to) = takes_front machine w from to (w.links from to)
 acts machine w (Ignore from to) = record w { links = without_front w.links from to }
 acts machine w (Fail s) = record w { failed = at s true w.failed; links = put w.links (Server s) ((Master, message.Gone) ∷ []) }

@@ -2,5 +2,11 @@ pub mod Lists
 pub mod History
 pub mod LegalOrder
 pub mod PlainTree
+pub mod Links
+pub mod World
+pub mod Events
+pub mod Reading
+pub mod Settle
 pub mod Counter
 pub mod OrderRows
+pub mod Runs

@@ -6,8 +6,14 @@
 //! knows nothing of chains. `laws` shows them on worked rows.
 #![tactic(auto)]
 
+mod event;
 mod history;
-mod laws;
+mod order_laws;
+mod run_laws;
+mod settled;
 
+pub use event::Event;
 pub use history::CallEvent;
-pub use laws::{legal_order_is_taken, other_orders_are_refused};
+pub use order_laws::{legal_order_is_taken, other_orders_are_refused};
+pub use run_laws::update_is_answered_by_the_tail;
+pub use settled::Settled;

@@ -1,7 +1,7 @@
 use Rattle.std.proofs.Common.{inl, refl}
 use Rattle.zworld.specs.OrderRows.{last_exists}
 use Rattle.zworld.proofs.OrderRows.{left_out, query_unanswered, not_begun, wrong_reply, against_time}
-use Rattle.zworld.proofs.laws.other_orders_are_refused.Goals as goal
+use Rattle.zworld.proofs.order_laws.other_orders_are_refused.Goals as goal
 
 pub returns-clause-answered_left_out : goal.returns-clause-answered_left_out
 returns-clause-answered_left_out c = left_out

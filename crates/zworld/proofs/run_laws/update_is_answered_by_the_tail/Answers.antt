@@ -1,0 +1,7 @@
+use Rattle.std.proofs.Common.{refl}
+use Rattle.zworld.proofs.Tables.{all_tables}
+use Rattle.zworld.proofs.run_laws.update_is_answered_by_the_tail.Goals as goal
+
+pub returns : goal.returns
+unfolding all_tables
+returns c = record { seen = refl }
