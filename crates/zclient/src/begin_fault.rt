@@ -1,0 +1,13 @@
+//! Why a call can't begin.
+
+/// Why a call can't begin: the first that holds, in this order; want of memory is met behind the
+/// other two. A refused call changes nothing.
+#[derive(Clone, Copy, Debug, PartialEq, Eq)]
+pub enum BeginFault {
+    /// The client waits for the reply to another call.
+    Busy,
+    /// There is no memory for the call.
+    Memory,
+    /// The client has used all of its call numbers.
+    Exhausted,
+}
