@@ -4,7 +4,7 @@
 use Rattle.std.specs.Prelude.{ℕ, ◌+◌, ◌==◌, nat_lt, if◌then◌else◌, List, [], ◌∷◌, Option, None, Some}
 use Rattle.zops.specs.declared.call.Kind.TheVariants.{PersistentSequential}
 use Rattle.zops.specs.declared.call.Entry.{Entry}
-use Rattle.zops.specs.declared.call.Update.TheVariants.{Create}
+use Rattle.zops.specs.declared.call.Update as update
 use Rattle.zops.specs.declared.call.Query.TheVariants as query
 use Rattle.zops.specs.declared.call.Call.{Call}
 use Rattle.zops.specs.declared.call.Call.TheVariants.{Update, Query}
@@ -32,8 +32,11 @@ abbrev pub counter : Service ℕ
 counter = record { opening = 0; step = count_step }
 
 -- an update and a query for the rows
+abbrev pub create_update : update.Update
+create_update = update.TheVariants.Create (record { path = (110 ∷ []) ∷ []; kind = PersistentSequential; bytes = [] })
+
 abbrev pub create : Call
-create = Update (Create (record { path = (110 ∷ []) ∷ []; kind = PersistentSequential; bytes = [] }))
+create = Update create_update
 
 abbrev pub exists : Call
 exists = Query (query.Exists [])

@@ -9,4 +9,6 @@ pub mod Reading
 pub mod Settle
 pub mod Counter
 pub mod OrderRows
-pub mod Runs
+pub mod RunRows
+pub mod RepairRows
+pub mod JoinRows

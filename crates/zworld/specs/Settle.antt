@@ -54,8 +54,8 @@ does machine s event =
 abbrev pub tries : {M : Type 0} → Does M → Settling M → Event → Settling M
 tries machine s event =
     elim (nat_lt 0 s.left && is_enabled s.world event) [
-      true ↦ does machine s (read s.world event (next_outcome s.outcomes))
-    | false ↦ s
+      | true ↦ does machine s (read s.world event (next_outcome s.outcomes))
+      | false ↦ s
     ]
 
 -- events in turn, each tried when its turn comes

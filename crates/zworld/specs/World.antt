@@ -30,11 +30,11 @@ at n v family m = if m == n then v else family m
 -- every client knows the first as head and the last as tail; nobody has failed and no message is under way
 abbrev pub opening : {M : Type 0} → Does M → ℕ → ℕ → World M
 opening machine server_count client_count = record {
-    servers = opening_server machine server_count;
-    clients = λ c. opening_client server_count;
-    master = opening_master server_count client_count;
-    failed = λ s. false;
-    links = λ from to. [];
-    history = [];
-    client_count = client_count;
-  }
+  servers = opening_server machine server_count;
+  clients = λ c. opening_client server_count;
+  master = opening_master server_count client_count;
+  failed = λ s. false;
+  links = λ from to. [];
+  history = [];
+  client_count = client_count;
+}

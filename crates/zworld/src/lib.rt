@@ -8,12 +8,25 @@
 
 mod event;
 mod history;
+mod join_laws;
 mod order_laws;
+mod repair_laws;
 mod run_laws;
 mod settled;
 
 pub use event::Event;
 pub use history::CallEvent;
+pub use join_laws::{
+    joining_server_is_handed_the_state, stale_snapshot_is_ignored,
+    state_is_lost_with_its_only_server,
+};
 pub use order_laws::{legal_order_is_taken, other_orders_are_refused};
-pub use run_laws::update_is_answered_by_the_tail;
+pub use repair_laws::{
+    head_fails_after_it_forwarded, messages_outlive_their_sender, middle_fails_before_it_forwarded,
+    new_head_is_asked_again, tail_fails_before_it_answered,
+};
+pub use run_laws::{
+    idle_events, links_keep_order, request_is_lost, retried_update_counts_once,
+    update_is_answered_by_the_tail,
+};
 pub use settled::Settled;
