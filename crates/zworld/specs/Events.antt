@@ -18,7 +18,7 @@ use Rattle.zclient.specs.Table as client
 use Rattle.zworld.specs.declared.event.Event.{Event}
 use Rattle.zworld.specs.declared.event.Event.TheVariants.{Begin, Retry, Take, Ignore, Fail, Join}
 use Rattle.zworld.specs.declared.history.CallEvent.TheVariants as call_event
-use Rattle.zworld.specs.Links.{Links, put, without_front}
+use Rattle.zworld.specs.Links.{put, without_front}
 use Rattle.zworld.specs.World.{World, at}
 
 -- there is a front, and it passes the test

@@ -12,3 +12,4 @@ pub mod OrderRows
 pub mod RunRows
 pub mod RepairRows
 pub mod JoinRows
+pub mod SettleRows

@@ -1,14 +1,14 @@
 -- The reading of a list of events: what each event came to, where processes can want memory. A server that finds none
 -- for a message stops, and that delivery reads as its failure; a query for which it finds none is lost.
 -- Want of memory as a failure is this project's profile.
-use Rattle.std.specs.Prelude.{◌≡◌, ℕ, Bool, true, false, ◌&&◌, if◌then◌else◌, List, [], ◌∷◌}
+use Rattle.std.specs.Prelude.{◌≡◌, ℕ, Bool, true, false, if◌then◌else◌, List, [], ◌∷◌}
 use Rattle.zserver.specs.declared.message.Message.TheVariants as message
 use Rattle.zserver.specs.declared.process.Process.{Process}
-use Rattle.zserver.specs.declared.process.Process.TheVariants.{Master, Server, Client}
+use Rattle.zserver.specs.declared.process.Process.TheVariants.{Server}
 use Rattle.zserver.specs.Machine.{Does}
 use Rattle.zserver.specs.View.{MessageOf}
 use Rattle.zworld.specs.declared.event.Event.{Event}
-use Rattle.zworld.specs.declared.event.Event.TheVariants.{Begin, Retry, Take, Ignore, Fail, Join}
+use Rattle.zworld.specs.declared.event.Event.TheVariants.{Take, Ignore, Fail}
 use Rattle.zworld.specs.World.{World}
 use Rattle.zworld.specs.Events.{front_is, is_enabled, happens}
 

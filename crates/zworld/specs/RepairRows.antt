@@ -1,5 +1,5 @@
 -- Worked runs in which a server of three fails, over a machine that counts, with two clients (0 and 1).
-use Rattle.std.specs.Prelude.{ℕ, List, [], ◌∷◌, ◌++◌}
+use Rattle.std.specs.Prelude.{List, [], ◌∷◌}
 use Rattle.zworld.specs.declared.event.Event.{Event}
 use Rattle.zworld.specs.declared.event.Event.TheVariants.{Begin, Take, Fail}
 use Rattle.zworld.specs.Counter.{create}

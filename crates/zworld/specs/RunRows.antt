@@ -1,5 +1,5 @@
 -- Worked runs of a chain in which nobody fails, over a machine that counts, with two clients (0 and 1).
-use Rattle.std.specs.Prelude.{ℕ, List, [], ◌∷◌, ◌++◌}
+use Rattle.std.specs.Prelude.{ℕ, List, [], ◌∷◌}
 use Rattle.zops.specs.declared.call.Entry.{Entry}
 use Rattle.zserver.specs.declared.process.Process.{Process}
 use Rattle.zserver.specs.declared.process.Process.TheVariants.{Master, Server, Client}
@@ -9,7 +9,7 @@ use Rattle.zworld.specs.declared.event.Event.TheVariants.{Begin, Retry, Take}
 use Rattle.zworld.specs.History.{History}
 use Rattle.zworld.specs.World.{World, opening}
 use Rattle.zworld.specs.Events.{run}
-use Rattle.zworld.specs.Counter.{Counting, counting, create_update, create, exists}
+use Rattle.zworld.specs.Counter.{Counting, counting, create_update, create}
 
 -- the processes: the master, servers and clients
 abbrev pub m : Process

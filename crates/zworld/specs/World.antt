@@ -1,9 +1,7 @@
 -- The world: what every process holds, what is on every link, who has failed, and what callers saw.
 -- Van Renesse and Schneider, "Chain Replication for Supporting High Throughput and Availability" (OSDI 2004), section 3:
 -- servers fail-stop, and a master that detects failures and doesn't fail. It is over any machine.
-use Rattle.std.specs.Prelude.{ℕ, Bool, true, false, ◌==◌, if◌then◌else◌, List, [], ◌∷◌, ◌++◌}
-use Rattle.zserver.specs.declared.process.Process.{Process}
-use Rattle.zserver.specs.declared.process.Process.TheVariants.{Master, Server, Client}
+use Rattle.std.specs.Prelude.{ℕ, Bool, false, ◌==◌, if◌then◌else◌, []}
 use Rattle.zserver.specs.Machine.{Does}
 use Rattle.zserver.specs.View.{ServerView, opening_server}
 use Rattle.zmaster.specs.View.{MasterView, opening_master}

@@ -12,6 +12,7 @@ mod join_laws;
 mod order_laws;
 mod repair_laws;
 mod run_laws;
+mod settle_laws;
 mod settled;
 
 pub use event::Event;
@@ -28,5 +29,9 @@ pub use repair_laws::{
 pub use run_laws::{
     idle_events, links_keep_order, request_is_lost, retried_update_counts_once,
     update_is_answered_by_the_tail,
+};
+pub use settle_laws::{
+    events_are_read, settling_ends_where_the_state_is_lost, settling_goes_link_by_link,
+    settling_has_a_limit, settling_is_read, settling_retries_once,
 };
 pub use settled::Settled;
