@@ -1,3 +1,4 @@
 pub mod Among
 pub mod OrderRows
 pub mod Tables
+pub mod Alike

@@ -6,6 +6,7 @@
 //! knows nothing of chains. `laws` shows them on worked rows.
 #![tactic(auto)]
 
+mod alike_laws;
 mod event;
 mod history;
 mod join_laws;
@@ -15,6 +16,7 @@ mod run_laws;
 mod settle_laws;
 mod settled;
 
+pub use alike_laws::failed_servers_do_not_matter;
 pub use event::Event;
 pub use history::CallEvent;
 pub use join_laws::{
