@@ -1,8 +1,7 @@
 -- Worlds that are alike have the same events enabled, and stay alike.
-use Rattle.std.proofs.Common.{◌≡◌, ℕ, Bool, true, false, if◌then◌else◌, List, [], ◌∷◌, ◌++◌, Option, Some, None, inl, inr, refl, sym, ap, subst, ◌∙◌}
+use Rattle.std.proofs.Common.{◌≡◌, ℕ, Bool, true, false, if◌then◌else◌, List, [], ◌∷◌, ◌++◌, Option, Some, None, refl, sym, ap, subst, ◌∙◌}
 use mathlib.Core.Bool.{true≢false}
-use Rattle.std.specs.Prelude.{◌&&◌, not, ◌==◌, drop, ◌⊎◌}
-use Rattle.zops.specs.declared.call.Call.{Call}
+use Rattle.std.specs.Prelude.{◌&&◌, not, ◌==◌, drop}
 use Rattle.zops.specs.declared.reply.Reply.{Reply}
 use Rattle.zserver.specs.declared.message.Message.TheVariants as message
 use Rattle.zserver.specs.declared.process.Process.{Process}

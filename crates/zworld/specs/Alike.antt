@@ -9,7 +9,7 @@ use Rattle.zserver.specs.declared.process.Process.{Process}
 use Rattle.zserver.specs.Machine.{kept_tree}
 use Rattle.zworld.specs.declared.event.Event.{Event}
 use Rattle.zworld.specs.World.{World}
-use Rattle.zworld.specs.Events.{has_failed, is_enabled, happens, run}
+use Rattle.zworld.specs.Events.{has_failed, is_enabled, run}
 
 -- the worlds are alike
 pub record IsAlike {M : Type 0} (v w : World M) : Type 0 where

@@ -14,3 +14,4 @@ pub mod RunRows
 pub mod RepairRows
 pub mod JoinRows
 pub mod SettleRows
+pub mod ScenarioRows

@@ -13,6 +13,7 @@ mod join_laws;
 mod order_laws;
 mod repair_laws;
 mod run_laws;
+mod scenario_laws;
 mod settle_laws;
 mod settled;
 
@@ -31,6 +32,10 @@ pub use repair_laws::{
 pub use run_laws::{
     idle_events, links_keep_order, request_is_lost, retried_update_counts_once,
     update_is_answered_by_the_tail,
+};
+pub use scenario_laws::{
+    answers_survive_failures, empty_chain_takes_nobody, failed_spare_leaves_again,
+    state_outlives_its_first_server,
 };
 pub use settle_laws::{
     events_are_read, settling_ends_where_the_state_is_lost, settling_goes_link_by_link,
