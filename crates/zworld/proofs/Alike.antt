@@ -23,11 +23,11 @@ Agree v links others = (from to : Process) → has_failed v to ≡ false → lin
 
 -- what is put keeps that
 put_agrees : {M : Type 0} (v : World M) (links others : Links M) (sender : Process) (posts : List (Post M)) → Agree v links others → Agree v (put links sender posts) (put others sender posts)
-put_agrees v links others sender posts agree from to alive = ap (λ link. link ++ (if is_same from sender then addressed to posts else [])) (agree from to alive)
+put_agrees v links others sender posts agree from to alive = ap (λ link. if is_same from sender then link ++ addressed to posts else link) (agree from to alive)
 
 -- and so does a front that is taken
 front_agrees : {M : Type 0} (v : World M) (links others : Links M) (sender taker : Process) → Agree v links others → Agree v (without_front links sender taker) (without_front others sender taker)
-front_agrees v links others sender taker agree from to alive = ap (λ link. drop (if is_same from sender && is_same to taker then 1 else 0) link) (agree from to alive)
+front_agrees v links others sender taker agree from to alive = ap (λ link. if is_same from sender && is_same to taker then drop 1 link else link) (agree from to alive)
 
 -- an answer that is told keeps worlds alike
 answered_alike : {M : Type 0} (v w : World M) (c : ℕ) (reply : Option (ℕ × Reply)) → IsAlike v w → IsAlike (answered v c reply) (answered w c reply)

@@ -20,12 +20,12 @@ Links M = Process → Process → List (MessageOf M)
 -- what is put for one receiver, in order
 abbrev pub addressed : {M : Type 0} → Process → List (Post M) → List (MessageOf M)
 addressed to [] = []
-addressed to (post ∷ posts) = (if is_same to post.0 then post.1 ∷ [] else []) ++ addressed to posts
+addressed to (post ∷ posts) = if is_same to post.0 then post.1 ∷ addressed to posts else addressed to posts
 
 -- the links after a process put messages
 abbrev pub put : {M : Type 0} → Links M → Process → List (Post M) → Links M
-put links sender posts from to = links from to ++ (if is_same from sender then addressed to posts else [])
+put links sender posts from to = if is_same from sender then links from to ++ addressed to posts else links from to
 
 -- the links after the front of one was taken
 abbrev pub without_front : {M : Type 0} → Links M → Process → Process → Links M
-without_front links sender taker from to = drop (if is_same from sender && is_same to taker then 1 else 0) (links from to)
+without_front links sender taker from to = if is_same from sender && is_same to taker then drop 1 (links from to) else links from to
