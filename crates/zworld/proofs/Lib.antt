@@ -2,3 +2,4 @@ pub mod Among
 pub mod OrderRows
 pub mod Tables
 pub mod Alike
+pub mod Settling

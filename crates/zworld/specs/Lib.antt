@@ -7,6 +7,7 @@ pub mod World
 pub mod Events
 pub mod Reading
 pub mod Settle
+pub mod SettleLaws
 pub mod Alike
 pub mod Counter
 pub mod OrderRows

@@ -53,10 +53,7 @@ does machine s event =
 -- an event is done, as it is read, if it is enabled and one more may be done
 abbrev pub tries : {M : Type 0} → Does M → Settling M → Event → Settling M
 tries machine s event =
-    elim (nat_lt 0 s.left && is_enabled s.world event) [
-      | true ↦ does machine s (read s.world event (next_outcome s.outcomes))
-      | false ↦ s
-    ]
+    if nat_lt 0 s.left && is_enabled s.world event then does machine s (read s.world event (next_outcome s.outcomes)) else s
 
 -- events in turn, each tried when its turn comes
 abbrev pub tries_each : {M : Type 0} → Does M → Settling M → List Event → Settling M

@@ -39,6 +39,6 @@ pub use scenario_laws::{
 };
 pub use settle_laws::{
     events_are_read, settling_ends_where_the_state_is_lost, settling_goes_link_by_link,
-    settling_has_a_limit, settling_is_read, settling_retries_once,
+    settling_has_a_limit, settling_is_a_run, settling_is_read, settling_retries_once,
 };
 pub use settled::Settled;

@@ -9,8 +9,17 @@ ghost use Rattle.zworld.specs.declared.settled.Settled.TheVariants.{Quiet, Limit
 ghost use Rattle.zworld.specs.Counter.{create, exists, made, counted};
 ghost use Rattle.zworld.specs.Reading.Outcome.{Acted, Stopped, Unheard};
 ghost use Rattle.zworld.specs.Settle.{settled};
+ghost use Rattle.zworld.specs.SettleLaws.{SettlingIsARun, SettlingKeepsItsLimit, QuietHasNothingToTake};
 ghost use Rattle.zworld.specs.RunRows.{m, s1, s2, c0, c1};
 ghost use Rattle.zworld.specs.SettleRows.{settled_after, read_after, two_begin, two_settle, lost_request};
+
+/// In every world settling is a run, and does no more events than its limit; where it ends quiet, no message can be
+/// taken.
+pub fn settling_is_a_run()
+    ensures run { SettlingIsARun }
+    ensures limit { SettlingKeepsItsLimit }
+    ensures quiet { QuietHasNothingToTake }
+{}
 
 /// The order of the deliveries: link by link, one message from each that has one when its turn comes, pass after pass.
 pub fn settling_goes_link_by_link()
