@@ -1,2 +1,3 @@
 pub mod View
 pub mod Table
+pub mod Rows

@@ -5,5 +5,7 @@
 #![tactic(auto)]
 
 mod begin_fault;
+mod rows;
 
 pub use begin_fault::BeginFault;
+pub use rows::{answers_are_taken, calls_are_retried, calls_begin};

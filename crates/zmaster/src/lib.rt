@@ -5,5 +5,7 @@
 #![tactic(auto)]
 
 mod join_fault;
+mod rows;
 
 pub use join_fault::JoinFault;
+pub use rows::{chain_is_mended, opening_and_ends, reports_are_passed_on, servers_join};

@@ -6,6 +6,7 @@ pub mod Runs
 pub mod Bounds
 pub mod Refused
 pub mod InOrder
+pub mod KeptReplies
 pub mod Zxids
 pub mod Folds
 pub mod Traced

@@ -1,3 +1,4 @@
 pub mod Machine
 pub mod View
 pub mod Table
+pub mod Rows

@@ -9,12 +9,18 @@ mod epoch;
 mod log_number;
 mod message;
 mod process;
+mod rows;
 mod server_id;
+mod view_rows;
 
 pub use call_number::CallNumber;
 pub use epoch::Epoch;
 pub use log_number::LogNumber;
 pub use message::Message;
 pub use process::Process;
+pub use rows::{
+    middle_ignores, neighbours_change, state_is_handed_over, tail_answers, updates_go_down,
+};
 pub use server_id::{MAX_SERVERS, ServerId};
+pub use view_rows::{log_replies_as_its_machine, opening_views, roles_of_servers};
 pub use zops::ClientId;
