@@ -22,11 +22,13 @@ abbrev Agree : {M : Type 0} → World M → Links M → Links M → Type 0
 Agree v links others = (from to : Process) → has_failed v to ≡ false → links from to ≡ others from to
 
 -- what is put keeps that
-put_agrees : {M : Type 0} (v : World M) (links others : Links M) (sender : Process) (posts : List (Post M)) → Agree v links others → Agree v (put links sender posts) (put others sender posts)
+put_agrees : {M : Type 0} (v : World M) (links others : Links M) (sender : Process) (posts : List (Post M))
+    → Agree v links others → Agree v (put links sender posts) (put others sender posts)
 put_agrees v links others sender posts agree from to alive = ap (λ link. if is_same from sender then link ++ addressed to posts else link) (agree from to alive)
 
 -- and so does a front that is taken
-front_agrees : {M : Type 0} (v : World M) (links others : Links M) (sender taker : Process) → Agree v links others → Agree v (without_front links sender taker) (without_front others sender taker)
+front_agrees : {M : Type 0} (v : World M) (links others : Links M) (sender taker : Process)
+    → Agree v links others → Agree v (without_front links sender taker) (without_front others sender taker)
 front_agrees v links others sender taker agree from to alive = ap (λ link. if is_same from sender && is_same to taker then drop 1 link else link) (agree from to alive)
 
 -- an answer that is told keeps worlds alike
@@ -67,7 +69,8 @@ module _ {M : Type 0} (machine : Does M) (v : World M) (others : ℕ → ServerV
   other_popped from to = record other { links = without_front links from to }
 
   -- a server's new view and what it puts
-  server_does_alike : (from : Process) (s : ℕ) (did : ServerView M × List (Post M)) → IsAlike (server_does (popped from (Server s)) s did) (server_does (other_popped from (Server s)) s did)
+  server_does_alike : (from : Process) (s : ℕ) (did : ServerView M × List (Post M))
+      → IsAlike (server_does (popped from (Server s)) s did) (server_does (other_popped from (Server s)) s did)
   server_does_alike from s did = record {
     rest = refl;
     servers = λ t alive. ap (λ view. if t == s then did.0 else view) (same_views t alive);
@@ -75,15 +78,17 @@ module _ {M : Type 0} (machine : Does M) (v : World M) (others : ℕ → ServerV
   }
 
   -- what a taker that has not failed does
-  takes_alike : (from to : Process) (message : MessageOf M) → has_failed v to ≡ false → IsAlike (takes machine (popped from to) from to message) (takes machine (other_popped from to) from to message)
+  takes_alike : (from to : Process) (message : MessageOf M) → has_failed v to ≡ false
+      → IsAlike (takes machine (popped from to) from to message) (takes machine (other_popped from to) from to message)
   takes_alike from Master message alive = record {
     rest = refl;
     servers = same_views;
     links = put_agrees v _ _ Master _ (front_agrees v _ _ from Master agree);
   }
   takes_alike from (Server s) message alive =
-      subst (λ view. IsAlike (server_does (popped from (Server s)) s (server.takes machine (v.servers s) from message)) (server_does (other_popped from (Server s)) s (server.takes machine view from message)))
-      (same_views s alive) (server_does_alike from s (server.takes machine (v.servers s) from message))
+      let did : ServerView M → ServerView M × List (Post M) = λ view. server.takes machine view from message in
+      subst (λ view. IsAlike (server_does (popped from (Server s)) s (did (v.servers s))) (server_does (other_popped from (Server s)) s (did view)))
+      (same_views s alive) (server_does_alike from s (did (v.servers s)))
   takes_alike from (Client c) message alive =
       let took : client.Taken M = client.takes (v.clients c) from message in
       answered_alike (client_does (popped from (Client c)) c took.0 took.1) (client_does (other_popped from (Client c)) c took.0 took.1) c took.2
@@ -94,7 +99,8 @@ module _ {M : Type 0} (machine : Does M) (v : World M) (others : ℕ → ServerV
   as_they_are = record { rest = refl; servers = same_views; links = agree }
 
   -- a front that is taken, by what the link has in both
-  takes_front_alike : (from to : Process) (link : List (MessageOf M)) → has_failed v to ≡ false → IsAlike (takes_front machine v from to link) (takes_front machine other from to link)
+  takes_front_alike : (from to : Process) (link : List (MessageOf M)) → has_failed v to ≡ false
+      → IsAlike (takes_front machine v from to link) (takes_front machine other from to link)
   takes_front_alike from to [] alive = as_they_are
   takes_front_alike from to (message ∷ more) alive = takes_alike from to message alive
 
@@ -135,7 +141,8 @@ module _ {M : Type 0} (machine : Does M) (v : World M) (others : ℕ → ServerV
   enabled_alike (Join s) = refl
 
   -- an event that is enabled in both, or in neither
-  happens_as : (event : Event) (b : Bool) → is_enabled v event ≡ b → is_enabled other event ≡ b → IsAlike (happens machine v event) (happens machine other event)
+  happens_as : (event : Event) (b : Bool) → is_enabled v event ≡ b → is_enabled other event ≡ b
+      → IsAlike (happens machine v event) (happens machine other event)
   happens_as event true here there = rw (here, there) (acts_alike event here)
   happens_as event false here there = rw (here, there) as_they_are
 
@@ -145,11 +152,13 @@ module _ {M : Type 0} (machine : Does M) (v : World M) (others : ℕ → ServerV
 
 -- worlds that are alike have the same events enabled
 pub have_the_same_enabled : {M : Type 0} (machine : Does M) (v w : World M) (event : Event) → IsAlike v w → is_enabled v event ≡ is_enabled w event
-have_the_same_enabled machine v w event alike = enabled_alike machine v w.servers w.links alike.servers alike.links event ∙ ap (λ u. is_enabled u event) (sym alike.rest)
+have_the_same_enabled machine v w event alike =
+    enabled_alike machine v w.servers w.links alike.servers alike.links event ∙ ap (λ u. is_enabled u event) (sym alike.rest)
 
 -- and stay alike
 pub stay_alike : {M : Type 0} (machine : Does M) (v w : World M) (events : List Event) → IsAlike v w → IsAlike (run machine v events) (run machine w events)
 stay_alike machine v w [] alike = alike
 stay_alike machine v w (event ∷ events) alike =
     stay_alike machine (happens machine v event) (happens machine w event) events
-    (subst (λ u. IsAlike (happens machine v event) (happens machine u event)) (sym alike.rest) (happens_alike machine v w.servers w.links alike.servers alike.links event))
+    (subst (λ u. IsAlike (happens machine v event) (happens machine u event)) (sym alike.rest)
+    (happens_alike machine v w.servers w.links alike.servers alike.links event))

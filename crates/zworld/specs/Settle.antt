@@ -2,7 +2,8 @@
 -- and takes one message from each that can be taken when the pass comes to it. Passes are made until no message can be
 -- taken; then each client with an outstanding call sends it once more; then passes are made again. It ends early, at its
 -- limit, as soon as so many events were done. The order, the one retry and the limit are this project's profile.
-use Rattle.std.specs.Prelude.{ℕ, zero, suc, ◌-◌, Bool, true, false, ◌&&◌, ◌||◌, not, nat_lt, ◌==◌, if◌then◌else◌, List, [], ◌∷◌, ◌++◌, map, flat_map, drop}
+use Rattle.std.specs.Prelude.{ℕ, zero, suc, ◌-◌, Bool, true, false, ◌&&◌, ◌||◌, not, nat_lt, ◌==◌, if◌then◌else◌}
+use Rattle.std.specs.Prelude.{List, [], ◌∷◌, ◌++◌, map, flat_map, drop}
 use Rattle.std.specs.List.{range_with_len, list_any}
 use Rattle.zserver.specs.declared.process.Process.{Process}
 use Rattle.zserver.specs.declared.process.Process.TheVariants.{Master, Server, Client}

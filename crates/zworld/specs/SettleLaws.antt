@@ -16,11 +16,15 @@ settling_of w limit outcomes = settle kept_tree w limit outcomes
 
 -- settling is a run: its events lead to its world
 abbrev pub SettlingIsARun : Type 0
-SettlingIsARun = (w : World (KeptState Tree)) (limit : ℕ) (outcomes : List Outcome) → (settling_of w limit outcomes).world ≡ run kept_tree w (settling_of w limit outcomes).events
+SettlingIsARun =
+    (w : World (KeptState Tree)) (limit : ℕ) (outcomes : List Outcome)
+    → (settling_of w limit outcomes).world ≡ run kept_tree w (settling_of w limit outcomes).events
 
 -- its events, and those that might still be done, are as many as the limit
 abbrev pub SettlingKeepsItsLimit : Type 0
-SettlingKeepsItsLimit = (w : World (KeptState Tree)) (limit : ℕ) (outcomes : List Outcome) → (settling_of w limit outcomes).left + length (settling_of w limit outcomes).events ≡ limit
+SettlingKeepsItsLimit =
+    (w : World (KeptState Tree)) (limit : ℕ) (outcomes : List Outcome)
+    → (settling_of w limit outcomes).left + length (settling_of w limit outcomes).events ≡ limit
 
 -- where it ends quiet, no message can be taken
 abbrev pub QuietHasNothingToTake : Type 0

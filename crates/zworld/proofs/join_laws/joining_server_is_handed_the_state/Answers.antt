@@ -4,4 +4,10 @@ use Rattle.zworld.proofs.join_laws.joining_server_is_handed_the_state.Goals as g
 
 pub returns : goal.returns
 unfolding all_tables
-returns c = record { one_joins = refl; silent = refl; told = refl; handed_over = refl; seen = refl }
+returns c = record {
+  one_joins = refl;
+  silent = refl;
+  told = refl;
+  handed_over = refl;
+  seen = refl;
+}

@@ -4,4 +4,8 @@ use Rattle.zworld.proofs.join_laws.stale_snapshot_is_ignored.Goals as goal
 
 pub returns : goal.returns
 unfolding all_tables
-returns c = record { no_state = refl; taken = refl; whole_state = refl }
+returns c = record {
+  no_state = refl;
+  taken = refl;
+  whole_state = refl;
+}

@@ -4,4 +4,9 @@ use Rattle.zworld.proofs.join_laws.state_is_lost_with_its_only_server.Goals as g
 
 pub returns : goal.returns
 unfolding all_tables
-returns c = record { silent = refl; unanswered = refl; refused = refl; not_enabled = refl }
+returns c = record {
+  silent = refl;
+  unanswered = refl;
+  refused = refl;
+  not_enabled = refl;
+}

@@ -4,4 +4,9 @@ use Rattle.zworld.proofs.repair_laws.head_fails_after_it_forwarded.Goals as goal
 
 pub returns : goal.returns
 unfolding all_tables
-returns c = record { gone = refl; told = refl; head = refl; seen = refl }
+returns c = record {
+  gone = refl;
+  told = refl;
+  head = refl;
+  seen = refl;
+}

@@ -4,4 +4,8 @@ use Rattle.zworld.proofs.repair_laws.messages_outlive_their_sender.Goals as goal
 
 pub returns : goal.returns
 unfolding all_tables
-returns c = record { in_time = refl; too_late = refl; taken = refl }
+returns c = record {
+  in_time = refl;
+  too_late = refl;
+  taken = refl;
+}

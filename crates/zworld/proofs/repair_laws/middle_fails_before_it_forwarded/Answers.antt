@@ -4,4 +4,13 @@ use Rattle.zworld.proofs.repair_laws.middle_fails_before_it_forwarded.Goals as g
 
 pub returns : goal.returns
 unfolding all_tables
-returns c = record { unsent = refl; new_pred = refl; has_none = refl; new_succ = refl; sent_again = refl; still_kept = refl; seen = refl; acknowledged = refl }
+returns c = record {
+  unsent = refl;
+  new_pred = refl;
+  has_none = refl;
+  new_succ = refl;
+  sent_again = refl;
+  still_kept = refl;
+  seen = refl;
+  acknowledged = refl;
+}

@@ -4,4 +4,9 @@ use Rattle.zworld.proofs.repair_laws.new_head_is_asked_again.Goals as goal
 
 pub returns : goal.returns
 unfolding all_tables
-returns c = record { told = refl; asked = refl; two_answers = refl; seen = refl }
+returns c = record {
+  told = refl;
+  asked = refl;
+  two_answers = refl;
+  seen = refl;
+}

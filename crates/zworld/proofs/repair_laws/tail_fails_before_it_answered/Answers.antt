@@ -4,4 +4,11 @@ use Rattle.zworld.proofs.repair_laws.tail_fails_before_it_answered.Goals as goal
 
 pub returns : goal.returns
 unfolding all_tables
-returns c = record { told = refl; tail = refl; processed = refl; silent = refl; acted_once = refl; seen = refl }
+returns c = record {
+  told = refl;
+  tail = refl;
+  processed = refl;
+  silent = refl;
+  acted_once = refl;
+  seen = refl;
+}

@@ -4,4 +4,7 @@ use Rattle.zworld.proofs.run_laws.links_keep_order.Goals as goal
 
 pub returns : goal.returns
 unfolding all_tables
-returns c = record { under_way = refl; seen = refl }
+returns c = record {
+  under_way = refl;
+  seen = refl;
+}

@@ -4,4 +4,8 @@ use Rattle.zworld.proofs.run_laws.request_is_lost.Goals as goal
 
 pub returns : goal.returns
 unfolding all_tables
-returns c = record { lost = refl; nothing_done = refl; asked_again = refl }
+returns c = record {
+  lost = refl;
+  nothing_done = refl;
+  asked_again = refl;
+}

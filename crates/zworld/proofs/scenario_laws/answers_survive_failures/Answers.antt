@@ -4,4 +4,8 @@ use Rattle.zworld.proofs.scenario_laws.answers_survive_failures.Goals as goal
 
 pub returns : goal.returns
 unfolding all_tables
-returns c = record { two_fail = refl; both_middle_servers_fail = refl; head_fails_in_a_repair = refl }
+returns c = record {
+  two_fail = refl;
+  both_middle_servers_fail = refl;
+  head_fails_in_a_repair = refl;
+}

@@ -4,4 +4,7 @@ use Rattle.zworld.proofs.scenario_laws.empty_chain_takes_nobody.Goals as goal
 
 pub returns : goal.returns
 unfolding all_tables
-returns c = record { no_chain = refl; used = refl }
+returns c = record {
+  no_chain = refl;
+  used = refl;
+}

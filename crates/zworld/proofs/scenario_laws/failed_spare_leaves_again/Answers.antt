@@ -4,4 +4,7 @@ use Rattle.zworld.proofs.scenario_laws.failed_spare_leaves_again.Goals as goal
 
 pub returns : goal.returns
 unfolding all_tables
-returns c = record { seen = refl; used = refl }
+returns c = record {
+  seen = refl;
+  used = refl;
+}

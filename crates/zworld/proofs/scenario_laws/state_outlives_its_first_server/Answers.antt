@@ -4,4 +4,7 @@ use Rattle.zworld.proofs.scenario_laws.state_outlives_its_first_server.Goals as 
 
 pub returns : goal.returns
 unfolding all_tables
-returns c = record { seen = refl; chain = refl }
+returns c = record {
+  seen = refl;
+  chain = refl;
+}

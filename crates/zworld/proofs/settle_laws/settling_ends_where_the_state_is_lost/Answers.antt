@@ -4,4 +4,8 @@ use Rattle.zworld.proofs.settle_laws.settling_ends_where_the_state_is_lost.Goals
 
 pub returns : goal.returns
 unfolding all_tables
-returns c = record { quiet = refl; unanswered = refl; refused = refl }
+returns c = record {
+  quiet = refl;
+  unanswered = refl;
+  refused = refl;
+}

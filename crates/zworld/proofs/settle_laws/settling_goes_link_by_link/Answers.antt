@@ -4,4 +4,8 @@ use Rattle.zworld.proofs.settle_laws.settling_goes_link_by_link.Goals as goal
 
 pub returns : goal.returns
 unfolding all_tables
-returns c = record { events = refl; quiet = refl; seen = refl }
+returns c = record {
+  events = refl;
+  quiet = refl;
+  seen = refl;
+}

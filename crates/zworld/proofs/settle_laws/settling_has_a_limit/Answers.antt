@@ -4,4 +4,10 @@ use Rattle.zworld.proofs.settle_laws.settling_has_a_limit.Goals as goal
 
 pub returns : goal.returns
 unfolding all_tables
-returns c = record { none = refl; none_is_limit = refl; some = refl; exact = refl; one_more = refl }
+returns c = record {
+  none = refl;
+  none_is_limit = refl;
+  some = refl;
+  exact = refl;
+  one_more = refl;
+}

@@ -4,4 +4,7 @@ use Rattle.zworld.proofs.settle_laws.settling_is_read.Goals as goal
 
 pub returns : goal.returns
 unfolding all_tables
-returns c = record { stopped = refl; unheard = refl }
+returns c = record {
+  stopped = refl;
+  unheard = refl;
+}

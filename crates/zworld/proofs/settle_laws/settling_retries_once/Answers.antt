@@ -4,4 +4,8 @@ use Rattle.zworld.proofs.settle_laws.settling_retries_once.Goals as goal
 
 pub returns : goal.returns
 unfolding all_tables
-returns c = record { retried = refl; counted = refl; answered = refl }
+returns c = record {
+  retried = refl;
+  counted = refl;
+  answered = refl;
+}
