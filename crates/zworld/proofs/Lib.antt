@@ -1,0 +1,5 @@
+pub mod Among
+pub mod OrderRows
+pub mod Tables
+pub mod Alike
+pub mod Settling

@@ -1,0 +1,11 @@
+use Rattle.std.proofs.Common.{refl}
+use Rattle.zworld.proofs.Tables.{all_tables}
+use Rattle.zworld.proofs.run_laws.retried_update_counts_once.Goals as goal
+
+pub returns : goal.returns
+unfolding all_tables
+returns c = record {
+  two_answers = refl;
+  one_is_taken = refl;
+  next_count = refl;
+}

@@ -1,0 +1,29 @@
+-- Worlds that are alike: they differ at most in what can't matter any more, the views of servers that have failed and the
+-- messages on links into them. So a program may drop both, and the definition of the events keeps them.
+-- That servers fail for good: van Renesse and Schneider, "Chain Replication for Supporting High Throughput and
+-- Availability" (OSDI 2004), section 3.
+use Rattle.std.specs.Prelude.{◌≡◌, ℕ, false, List}
+use Rattle.zstore.specs.Tree.{Tree}
+use Rattle.zops.specs.Kept.{KeptState}
+use Rattle.zserver.specs.declared.process.Process.{Process}
+use Rattle.zserver.specs.Machine.{kept_tree}
+use Rattle.zworld.specs.declared.event.Event.{Event}
+use Rattle.zworld.specs.World.{World}
+use Rattle.zworld.specs.Events.{has_failed, is_enabled, run}
+
+-- the worlds are alike
+pub record IsAlike {M : Type 0} (v w : World M) : Type 0 where
+  -- but for servers and links they are the same
+  pub rest : w ≡ record v { servers = w.servers; links = w.links }
+  -- so are the views of the servers that have not failed
+  pub servers : (s : ℕ) → v.failed s ≡ false → v.servers s ≡ w.servers s
+  -- and the links into processes that have not failed
+  pub links : (from to : Process) → has_failed v to ≡ false → v.links from to ≡ w.links from to
+
+-- the same events are enabled in worlds that are alike
+abbrev pub HaveTheSameEnabled : Type 0
+HaveTheSameEnabled = (v w : World (KeptState Tree)) (event : Event) → IsAlike v w → is_enabled v event ≡ is_enabled w event
+
+-- worlds that are alike stay so, whatever happens to both
+abbrev pub StayAlike : Type 0
+StayAlike = (v w : World (KeptState Tree)) (events : List Event) → IsAlike v w → IsAlike (run kept_tree v events) (run kept_tree w events)

@@ -1,0 +1,31 @@
+-- Links: one list of messages for each ordered pair of processes. What is put goes last, and what is taken is the front,
+-- so a link neither loses nor repeats, and keeps order.
+-- Van Renesse and Schneider, "Chain Replication for Supporting High Throughput and Availability" (OSDI 2004), section 3.
+use Rattle.std.specs.Prelude.{Bool, true, false, ◌&&◌, ◌==◌, if◌then◌else◌, List, [], ◌∷◌, ◌++◌, drop}
+use Rattle.zserver.specs.declared.process.Process.{Process}
+use Rattle.zserver.specs.declared.process.Process.TheVariants.{Master, Server, Client}
+use Rattle.zserver.specs.View.{MessageOf, Post}
+
+-- the two are one process
+abbrev pub is_same : Process → Process → Bool
+is_same Master Master = true
+is_same (Server s) (Server t) = s == t
+is_same (Client c) (Client d) = c == d
+is_same p q = false
+
+-- the messages on the link from one process to another, the front first
+abbrev pub Links : Type 0 → Type 0
+Links M = Process → Process → List (MessageOf M)
+
+-- what is put for one receiver, in order
+abbrev pub addressed : {M : Type 0} → Process → List (Post M) → List (MessageOf M)
+addressed to [] = []
+addressed to (post ∷ posts) = if is_same to post.0 then post.1 ∷ addressed to posts else addressed to posts
+
+-- the links after a process put messages
+abbrev pub put : {M : Type 0} → Links M → Process → List (Post M) → Links M
+put links sender posts from to = if is_same from sender then links from to ++ addressed to posts else links from to
+
+-- the links after the front of one was taken
+abbrev pub without_front : {M : Type 0} → Links M → Process → Process → Links M
+without_front links sender taker from to = if is_same from sender && is_same to taker then drop 1 (links from to) else links from to

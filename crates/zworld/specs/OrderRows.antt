@@ -1,0 +1,44 @@
+-- Worked rows of the legal order, over a service that counts: a history with its order, and orders that don't explain it.
+-- Client 1 creates and is answered; then client 2 asks for the count and is answered. Meanwhile client 3 creates and
+-- client 4 asks, and neither is answered; client 3's create was done, since client 2's count has it.
+use Rattle.std.specs.Prelude.{ℕ, ◌≤◌, List, [], ◌∷◌}
+use Rattle.zworld.specs.declared.history.CallEvent.TheVariants.{Begin, Answer}
+use Rattle.zworld.specs.History.{History, Operation}
+use Rattle.zworld.specs.LegalOrder.{IsLegalOrder}
+use Rattle.zworld.specs.Counter.{counter, create, exists, made, counted}
+
+-- the four calls
+abbrev pub first_create : Operation
+first_create = record { client = 1; number = 1; call = create }
+
+abbrev pub lost_create : Operation
+lost_create = record { client = 3; number = 1; call = create }
+
+abbrev pub lost_exists : Operation
+lost_exists = record { client = 4; number = 1; call = exists }
+
+abbrev pub last_exists : Operation
+last_exists = record { client = 2; number = 1; call = exists }
+
+-- a call that nobody began
+abbrev pub strange_create : Operation
+strange_create = record { client = 5; number = 1; call = create }
+
+-- the history, with the count that client 2 is told
+abbrev pub told : ℕ → History
+told count =
+    Begin 1 1 create
+    ∷ Begin 3 1 create
+    ∷ Begin 4 1 exists
+    ∷ Answer 1 1 (made 0)
+    ∷ Begin 2 1 exists
+    ∷ Answer 2 1 (counted count)
+    ∷ []
+
+-- the order explains the history in which client 2 is told this count, and no state of its replay is above the bound
+abbrev pub Explains : ℕ → ℕ → List Operation → Type 0
+Explains bound count order = IsLegalOrder (λ state. state ≤ bound) counter (told count) order
+
+-- the order that explains it
+abbrev pub true_order : List Operation
+true_order = first_create ∷ lost_create ∷ last_exists ∷ []

@@ -1,0 +1,18 @@
+-- The plain tree as a service of one call after the other: the sequential specification of the legal order.
+-- ZooKeeper Programmer's Guide, "The ZooKeeper Data Model".
+use Rattle.std.specs.Prelude.{ℕ}
+use Rattle.zstore.specs.Tree.{Tree, opening}
+use Rattle.zops.specs.declared.call.Call.{Call}
+use Rattle.zops.specs.declared.call.Call.TheVariants.{Update, Query}
+use Rattle.zops.specs.declared.reply.Reply.{Reply}
+use Rattle.zops.specs.Step.{step, answer}
+use Rattle.zworld.specs.LegalOrder.{Service}
+
+-- an update by the plain step; a query is answered from the tree, which stays
+abbrev pub call_step : Tree → ℕ → Call → Tree × Reply
+call_step t client (Update update) = step t client update
+call_step t client (Query query) = (t, answer t query)
+
+-- the plain tree, opened with the root alone
+abbrev pub plain_tree : Service Tree
+plain_tree = record { opening = opening; step = call_step }

@@ -1,0 +1,46 @@
+-- The reading of a list of events: what each event came to, where processes can want memory. A server that finds none
+-- for a message stops, and that delivery reads as its failure; a query for which it finds none is lost.
+-- Want of memory as a failure is this project's profile.
+use Rattle.std.specs.Prelude.{◌≡◌, ℕ, Bool, true, false, if◌then◌else◌, List, [], ◌∷◌}
+use Rattle.zserver.specs.declared.message.Message.TheVariants as message
+use Rattle.zserver.specs.declared.process.Process.{Process}
+use Rattle.zserver.specs.declared.process.Process.TheVariants.{Server}
+use Rattle.zserver.specs.Machine.{Does}
+use Rattle.zserver.specs.View.{MessageOf}
+use Rattle.zworld.specs.declared.event.Event.{Event}
+use Rattle.zworld.specs.declared.event.Event.TheVariants.{Take, Ignore, Fail}
+use Rattle.zworld.specs.World.{World}
+use Rattle.zworld.specs.Events.{front_is, is_enabled, happens}
+
+-- what became of a delivery: the taker acted, it stopped for memory, or it found no memory for a query
+pub data Outcome : Type 0 where
+  Acted : Outcome
+  Stopped : Outcome
+  Unheard : Outcome
+
+-- a query of a client
+abbrev pub is_query : {M : Type 0} → MessageOf M → Bool
+is_query (message.Query number query) = true
+is_query other = false
+
+-- a delivery to a server, as it is read after what became of it
+abbrev pub read_delivery : {M : Type 0} → World M → Process → ℕ → Outcome → Event
+read_delivery w from s Acted = Take from (Server s)
+read_delivery w from s Stopped = Fail s
+read_delivery w from s Unheard = if front_is is_query (w.links from (Server s)) then Ignore from (Server s) else Take from (Server s)
+
+-- an event as it is read; only a delivery to a server can come to anything but itself, and only where it is enabled
+abbrev pub read : {M : Type 0} → World M → Event → Outcome → Event
+read w (Take from (Server s)) outcome = if is_enabled w (Take from (Server s)) then read_delivery w from s outcome else Take from (Server s)
+read w event outcome = event
+
+-- the events as they are read, one after the other, after what became of each; where nothing is told, the taker acted
+abbrev pub read_all : {M : Type 0} → Does M → World M → List Event → List Outcome → List Event
+read_all machine w [] outcomes = []
+read_all machine w (event ∷ events) [] = event ∷ read_all machine (happens machine w event) events []
+read_all machine w (event ∷ events) (outcome ∷ outcomes) =
+    read w event outcome ∷ read_all machine (happens machine w (read w event outcome)) events outcomes
+
+-- the second list is a reading of the first
+abbrev pub IsReading : {M : Type 0} → Does M → World M → List Event → List Event → Type 0
+IsReading machine w events readings = (outcomes : List Outcome) × (read_all machine w events outcomes ≡ readings)

@@ -1,0 +1,20 @@
+//! What holds of the definitions themselves: each function's contract is a law, and its body does nothing.
+
+ghost use Rattle.std.specs.Prelude.{[], ◌∷◌};
+ghost use Rattle.zworld.specs.OrderRows.{Explains, true_order, first_create, lost_create, lost_exists, last_exists, strange_create};
+
+/// A worked row of the legal order: an unanswered update stands in it, and an unanswered query doesn't.
+pub fn legal_order_is_taken()
+    ensures explained { Explains 2 2 true_order }
+{}
+
+/// Orders that explain no history: each breaks one clause of the legal order, and no other.
+pub fn other_orders_are_refused()
+    ensures answered_left_out { Explains 2 2 (first_create ∷ lost_create ∷ []) → ⊥ }
+    ensures call_twice { Explains 2 2 (first_create ∷ lost_create ∷ last_exists ∷ last_exists ∷ []) → ⊥ }
+    ensures unanswered_query { Explains 2 2 (first_create ∷ lost_create ∷ lost_exists ∷ last_exists ∷ []) → ⊥ }
+    ensures never_begun { Explains 2 2 (first_create ∷ strange_create ∷ last_exists ∷ []) → ⊥ }
+    ensures wrong_reply { Explains 2 1 true_order → ⊥ }
+    ensures against_time { Explains 2 0 (last_exists ∷ first_create ∷ []) → ⊥ }
+    ensures unlawful_state { Explains 1 2 true_order → ⊥ }
+{}
