@@ -1,5 +1,6 @@
 pub mod Among
 pub mod OrderRows
+pub mod RunOrder
 pub mod Tables
 pub mod Alike
 pub mod Settling
