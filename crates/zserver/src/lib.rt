@@ -6,6 +6,7 @@
 
 mod call_number;
 mod epoch;
+mod laws;
 mod log_number;
 mod message;
 mod process;
@@ -15,6 +16,7 @@ mod view_rows;
 
 pub use call_number::CallNumber;
 pub use epoch::Epoch;
+pub use laws::logs_stand_for_trees;
 pub use log_number::LogNumber;
 pub use message::Message;
 pub use process::Process;

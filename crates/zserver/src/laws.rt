@@ -1,0 +1,12 @@
+//! What holds of the definitions themselves: each function's contract is a law, and its body does nothing.
+
+ghost use Rattle.zserver.specs.Machine.{kept_tree};
+ghost use Rattle.zserver.specs.Homomorphism.{LogStandsForMachine, TableKeepsLogs};
+
+/// A log of entries stands for the tree with kept replies that it leads to: the log replies as that tree
+/// does, and a server does the same with either. So what holds of a chain of logs holds of a chain of
+/// trees.
+pub fn logs_stand_for_trees()
+    ensures log { LogStandsForMachine kept_tree }
+    ensures table { TableKeepsLogs kept_tree }
+{}
