@@ -17,9 +17,7 @@ told n = reply.MultiRefused n NoNode
 -- a plain step that counts: a create is answered with how many there were, itself among them; all else is refused
 abbrev pub counting : PlainStep ℕ
 counting n client (Create create) = (n + 1, told (n + 1))
-counting n client (Delete delete) = (n, reply.Refused NoNode)
-counting n client (SetData set) = (n, reply.Refused NoNode)
-counting n client (Multi parts) = (n, reply.Refused NoNode)
+counting n client other = (n, reply.Refused NoNode)
 
 -- a client's create of this number
 abbrev pub creates : ℕ → ℕ → Entry

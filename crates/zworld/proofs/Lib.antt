@@ -1,5 +1,6 @@
 pub mod Among
 pub mod OrderRows
+pub mod RunOrder
 pub mod FirstCalls
 pub mod Tables
 pub mod Alike

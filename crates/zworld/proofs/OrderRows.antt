@@ -15,7 +15,7 @@ use Rattle.zworld.specs.OrderRows.{Explains, told, true_order, first_create, los
 use Rattle.zworld.proofs.Among.{each_among}
 
 -- a beginning is no answer
-begin_is_no_answer : (c n c' n' : ℕ) (call : Call) (reply : Reply) → Begin c n call ≡ Answer c' n' reply → ⊥
+pub begin_is_no_answer : (c n c' n' : ℕ) (call : Call) (reply : Reply) → Begin c n call ≡ Answer c' n' reply → ⊥
 begin_is_no_answer c n c' n' call reply e = cc
 
 -- equal answers are of one client
@@ -31,7 +31,7 @@ made_is_no_count : (m n : ℕ) → made m ≡ counted n → ⊥
 made_is_no_count m n e = cc
 
 -- what is told of an answer, and nothing of a beginning
-AtAnswer : (ℕ → ℕ → Reply → Type 0) → CallEvent → Type 0
+unfoldable pub AtAnswer : (ℕ → ℕ → Reply → Type 0) → CallEvent → Type 0
 AtAnswer P (Begin c n call) = Unit {0}
 AtAnswer P (Answer c n reply) = P c n reply
 

@@ -6,6 +6,7 @@ use Rattle.zworld.specs.declared.history.CallEvent.TheVariants.{Begin, Answer}
 use Rattle.zworld.specs.History.{History, Operation}
 use Rattle.zworld.specs.LegalOrder.{IsLegalOrder}
 use Rattle.zworld.specs.Counter.{counter, create, exists, made, counted}
+use Rattle.zworld.specs.RunRows.{seen, two_updates}
 
 -- the four calls
 abbrev pub first_create : Operation
@@ -42,3 +43,14 @@ Explains bound count order = IsLegalOrder (λ state. state ≤ bound) counter (t
 -- the order that explains it
 abbrev pub true_order : List Operation
 true_order = first_create ∷ lost_create ∷ last_exists ∷ []
+
+-- the calls of the run in which two clients' updates go down the chain, and are answered in the other order
+abbrev pub first_down : Operation
+first_down = record { client = 0; number = 1; call = create }
+
+abbrev pub second_down : Operation
+second_down = record { client = 1; number = 1; call = create }
+
+-- the order explains the history of that run
+abbrev pub ExplainsTheRun : List Operation → Type 0
+ExplainsTheRun order = IsLegalOrder (λ state. Unit {0}) counter (seen 3 two_updates) order

@@ -23,15 +23,17 @@ abbrev pub is_query : {M : Type 0} → MessageOf M → Bool
 is_query (message.Query number query) = true
 is_query other = false
 
--- a delivery to a server, as it is read after what became of it
-abbrev pub read_delivery : {M : Type 0} → World M → Process → ℕ → Outcome → Event
-read_delivery w from s Acted = Take from (Server s)
-read_delivery w from s Stopped = Fail s
-read_delivery w from s Unheard = if front_is is_query (w.links from (Server s)) then Ignore from (Server s) else Take from (Server s)
+-- a delivery to a server as it is read, told whether it is of a query: a server doesn't stop at a query, and hears all else
+abbrev pub read_delivery : Process → ℕ → Bool → Outcome → Event
+read_delivery from s true Unheard = Ignore from (Server s)
+read_delivery from s false Stopped = Fail s
+read_delivery from s of_query outcome = Take from (Server s)
 
--- an event as it is read; only a delivery to a server can come to anything but itself, and only where it is enabled
+-- an event as it is read: only a delivery to a server, where it is enabled, can be read as anything but itself
 abbrev pub read : {M : Type 0} → World M → Event → Outcome → Event
-read w (Take from (Server s)) outcome = if is_enabled w (Take from (Server s)) then read_delivery w from s outcome else Take from (Server s)
+read w (Take from (Server s)) outcome =
+    if is_enabled w (Take from (Server s)) then read_delivery from s (front_is is_query (w.links from (Server s))) outcome
+    else Take from (Server s)
 read w event outcome = event
 
 -- the events as they are read, one after the other, after what became of each; where nothing is told, the taker acted

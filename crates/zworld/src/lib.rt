@@ -8,6 +8,7 @@
 
 mod alike_laws;
 mod event;
+mod explained_laws;
 mod history;
 mod join_laws;
 mod order_laws;
@@ -19,12 +20,15 @@ mod settled;
 
 pub use alike_laws::failed_servers_do_not_matter;
 pub use event::Event;
+pub use explained_laws::plain_tree_explains;
 pub use history::CallEvent;
 pub use join_laws::{
     joining_server_is_handed_the_state, stale_snapshot_is_ignored,
     state_is_lost_with_its_only_server,
 };
-pub use order_laws::{legal_order_is_taken, other_orders_are_refused, plain_tree_explains};
+pub use order_laws::{
+    legal_order_is_taken, other_orders_are_refused, query_leaves_the_tree, run_has_one_order,
+};
 pub use repair_laws::{
     head_fails_after_it_forwarded, messages_outlive_their_sender, middle_fails_before_it_forwarded,
     new_head_is_asked_again, tail_fails_before_it_answered,

@@ -1,13 +1,11 @@
 //! What holds of the definitions themselves: each function's contract is a law, and its body does nothing.
 
-ghost use Rattle.std.specs.Prelude.{[], ◌∷◌};
-ghost use Rattle.zstore.specs.Tree.{opening};
-ghost use Rattle.zops.specs.declared.call.Query.{Query as Question};
-ghost use Rattle.zops.specs.declared.call.Call.TheVariants.{Query};
-ghost use Rattle.zops.specs.Step.{answer};
-ghost use Rattle.zworld.specs.declared.history.CallEvent.TheVariants.{Begin, Answer};
-ghost use Rattle.zworld.specs.PlainTree.{IsExplained};
-ghost use Rattle.zworld.specs.OrderRows.{Explains, true_order, first_create, lost_create, lost_exists, last_exists, strange_create};
+ghost use Rattle.std.specs.Prelude.{◌≡◌, ℕ, [], ◌∷◌};
+ghost use Rattle.zstore.specs.Tree.{Tree};
+ghost use Rattle.zops.specs.declared.call.Query.{Query};
+ghost use Rattle.zops.specs.declared.call.Call.TheVariants as call;
+ghost use Rattle.zworld.specs.PlainTree.{call_step};
+ghost use Rattle.zworld.specs.OrderRows.{ExplainsTheRun, first_down, second_down, Explains, true_order, first_create, lost_create, lost_exists, last_exists, strange_create};
 
 /// A worked row of the legal order: an unanswered update stands in it, and an unanswered query doesn't.
 pub fn legal_order_is_taken()
@@ -25,9 +23,14 @@ pub fn other_orders_are_refused()
     ensures unlawful_state { Explains 1 2 true_order → ⊥ }
 {}
 
-/// The plain tree explains a history in which nobody calls, and one in which a query of the opening tree is asked and
-/// answered.
-pub fn plain_tree_explains()
-    ensures silence { IsExplained [] }
-    ensures first_query { (query : Question) → IsExplained (Begin 1 1 (Query query) ∷ Answer 1 1 (answer opening query) ∷ []) }
+/// A run and its order: of two updates that go down the chain one behind the other the first comes first, whichever
+/// answer is taken first.
+pub fn run_has_one_order()
+    ensures explained { ExplainsTheRun (first_down ∷ second_down ∷ []) }
+    ensures no_other { ExplainsTheRun (second_down ∷ first_down ∷ []) → ⊥ }
+{}
+
+/// A query leaves the plain tree as it is.
+pub fn query_leaves_the_tree()
+    ensures { (t : Tree) (client : ℕ) (query : Query) → (call_step t client (call.Query query)).0 ≡ t }
 {}

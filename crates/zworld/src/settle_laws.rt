@@ -52,11 +52,12 @@ pub fn settling_ends_where_the_state_is_lost()
 {}
 
 /// Readings: a delivery at which a server stopped for memory is its failure, and a query unheard is lost; nothing else
-/// reads as anything but itself.
+/// reads as anything but itself, and no server stops at a query.
 pub fn events_are_read()
     ensures stopped { read_after 1 (Begin 1 create ∷ Take c1 s1 ∷ []) (Acted ∷ Stopped ∷ []) ≡ Begin 1 create ∷ Fail 1 ∷ [] }
     ensures unheard { read_after 1 (Begin 1 exists ∷ Take c1 s1 ∷ []) (Acted ∷ Unheard ∷ []) ≡ Begin 1 exists ∷ Ignore c1 s1 ∷ [] }
     ensures update_is_heard { read_after 1 (Begin 1 create ∷ Take c1 s1 ∷ []) (Acted ∷ Unheard ∷ []) ≡ Begin 1 create ∷ Take c1 s1 ∷ [] }
+    ensures query_stops_nobody { read_after 1 (Begin 1 exists ∷ Take c1 s1 ∷ []) (Acted ∷ Stopped ∷ []) ≡ Begin 1 exists ∷ Take c1 s1 ∷ [] }
     ensures nothing_to_stop_at { read_after 1 (Take c1 s1 ∷ []) (Stopped ∷ []) ≡ Take c1 s1 ∷ [] }
     ensures client_does_not_stop { read_after 1 (Begin 1 create ∷ Take c1 s1 ∷ Take s1 c1 ∷ []) (Stopped ∷ Acted ∷ Stopped ∷ []) ≡ Begin 1 create ∷ Take c1 s1 ∷ Take s1 c1 ∷ [] }
 {}

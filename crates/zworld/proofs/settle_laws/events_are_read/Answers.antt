@@ -8,6 +8,7 @@ returns c = record {
   stopped = refl;
   unheard = refl;
   update_is_heard = refl;
+  query_stops_nobody = refl;
   nothing_to_stop_at = refl;
   client_does_not_stop = refl;
 }
