@@ -4,7 +4,7 @@ use Rattle.std.specs.FinMap.{insert}
 use Rattle.zops.specs.declared.call.Entry.{Entry}
 use Rattle.zops.specs.declared.call.Expected.TheVariants.{Any}
 use Rattle.zops.specs.declared.call.Kind.TheVariants.{PersistentSequential}
-use Rattle.zops.specs.declared.call.Update.TheVariants.{Create, Delete, SetData, Multi}
+use Rattle.zops.specs.declared.call.Update.TheVariants.{Create, Delete}
 use Rattle.zops.specs.declared.refusal.Refusal.TheVariants.{NoNode}
 use Rattle.zops.specs.declared.reply.Reply.{Reply}
 use Rattle.zops.specs.declared.reply.Reply.TheVariants as reply

@@ -1,6 +1,6 @@
 -- The plain tree explains the first histories: nobody calls, or one query of the opening tree is asked and answered.
-use Rattle.std.proofs.Common.{◌≡◌, ℕ, [], ◌∷◌, inl, inr, refl, sym, List}
-use Rattle.zstore.specs.Tree.{Tree, opening}
+use Rattle.std.proofs.Common.{◌≡◌, ℕ, [], ◌∷◌, inl, inr, refl, sym}
+use Rattle.zstore.specs.Tree.{opening}
 use Rattle.zstore.proofs.Lawful.{lawful_opening}
 use Rattle.zops.specs.declared.call.Query.{Query as Question}
 use Rattle.zops.specs.declared.call.Call.{Call}
@@ -8,25 +8,25 @@ use Rattle.zops.specs.declared.call.Call.TheVariants.{Query}
 use Rattle.zops.specs.declared.reply.Reply.{Reply}
 use Rattle.zops.specs.Step.{answer}
 use Rattle.zworld.specs.declared.history.CallEvent.TheVariants.{Begin, Answer}
-use Rattle.zworld.specs.Lists.{Among, ComesBefore}
-use Rattle.zworld.specs.History.{History, Operation, EndsBefore}
+use Rattle.zworld.specs.Lists.{Among}
+use Rattle.std.specs.Prelude.{◌⊎◌}
+use Rattle.zworld.specs.History.{History, Operation, IsUpdate, IsAnswered, EndsBefore}
 use Rattle.zworld.specs.LegalOrder.{IsReplayed}
 use Rattle.zworld.specs.PlainTree.{plain_tree, IsExplained}
 
 -- the order of no calls explains silence
 pub silence : IsExplained []
-silence =
-    (
-      [],
-      record {
-        begun = λ o among. absurd among;
-        once = tt;
-        answered = λ c n reply among. absurd among;
-        unanswered = λ o among. absurd among;
-        in_time = λ a b ends among. absurd among;
-        lawful = (lawful_opening, tt);
-      },
-    )
+silence = (
+  [],
+  record {
+    begun = λ o among. absurd among;
+    once = tt;
+    answered = λ c n reply among. absurd among;
+    unanswered = λ o among. absurd among;
+    in_time = λ a b ends among. absurd among;
+    lawful = (lawful_opening, tt);
+  },
+)
 
 -- equal answers are of one call and have one reply
 same_answer : (c n c' n' : ℕ) (reply reply' : Reply) → Answer c n reply ≡ Answer c' n' reply' → (c ≡ c') × (n ≡ n') × (reply ≡ reply')
@@ -46,7 +46,7 @@ module _ (query : Question) where
 
   -- the answer is the replay's
   replayed : (c n : ℕ) (reply : Reply) → Among (Answer c n reply) seen → IsReplayed plain_tree (asked ∷ []) c n reply
-  unfolding asked, seen
+  unfolding asked seen
   replayed c n reply (inl e) = absurd (begin_is_no_answer _ _ _ _ _ _ e)
   replayed c n reply (inr (inl e)) =
       let same = same_answer _ _ _ _ _ _ e in
@@ -62,23 +62,23 @@ module _ (query : Question) where
 
   -- the order of that one query explains it
   pub first_query : IsExplained (Begin 1 1 (Query query) ∷ Answer 1 1 (answer opening query) ∷ [])
-  unfolding asked, seen
-  first_query =
-      (
-        asked ∷ [],
-        record {
-          begun = begun;
-          once = ((λ y among. absurd among), tt);
-          answered = replayed;
-          unanswered = answered;
-          in_time = λ a b ends among. absurd (nothing_ends a b ends);
-          lawful = (lawful_opening, (lawful_opening, tt));
-        },
-      )
+  unfolding asked seen
+  first_query = (
+    asked ∷ [],
+    record {
+      begun = begun;
+      once = ((λ y among. absurd among), tt);
+      answered = replayed;
+      unanswered = answered;
+      in_time = λ a b ends among. absurd (nothing_ends a b ends);
+      lawful = (lawful_opening, (lawful_opening, tt));
+    },
+  )
     where
       begun : (o : Operation) → Among o (asked ∷ []) → Among (Begin o.client o.number o.call) seen
       begun o (inl e) = rw (sym e) (inl refl)
       begun o (inr e) = absurd e
-      answered : (o : Operation) → Among o (asked ∷ []) → _
+
+      answered : (o : Operation) → Among o (asked ∷ []) → IsUpdate o.call ⊎ IsAnswered seen o
       answered o (inl e) = rw (sym e) (inr (answer opening query, inr (inl refl)))
       answered o (inr e) = absurd e
