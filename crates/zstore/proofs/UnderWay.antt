@@ -74,17 +74,3 @@ module _ (old mid new : Held) (id : ℕ) (so_far : IsUnderWay old mid id) where
           by : (b : Bool) → cond b false (has_node mid.tree.nodes q) ≡ true → has_node mid.tree.nodes q ≡ true
           by true is = cc
           by false is = is
-
-  module _ (none : ephemerals mid.tree.nodes id ≡ []) (tree : new.tree ≡ record mid.tree { sessions = finite.remove mid.tree.sessions id }) where
-    -- once none is left and the session is gone, it has ended
-    pub under_way_last : new.tree ≡ ended old.tree id
-    under_way_last =
-        let nodes : mid.tree ≡ all_dropped old.tree (ephemerals old.tree.nodes id) = ap (all_dropped mid.tree) (sym none) ∙ so_far.rest in
-        tree ∙ ap (λ (t : Tree). record t { sessions = finite.remove mid.tree.sessions id }) nodes
-        ∙ ap (λ (s : Sessions). record (all_dropped old.tree (ephemerals old.tree.nodes id)) { sessions = finite.remove s id }) so_far.sessions
-
-    -- and the Ids of its nodes name nothing
-    pub under_way_named : new.places ≡ mid.places → ForgetsGone old new
-    under_way_named same key =
-        ap (λ p. finite.get p key.number) same ∙ so_far.forgotten key
-        ∙ while_there_same mid.tree.nodes new.tree.nodes (λ q. sym (ap (λ (t : Tree). has_node t.nodes q) tree)) (path_of old key)
