@@ -1,12 +1,12 @@
 -- A session's end under way: what holds once some of its nodes are gone, and which Ids still name a node.
-use Rattle.std.proofs.Common.{◌≡◌, ℕ, ◌<◌, ◌+◌, ◌^◌, Bool, true, false, cond, List, [], ◌∷◌, length, Option, Some, None, refl, sym, ap, ◌∙◌, arith}
+use Rattle.std.proofs.Common.{◌≡◌, ℕ, ◌<◌, ◌+◌, ◌^◌, Bool, true, false, cond, List, ◌∷◌, length, Option, Some, None, refl, sym, ap, ◌∙◌, arith}
 use Rattle.std.specs.Ordering.{eq_by_cmp}
 use Rattle.std.specs.Option.{option_and_then}
 use Rattle.std.specs.FinMap as finite
 use Rattle.zpath.specs.Grammar.{path_cmp}
 use Rattle.zstore.specs.declared.node.Node.{Node}
-use Rattle.zstore.specs.Tree.{Tree, Path, Nodes, Sessions, has_node, ephemerals, dropped}
-use Rattle.zstore.specs.Sessions.{all_dropped, ended}
+use Rattle.zstore.specs.Tree.{Tree, Path, Nodes, has_node, ephemerals, dropped}
+use Rattle.zstore.specs.Sessions.{all_dropped}
 use Rattle.zstore.specs.Lawful.{AllNodes}
 use Rattle.zstore.specs.Held.{Held, path_of, while_there, ForgetsGone}
 use Rattle.zstore.proofs.Ephemerals.{ephemerals-dropped}
