@@ -36,10 +36,6 @@ module _ (P : Node → Type 0) (nodes : Nodes) (all : AllNodes P nodes) where
 pub low_opening : IsLow opening
 low_opening = all_inserted (λ n. n.cversion ≤ 0) finite.empty (λ q n e. absurd (none_some n (sym (get-empty path_cmp q) ∙ e))) [] (new_node [] 0 0 0) (omega arith)
 
--- one more change
-pub low_raised : (t : Tree) → IsLow t → IsLow (raised t)
-low_raised t low q n e = let before = low q n e in omega (arith, before)
-
 -- one more node, by the next change
 pub low_added : (t : Tree) (path : Path) (bytes : List ℕ) (owner : ℕ) (sequential : Bool) → IsLow t → IsLow (raised (added t path bytes owner sequential))
 low_added t path bytes owner sequential low = all_marked

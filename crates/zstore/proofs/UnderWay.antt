@@ -44,12 +44,8 @@ pub record IsUnderWay (old new : Held) (id : ℕ) : Type 0 where
   pub forgotten : ForgetsGone old new
   pub given : new.given ≡ old.given
 
--- at first
-pub under_way_first : (h : Held) (id : ℕ) → AllNodes (λ n. n.cversion + length (ephemerals h.tree.nodes id) < 2 ^ 62) h.tree.nodes → ForgetsGone h h → IsUnderWay h h id
-under_way_first h id counters named = record { rest = refl; sessions = refl; zxid = refl; counters = counters; forgotten = named; given = refl }
-
 module _ (old mid new : Held) (id : ℕ) (so_far : IsUnderWay old mid id) where
-  -- and after one node more
+  -- holds after one node more
   pub under_way_next : (path : Path) (paths : List Path) → ephemerals mid.tree.nodes id ≡ path ∷ paths → new.tree ≡ dropped mid.tree path → ForgetsGone mid new → new.given ≡ mid.given → IsUnderWay old new id
   under_way_next path paths all tree gone given =
       let left : ephemerals new.tree.nodes id ≡ paths = ap (λ (t : Tree). ephemerals t.nodes id) tree ∙ ephemerals-dropped id mid.tree path paths all in
