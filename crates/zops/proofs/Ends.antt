@@ -1,5 +1,5 @@
 -- What the ends of sessions leave: how often a node can have been raised by them, and the sessions that are still there.
-use Rattle.std.proofs.Common.{◌≡◌, ◌≢◌, ℕ, suc, ◌+◌, ◌-◌, ◌<◌, ◌≤◌, ◌^◌, Bool, true, false, cond, List, [], ◌∷◌, length, Option, Some, None, IsSome, refl, sym, ap, subst, ◌∙◌, arith}
+use Rattle.std.proofs.Common.{◌≡◌, ◌≢◌, ℕ, suc, ◌+◌, ◌-◌, ◌≤◌, Bool, true, false, cond, List, [], ◌∷◌, length, Option, Some, None, IsSome, refl, sym, ap, subst, ◌∙◌, arith}
 use lib.Dec.{T}
 use Rattle.std.specs.Prelude.{is_some, nat_le, ◌==◌}
 use Rattle.std.specs.declared.cmp.Ordering.TheVariants.{Less, Equal}
@@ -19,7 +19,7 @@ use Rattle.zstore.specs.Lawful.{AllNodes}
 use Rattle.zstore.proofs.Sorted.{paths_total, both_parts, is_less}
 use Rattle.zstore.proofs.Maps.{get-remove-elsewhere, get-removed}
 use Rattle.zstore.proofs.Ephemerals.{first_is_there, ephemerals-dropped}
-use Rattle.zstore.proofs.Ending.{sessions-all_dropped, all_entries}
+use Rattle.zstore.proofs.Ending.{all_entries}
 use Rattle.zops.specs.Sound.{IsWithin}
 use Rattle.zops.proofs.Bounds.{all_remove, all_changed}
 
