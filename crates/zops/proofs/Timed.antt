@@ -91,6 +91,7 @@ ticked_bounded t ids bounded lawful room early =
     (within_after k (all_ended t ids).nodes (all_ended-room k ids t (room_before (4096 * t.zxid) t.nodes bounded.counters lawful.few_nodes)))
     (rw ends.time early) ends.sessions
 
+-- what a tick does where some sessions are due
 pub ticked-some : (t : Tree) (ids : List ℕ) → 0 < length ids → ticked t ids ≡ (raised (advanced (all_ended t ids)), reply.Ticked (t.time + 1) (length ids))
 ticked-some t [] some = absurd (omega (arith, some))
 ticked-some t (id ∷ ids) some = refl
