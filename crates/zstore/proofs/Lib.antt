@@ -15,3 +15,4 @@ pub mod Shown
 pub mod Nodes
 pub mod Kept
 pub mod Families
+pub mod Low

@@ -1,12 +1,12 @@
 -- A session's end under way: what holds once some of its nodes are gone, and which Ids still name a node.
-use Rattle.std.proofs.Common.{◌≡◌, ℕ, ◌<◌, ◌+◌, ◌^◌, Bool, true, false, cond, List, [], ◌∷◌, length, Option, Some, None, refl, sym, ap, ◌∙◌, arith}
+use Rattle.std.proofs.Common.{◌≡◌, ℕ, ◌<◌, ◌+◌, ◌^◌, Bool, true, false, cond, List, ◌∷◌, length, Option, Some, None, refl, sym, ap, ◌∙◌, arith}
 use Rattle.std.specs.Ordering.{eq_by_cmp}
 use Rattle.std.specs.Option.{option_and_then}
 use Rattle.std.specs.FinMap as finite
 use Rattle.zpath.specs.Grammar.{path_cmp}
 use Rattle.zstore.specs.declared.node.Node.{Node}
-use Rattle.zstore.specs.Tree.{Tree, Path, Nodes, Sessions, has_node, ephemerals, dropped}
-use Rattle.zstore.specs.Sessions.{all_dropped, ended}
+use Rattle.zstore.specs.Tree.{Tree, Path, Nodes, has_node, ephemerals, dropped}
+use Rattle.zstore.specs.Sessions.{all_dropped}
 use Rattle.zstore.specs.Lawful.{AllNodes}
 use Rattle.zstore.specs.Held.{Held, path_of, while_there, ForgetsGone}
 use Rattle.zstore.proofs.Ephemerals.{ephemerals-dropped}
@@ -44,12 +44,8 @@ pub record IsUnderWay (old new : Held) (id : ℕ) : Type 0 where
   pub forgotten : ForgetsGone old new
   pub given : new.given ≡ old.given
 
--- at first
-pub under_way_first : (h : Held) (id : ℕ) → AllNodes (λ n. n.cversion + length (ephemerals h.tree.nodes id) < 2 ^ 62) h.tree.nodes → ForgetsGone h h → IsUnderWay h h id
-under_way_first h id counters named = record { rest = refl; sessions = refl; zxid = refl; counters = counters; forgotten = named; given = refl }
-
 module _ (old mid new : Held) (id : ℕ) (so_far : IsUnderWay old mid id) where
-  -- and after one node more
+  -- holds after one node more
   pub under_way_next : (path : Path) (paths : List Path) → ephemerals mid.tree.nodes id ≡ path ∷ paths → new.tree ≡ dropped mid.tree path → ForgetsGone mid new → new.given ≡ mid.given → IsUnderWay old new id
   under_way_next path paths all tree gone given =
       let left : ephemerals new.tree.nodes id ≡ paths = ap (λ (t : Tree). ephemerals t.nodes id) tree ∙ ephemerals-dropped id mid.tree path paths all in
@@ -74,17 +70,3 @@ module _ (old mid new : Held) (id : ℕ) (so_far : IsUnderWay old mid id) where
           by : (b : Bool) → cond b false (has_node mid.tree.nodes q) ≡ true → has_node mid.tree.nodes q ≡ true
           by true is = cc
           by false is = is
-
-  module _ (none : ephemerals mid.tree.nodes id ≡ []) (tree : new.tree ≡ record mid.tree { sessions = finite.remove mid.tree.sessions id }) where
-    -- once none is left and the session is gone, it has ended
-    pub under_way_last : new.tree ≡ ended old.tree id
-    under_way_last =
-        let nodes : mid.tree ≡ all_dropped old.tree (ephemerals old.tree.nodes id) = ap (all_dropped mid.tree) (sym none) ∙ so_far.rest in
-        tree ∙ ap (λ (t : Tree). record t { sessions = finite.remove mid.tree.sessions id }) nodes
-        ∙ ap (λ (s : Sessions). record (all_dropped old.tree (ephemerals old.tree.nodes id)) { sessions = finite.remove s id }) so_far.sessions
-
-    -- and the Ids of its nodes name nothing
-    pub under_way_named : new.places ≡ mid.places → ForgetsGone old new
-    under_way_named same key =
-        ap (λ p. finite.get p key.number) same ∙ so_far.forgotten key
-        ∙ while_there_same mid.tree.nodes new.tree.nodes (λ q. sym (ap (λ (t : Tree). has_node t.nodes q) tree)) (path_of old key)

@@ -16,6 +16,8 @@ mod reading;
 mod row;
 mod session;
 mod session_place;
+#[cfg(test)]
+mod session_tests;
 mod sessions;
 mod store;
 mod taking;

@@ -25,6 +25,7 @@ fn change(
     assert!(rt; node.version < 9);
     assert!(rt; node.cversion < 9);
     assert!(rt; node.seq < 9);
+    assert!(rt; node.owner == 0);
     assert!(rt; store.find(&path).is_none());
     assert!(rt; store.nodes() < MAX_NODES);
     assert!(rt; store.given() < 9);
@@ -99,7 +100,7 @@ fn names(alloc: Global, store: &Store, text: &str) -> Result<String, Fail> {
 }
 
 // The data and the stat of a node are these.
-fn has(
+pub(crate) fn has(
     rt: &impl Abort,
     alloc: Global,
     store: &Store,

@@ -1,0 +1,12 @@
+use Rattle.std.proofs.Common.{◌≡◌, ap, ◌∙◌, arith}
+use Rattle.zstore.specs.Tree.{Tree}
+use Rattle.zstore.proofs.Low.{low_counters, zxid-ended}
+use Rattle.zstore.proofs.session_tests.end.Goals as goal
+
+pub end_session-requires-clause-counters : goal.end_session-requires-clause-counters
+end_session-requires-clause-counters g c = low_counters c.args.store.now.tree c.args.id c.requires.low (omega arith) (omega arith)
+
+pub raise-requires : goal.raise-requires
+raise-requires g c =
+    let same = ap (λ (t : Tree). t.zxid) c.end_session.ensures.tree ∙ zxid-ended c.args.store.now.tree c.args.id in
+    rw same (omega arith)

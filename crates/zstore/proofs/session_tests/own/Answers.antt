@@ -1,0 +1,15 @@
+use Rattle.std.proofs.Common.{Some, false, sym, ap, subst, ◌∙◌}
+use Rattle.zstore.specs.Tree.{parent_of, raised}
+use Rattle.zstore.proofs.Nodes.{parent_of-front}
+use Rattle.zstore.proofs.Low.{IsLow, low_added}
+use Rattle.zstore.proofs.session_tests.own.Goals as goal
+
+pub add-requires-clause-live : goal.add-requires-clause-live
+add-requires-clause-live g c =
+    let last = rw c.in-Some.is at c.in_ok-above.ensures.front in
+    c.in-Some-find.ensures.found ∙ ap Some (sym (ap parent_of last.1 ∙ parent_of-front c.in-Some.above last.0))
+
+pub returns : goal.returns
+returns g c =
+    let tree = c.raise.ensures.tree ∙ ap raised c.in_ok-add.ensures.added in
+    record { low = subst IsLow (sym tree) (low_added c.args.store.now.tree c.in_ok-path.path _ c.args.owner false c.requires.low) }
