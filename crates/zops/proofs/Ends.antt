@@ -1,5 +1,5 @@
 -- What the ends of sessions leave: how often a node can have been raised by them, and the sessions that are still there.
-use Rattle.std.proofs.Common.{◌≡◌, ◌≢◌, ℕ, suc, ◌+◌, ◌-◌, ◌<◌, ◌≤◌, ◌^◌, Bool, true, false, cond, List, [], ◌∷◌, length, Option, Some, None, IsSome, refl, sym, ap, subst, ◌∙◌, arith}
+use Rattle.std.proofs.Common.{◌≡◌, ◌≢◌, ℕ, suc, ◌+◌, ◌-◌, ◌≤◌, Bool, true, false, cond, List, [], ◌∷◌, length, Option, Some, None, IsSome, refl, sym, ap, subst, ◌∙◌, arith}
 use lib.Dec.{T}
 use Rattle.std.specs.Prelude.{is_some, nat_le, ◌==◌}
 use Rattle.std.specs.declared.cmp.Ordering.TheVariants.{Less, Equal}
@@ -19,7 +19,7 @@ use Rattle.zstore.specs.Lawful.{AllNodes}
 use Rattle.zstore.proofs.Sorted.{paths_total, both_parts, is_less}
 use Rattle.zstore.proofs.Maps.{get-remove-elsewhere, get-removed}
 use Rattle.zstore.proofs.Ephemerals.{first_is_there, ephemerals-dropped}
-use Rattle.zstore.proofs.Ending.{sessions-all_dropped, all_entries}
+use Rattle.zstore.proofs.Ending.{all_entries}
 use Rattle.zops.specs.Sound.{IsWithin}
 use Rattle.zops.proofs.Bounds.{all_remove, all_changed}
 
@@ -33,6 +33,7 @@ pub record CanLose (raises nodes : ℕ) (n : Node) : Type 0 where
 abbrev pub RoomForEnds : ℕ → Nodes → Type 0
 RoomForEnds raises nodes = AllNodes (CanLose raises (finite.len nodes)) nodes
 
+-- 4,096 raises are enough for all nodes that can go
 pub room_before : (raises : ℕ) (nodes : Nodes) → AllNodes (IsWithin raises) nodes → finite.len nodes ≤ 4096 → RoomForEnds (raises + 4096) nodes
 room_before raises nodes all few path n e =
     let here = all path n e in
@@ -41,13 +42,16 @@ room_before raises nodes all few path n e =
 pub within_after : (raises : ℕ) (nodes : Nodes) → RoomForEnds raises nodes → AllNodes (IsWithin raises) nodes
 within_after raises nodes room path n e = let here = room path n e in record { version = here.version; cversion = omega (arith, here.cversion); seq = here.seq }
 
+-- a change of a node leaves the number of nodes
 len-changed_at : (nodes : Nodes) (path : Path) (f : Node → Node) → finite.len (changed_at nodes path f) ≡ finite.len nodes
+-- a change of a node leaves the number of nodes
 len-changed_at nodes path f = by (finite.get nodes path) refl
   where
     by : (o : Option Node) → finite.get nodes path ≡ o → finite.len (option_map_or (λ n. finite.insert nodes path (f n)) o nodes) ≡ finite.len nodes
     by None e = refl
     by (Some n) e = len-insert paths_total nodes path (f n) ∙ ap (λ o. cond (is_some o) (finite.len nodes) (finite.len nodes + 1)) e
 
+-- where a node is there, the map isn't empty
 not_empty : (nodes : Nodes) (path : Path) (n : Node) → finite.get nodes path ≡ Some n → finite.len nodes ≡ 0 → ⊥
 not_empty nodes path n e none = let clash : None ≡ Some n = sym (get-empty path_cmp path) ∙ ap (λ m. finite.get m path) (sym (empty_of_len nodes none)) ∙ e in cc
 
@@ -58,7 +62,9 @@ one_fewer nodes path n e =
     let less : finite.len (finite.remove nodes path) ≡ finite.len nodes - 1 = len-remove paths_total nodes path ∙ ap (λ o. cond (is_some o) (finite.len nodes - 1) (finite.len nodes)) e in
     omega (arith, some, less)
 
+-- a node that goes leaves room for the others
 dropped-room : (raises : ℕ) (t : Tree) (path : Path) (n : Node) → finite.get t.nodes path ≡ Some n → RoomForEnds raises t.nodes → RoomForEnds raises (dropped t path).nodes
+-- a node that goes leaves room for the others
 dropped-room raises t path n e room =
     subst (λ len. AllNodes (CanLose raises len) (dropped t path).nodes) (sym (len-changed_at (finite.remove t.nodes path) (parent_of path) (without_child (t.zxid + 1))))
     (all_changed (CanLose raises (finite.len t.nodes)) (CanLose raises (finite.len (finite.remove t.nodes path))) (finite.remove t.nodes path) (parent_of path) (without_child (t.zxid + 1))

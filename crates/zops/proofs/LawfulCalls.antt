@@ -1,11 +1,11 @@
 -- After any calls from the opening the tree is lawful, and its sessions' ids are those of changes that were made.
-use Rattle.std.proofs.Common.{◌≡◌, ◌<◌, ◌≤◌, ℕ, ◌+◌, Bool, true, false, if◌then◌else◌, List, [], ◌∷◌, ◌++◌, length, Some, None, Result, Ok, Err, refl, sym, subst, ◌∙◌, arith}
+use Rattle.std.proofs.Common.{◌≡◌, ◌<◌, ◌≤◌, ℕ, ◌+◌, Bool, true, false, if◌then◌else◌, List, [], ◌∷◌, ◌++◌, length, Some, Result, Ok, Err, refl, sym, subst, arith}
 use Rattle.std.specs.Prelude.{nat_le}
 use Rattle.std.specs.Option.{option_map_or}
 use Rattle.std.specs.FinMap as finite
 use Rattle.std.proofs.lemmas.Bool.Decides.{nat_tests}
 use Rattle.zstore.specs.declared.session.Session.{Session}
-use Rattle.zstore.specs.Tree.{Tree, Sessions, opening, raised}
+use Rattle.zstore.specs.Tree.{Tree, opening, raised}
 use Rattle.zstore.specs.Sessions.{new_session, opened, renewed, touched, ended, all_ended, due, advanced}
 use Rattle.zstore.specs.Lawful.{IsLawful, AllSessions}
 use Rattle.zstore.proofs.Lawful.{lawful_opening, lawful_raised, lawful_opened, lawful_touched}

@@ -1,6 +1,6 @@
 -- A part of a call leaves a lawful tree lawful.
 use Rattle.std.proofs.Common.{◌≡◌, ◌<◌, ℕ, ◌+◌, Bool, true, false, if◌then◌else◌, List, [], ◌∷◌, length, Option, Some, None, Result, Ok, Err, refl, sym, subst, arith}
-use Rattle.std.specs.Prelude.{not, nat_le, nat_lt}
+use Rattle.std.specs.Prelude.{nat_le, nat_lt}
 use Rattle.std.specs.FinMap as finite
 use Rattle.std.proofs.lemmas.Bool.Decides.{nat_tests}
 use Rattle.zpath.specs.First.{first_that_holds}
@@ -23,6 +23,7 @@ use Rattle.zops.specs.declared.reply.PartReply.TheVariants.{Created, Deleted, Se
 use Rattle.zops.specs.Part.{create_part, delete_part, set_part, check_part, part_step, create_refusals, delete_refusals, made_path, is_sequential, owner_of, unless_refused, on_version, has_other_version}
 use Rattle.zops.specs.Sound.{IsGranted}
 use Rattle.zops.proofs.Paths.{not_root, parent_of-made}
+use Rattle.zops.proofs.Tables.{is_there}
 use Rattle.zops.proofs.Owners.{persistent, owner_lives}
 
 -- the tree is lawful, and each of its sessions was opened by a change and has a timeout that is granted
@@ -34,17 +35,16 @@ abbrev pub LeavesGood : Result (Tree × PartReply) Refusal → Type 0
 LeavesGood (Err refusal) = Unit {0}
 LeavesGood (Ok (u, reply)) = IsGood u
 
-is_there : (b : Bool) → not b ≡ false → b ≡ true
-is_there true e = refl
-is_there false e = cc
-
+-- where there is room for one more node, there are fewer than 4,096
 few : (n : ℕ) → nat_le 4096 n ≡ false → n < 4096
 few n e = grind (arith, nat_tests)
 
+-- where there are no names, the list is empty
 none : (names : List (List ℕ)) → nat_lt 0 (length names) ≡ false → names ≡ []
 none [] e = refl
 none (name ∷ names) e = let some : nat_lt 0 (length (name ∷ names)) ≡ true = grind (arith, nat_tests) in cc
 
+-- each part leaves a good tree good
 pub create-good : (t : Tree) (client : ℕ) (create : ToCreate) → IsGood t → LeavesGood (create_part t client create)
 unfolding create_part
 create-good t client create good = by (first_that_holds (create_refusals t client create)) refl

@@ -2,14 +2,13 @@
 use Rattle.std.proofs.Common.{◌≡◌, ◌≢◌, ◌⊎◌, inl, inr, ℕ, ◌<◌, ◌≤◌, ◌+◌, Bool, true, false, cond, if◌then◌else◌, List, [], ◌∷◌, Option, Some, None, Result, Ok, Err, IsSome, refl, sym, ap, subst, ◌∙◌, arith}
 use Rattle.std.specs.Prelude.{is_some, nat_le}
 use Rattle.std.specs.Option.{option_map_or, option_and_then}
-use Rattle.std.specs.Ordering.{nat_cmp}
 use Rattle.std.specs.Cmp.{nat_cmp_total}
 use Rattle.std.specs.FinMap as finite
 use Rattle.std.specs.FinMap.{nat_cmp-IsAntisymmetric}
 use Rattle.std.proofs.lemmas.Bool.Decides.{nat_tests}
 use Rattle.zstore.specs.declared.session.Session.{Session}
 use Rattle.zstore.specs.Tree.{Tree, Sessions, opening, raised}
-use Rattle.zstore.specs.Sessions.{new_session, opened, renewed, touched, ended, all_ended, due, advanced}
+use Rattle.zstore.specs.Sessions.{new_session, opened, renewed, touched, ended, due}
 use Rattle.zstore.proofs.Maps.{same_or_other, get-insert-here, get-insert-elsewhere, get-remove-elsewhere}
 use Rattle.zstore.proofs.Ending.{sessions-due_ended}
 use Rattle.zops.specs.declared.call.Part.TheVariants as part_of
@@ -18,19 +17,18 @@ use Rattle.zops.specs.declared.call.Update.TheVariants.{Create, Delete, SetData,
 use Rattle.zops.specs.declared.refusal.Refusal.{Refusal}
 use Rattle.zops.specs.declared.refusal.Refusal.TheVariants.{SessionGone, TooManySessions, Exhausted}
 use Rattle.zops.specs.declared.reply.PartReply.{PartReply}
-use Rattle.zops.specs.declared.reply.Reply.{Reply}
 use Rattle.zops.specs.declared.reply.Reply.TheVariants as reply
 use Rattle.zops.specs.Part.{create_part, delete_part, set_part, is_gone}
 use Rattle.zops.specs.Multi.{Run, run}
 use Rattle.zops.specs.Step.{step, changed, alone, together, granted, ticked, is_exhausted}
 use Rattle.zops.specs.Sound.{ChangesNodesAlone}
-use Rattle.zops.specs.History.{after_calls, is_change, is_success}
+use Rattle.zops.specs.History.{after_calls, is_success}
 use Rattle.zops.specs.SessionLaws.{NeverCloses, one_if_tick, ticks_in, if_not_due, LivesItsTimeout}
 use Rattle.zops.proofs.NodesAlone.{LeavesAlone, RunAlone, part-alone, run-alone}
 use Rattle.zops.proofs.Owners.{is_own}
 use Rattle.zops.proofs.Taking.{changes_take_one_zxid}
 use Rattle.zops.proofs.Ends.{ended-ends, all_ended-ends}
-use Rattle.zops.proofs.Sessions.{or_refused, alone-sessions, together-sessions, ticked-sessions, ticked-told}
+use Rattle.zops.proofs.Sessions.{or_refused, ticked-sessions, ticked-told}
 use Rattle.zops.proofs.LawfulCalls.{after-good}
 
 -- a client's session of that timeout lives for more than so many ticks yet

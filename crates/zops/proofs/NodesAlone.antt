@@ -1,10 +1,9 @@
 -- Parts of calls change the nodes alone.
-use Rattle.std.proofs.Common.{◌≡◌, ℕ, ◌+◌, Bool, true, false, if◌then◌else◌, List, [], ◌∷◌, ◌++◌, length, Option, Some, None, Result, Ok, Err, refl, ◌∙◌}
+use Rattle.std.proofs.Common.{ℕ, ◌+◌, Bool, true, false, if◌then◌else◌, List, [], ◌∷◌, ◌++◌, length, Option, Some, None, Result, Ok, Err, refl, ◌∙◌}
 use Rattle.std.specs.FinMap as finite
 use Rattle.zpath.specs.First.{first_that_holds}
 use Rattle.zstore.specs.declared.node.Node.{Node}
 use Rattle.zstore.specs.Tree.{Tree, with_data, stat_of, added, dropped, written}
-use Rattle.zops.specs.declared.call.Create.{Create as ToCreate}
 use Rattle.zops.specs.declared.call.Expected.{Expected}
 use Rattle.zops.specs.declared.call.Part.{Part}
 use Rattle.zops.specs.declared.call.Part.TheVariants.{Create, Delete, SetData, Check}

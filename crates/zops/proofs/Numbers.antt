@@ -1,5 +1,5 @@
 -- No sequential name is made twice beneath a node while it lives.
-use Rattle.std.proofs.Common.{◌≡◌, ◌≢◌, ℕ, ◌+◌, ◌<◌, ◌≤◌, Bool, true, false, not, cond, if◌then◌else◌, ◌&&◌, List, [], ◌∷◌, Option, Some, None, Ok, Err, refl, sym, ap, subst, ◌∙◌, arith}
+use Rattle.std.proofs.Common.{◌≡◌, ◌≢◌, ℕ, ◌+◌, ◌<◌, ◌≤◌, Bool, true, false, cond, if◌then◌else◌, ◌&&◌, List, [], ◌∷◌, Option, Some, None, Ok, Err, refl, sym, ap, subst, ◌∙◌, arith}
 use Rattle.std.specs.FinMap as finite
 use Rattle.std.specs.FinMap.{get-insert}
 use Rattle.std.specs.List.{AllByRecursion, IsDistinct}
@@ -23,7 +23,7 @@ use Rattle.zops.specs.Part.{part_step, create_part, delete_part, set_part, check
 use Rattle.zops.specs.History.{is_same, numbered_since, NumbersDiffer}
 use Rattle.zops.proofs.Bounds.{unspent}
 use Rattle.zops.proofs.Paths.{not_root, parent_of-made}
-use Rattle.zops.proofs.Tables.{node_there}
+use Rattle.zops.proofs.Tables.{node_there, is_there}
 use Rattle.zops.proofs.Folds.{Leaves, kept_by_calls}
 use Rattle.zops.proofs.Traced.{traced, remained, same_of, one_path}
 
@@ -59,10 +59,6 @@ another asked number (path ∷ made) below short all = (by (is_same (numbered as
 both : (a b : Bool) → (a && b) ≡ true → (a ≡ true) × (b ≡ true)
 both true b e = (refl, e)
 both false b e = cc
-
-is_there : (b : Bool) → not b ≡ false → b ≡ true
-is_there true e = refl
-is_there false e = cc
 
 insert_other : (nodes : Nodes) (made at : Path) (new m : Node) → is_same at made ≡ false → finite.get (finite.insert nodes made new) at ≡ Some m → finite.get nodes at ≡ Some m
 insert_other nodes made at new m other e = sym (ap (λ b. cond b (Some new) (finite.get nodes at)) other) ∙ sym (get-insert paths_total nodes made new at) ∙ e

@@ -1,5 +1,5 @@
 -- Whom a node belongs to, as it is tested.
-use Rattle.std.proofs.Common.{◌≡◌, ◌⊎◌, inl, inr, ℕ, Bool, true, false, Option, Some, None, IsSome, refl, sym, ap, ◌∙◌, arith}
+use Rattle.std.proofs.Common.{◌≡◌, inl, inr, ℕ, true, false, Option, Some, None, IsSome, refl, ap, arith}
 use Rattle.std.specs.Prelude.{not, is_some, ◌==◌}
 use Rattle.std.specs.Option.{option_map_or}
 use Rattle.std.specs.FinMap as finite
@@ -12,6 +12,7 @@ use Rattle.zops.specs.declared.call.Kind.{Kind}
 use Rattle.zops.specs.declared.call.Kind.TheVariants.{Persistent, PersistentSequential, Ephemeral, EphemeralSequential}
 use Rattle.zops.specs.Part.{node_has, is_owned, is_gone, has_no_owner, owner_of}
 
+-- who isn't owned by a session is owned by nobody
 nobody : (owner : ℕ) → not (owner == 0) ≡ false → owner ≡ 0
 nobody owner e = grind (arith, nat_tests)
 
@@ -39,6 +40,7 @@ is_own sessions client id = by (finite.get sessions id) refl
     by None e here = cc
     by (Some s) e here = record { session = s; there = e; own = same_client s.client client here }
 
+-- so it is there
 session_there : (sessions : Sessions) (client id : ℕ) → is_gone sessions client id ≡ false → IsSome (finite.get sessions id)
 session_there sessions client id here = ap is_some (is_own sessions client id here).there
 

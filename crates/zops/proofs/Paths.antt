@@ -1,16 +1,15 @@
 -- A path and its parent, and that no path is over a limit.
 use Rattle.std.proofs.Common.{◌≡◌, ◌≢◌, ℕ, ◌≤◌, ◌<◌, true, false, [], ◌∷◌, ◌++◌, length, refl, ap, ◌∙◌, arith}
-use Rattle.std.specs.Prelude.{nat_le, nat_lt, ◌==◌, None}
+use Rattle.std.specs.Prelude.{nat_le, nat_lt, ◌==◌}
 use Rattle.std.specs.List.{list_any, AllByRecursion}
 use Rattle.std.proofs.lemmas.Bool.Decides.{nat_tests}
 use Rattle.zpath.specs.Grammar.{IsName, IsPath, is_long, text_of}
-use Rattle.zpath.specs.First.{first_that_holds}
 use Rattle.zpath.specs.Numbered.{numbered, is_over}
 use Rattle.zstore.specs.Tree.{Path, Name, Nodes, parent_of}
 use Rattle.zstore.proofs.Nodes.{parent_of-front}
 use Rattle.zops.specs.declared.call.Kind.{Kind}
 use Rattle.zops.specs.declared.call.Kind.TheVariants.{Persistent, PersistentSequential, Ephemeral, EphemeralSequential}
-use Rattle.zops.specs.Part.{is_root, is_sequential, made_path, counter_at, name_refusals}
+use Rattle.zops.specs.Part.{is_root, made_path, counter_at}
 
 pub record IsBelow (path above : Path) : Type 0 where
   pub root : is_root path ≡ false
@@ -67,10 +66,6 @@ made-below_root nodes (EphemeralSequential session) path below = numbered-below_
 pub not_root : (path : Path) → is_root path ≡ false → path ≢ []
 not_root [] h e = cc
 not_root (n ∷ path) h e = cc
-
--- a path over no limit is allowed where no counter is added to it
-pub plain-allowed : (nodes : Nodes) (kind : Kind) (path : Path) → is_sequential kind ≡ false → is_over path ≡ false → first_that_holds (name_refusals nodes kind path) ≡ None
-plain-allowed nodes kind path plain short = rw (plain, short) refl
 
 pub is_root-no_names : (path : Path) → is_root path ≡ (length path == 0)
 is_root-no_names [] = refl

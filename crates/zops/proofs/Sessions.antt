@@ -1,15 +1,14 @@
 -- How sessions begin and end.
-use Rattle.std.proofs.Common.{◌≡◌, ◌≢◌, ◌⊎◌, inl, inr, ℕ, ◌<◌, ◌≤◌, ◌+◌, Bool, true, false, cond, if◌then◌else◌, List, [], ◌∷◌, length, Option, Some, None, Result, Ok, Err, refl, sym, ap, subst, ◌∙◌, arith}
+use Rattle.std.proofs.Common.{◌≡◌, ◌≢◌, ◌⊎◌, inl, inr, ℕ, ◌≤◌, ◌+◌, Bool, true, false, cond, if◌then◌else◌, List, [], ◌∷◌, length, Option, Some, None, Result, Ok, Err, refl, sym, ap, ◌∙◌, arith}
 use Rattle.std.specs.Prelude.{nat_le}
 use Rattle.std.specs.Option.{option_map_or, option_and_then}
-use Rattle.std.specs.Ordering.{nat_cmp}
 use Rattle.std.specs.Cmp.{nat_cmp_total}
 use Rattle.std.specs.FinMap as finite
 use Rattle.std.specs.FinMap.{nat_cmp-IsAntisymmetric}
 use Rattle.std.proofs.lemmas.Bool.Decides.{nat_tests}
 use Rattle.zstore.specs.declared.session.Session.{Session}
 use Rattle.zstore.specs.Tree.{Tree, Sessions, raised}
-use Rattle.zstore.specs.Sessions.{new_session, opened, renewed, touched, ended, all_ended, due, advanced}
+use Rattle.zstore.specs.Sessions.{new_session, opened, renewed, touched, ended, all_ended, due}
 use Rattle.zstore.proofs.Maps.{none_some, same_or_other, get-insert-here, get-insert-elsewhere, get-remove-elsewhere}
 use Rattle.zstore.proofs.Ending.{sessions-due_ended}
 use Rattle.zops.specs.declared.call.Part.TheVariants as part_of

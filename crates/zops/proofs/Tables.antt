@@ -1,6 +1,6 @@
 -- Tables of refusals, one after the other, and what is done with a node of the version that is expected.
 use Rattle.std.proofs.Common.{◌≡◌, Bool, true, false, cond, if◌then◌else◌, List, [], ◌∷◌, ◌++◌, Option, Some, None, Ok, Err, refl, sym, ap, ◌∙◌}
-use Rattle.std.specs.Prelude.{is_some}
+use Rattle.std.specs.Prelude.{not, is_some}
 use Rattle.std.specs.Option.{option_map_or}
 use Rattle.zpath.specs.First.{first_that_holds}
 use Rattle.zstore.specs.declared.node.Node.{Node}
@@ -48,3 +48,8 @@ module _ {A : Type 0} where
 pub node_there : {A : Type 0} (o : Option A) → is_some o ≡ true → (n : A) × (o ≡ Some n)
 node_there None e = cc
 node_there (Some n) e = (n, refl)
+
+-- what isn't missing is there
+pub is_there : (b : Bool) → not b ≡ false → b ≡ true
+is_there true e = refl
+is_there false e = cc

@@ -28,9 +28,11 @@ Takes t did = did.0.zxid ≡ t.zxid + (if is_change did.1 then 1 else 0)
 none : (n : ℕ) → n ≡ n + 0
 none n = omega arith
 
+-- an outcome that makes no change
 unchanged : (t u : Tree) (told : Reply) → is_change told ≡ false → u.zxid ≡ t.zxid → Takes t (u, told)
 unchanged t u told isnt same = rw (isnt, same) (none t.zxid)
 
+-- one that makes a change
 changes : (t u : Tree) (told : Reply) → is_change told ≡ true → u.zxid ≡ t.zxid → Takes t (raised u, told)
 changes t u told does same = rw does (ap (λ z. z + 1) same)
 

@@ -1,8 +1,7 @@
 -- What the calls of sessions leave of the bounds on a tree's numbers.
-use Rattle.std.proofs.Common.{◌≡◌, ◌≢◌, ◌⊎◌, inl, inr, ℕ, ◌+◌, ◌*◌, ◌^◌, ◌<◌, ◌≤◌, Bool, true, false, List, [], ◌∷◌, length, Option, Some, None, refl, sym, ap, subst, ◌∙◌, arith}
+use Rattle.std.proofs.Common.{◌≡◌, ◌≢◌, ◌⊎◌, inl, inr, ℕ, ◌+◌, ◌*◌, ◌^◌, ◌<◌, ◌≤◌, Bool, true, false, List, [], ◌∷◌, length, Option, Some, None, refl, arith}
 use Rattle.std.specs.Prelude.{if◌then◌else◌, nat_lt}
 use Rattle.std.proofs.lemmas.Bool.Decides.{nat_tests}
-use Rattle.std.specs.Ordering.{nat_cmp}
 use Rattle.std.specs.Cmp.{nat_cmp_total}
 use Rattle.std.specs.Option.{option_map_or}
 use Rattle.std.specs.FinMap as finite
@@ -92,14 +91,7 @@ ticked_bounded t ids bounded lawful room early =
     (within_after k (all_ended t ids).nodes (all_ended-room k ids t (room_before (4096 * t.zxid) t.nodes bounded.counters lawful.few_nodes)))
     (rw ends.time early) ends.sessions
 
--- a tick that ends none
-pub advanced_bounded : (t : Tree) → IsBounded t → t.time + 1 < 2 ^ 40 → IsBounded (advanced t)
-advanced_bounded t bounded early = record { zxid = bounded.zxid; time = early; counters = bounded.counters; sessions = bounded.sessions }
-
-pub ticked-none : (t : Tree) (ids : List ℕ) → length ids ≡ 0 → ticked t ids ≡ (advanced (all_ended t ids), reply.Ticked (t.time + 1) (length ids))
-ticked-none t [] none = refl
-ticked-none t (id ∷ ids) none = absurd (omega (arith, none))
-
+-- what a tick does where some sessions are due
 pub ticked-some : (t : Tree) (ids : List ℕ) → 0 < length ids → ticked t ids ≡ (raised (advanced (all_ended t ids)), reply.Ticked (t.time + 1) (length ids))
 ticked-some t [] some = absurd (omega (arith, some))
 ticked-some t (id ∷ ids) some = refl

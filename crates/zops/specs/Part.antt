@@ -1,6 +1,6 @@
 -- The part step: one operation of a change, on the plain tree.
--- ZooKeeper Programmer's Guide, "ZNodes", "Sequence Nodes -- Unique Naming" and "Time in ZooKeeper"; the order of
--- refusals and the limits are this project's profile.
+-- ZooKeeper Programmer's Guide, "ZNodes", "Ephemeral Nodes", "Sequence Nodes -- Unique Naming" and "Time in ZooKeeper";
+-- the order of refusals and the limits are this project's profile.
 use Rattle.std.specs.Prelude.{◌≡◌, ℕ, ◌+◌, Bool, true, false, not, ◌&&◌, List, [], ◌∷◌, ◌++◌, length, Option, None, Some, Result, Ok, Err, if◌then◌else◌, nat_lt, nat_le, ◌==◌}
 use Rattle.std.specs.Option.{option_map_or}
 use Rattle.std.specs.FinMap as finite

@@ -1,5 +1,7 @@
 -- The plain step: what each call does to the plain tree and answers. This is the sequential
 -- specification: the service as it would be if one machine did one call after the other.
+-- ZooKeeper Programmer's Guide, "ZooKeeper Sessions" (a timeout is at least 2 ticks and at most 20) and "Ephemeral
+-- Nodes"; whose a session is, and the limits, are this project's profile.
 use Rattle.std.specs.Prelude.{ℕ, ◌+◌, ◌-◌, ◌^◌, Bool, Option, None, Some, Result, Ok, Err, if◌then◌else◌, nat_le, nat_lt, ◌||◌, false, refl, List, [], ◌∷◌, length, codes}
 use Rattle.std.specs.Coded.{Coded, code_by, coded×, coded_ℕ, coded_bool}
 use Rattle.std.specs.FinMap as finite

@@ -61,7 +61,9 @@ impl Machine {
     pub fn applied(&self) -> u64
         ensures applied { result ≡ self.now.state.applied }
         ensures few { result < 2 ^ 62 }
+        ensures lawful { IsLawful self.now.state.tree }
     {
+        self.store.is_kept_lawful();
         self.applied
     }
 

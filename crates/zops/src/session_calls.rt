@@ -14,9 +14,10 @@ use std::alloc::Global;
 use zpath::Memory;
 use zstore::{ClientId, MAX_SESSIONS, Store};
 
-// The least and the greatest timeout, in ticks.
+// The least timeout that is given, in ticks. It is ZooKeeper's.
 const MIN_TIMEOUT: u64 = 2;
 
+// The greatest timeout that is given, in ticks. It is ZooKeeper's.
 const MAX_TIMEOUT: u64 = 20;
 
 // The timeout that is given to who asks for so many ticks.

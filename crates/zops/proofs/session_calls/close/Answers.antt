@@ -1,4 +1,4 @@
-use Rattle.std.proofs.Common.{◌+◌, ◌*◌, sym, subst, ◌∙◌, ap, arith}
+use Rattle.std.proofs.Common.{sym, subst, ◌∙◌, ap, arith}
 use Rattle.zstore.specs.Tree.{raised}
 use Rattle.zops.specs.Sound.{IsBounded}
 use Rattle.zops.proofs.Ends.{ended-ends, few_ephemerals}

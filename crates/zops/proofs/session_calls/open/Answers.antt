@@ -1,4 +1,4 @@
-use Rattle.std.proofs.Common.{◌≡◌, ap, sym, subst, ◌∙◌}
+use Rattle.std.proofs.Common.{ap, sym, subst, ◌∙◌}
 use Rattle.zstore.specs.Tree.{raised}
 use Rattle.zstore.specs.Sessions.{opened}
 use Rattle.zops.specs.Sound.{IsBounded}

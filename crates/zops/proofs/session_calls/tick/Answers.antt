@@ -1,4 +1,4 @@
-use Rattle.std.proofs.Common.{◌≡◌, ◌<◌, ◌+◌, length, ap, sym, subst, refl, ◌∙◌, arith}
+use Rattle.std.proofs.Common.{◌≡◌, ◌<◌, ◌+◌, length, ap, sym, subst, ◌∙◌, arith}
 use Rattle.std.proofs.lemmas.Bool.Decides.{nat_tests}
 use Rattle.zstore.specs.Tree.{Tree, raised}
 use Rattle.zstore.specs.Sessions.{all_ended, due, advanced}
@@ -7,7 +7,7 @@ use Rattle.zops.specs.declared.reply.Reply.TheVariants.{Ticked}
 use Rattle.zops.specs.Step.{ticked}
 use Rattle.zops.specs.Sound.{IsBounded}
 use Rattle.zops.proofs.Ends.{all_ended-ends}
-use Rattle.zops.proofs.Timed.{advanced_bounded, ticked_bounded, ticked-none, ticked-some}
+use Rattle.zops.proofs.Timed.{ticked_bounded, ticked-some}
 use Rattle.zops.proofs.session_calls.tick.Goals as goal
 
 pub advance-requires-clause-none_due : goal.advance-requires-clause-none_due

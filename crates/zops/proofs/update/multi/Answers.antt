@@ -3,7 +3,6 @@ use Rattle.zops.specs.declared.reply.Reply.TheVariants.{Multi}
 use Rattle.zops.specs.Multi.{run}
 use Rattle.zops.specs.Sound.{IsBounded, IsWithin, ChangesNodesAlone}
 use Rattle.zstore.specs.Lawful.{AllNodes}
-use Rattle.zstore.specs.Tree.{Tree}
 use Rattle.zops.specs.Step.{together}
 use Rattle.zops.proofs.Bounds.{raised_bounded}
 use Rattle.zops.proofs.update.multi.Goals as goal
