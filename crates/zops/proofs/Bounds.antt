@@ -3,13 +3,14 @@ use Rattle.std.proofs.Common.{◌≡◌, ℕ, ◌+◌, ◌*◌, ◌^◌, ◌<◌
 use Rattle.std.specs.Prelude.{◌&&◌}
 use Rattle.std.specs.FinMap as finite
 use Rattle.std.specs.FinMap.{get-insert, get-empty, get-remove}
-use Rattle.std.specs.Ordering.{eq_by_cmp}
+use Rattle.std.specs.Ordering.{eq_by_cmp, nat_cmp}
 use Rattle.std.specs.Option.{option_map_or}
 use Rattle.std.proofs.lemmas.Bool.Decides.{nat_tests}
 use Rattle.zpath.specs.Grammar.{path_cmp}
 use Rattle.zpath.specs.First.{first_that_holds}
 use Rattle.zpath.proofs.First.{no_test_holds}
 use Rattle.zstore.specs.declared.node.Node.{Node}
+use Rattle.zstore.specs.declared.session.Session.{Session}
 use Rattle.zstore.specs.Tree.{opening, Tree, Nodes, Path, new_node, parent_of, changed_at, with_child, without_child, with_data, stat_of, added, dropped, written, raised, HasRoom}
 use Rattle.zstore.proofs.Sorted.{paths_total}
 use Rattle.zops.specs.declared.call.Create.{Create as ToCreate}
@@ -22,8 +23,9 @@ use Rattle.zops.specs.declared.call.Part.TheVariants.{Create, Delete, SetData, C
 use Rattle.zops.specs.declared.refusal.Refusal.{Refusal}
 use Rattle.zops.specs.declared.reply.PartReply.{PartReply}
 use Rattle.zops.specs.declared.reply.PartReply.TheVariants.{Created, Deleted, Set, Checked}
-use Rattle.zops.specs.Part.{create_part, delete_part, set_part, check_part, part_step, create_refusals, delete_refusals, made_path, is_sequential, is_spent, node_has, unless_refused, on_version, has_other_version}
-use Rattle.zops.specs.Sound.{AllNodes, IsWithin, IsBounded}
+use Rattle.zops.specs.Part.{create_part, delete_part, set_part, check_part, part_step, create_refusals, delete_refusals, made_path, is_sequential, owner_of, is_spent, node_has, unless_refused, on_version, has_other_version}
+use Rattle.zstore.specs.Lawful.{AllNodes, AllSessions}
+use Rattle.zops.specs.Sound.{IsWithin, IsBounded, IsGranted, ChangesNodesAlone}
 use Rattle.zops.specs.declared.refusal.Refusal.TheVariants.{BadVersion}
 use Rattle.zops.proofs.Paths.{parent_of-made}
 
@@ -86,17 +88,17 @@ unspent nodes path sequential none n e taken =
     let here : is_spent n ≡ false = sym (ap (λ o. option_map_or is_spent o false) e) ∙ sym (ap (λ b. b && node_has is_spent nodes path) taken) ∙ none in
     grind (arith, nat_tests)
 
-added_within : (k : ℕ) (t : Tree) (path : Path) (bytes : List ℕ) (sequential : Bool) → AllNodes (IsWithin k) t.nodes → IsUnspent t.nodes (parent_of path) sequential → AllNodes (IsWithin (k + 1)) (added t path bytes 0 sequential).nodes
-added_within k t path bytes sequential all left =
+added_within : (k : ℕ) (t : Tree) (path : Path) (bytes : List ℕ) (owner : ℕ) (sequential : Bool) → AllNodes (IsWithin k) t.nodes → IsUnspent t.nodes (parent_of path) sequential → AllNodes (IsWithin (k + 1)) (added t path bytes owner sequential).nodes
+added_within k t path bytes owner sequential all left =
     all_changed (IsWithin k) (IsWithin (k + 1)) (finite.insert t.nodes path new) (parent_of path) (with_child (t.zxid + 1) sequential)
     more (later k)
     (λ n e. with_child_within k (t.zxid + 1) sequential n (more (parent_of path) n e) (λ taken. unspent_too n taken e))
   where
     new : Node
-    new = new_node bytes 0 (t.zxid + 1) t.time
+    new = new_node bytes owner (t.zxid + 1) t.time
 
     more : AllNodes (IsWithin k) (finite.insert t.nodes path new)
-    more = all_insert (IsWithin k) t.nodes path new all (new_within k bytes 0 (t.zxid + 1) t.time)
+    more = all_insert (IsWithin k) t.nodes path new all (new_within k bytes owner (t.zxid + 1) t.time)
 
     unspent_too : (n : Node) → sequential ≡ true → finite.get (finite.insert t.nodes path new) (parent_of path) ≡ Some n → n.seq ≤ 2147483647
     unspent_too n taken e =
@@ -117,22 +119,22 @@ written_within k t path bytes all =
 -- a part that did something left a tree in which every node was raised once more at most
 abbrev pub IsRoomy : ℕ → Tree → Result (Tree × PartReply) Refusal → Type 0
 IsRoomy k t (Err refusal) = Unit {0}
-IsRoomy k t (Ok (u, reply)) = (u.zxid ≡ t.zxid) × AllNodes (IsWithin (k + 1)) u.nodes
+IsRoomy k t (Ok (u, reply)) = AllNodes (IsWithin (k + 1)) u.nodes
 
-create_roomy : (k : ℕ) (t : Tree) (create : ToCreate) → AllNodes (IsWithin k) t.nodes → IsRoomy k t (create_part t create)
+create_roomy : (k : ℕ) (t : Tree) (client : ℕ) (create : ToCreate) → AllNodes (IsWithin k) t.nodes → IsRoomy k t (create_part t client create)
 unfolding create_part
-create_roomy k t create all = by (first_that_holds (create_refusals t.nodes create)) refl
+create_roomy k t client create all = by (first_that_holds (create_refusals t client create)) refl
   where
     made : Path
     made = made_path t.nodes create.kind create.path
 
-    by : (o : Option Refusal) → first_that_holds (create_refusals t.nodes create) ≡ o
-        → IsRoomy k t (unless_refused o (added t made create.bytes 0 (is_sequential create.kind), Created made))
+    by : (o : Option Refusal) → first_that_holds (create_refusals t client create) ≡ o
+        → IsRoomy k t (unless_refused o (added t made create.bytes (owner_of create.kind) (is_sequential create.kind), Created made))
     by (Some refusal) e = tt
     by None e =
-        let tests = no_test_holds (create_refusals t.nodes create) e in
-        let left = unspent t.nodes (parent_of create.path) (is_sequential create.kind) tests.1.1.1.0 in
-        (refl, added_within k t made create.bytes (is_sequential create.kind) all (subst (λ p. IsUnspent t.nodes p (is_sequential create.kind)) (sym (parent_of-made t.nodes create.kind create.path)) left))
+        let tests = no_test_holds (create_refusals t client create) e in
+        let left = unspent t.nodes (parent_of create.path) (is_sequential create.kind) tests.1.1.1.1.0 in
+        added_within k t made create.bytes (owner_of create.kind) (is_sequential create.kind) all (subst (λ p. IsUnspent t.nodes p (is_sequential create.kind)) (sym (parent_of-made t.nodes create.kind create.path)) left)
 
 delete_roomy : (k : ℕ) (t : Tree) (delete : ToDelete) → AllNodes (IsWithin k) t.nodes → IsRoomy k t (delete_part t delete)
 unfolding delete_part
@@ -140,7 +142,7 @@ delete_roomy k t delete all = by (first_that_holds (delete_refusals t.nodes dele
   where
     by : (o : Option Refusal) → IsRoomy k t (unless_refused o (dropped t delete.path, Deleted))
     by (Some refusal) = tt
-    by None = (refl, dropped_within k t delete.path all)
+    by None = dropped_within k t delete.path all
 
 on_version_roomy : (k : ℕ) (t : Tree) (expected : Expected) (o : Option Node) (act : Node → Tree × PartReply) → ((n : Node) → IsRoomy k t (Ok (act n))) → IsRoomy k t (on_version expected o act)
 on_version_roomy k t expected None act each = tt
@@ -155,27 +157,38 @@ unfolding set_part
 set_roomy k t set all =
     on_version_roomy k t set.version (finite.get t.nodes set.path)
     (λ n. (written t set.path set.bytes, Set (stat_of (written t set.path set.bytes).nodes set.path (with_data set.bytes (t.zxid + 1) t.time n))))
-    (λ n. (refl, written_within k t set.path set.bytes all))
+    (λ n. written_within k t set.path set.bytes all)
 
 check_roomy : (k : ℕ) (t : Tree) (check : ToCheck) → AllNodes (IsWithin k) t.nodes → IsRoomy k t (check_part t check)
 unfolding check_part
 check_roomy k t check all =
     on_version_roomy k t check.version (finite.get t.nodes check.path) (λ n. (t, Checked))
-    (λ n. (refl, (λ path n e. later k n (all path n e))))
+    (λ n path m e. later k m (all path m e))
 
-pub part_roomy : (k : ℕ) (t : Tree) (part : Part) → AllNodes (IsWithin k) t.nodes → IsRoomy k t (part_step t part)
-part_roomy k t (Create create) all = create_roomy k t create all
-part_roomy k t (Delete delete) all = delete_roomy k t delete all
-part_roomy k t (SetData set) all = set_roomy k t set all
-part_roomy k t (Check check) all = check_roomy k t check all
+pub part_roomy : (k : ℕ) (t : Tree) (client : ℕ) (part : Part) → AllNodes (IsWithin k) t.nodes → IsRoomy k t (part_step t client part)
+part_roomy k t client (Create create) all = create_roomy k t client create all
+part_roomy k t client (Delete delete) all = delete_roomy k t delete all
+part_roomy k t client (SetData set) all = set_roomy k t set all
+part_roomy k t client (Check check) all = check_roomy k t check all
 
--- a change whose parts raised each node at most 4,096 times leaves room for the next
-pub raised_bounded : (t u : Tree) (k : ℕ) → t.zxid + 1 < 2 ^ 40 → k ≤ 4096 * t.zxid + 4096 → u.zxid ≡ t.zxid → AllNodes (IsWithin k) u.nodes → IsBounded (raised u)
-raised_bounded t u k room few same all =
-    record {
-      zxid = rw same room;
-      counters = λ path n e. within_more k (4096 * (u.zxid + 1)) n (omega (arith, few, same)) (all path n e);
-    }
+-- a session that was granted stays so
+pub granted_more : (low high id : ℕ) (s : Session) → low ≤ high → IsGranted low id s → IsGranted high id s
+granted_more low high id s more h = record { before = omega (arith, more, h.before); least = h.least; most = h.most }
+
+-- a change that raised each node at most 4,096 times, and opened no session, leaves room for the next
+module _ (t u : Tree) (k : ℕ) (bounded : IsBounded t) (room : t.zxid + 1 < 2 ^ 40) (few : k ≤ 4096 * t.zxid + 4096) (same : u.zxid ≡ t.zxid) (all : AllNodes (IsWithin k) u.nodes) where
+  pub still_bounded : u.time < 2 ^ 40 → ((id : ℕ) (s : Session) → finite.get u.sessions id ≡ Some s → finite.get t.sessions id ≡ Some s) → IsBounded (raised u)
+  still_bounded early old =
+      record {
+        zxid = rw same room;
+        time = early;
+        counters = λ path n e. within_more k (4096 * (u.zxid + 1)) n (omega (arith, few, same)) (all path n e);
+        sessions = λ id s e. granted_more t.zxid (u.zxid + 1) id s (omega (arith, same)) (bounded.sessions id s (old id s e));
+      }
+
+pub raised_bounded : (t u : Tree) (k : ℕ) → IsBounded t → t.zxid + 1 < 2 ^ 40 → k ≤ 4096 * t.zxid + 4096 → ChangesNodesAlone t u → AllNodes (IsWithin k) u.nodes → IsBounded (raised u)
+raised_bounded t u k bounded room few same all =
+    still_bounded t u k bounded room few same.zxid all (rw same.time bounded.time) (λ id s e. ap (λ sessions. finite.get sessions id) (sym same.sessions) ∙ e)
 
 pub no_nodes : (P : Node → Type 0) → AllNodes P finite.empty
 no_nodes P path n e = absurd (none_is_not_some n (sym (get-empty path_cmp path) ∙ e))
@@ -183,5 +196,8 @@ no_nodes P path n e = absurd (none_is_not_some n (sym (get-empty path_cmp path) 
     none_is_not_some : (n : Node) → None ≡ Some n → ⊥
     none_is_not_some n e = cc
 
+pub no_sessions : AllSessions (IsGranted 0) finite.empty
+no_sessions id s e = let clash : None ≡ Some s = sym (get-empty nat_cmp id) ∙ e in cc
+
 pub opening_bounded : IsBounded opening
-opening_bounded = record { zxid = lit< tt; counters = all_insert (IsWithin 0) finite.empty [] (new_node [] 0 0 0) (no_nodes (IsWithin 0)) (new_within 0 [] 0 0 0) }
+opening_bounded = record { zxid = lit< tt; time = lit< tt; sessions = no_sessions; counters = all_insert (IsWithin 0) finite.empty [] (new_node [] 0 0 0) (no_nodes (IsWithin 0)) (new_within 0 [] 0 0 0) }

@@ -1,5 +1,5 @@
 -- The refusals of a create, as they are tested.
-use Rattle.std.proofs.Common.{◌≡◌, Bool, true, false, List, Some, None, Ok, Err, [], ◌∷◌, refl, sym, ap, ◌∙◌}
+use Rattle.std.proofs.Common.{◌≡◌, ℕ, Bool, true, false, List, Some, None, Ok, Err, [], ◌∷◌, refl, sym, ap, ◌∙◌}
 use Rattle.std.specs.Prelude.{nat_le}
 use Rattle.std.specs.FinMap as finite
 use Rattle.zpath.specs.First.{first_that_holds}
@@ -10,47 +10,47 @@ use Rattle.zops.specs.declared.refusal.Refusal.TheVariants.{NodeExists, Full}
 use Rattle.zops.specs.declared.reply.PartReply.TheVariants.{Created}
 use Rattle.zops.specs.declared.part.Stop.{Stop}
 use Rattle.zops.specs.declared.part.Stop.TheVariants.{Refused, Memory}
-use Rattle.zops.specs.Part.{create_part, create_refusals, name_refusals, made_path, unless_refused, is_root, is_owned, IsStop, IsStopped, is_sequential, node_has}
+use Rattle.zops.specs.Part.{create_part, create_refusals, name_refusals, made_path, unless_refused, is_root, is_owned, IsStop, IsStopped, is_sequential, owner_of, has_no_owner, node_has}
 use Rattle.zops.proofs.Tables.{first_of_both, second_of_both}
 
-pub created-refused : (t : Tree) (create : Create) (refusal : Refusal) → first_that_holds (create_refusals t.nodes create) ≡ Some refusal → create_part t create ≡ Err refusal
+pub created-refused : (t : Tree) (client : ℕ) (create : Create) (refusal : Refusal) → first_that_holds (create_refusals t client create) ≡ Some refusal → create_part t client create ≡ Err refusal
 unfolding create_part
-created-refused t create refusal e =
+created-refused t client create refusal e =
     let made = made_path t.nodes create.kind create.path in
-    ap (λ o. unless_refused o (added t made create.bytes 0 (is_sequential create.kind), Created made)) e
+    ap (λ o. unless_refused o (added t made create.bytes (owner_of create.kind) (is_sequential create.kind), Created made)) e
 
-pub created-done : (t : Tree) (create : Create) → first_that_holds (create_refusals t.nodes create) ≡ None
-    → create_part t create ≡ Ok (added t (made_path t.nodes create.kind create.path) create.bytes 0 (is_sequential create.kind), Created (made_path t.nodes create.kind create.path))
+pub created-done : (t : Tree) (client : ℕ) (create : Create) → first_that_holds (create_refusals t client create) ≡ None
+    → create_part t client create ≡ Ok (added t (made_path t.nodes create.kind create.path) create.bytes (owner_of create.kind) (is_sequential create.kind), Created (made_path t.nodes create.kind create.path))
 unfolding create_part
-created-done t create e =
+created-done t client create e =
     let made = made_path t.nodes create.kind create.path in
-    ap (λ o. unless_refused o (added t made create.bytes 0 (is_sequential create.kind), Created made)) e
+    ap (λ o. unless_refused o (added t made create.bytes (owner_of create.kind) (is_sequential create.kind), Created made)) e
 
 -- the tests of the place that a made path has
 abbrev place_refusals : Nodes → Create → List (Bool × Refusal)
 place_refusals nodes create =
     (has_node nodes (made_path nodes create.kind create.path), NodeExists) ∷ (nat_le 4096 (finite.len nodes), Full) ∷ []
 
--- a create below the root, beneath a node that no session owns
-module _ (nodes : Nodes) (create : Create) (root : is_root create.path ≡ false) (there : has_node nodes (parent_of create.path) ≡ true) (unowned : node_has is_owned nodes (parent_of create.path) ≡ false) where
-  pub unnamed : (refusal : Refusal) → first_that_holds (name_refusals nodes create.kind create.path) ≡ Some refusal → first_that_holds (create_refusals nodes create) ≡ Some refusal
-  unnamed refusal e = rw (root, there, unowned) (first_of_both (name_refusals nodes create.kind create.path) (place_refusals nodes create) refusal e)
+-- a create whose owner is there, below the root, beneath a node that no session owns
+module _ (t : Tree) (client : ℕ) (create : Create) (owned : has_no_owner t.sessions client create.kind ≡ false) (root : is_root create.path ≡ false) (there : has_node t.nodes (parent_of create.path) ≡ true) (unowned : node_has is_owned t.nodes (parent_of create.path) ≡ false) where
+  pub unnamed : (refusal : Refusal) → first_that_holds (name_refusals t.nodes create.kind create.path) ≡ Some refusal → first_that_holds (create_refusals t client create) ≡ Some refusal
+  unnamed refusal e = rw (owned, root, there, unowned) (first_of_both (name_refusals t.nodes create.kind create.path) (place_refusals t.nodes create) refusal e)
 
-  named : first_that_holds (name_refusals nodes create.kind create.path) ≡ None → first_that_holds (create_refusals nodes create) ≡ first_that_holds (place_refusals nodes create)
-  named e = rw (root, there, unowned) (second_of_both (name_refusals nodes create.kind create.path) (place_refusals nodes create) e)
+  named : first_that_holds (name_refusals t.nodes create.kind create.path) ≡ None → first_that_holds (create_refusals t client create) ≡ first_that_holds (place_refusals t.nodes create)
+  named e = rw (owned, root, there, unowned) (second_of_both (name_refusals t.nodes create.kind create.path) (place_refusals t.nodes create) e)
 
-  module _ (made : Path) (is_made : made ≡ made_path nodes create.kind create.path) (allowed : first_that_holds (name_refusals nodes create.kind create.path) ≡ None) where
-    pub taken : has_node nodes made ≡ true → first_that_holds (create_refusals nodes create) ≡ Some NodeExists
-    taken here = named allowed ∙ rw (sym (ap (has_node nodes) is_made) ∙ here) refl
+  module _ (made : Path) (is_made : made ≡ made_path t.nodes create.kind create.path) (allowed : first_that_holds (name_refusals t.nodes create.kind create.path) ≡ None) where
+    pub taken : has_node t.nodes made ≡ true → first_that_holds (create_refusals t client create) ≡ Some NodeExists
+    taken here = named allowed ∙ rw (sym (ap (has_node t.nodes) is_made) ∙ here) refl
 
-    pub full : has_node nodes made ≡ false → nat_le 4096 (finite.len nodes) ≡ true → first_that_holds (create_refusals nodes create) ≡ Some Full
-    full free many = named allowed ∙ rw (sym (ap (has_node nodes) is_made) ∙ free, many) refl
+    pub full : has_node t.nodes made ≡ false → nat_le 4096 (finite.len t.nodes) ≡ true → first_that_holds (create_refusals t client create) ≡ Some Full
+    full free many = named allowed ∙ rw (sym (ap (has_node t.nodes) is_made) ∙ free, many) refl
 
-    pub all_clear : has_node nodes made ≡ false → nat_le 4096 (finite.len nodes) ≡ false → first_that_holds (create_refusals nodes create) ≡ None
-    all_clear free few = named allowed ∙ rw (sym (ap (has_node nodes) is_made) ∙ free, few) refl
+    pub all_clear : has_node t.nodes made ≡ false → nat_le 4096 (finite.len t.nodes) ≡ false → first_that_holds (create_refusals t client create) ≡ None
+    all_clear free few = named allowed ∙ rw (sym (ap (has_node t.nodes) is_made) ∙ free, few) refl
 
 -- where a create finds no name, it is refused for that
-pub nameless : (t : Tree) (create : Create) → is_root create.path ≡ false → has_node t.nodes (parent_of create.path) ≡ true → node_has is_owned t.nodes (parent_of create.path) ≡ false
-    → (stop : Stop) → IsStopped (first_that_holds (name_refusals t.nodes create.kind create.path)) stop → IsStop (create_part t create) stop
-nameless t create root there unowned Memory h = tt
-nameless t create root there unowned (Refused refusal) h = created-refused t create refusal (unnamed t.nodes create root there unowned refusal h)
+pub nameless : (t : Tree) (client : ℕ) (create : Create) → has_no_owner t.sessions client create.kind ≡ false → is_root create.path ≡ false → has_node t.nodes (parent_of create.path) ≡ true → node_has is_owned t.nodes (parent_of create.path) ≡ false
+    → (stop : Stop) → IsStopped (first_that_holds (name_refusals t.nodes create.kind create.path)) stop → IsStop (create_part t client create) stop
+nameless t client create owned root there unowned Memory h = tt
+nameless t client create owned root there unowned (Refused refusal) h = created-refused t client create refusal (unnamed t client create owned root there unowned refusal h)

@@ -19,7 +19,7 @@ use Rattle.zops.specs.declared.refusal.Refusal.{Refusal}
 use Rattle.zops.specs.declared.refusal.Refusal.TheVariants.{BadVersion}
 use Rattle.zops.specs.declared.reply.PartReply.{PartReply}
 use Rattle.zops.specs.declared.reply.PartReply.TheVariants.{Created, Deleted, Set, Checked}
-use Rattle.zops.specs.Part.{part_step, create_part, delete_part, set_part, check_part, create_refusals, delete_refusals, made_path, counter_at, is_sequential, unless_refused, on_version, has_other_version}
+use Rattle.zops.specs.Part.{part_step, create_part, delete_part, set_part, check_part, create_refusals, delete_refusals, made_path, counter_at, is_sequential, owner_of, unless_refused, on_version, has_other_version}
 use Rattle.zops.specs.History.{is_same, numbered_since, NumbersDiffer}
 use Rattle.zops.proofs.Bounds.{unspent}
 use Rattle.zops.proofs.Paths.{not_root, parent_of-made}
@@ -74,10 +74,10 @@ no_less z sequential false n m is = let same = ap (λ (n : Node). n.seq) is in o
 
 module _ (above : Path) where
   -- the names that were made beneath the node differ, and their numbers are below its counter
-  abbrev HasNumbers : List Path → Tree → Type 0
-  HasNumbers made t = IsDistinct is_same made × ((n : Node) → finite.get t.nodes above ≡ Some n → AllByRecursion (IsGiven n.seq) made)
+  abbrev HasNumbers : List Path → Nodes → Type 0
+  HasNumbers made nodes = IsDistinct is_same made × ((n : Node) → finite.get nodes above ≡ Some n → AllByRecursion (IsGiven n.seq) made)
 
-  dropped-numbers : (made : List Path) (t : Tree) (gone : Path) → HasNumbers made t → HasNumbers made (dropped t gone)
+  dropped-numbers : (made : List Path) (t : Tree) (gone : Path) → HasNumbers made t.nodes → HasNumbers made (dropped t gone).nodes
   dropped-numbers made t gone inv = (inv.0, each)
     where
       each : (n : Node) → finite.get (dropped t gone).nodes above ≡ Some n → AllByRecursion (IsGiven n.seq) made
@@ -87,7 +87,7 @@ module _ (above : Path) where
           let same = same_of (λ (n : Node). n.seq) f (λ m. refl) (is_same above (parent_of gone)) n from.before from.is in
           subst (λ seq. AllByRecursion (IsGiven seq) made) (sym same) (inv.1 from.before (remained t.nodes gone above from.before from.there))
 
-  written-numbers : (made : List Path) (t : Tree) (at : Path) (bytes : List ℕ) → HasNumbers made t → HasNumbers made (written t at bytes)
+  written-numbers : (made : List Path) (t : Tree) (at : Path) (bytes : List ℕ) → HasNumbers made t.nodes → HasNumbers made (written t at bytes).nodes
   written-numbers made t at bytes inv = (inv.0, each)
     where
       each : (n : Node) → finite.get (written t at bytes).nodes above ≡ Some n → AllByRecursion (IsGiven n.seq) made
@@ -107,7 +107,7 @@ module _ (above : Path) where
       by false = each n
 
   -- a create that was done
-  module _ (made : List Path) (t : Tree) (create : ToCreate) (inv : HasNumbers made t)
+  module _ (made : List Path) (t : Tree) (create : ToCreate) (inv : HasNumbers made t.nodes)
       (below : create.path ≢ []) (there : has_node t.nodes (parent_of create.path) ≡ true)
       (left : (n : Node) → finite.get t.nodes (parent_of create.path) ≡ Some n → is_sequential create.kind ≡ true → n.seq ≤ 2147483647) where
     abbrev path : Path
@@ -117,12 +117,12 @@ module _ (above : Path) where
     sequential = is_sequential create.kind
 
     abbrev after : Tree
-    after = added t path create.bytes 0 sequential
+    after = added t path create.bytes (owner_of create.kind) sequential
 
     abbrev new : Node
-    new = new_node create.bytes 0 (t.zxid + 1) t.time
+    new = new_node create.bytes (owner_of create.kind) (t.zxid + 1) t.time
 
-    stays : is_same above path ≡ false → HasNumbers made after
+    stays : is_same above path ≡ false → HasNumbers made after.nodes
     stays other = (inv.0, each)
       where
         each : (n : Node) → finite.get after.nodes above ≡ Some n → AllByRecursion (IsGiven n.seq) made
@@ -131,7 +131,7 @@ module _ (above : Path) where
             given_more made from.before.seq n.seq (no_less (t.zxid + 1) sequential (is_same above (parent_of path)) n from.before from.is)
             (inv.1 from.before (insert_other t.nodes path above new from.before other from.there))
 
-    grows : is_same above path ≡ false → sequential ≡ true → is_same above (parent_of path) ≡ true → HasNumbers (path ∷ made) after
+    grows : is_same above path ≡ false → sequential ≡ true → is_same above (parent_of path) ≡ true → HasNumbers (path ∷ made) after.nodes
     unfolding IsDistinct
     grows other numbers beneath =
         let at : above ≡ parent_of create.path = one_path above (parent_of path) beneath ∙ parent_of-made t.nodes create.kind create.path in
@@ -161,43 +161,43 @@ module _ (above : Path) where
             )
 
     created : (b : Bool) → is_same above path ≡ b → (c : Bool) → (sequential && is_same above (parent_of path)) ≡ c
-        → HasNumbers (if b then [] else if c then path ∷ made else made) after
+        → HasNumbers (if b then [] else if c then path ∷ made else made) after.nodes
     unfolding IsDistinct
     created true same c e = (tt, λ n e. tt)
     created false other true e = let parts = both sequential (is_same above (parent_of path)) e in grows other parts.0 parts.1
     created false other false e = stays other
 
-  create-numbers : (made : List Path) (t : Tree) (create : ToCreate) → HasNumbers made t → Leaves (numbered_since above) HasNumbers made (Create create) (create_part t create)
+  create-numbers : (made : List Path) (t : Tree) (client : ℕ) (create : ToCreate) → HasNumbers made t.nodes → Leaves (numbered_since above) HasNumbers made (Create create) (create_part t client create)
   unfolding create_part
-  create-numbers made t create inv = by (first_that_holds (create_refusals t.nodes create)) refl
+  create-numbers made t client create inv = by (first_that_holds (create_refusals t client create)) refl
     where
-      by : (o : Option Refusal) → first_that_holds (create_refusals t.nodes create) ≡ o
+      by : (o : Option Refusal) → first_that_holds (create_refusals t client create) ≡ o
           → Leaves (numbered_since above) HasNumbers made (Create create)
-          (unless_refused o (added t (made_path t.nodes create.kind create.path) create.bytes 0 (is_sequential create.kind), Created (made_path t.nodes create.kind create.path)))
+          (unless_refused o (added t (made_path t.nodes create.kind create.path) create.bytes (owner_of create.kind) (is_sequential create.kind), Created (made_path t.nodes create.kind create.path)))
       by (Some refusal) e = tt
       by None e =
-          let tests = no_test_holds (create_refusals t.nodes create) e in
+          let tests = no_test_holds (create_refusals t client create) e in
           let path = made_path t.nodes create.kind create.path in
-          created made t create inv (not_root create.path tests.0) (is_there (has_node t.nodes (parent_of create.path)) tests.1.0)
-          (unspent t.nodes (parent_of create.path) (is_sequential create.kind) tests.1.1.1.0)
+          created made t create inv (not_root create.path tests.1.0) (is_there (has_node t.nodes (parent_of create.path)) tests.1.1.0)
+          (unspent t.nodes (parent_of create.path) (is_sequential create.kind) tests.1.1.1.1.0)
           (is_same above path) refl (is_sequential create.kind && is_same above (parent_of path)) refl
 
-  part-numbers : (made : List Path) (t : Tree) (part : Part) → HasNumbers made t → Leaves (numbered_since above) HasNumbers made part (part_step t part)
+  part-numbers : (made : List Path) (t : Tree) (client : ℕ) (part : Part) → HasNumbers made t.nodes → Leaves (numbered_since above) HasNumbers made part (part_step t client part)
   unfolding delete_part set_part check_part
-  part-numbers made t (Create create) inv = create-numbers made t create inv
-  part-numbers made t (Delete delete) inv = by (first_that_holds (delete_refusals t.nodes delete))
+  part-numbers made t client (Create create) inv = create-numbers made t client create inv
+  part-numbers made t client (Delete delete) inv = by (first_that_holds (delete_refusals t.nodes delete))
     where
       by : (o : Option Refusal) → Leaves (numbered_since above) HasNumbers made (Delete delete) (unless_refused o (dropped t delete.path, Deleted))
       by (Some refusal) = tt
       by None = dropped-numbers made t delete.path inv
-  part-numbers made t (SetData set) inv =
+  part-numbers made t client (SetData set) inv =
       on_version-leaves made (SetData set) set.version (finite.get t.nodes set.path)
       (λ n. (written t set.path set.bytes, Set (stat_of (written t set.path set.bytes).nodes set.path (with_data set.bytes (t.zxid + 1) t.time n))))
       (λ n. written-numbers made t set.path set.bytes inv)
-  part-numbers made t (Check check) inv =
+  part-numbers made t client (Check check) inv =
       on_version-leaves made (Check check) check.version (finite.get t.nodes check.path) (λ n. (t, Checked)) (λ n. inv)
 
 pub numbers_differ : NumbersDiffer
 unfolding IsDistinct
 numbers_differ calls above =
-    (kept_by_calls (numbered_since above) (HasNumbers above) (part-numbers above) (λ made t inv. inv) calls [] opening (tt, λ n e. tt)).0
+    (kept_by_calls (numbered_since above) (HasNumbers above) (part-numbers above) (dropped-numbers above) calls [] opening (tt, λ n e. tt)).0

@@ -9,8 +9,8 @@ use Rattle.zpath.specs.Numbered.{numbered, is_over}
 use Rattle.zstore.specs.Tree.{Path, Name, Nodes, parent_of}
 use Rattle.zstore.proofs.Nodes.{parent_of-front}
 use Rattle.zops.specs.declared.call.Kind.{Kind}
-use Rattle.zops.specs.declared.call.Kind.TheVariants.{Persistent, PersistentSequential}
-use Rattle.zops.specs.Part.{is_root, made_path, counter_at, name_refusals}
+use Rattle.zops.specs.declared.call.Kind.TheVariants.{Persistent, PersistentSequential, Ephemeral, EphemeralSequential}
+use Rattle.zops.specs.Part.{is_root, is_sequential, made_path, counter_at, name_refusals}
 
 pub record IsBelow (path above : Path) : Type 0 where
   pub root : is_root path ≡ false
@@ -55,18 +55,22 @@ numbered-below_root (n ∷ m ∷ path) counter below e = cc
 pub parent_of-made : (nodes : Nodes) (kind : Kind) (path : Path) → parent_of (made_path nodes kind path) ≡ parent_of path
 parent_of-made nodes Persistent path = refl
 parent_of-made nodes PersistentSequential path = parent_of-numbered path (counter_at nodes (parent_of path))
+parent_of-made nodes (Ephemeral session) path = refl
+parent_of-made nodes (EphemeralSequential session) path = parent_of-numbered path (counter_at nodes (parent_of path))
 
 pub made-below_root : (nodes : Nodes) (kind : Kind) (path : Path) → path ≢ [] → made_path nodes kind path ≢ []
 made-below_root nodes Persistent path below = below
 made-below_root nodes PersistentSequential path below = numbered-below_root path (counter_at nodes (parent_of path)) below
+made-below_root nodes (Ephemeral session) path below = below
+made-below_root nodes (EphemeralSequential session) path below = numbered-below_root path (counter_at nodes (parent_of path)) below
 
 pub not_root : (path : Path) → is_root path ≡ false → path ≢ []
 not_root [] h e = cc
 not_root (n ∷ path) h e = cc
 
 -- a path over no limit is allowed where no counter is added to it
-pub persistent-allowed : (nodes : Nodes) (path : Path) → is_over path ≡ false → first_that_holds (name_refusals nodes Persistent path) ≡ None
-persistent-allowed nodes path short = rw short refl
+pub plain-allowed : (nodes : Nodes) (kind : Kind) (path : Path) → is_sequential kind ≡ false → is_over path ≡ false → first_that_holds (name_refusals nodes kind path) ≡ None
+plain-allowed nodes kind path plain short = rw (plain, short) refl
 
 pub is_root-no_names : (path : Path) → is_root path ≡ (length path == 0)
 is_root-no_names [] = refl

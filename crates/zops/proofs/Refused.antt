@@ -1,20 +1,22 @@
 -- A refused call leaves the tree.
-use Rattle.std.proofs.Common.{◌≡◌, ℕ, Bool, true, false, if◌then◌else◌, [], Option, Some, None, Result, Ok, Err, length, refl, sym, ap, ◌∙◌}
+use Rattle.std.proofs.Common.{◌≡◌, ℕ, ◌+◌, Bool, true, false, if◌then◌else◌, List, [], ◌∷◌, Option, Some, None, Result, Ok, Err, length, refl, sym, ap, ◌∙◌}
+use Rattle.std.specs.Prelude.{nat_le}
 use Rattle.std.specs.FinMap as finite
-use Rattle.zstore.specs.Tree.{Tree, children, stat_of}
+use Rattle.zstore.specs.Tree.{Tree, children, stat_of, raised}
+use Rattle.zstore.specs.Sessions.{opened, touched, ended, due}
 use Rattle.zstore.specs.declared.node.Node.{Node}
 use Rattle.zstore.specs.declared.node.Stat.{Stat}
 use Rattle.zops.specs.declared.call.Update.{Update}
-use Rattle.zops.specs.declared.call.Update.TheVariants.{Create, Delete, SetData, Multi}
+use Rattle.zops.specs.declared.call.Update.TheVariants.{Create, Delete, SetData, Multi, Open, Ping, Close, Tick}
 use Rattle.zops.specs.declared.refusal.Refusal.{Refusal}
-use Rattle.zops.specs.declared.refusal.Refusal.TheVariants.{Exhausted}
+use Rattle.zops.specs.declared.refusal.Refusal.TheVariants.{SessionGone, TooManySessions, Exhausted}
 use Rattle.zops.specs.declared.reply.PartReply.{PartReply}
 use Rattle.zops.specs.declared.reply.PartReply.TheVariants as part_reply
 use Rattle.zops.specs.declared.reply.Reply.{Reply}
 use Rattle.zops.specs.declared.reply.Reply.TheVariants as reply
-use Rattle.zops.specs.Part.{create_part, delete_part, set_part}
+use Rattle.zops.specs.Part.{create_part, delete_part, set_part, is_gone}
 use Rattle.zops.specs.Multi.{Run, run}
-use Rattle.zops.specs.Step.{step, answer, changed, alone, together, reply_of, is_exhausted, on_node}
+use Rattle.zops.specs.Step.{step, answer, changed, alone, together, reply_of, granted, with_session, on_session, ticked, is_exhausted, on_node}
 use Rattle.zops.specs.Laws.{RefusedChangesNothing, RefusedMultiChangesNothing, CountsTheNames}
 
 -- no part that was done answers a refusal
@@ -46,32 +48,66 @@ together-no_multi : (t : Tree) (did : Run) (number : ℕ) (refusal : Refusal) �
 together-no_multi t (Err (n, why)) number refusal e = refl
 together-no_multi t (Ok (u, replies)) number refusal e = cc
 
+-- what is shown of a reply and a tree, where the tree stays for a refusal
+refused_or : (t : Tree) (why : Refusal) (did : Tree × Reply) (P : Tree × Reply → Type 0) → P (t, reply.Refused why) → P did → (b : Bool) → P (if b then (t, reply.Refused why) else did)
+refused_or t why did P refused done true = refused
+refused_or t why did P refused done false = done
+
+with_session-refused : (t : Tree) (client timeout : ℕ) (refusal : Refusal) → (with_session t client timeout).1 ≡ reply.Refused refusal → (with_session t client timeout).0 ≡ t
+with_session-refused t client timeout refusal =
+    refused_or t TooManySessions (raised (opened t client timeout), reply.Opened (t.zxid + 1) timeout)
+    (λ did. did.1 ≡ reply.Refused refusal → did.0 ≡ t) (λ e. refl) (λ e. cc) (nat_le 1024 (finite.len t.sessions))
+
+with_session-no_multi : (t : Tree) (client timeout number : ℕ) (refusal : Refusal) → (with_session t client timeout).1 ≡ reply.MultiRefused number refusal → ⊥
+with_session-no_multi t client timeout number refusal =
+    refused_or t TooManySessions (raised (opened t client timeout), reply.Opened (t.zxid + 1) timeout)
+    (λ did. did.1 ≡ reply.MultiRefused number refusal → ⊥) (λ e. cc) (λ e. cc) (nat_le 1024 (finite.len t.sessions))
+
+on_session-refused : (t : Tree) (client session : ℕ) (did : Tree × Reply) (refusal : Refusal) → (did.1 ≡ reply.Refused refusal → ⊥) → (on_session t client session did).1 ≡ reply.Refused refusal → (on_session t client session did).0 ≡ t
+on_session-refused t client session did refusal isnt =
+    refused_or t SessionGone did (λ did. did.1 ≡ reply.Refused refusal → did.0 ≡ t) (λ e. refl) (λ e. absurd (isnt e)) (is_gone t.sessions client session)
+
+on_session-no_multi : (t : Tree) (client session : ℕ) (did : Tree × Reply) (number : ℕ) (refusal : Refusal) → (did.1 ≡ reply.MultiRefused number refusal → ⊥) → (on_session t client session did).1 ≡ reply.MultiRefused number refusal → ⊥
+on_session-no_multi t client session did number refusal isnt =
+    refused_or t SessionGone did (λ did. did.1 ≡ reply.MultiRefused number refusal → ⊥) (λ e. cc) isnt (is_gone t.sessions client session)
+
+tick_is_not_refused : (t : Tree) (ids : List ℕ) (refusal : Refusal) → (ticked t ids).1 ≡ reply.Refused refusal → ⊥
+tick_is_not_refused t [] refusal e = cc
+tick_is_not_refused t (id ∷ ids) refusal e = cc
+
+tick_is_no_multi : (t : Tree) (ids : List ℕ) (number : ℕ) (refusal : Refusal) → (ticked t ids).1 ≡ reply.MultiRefused number refusal → ⊥
+tick_is_no_multi t [] number refusal e = cc
+tick_is_no_multi t (id ∷ ids) number refusal e = cc
+
 changed-refused : (t : Tree) (client : ℕ) (update : Update) (refusal : Refusal) → (changed t client update).1 ≡ reply.Refused refusal → (changed t client update).0 ≡ t
-changed-refused t client (Create create) refusal e = alone-refused t (create_part t create) refusal e
+changed-refused t client (Create create) refusal e = alone-refused t (create_part t client create) refusal e
 changed-refused t client (Delete delete) refusal e = alone-refused t (delete_part t delete) refusal e
 changed-refused t client (SetData set) refusal e = alone-refused t (set_part t set) refusal e
-changed-refused t client (Multi parts) refusal e = together-refused t (run t [] parts) refusal e
+changed-refused t client (Multi parts) refusal e = together-refused t (run t client [] parts) refusal e
+changed-refused t client (Open ticks) refusal e = with_session-refused t client (granted ticks) refusal e
+changed-refused t client (Ping session) refusal e = on_session-refused t client session (touched t session, reply.Pinged) refusal (λ e. cc) e
+changed-refused t client (Close session) refusal e = on_session-refused t client session (raised (ended t session), reply.Closed) refusal (λ e. cc) e
+changed-refused t client Tick refusal e = absurd (tick_is_not_refused t (due t.sessions (t.time + 1)) refusal e)
 
 changed-no_multi : (t : Tree) (client : ℕ) (update : Update) (number : ℕ) (refusal : Refusal) → (changed t client update).1 ≡ reply.MultiRefused number refusal → (changed t client update).0 ≡ t
-changed-no_multi t client (Create create) number refusal e = alone-no_multi t (create_part t create) number refusal e
+changed-no_multi t client (Create create) number refusal e = alone-no_multi t (create_part t client create) number refusal e
 changed-no_multi t client (Delete delete) number refusal e = alone-no_multi t (delete_part t delete) number refusal e
 changed-no_multi t client (SetData set) number refusal e = alone-no_multi t (set_part t set) number refusal e
-changed-no_multi t client (Multi parts) number refusal e = together-no_multi t (run t [] parts) number refusal e
-
--- what is shown of a reply and a tree, where the tree stays if no number is left
-if_left : (t : Tree) (did : Tree × Reply) (P : Tree × Reply → Type 0) → P (t, reply.Refused Exhausted) → P did → (b : Bool) → P (if b then (t, reply.Refused Exhausted) else did)
-if_left t did P spent left true = spent
-if_left t did P spent left false = left
+changed-no_multi t client (Multi parts) number refusal e = together-no_multi t (run t client [] parts) number refusal e
+changed-no_multi t client (Open ticks) number refusal e = absurd (with_session-no_multi t client (granted ticks) number refusal e)
+changed-no_multi t client (Ping session) number refusal e = absurd (on_session-no_multi t client session (touched t session, reply.Pinged) number refusal (λ e. cc) e)
+changed-no_multi t client (Close session) number refusal e = absurd (on_session-no_multi t client session (raised (ended t session), reply.Closed) number refusal (λ e. cc) e)
+changed-no_multi t client Tick number refusal e = absurd (tick_is_no_multi t (due t.sessions (t.time + 1)) number refusal e)
 
 pub refused_changes_nothing : RefusedChangesNothing
 unfolding step
 refused_changes_nothing t client update refusal =
-    if_left t (changed t client update) (λ did. did.1 ≡ reply.Refused refusal → did.0 ≡ t) (λ e. refl) (changed-refused t client update refusal) (is_exhausted t)
+    refused_or t Exhausted (changed t client update) (λ did. did.1 ≡ reply.Refused refusal → did.0 ≡ t) (λ e. refl) (changed-refused t client update refusal) (is_exhausted t update)
 
 pub refused_multi_changes_nothing : RefusedMultiChangesNothing
 unfolding step
 refused_multi_changes_nothing t client update number refusal =
-    if_left t (changed t client update) (λ did. did.1 ≡ reply.MultiRefused number refusal → did.0 ≡ t) (λ e. refl) (changed-no_multi t client update number refusal) (is_exhausted t)
+    refused_or t Exhausted (changed t client update) (λ did. did.1 ≡ reply.MultiRefused number refusal → did.0 ≡ t) (λ e. refl) (changed-no_multi t client update number refusal) (is_exhausted t update)
 
 pub counts_the_names : CountsTheNames
 unfolding answer

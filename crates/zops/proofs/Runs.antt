@@ -1,5 +1,5 @@
 -- One part of a run, and its end.
-use Rattle.std.proofs.Common.{◌≡◌, ◌+◌, List, [], ◌∷◌, ◌++◌, length, Ok, Err, refl, ap}
+use Rattle.std.proofs.Common.{◌≡◌, ℕ, ◌+◌, List, [], ◌∷◌, ◌++◌, length, Ok, Err, refl, ap}
 use Rattle.zstore.specs.Tree.{Tree}
 use Rattle.zops.specs.declared.call.Part.{Part}
 use Rattle.zops.specs.declared.refusal.Refusal.{Refusal}
@@ -7,14 +7,14 @@ use Rattle.zops.specs.declared.reply.PartReply.{PartReply}
 use Rattle.zops.specs.Part.{part_step}
 use Rattle.zops.specs.Multi.{and_then, run}
 
-pub run-part : (t u : Tree) (replies : List PartReply) (part : Part) (parts : List Part) (reply : PartReply) → part_step t part ≡ Ok (u, reply) → run t replies (part ∷ parts) ≡ run u (replies ++ reply ∷ []) parts
+pub run-part : (t u : Tree) (client : ℕ) (replies : List PartReply) (part : Part) (parts : List Part) (reply : PartReply) → part_step t client part ≡ Ok (u, reply) → run t client replies (part ∷ parts) ≡ run u client (replies ++ reply ∷ []) parts
 unfolding run
-run-part t u replies part parts reply did = ap (λ did. and_then did (length replies + 1) (λ u reply. run u (replies ++ reply ∷ []) parts)) did
+run-part t u client replies part parts reply did = ap (λ did. and_then did (length replies + 1) (λ u reply. run u client (replies ++ reply ∷ []) parts)) did
 
-pub run-refused : (t : Tree) (replies : List PartReply) (part : Part) (parts : List Part) (refusal : Refusal) → part_step t part ≡ Err refusal → run t replies (part ∷ parts) ≡ Err (length replies + 1, refusal)
+pub run-refused : (t : Tree) (client : ℕ) (replies : List PartReply) (part : Part) (parts : List Part) (refusal : Refusal) → part_step t client part ≡ Err refusal → run t client replies (part ∷ parts) ≡ Err (length replies + 1, refusal)
 unfolding run
-run-refused t replies part parts refusal did = ap (λ did. and_then did (length replies + 1) (λ u reply. run u (replies ++ reply ∷ []) parts)) did
+run-refused t client replies part parts refusal did = ap (λ did. and_then did (length replies + 1) (λ u reply. run u client (replies ++ reply ∷ []) parts)) did
 
-pub run-end : (t : Tree) (replies : List PartReply) → run t replies [] ≡ Ok (t, replies)
+pub run-end : (t : Tree) (client : ℕ) (replies : List PartReply) → run t client replies [] ≡ Ok (t, replies)
 unfolding run
-run-end t replies = refl
+run-end t client replies = refl

@@ -1,9 +1,12 @@
 -- The zxids of a tree's nodes are those of changes that were made.
-use Rattle.std.proofs.Common.{◌≡◌, ℕ, ◌+◌, Bool, true, false, if◌then◌else◌, List, [], ◌∷◌, ◌++◌, length, Option, Some, None, Result, Ok, Err, refl, sym, ap, subst, lit<, arith}
+use Rattle.std.proofs.Common.{◌≡◌, ℕ, ◌+◌, Bool, true, false, if◌then◌else◌, List, [], ◌∷◌, ◌++◌, length, Option, Some, None, Result, Ok, Err, refl, sym, ap, subst, ◌∙◌, lit<, arith}
+use Rattle.std.specs.Prelude.{nat_le}
 use Rattle.std.specs.FinMap as finite
 use Rattle.zpath.specs.First.{first_that_holds}
 use Rattle.zstore.specs.declared.node.Node.{Node}
-use Rattle.zstore.specs.Tree.{Tree, Path, opening, new_node, parent_of, with_child, without_child, with_data, stat_of, added, dropped, written, raised}
+use Rattle.zstore.specs.Lawful.{AllNodes}
+use Rattle.zstore.specs.Sessions.{opened, touched, all_dropped, ended, all_ended, due, advanced}
+use Rattle.zstore.specs.Tree.{Tree, Path, ephemerals, opening, new_node, parent_of, with_child, without_child, with_data, stat_of, added, dropped, written, raised}
 use Rattle.zops.specs.declared.call.Create.{Create as ToCreate}
 use Rattle.zops.specs.declared.call.Delete.{Delete as ToDelete}
 use Rattle.zops.specs.declared.call.SetData.{SetData as ToSet}
@@ -12,18 +15,18 @@ use Rattle.zops.specs.declared.call.Expected.{Expected}
 use Rattle.zops.specs.declared.call.Part.{Part}
 use Rattle.zops.specs.declared.call.Part.TheVariants as part_of
 use Rattle.zops.specs.declared.call.Update.{Update}
-use Rattle.zops.specs.declared.call.Update.TheVariants.{Create, Delete, SetData, Multi}
+use Rattle.zops.specs.declared.call.Update.TheVariants.{Create, Delete, SetData, Multi, Open, Ping, Close, Tick}
 use Rattle.zops.specs.declared.refusal.Refusal.{Refusal}
-use Rattle.zops.specs.declared.refusal.Refusal.TheVariants.{BadVersion, Exhausted}
+use Rattle.zops.specs.declared.refusal.Refusal.TheVariants.{BadVersion, SessionGone, TooManySessions, Exhausted}
 use Rattle.zops.specs.declared.reply.PartReply.{PartReply}
 use Rattle.zops.specs.declared.reply.PartReply.TheVariants.{Created, Deleted, Set, Checked}
 use Rattle.zops.specs.declared.reply.Reply.{Reply}
 use Rattle.zops.specs.declared.reply.Reply.TheVariants as reply
-use Rattle.zops.specs.Part.{create_part, delete_part, set_part, check_part, part_step, create_refusals, delete_refusals, made_path, is_sequential, unless_refused, on_version, has_other_version}
+use Rattle.zops.specs.Part.{create_part, delete_part, set_part, check_part, part_step, create_refusals, delete_refusals, made_path, is_sequential, owner_of, is_gone, unless_refused, on_version, has_other_version}
 use Rattle.zops.specs.Multi.{Run, and_then, run}
-use Rattle.zops.specs.Step.{step, changed, alone, together, is_exhausted}
-use Rattle.zops.specs.Sound.{AllNodes}
-use Rattle.zops.specs.History.{after_calls, is_success, IsOlder, ZxidsRise}
+use Rattle.zops.specs.Step.{step, changed, alone, together, granted, ticked, is_exhausted}
+use Rattle.zops.specs.History.{after_calls, IsOlder, ZxidsRise}
+use Rattle.zops.proofs.Taking.{changes_take_one_zxid}
 use Rattle.zops.proofs.Bounds.{all_insert, all_remove, all_changed, no_nodes}
 
 -- every zxid of the tree's nodes is that of a change up to the next
@@ -47,12 +50,12 @@ on_version-dated zxid expected (Some n) act each = by (has_other_version expecte
     by true = tt
     by false = each n
 
-added-dated : (zxid : ℕ) (t : Tree) (path : Path) (bytes : List ℕ) (sequential : Bool) → IsDated zxid t → IsDated zxid (added t path bytes 0 sequential)
-added-dated zxid t path bytes sequential dated =
+added-dated : (zxid : ℕ) (t : Tree) (path : Path) (bytes : List ℕ) (owner : ℕ) (sequential : Bool) → IsDated zxid t → IsDated zxid (added t path bytes owner sequential)
+added-dated zxid t path bytes owner sequential dated =
     let Old = IsOlder (zxid + 2) in
     let same = dated.0 in
-    let now : Old (new_node bytes 0 (t.zxid + 1) t.time) = record { czxid = omega (arith, same); mzxid = omega (arith, same); pzxid = omega (arith, same) } in
-    let more = all_insert Old t.nodes path (new_node bytes 0 (t.zxid + 1) t.time) dated.1 now in (
+    let now : Old (new_node bytes owner (t.zxid + 1) t.time) = record { czxid = omega (arith, same); mzxid = omega (arith, same); pzxid = omega (arith, same) } in
+    let more = all_insert Old t.nodes path (new_node bytes owner (t.zxid + 1) t.time) dated.1 now in (
       same,
       all_changed Old Old _ (parent_of path) (with_child (t.zxid + 1) sequential) more (λ n old. old)
           (λ n e. let old = more (parent_of path) n e in record { czxid = old.czxid; mzxid = old.mzxid; pzxid = omega (arith, same) }),
@@ -77,12 +80,12 @@ written-dated zxid t path bytes dated =
           (λ n e. let old = dated.1 path n e in record { czxid = old.czxid; mzxid = omega (arith, same); pzxid = old.pzxid }),
     )
 
-create-dated : (zxid : ℕ) (t : Tree) (create : ToCreate) → IsDated zxid t → LeavesDated zxid (create_part t create)
+create-dated : (zxid : ℕ) (t : Tree) (client : ℕ) (create : ToCreate) → IsDated zxid t → LeavesDated zxid (create_part t client create)
 unfolding create_part
-create-dated zxid t create dated =
+create-dated zxid t client create dated =
     let made = made_path t.nodes create.kind create.path in
-    unless_dated zxid (first_that_holds (create_refusals t.nodes create)) (added t made create.bytes 0 (is_sequential create.kind), Created made)
-    (added-dated zxid t made create.bytes (is_sequential create.kind) dated)
+    unless_dated zxid (first_that_holds (create_refusals t client create)) (added t made create.bytes (owner_of create.kind) (is_sequential create.kind), Created made)
+    (added-dated zxid t made create.bytes (owner_of create.kind) (is_sequential create.kind) dated)
 
 delete-dated : (zxid : ℕ) (t : Tree) (delete : ToDelete) → IsDated zxid t → LeavesDated zxid (delete_part t delete)
 unfolding delete_part
@@ -100,11 +103,11 @@ check-dated : (zxid : ℕ) (t : Tree) (check : ToCheck) → IsDated zxid t → L
 unfolding check_part
 check-dated zxid t check dated = on_version-dated zxid check.version (finite.get t.nodes check.path) (λ n. (t, Checked)) (λ n. dated)
 
-part-dated : (zxid : ℕ) (t : Tree) (part : Part) → IsDated zxid t → LeavesDated zxid (part_step t part)
-part-dated zxid t (part_of.Create create) dated = create-dated zxid t create dated
-part-dated zxid t (part_of.Delete delete) dated = delete-dated zxid t delete dated
-part-dated zxid t (part_of.SetData set) dated = set-dated zxid t set dated
-part-dated zxid t (part_of.Check check) dated = check-dated zxid t check dated
+part-dated : (zxid : ℕ) (t : Tree) (client : ℕ) (part : Part) → IsDated zxid t → LeavesDated zxid (part_step t client part)
+part-dated zxid t client (part_of.Create create) dated = create-dated zxid t client create dated
+part-dated zxid t client (part_of.Delete delete) dated = delete-dated zxid t delete dated
+part-dated zxid t client (part_of.SetData set) dated = set-dated zxid t set dated
+part-dated zxid t client (part_of.Check check) dated = check-dated zxid t check dated
 
 -- what a run leaves, where all its parts were done
 abbrev RunDated : ℕ → Run → Type 0
@@ -115,12 +118,12 @@ and_then-dated : (zxid : ℕ) (did : Result (Tree × PartReply) Refusal) (number
 and_then-dated zxid (Err refusal) number go_on dated each = tt
 and_then-dated zxid (Ok (u, reply)) number go_on dated each = each u reply dated
 
-run-dated : (zxid : ℕ) (parts : List Part) (t : Tree) (replies : List PartReply) → IsDated zxid t → RunDated zxid (run t replies parts)
+run-dated : (zxid : ℕ) (parts : List Part) (t : Tree) (client : ℕ) (replies : List PartReply) → IsDated zxid t → RunDated zxid (run t client replies parts)
 unfolding run
-run-dated zxid [] t replies dated = dated
-run-dated zxid (part ∷ parts) t replies dated =
-    and_then-dated zxid (part_step t part) (length replies + 1) (λ u reply. run u (replies ++ reply ∷ []) parts)
-    (part-dated zxid t part dated) (λ u reply dated. run-dated zxid parts u (replies ++ reply ∷ []) dated)
+run-dated zxid [] t client replies dated = dated
+run-dated zxid (part ∷ parts) t client replies dated =
+    and_then-dated zxid (part_step t client part) (length replies + 1) (λ u reply. run u client (replies ++ reply ∷ []) parts)
+    (part-dated zxid t client part dated) (λ u reply dated. run-dated zxid parts u client (replies ++ reply ∷ []) dated)
 
 -- between two calls, every zxid of a node is that of a change that was made
 abbrev IsSettled : Tree → Type 0
@@ -132,42 +135,61 @@ later t settled = (refl, λ path n e. let old = settled path n e in record { czx
 settled : (t u : Tree) → IsDated t.zxid u → IsSettled (raised u)
 settled t u dated path n e = let same = dated.0 in let old = dated.1 path n e in record { czxid = omega (arith, same, old.czxid); mzxid = omega (arith, same, old.mzxid); pzxid = omega (arith, same, old.pzxid) }
 
--- what a call leaves: a settled tree, whose zxid is the next where the call was done
-pub record Goes (t : Tree) (did : Tree × Reply) : Type 0 where
-  pub settled : IsSettled did.0
-  pub next : is_success did.1 ≡ true → did.0.zxid ≡ t.zxid + 1
+-- nodes that go leave the others dated
+all_dropped-dated : (zxid : ℕ) (paths : List Path) (t : Tree) → IsDated zxid t → IsDated zxid (all_dropped t paths)
+all_dropped-dated zxid [] t dated = dated
+all_dropped-dated zxid (path ∷ paths) t dated = all_dropped-dated zxid paths (dropped t path) (dropped-dated zxid t path dated)
 
-alone-goes : (t : Tree) (part : Result (Tree × PartReply) Refusal) → IsSettled t → LeavesDated t.zxid part → Goes t (alone t part)
-alone-goes t (Err refusal) is dated = record { settled = is; next = λ e. cc }
-alone-goes t (Ok (u, done)) is dated = record { settled = settled t u dated; next = λ e. ap (λ z. z + 1) dated.0 }
+all_ended-dated : (zxid : ℕ) (ids : List ℕ) (t : Tree) → IsDated zxid t → IsDated zxid (all_ended t ids)
+all_ended-dated zxid [] t dated = dated
+all_ended-dated zxid (id ∷ ids) t dated = all_ended-dated zxid ids (ended t id) (all_dropped-dated zxid (ephemerals t.nodes id) t dated)
 
-together-goes : (t : Tree) (did : Run) → IsSettled t → RunDated t.zxid did → Goes t (together t did)
-together-goes t (Err (number, refusal)) is dated = record { settled = is; next = λ e. cc }
-together-goes t (Ok (u, replies)) is dated = record { settled = settled t u dated; next = λ e. ap (λ z. z + 1) dated.0 }
+-- a choice of two outcomes
+either : (t : Tree) (why : Reply) (did : Tree × Reply) (b : Bool) → IsSettled t → IsSettled did.0 → IsSettled (if b then (t, why) else did).0
+either t why did true is done = is
+either t why did false is done = done
 
-changed-goes : (t : Tree) (client : ℕ) (update : Update) → IsSettled t → Goes t (changed t client update)
-changed-goes t client (Create create) is = alone-goes t (create_part t create) is (create-dated t.zxid t create (later t is))
-changed-goes t client (Delete delete) is = alone-goes t (delete_part t delete) is (delete-dated t.zxid t delete (later t is))
-changed-goes t client (SetData set) is = alone-goes t (set_part t set) is (set-dated t.zxid t set (later t is))
-changed-goes t client (Multi parts) is = together-goes t (run t [] parts) is (run-dated t.zxid parts t [] (later t is))
+alone-settled : (t : Tree) (part : Result (Tree × PartReply) Refusal) → IsSettled t → LeavesDated t.zxid part → IsSettled (alone t part).0
+alone-settled t (Err refusal) is dated = is
+alone-settled t (Ok (u, done)) is dated = settled t u dated
 
-step-goes : (t : Tree) (client : ℕ) (update : Update) → IsSettled t → Goes t (step t client update)
+together-settled : (t : Tree) (did : Run) → IsSettled t → RunDated t.zxid did → IsSettled (together t did).0
+together-settled t (Err (number, refusal)) is dated = is
+together-settled t (Ok (u, replies)) is dated = settled t u dated
+
+ticked-settled : (t : Tree) (ids : List ℕ) → IsSettled t → IsSettled (ticked t ids).0
+ticked-settled t [] is = is
+ticked-settled t (id ∷ ids) is = settled t (advanced (all_ended t (id ∷ ids))) (all_ended-dated t.zxid (id ∷ ids) t (later t is))
+
+-- what a call leaves is settled
+changed-settled : (t : Tree) (client : ℕ) (update : Update) → IsSettled t → IsSettled (changed t client update).0
+changed-settled t client (Create create) is = alone-settled t (create_part t client create) is (create-dated t.zxid t client create (later t is))
+changed-settled t client (Delete delete) is = alone-settled t (delete_part t delete) is (delete-dated t.zxid t delete (later t is))
+changed-settled t client (SetData set) is = alone-settled t (set_part t set) is (set-dated t.zxid t set (later t is))
+changed-settled t client (Multi parts) is = together-settled t (run t client [] parts) is (run-dated t.zxid parts t client [] (later t is))
+changed-settled t client (Open ticks) is =
+    either t (reply.Refused TooManySessions) (raised (opened t client (granted ticks)), reply.Opened (t.zxid + 1) (granted ticks)) (nat_le 1024 (finite.len t.sessions)) is
+    (settled t (opened t client (granted ticks)) (later t is))
+changed-settled t client (Ping session) is = either t (reply.Refused SessionGone) (touched t session, reply.Pinged) (is_gone t.sessions client session) is is
+changed-settled t client (Close session) is =
+    either t (reply.Refused SessionGone) (raised (ended t session), reply.Closed) (is_gone t.sessions client session) is
+    (settled t (ended t session) (all_dropped-dated t.zxid (ephemerals t.nodes session) t (later t is)))
+changed-settled t client Tick is = ticked-settled t (due t.sessions (t.time + 1)) is
+
+step-settled : (t : Tree) (client : ℕ) (update : Update) → IsSettled t → IsSettled (step t client update).0
 unfolding step
-step-goes t client update is = by (is_exhausted t)
-  where
-    by : (b : Bool) → Goes t (if b then (t, reply.Refused Exhausted) else changed t client update)
-    by true = record { settled = is; next = λ e. cc }
-    by false = changed-goes t client update is
+step-settled t client update is = either t (reply.Refused Exhausted) (changed t client update) (is_exhausted t update) is (changed-settled t client update is)
 
 opening-settled : IsSettled opening
 opening-settled = all_insert (IsOlder 1) finite.empty [] (new_node [] 0 0 0) (no_nodes (IsOlder 1)) (record { czxid = lit< tt; mzxid = lit< tt; pzxid = lit< tt })
 
 calls-settled : (calls : List (ℕ × Update)) (t : Tree) → IsSettled t → IsSettled (after_calls t calls)
 calls-settled [] t is = is
-calls-settled (call ∷ calls) t is = calls-settled calls (step t call.0 call.1).0 (step-goes t call.0 call.1 is).settled
+calls-settled (call ∷ calls) t is = calls-settled calls (step t call.0 call.1).0 (step-settled t call.0 call.1 is)
 
 pub zxids_rise : ZxidsRise
 zxids_rise calls client update path n done e =
     let t = after_calls opening calls in
     let is = calls-settled calls opening opening-settled in
-    subst (λ zxid. IsOlder zxid n) (sym ((step-goes t client update is).next done)) (is path n e)
+    let next : (step t client update).0.zxid ≡ t.zxid + 1 = changes_take_one_zxid t client update ∙ ap (λ b. t.zxid + (if b then 1 else 0)) done in
+    subst (λ zxid. IsOlder zxid n) (sym next) (is path n e)

@@ -1,5 +1,5 @@
 -- Runs of calls from the opening tree, and what holds of each: the statements are contracts in `src/laws.rt`.
-use Rattle.std.specs.Prelude.{◌≡◌, ℕ, ◌<◌, ◌+◌, Bool, true, false, ◌&&◌, List, [], ◌∷◌, ◌++◌, Some, Result, Ok, Err, if◌then◌else◌}
+use Rattle.std.specs.Prelude.{◌≡◌, ℕ, ◌<◌, ◌+◌, Bool, true, false, ◌&&◌, List, [], ◌∷◌, ◌++◌, Some, Result, Ok, Err, if◌then◌else◌, nat_lt}
 use Rattle.std.specs.List.{IsDistinct}
 use Rattle.std.specs.Ordering.{eq_by_cmp}
 use Rattle.std.specs.FinMap as finite
@@ -9,7 +9,7 @@ use Rattle.zstore.specs.declared.node.Node.{Node}
 use Rattle.zops.specs.declared.call.Part.{Part}
 use Rattle.zops.specs.declared.call.Part.TheVariants as part_of
 use Rattle.zops.specs.declared.call.Update.{Update}
-use Rattle.zops.specs.declared.call.Update.TheVariants.{Create, Delete, SetData, Multi}
+use Rattle.zops.specs.declared.call.Update.TheVariants.{Create, Delete, SetData, Multi, Open, Ping, Close, Tick}
 use Rattle.zops.specs.declared.refusal.Refusal.{Refusal}
 use Rattle.zops.specs.declared.reply.PartReply.{PartReply}
 use Rattle.zops.specs.declared.reply.PartReply.TheVariants as part_reply
@@ -32,9 +32,29 @@ is_success (reply.Created path) = true
 is_success reply.Deleted = true
 is_success (reply.Set stat) = true
 is_success (reply.Multi replies) = true
+is_success (reply.Opened session timeout) = true
+is_success reply.Pinged = true
+is_success reply.Closed = true
+is_success (reply.Ticked time ended) = true
 is_success (reply.Data bytes stat) = true
 is_success (reply.Exists stat) = true
 is_success (reply.Children names) = true
+
+-- the reply says that the call made a change: a ping makes none, and a tick only where it ends a session
+abbrev pub is_change : Reply → Bool
+is_change (reply.Refused refusal) = false
+is_change (reply.MultiRefused number refusal) = false
+is_change (reply.Created path) = true
+is_change reply.Deleted = true
+is_change (reply.Set stat) = true
+is_change (reply.Multi replies) = true
+is_change (reply.Opened session timeout) = true
+is_change reply.Pinged = false
+is_change reply.Closed = true
+is_change (reply.Ticked time ended) = nat_lt 0 ended
+is_change (reply.Data bytes stat) = false
+is_change (reply.Exists stat) = false
+is_change (reply.Children names) = false
 
 -- every zxid that the node tells is below this one
 pub record IsOlder (zxid : ℕ) (n : Node) : Type 0 where
@@ -42,13 +62,19 @@ pub record IsOlder (zxid : ℕ) (n : Node) : Type 0 where
   pub mzxid : n.mzxid < zxid
   pub pzxid : n.pzxid < zxid
 
--- after any calls from the opening, the zxid of a successful call is greater than every zxid that stood before it
+-- after any calls from the opening, the zxid of a change is greater than every zxid that stood before it
 abbrev pub ZxidsRise : Type 0
 ZxidsRise =
     (calls : List (ℕ × Update)) (client : ℕ) (update : Update) (path : Path) (n : Node)
-    → is_success (step (after_calls opening calls) client update).1 ≡ true
+    → is_change (step (after_calls opening calls) client update).1 ≡ true
     → finite.get (after_calls opening calls).nodes path ≡ Some n
     → IsOlder (step (after_calls opening calls) client update).0.zxid n
+
+-- a call takes one zxid where it makes a change, and else none
+abbrev pub ChangesTakeOneZxid : Type 0
+ChangesTakeOneZxid =
+    (t : Tree) (client : ℕ) (update : Update)
+    → (step t client update).0.zxid ≡ t.zxid + (if is_change (step t client update).1 then 1 else 0)
 
 -- a part that was done, and its reply
 abbrev pub Done : Type 0
@@ -59,31 +85,35 @@ abbrev pub and_done : Part → Result (Tree × PartReply) Refusal → (Tree → 
 and_done part (Err refusal) more = []
 and_done part (Ok (t, answer)) more = (part, answer) ∷ more t
 
--- these parts as changes of their own, one after the other, up to the first that is refused
-unfoldable pub parts_done : Tree → List Part → List Done
-parts_done t [] = []
-parts_done t (part ∷ parts) = and_done part (part_step t part) (λ u. parts_done u parts)
+-- these parts of a client as changes of their own, one after the other, up to the first that is refused
+unfoldable pub parts_done : Tree → ℕ → List Part → List Done
+parts_done t client [] = []
+parts_done t client (part ∷ parts) = and_done part (part_step t client part) (λ u. parts_done u client parts)
 
 -- a multi's parts where it was done, and none where it was refused
 abbrev pub where_done : Run → List Done → List Done
 where_done (Err stopped) parts = []
 where_done (Ok did) parts = parts
 
--- the parts that a call did
-abbrev pub update_done : Tree → Update → List Done
-update_done t (Create create) = parts_done t (part_of.Create create ∷ [])
-update_done t (Delete delete) = parts_done t (part_of.Delete delete ∷ [])
-update_done t (SetData set) = parts_done t (part_of.SetData set ∷ [])
-update_done t (Multi parts) = where_done (run t [] parts) (parts_done t parts)
+-- the parts that a call of a client did; those of sessions have none
+abbrev pub update_done : Tree → ℕ → Update → List Done
+update_done t client (Create create) = parts_done t client (part_of.Create create ∷ [])
+update_done t client (Delete delete) = parts_done t client (part_of.Delete delete ∷ [])
+update_done t client (SetData set) = parts_done t client (part_of.SetData set ∷ [])
+update_done t client (Multi parts) = where_done (run t client [] parts) (parts_done t client parts)
+update_done t client (Open ticks) = []
+update_done t client (Ping session) = []
+update_done t client (Close session) = []
+update_done t client Tick = []
 
 -- the same, where a next zxid is left
-abbrev pub call_done : Tree → Update → List Done
-call_done t update = if is_exhausted t then [] else update_done t update
+abbrev pub call_done : Tree → ℕ → Update → List Done
+call_done t client update = if is_exhausted t update then [] else update_done t client update
 
 -- the parts that these calls did, in their order
 abbrev pub calls_done : Tree → List (ℕ × Update) → List Done
 calls_done t [] = []
-calls_done t (call ∷ calls) = call_done t call.1 ++ calls_done (step t call.0 call.1).0 calls
+calls_done t (call ∷ calls) = call_done t call.0 call.1 ++ calls_done (step t call.0 call.1).0 calls
 
 -- what is told on going through parts in their order
 abbrev pub through : {S : Type 0} → (S → Part → PartReply → S) → S → List Done → S
@@ -132,8 +162,7 @@ numbered_since above made (part_of.Delete delete) answer = made
 numbered_since above made (part_of.SetData set) answer = made
 numbered_since above made (part_of.Check check) answer = made
 
--- two sequential creates beneath one node, between the part that made it and the part that removed it, never make the
--- same name
+-- two sequential creates beneath one node, from the part that made it on until it goes, never make the same name
 abbrev pub NumbersDiffer : Type 0
 NumbersDiffer =
     (calls : List (ℕ × Update)) (above : Path) → IsDistinct is_same (through (numbered_since above) [] (calls_done opening calls))

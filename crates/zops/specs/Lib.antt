@@ -4,3 +4,4 @@ pub mod Step
 pub mod Sound
 pub mod Laws
 pub mod History
+pub mod SessionLaws

@@ -1,6 +1,6 @@
 -- What holds of sessions: each is the contract of a function in `src/session_laws.rt`.
 -- ZooKeeper Programmer's Guide, "ZooKeeper Sessions" and "Ephemeral Nodes".
-use Rattle.std.specs.Prelude.{◌≡◌, ℕ, ◌<◌, ◌≤◌, ◌+◌, ◌⊎◌, ⊥, Bool, true, false, not, ◌&&◌, List, [], ◌∷◌, length, Option, None, Some, IsSome, if◌then◌else◌, nat_le, ◌==◌}
+use Rattle.std.specs.Prelude.{◌≡◌, ℕ, ◌<◌, ◌≤◌, ◌+◌, ◌⊎◌, false, not, List, [], ◌∷◌, length, Option, None, Some, IsSome, if◌then◌else◌, nat_le, ◌==◌}
 use Rattle.std.specs.Option.{option_and_then}
 use Rattle.std.specs.FinMap as finite
 use Rattle.zstore.specs.Tree.{Tree, Path, opening, has_node}
@@ -71,14 +71,16 @@ abbrev pub ticks_in : Tree → List (ℕ × Update) → ℕ
 ticks_in t [] = 0
 ticks_in t (call ∷ calls) = one_if_tick t call.0 call.1 + ticks_in (step t call.0 call.1).0 calls
 
--- none of these calls is the close of that session
-abbrev pub NeverCloses : ℕ → List (ℕ × Update) → Type 0
-NeverCloses id [] = Unit {0}
-NeverCloses id (call ∷ calls) = (call.1 ≡ Close id → ⊥) × NeverCloses id calls
+-- none of these calls is the close of that session by its own client
+abbrev pub NeverCloses : ℕ → ℕ → List (ℕ × Update) → Type 0
+NeverCloses client id [] = Unit {0}
+NeverCloses client id (call ∷ calls) = (call.0 ≡ client → call.1 ≡ Close id → ⊥) × NeverCloses client id calls
 
--- a session that isn't closed, and since its open or a ping has had fewer ticks than its timeout, lives
+-- after any calls from the opening: a session that its client doesn't close, and that has had fewer ticks than its timeout
+-- since its open or a ping, lives
 abbrev pub LivesItsTimeout : Type 0
 LivesItsTimeout =
-    (t : Tree) (id : ℕ) (s : Session) (calls : List (ℕ × Update))
-    → finite.get t.sessions id ≡ Some s → IsFresh t id → NeverCloses id calls → ticks_in t calls < s.timeout
-    → IsSome (finite.get (after_calls t calls).sessions id)
+    (before calls : List (ℕ × Update)) (id : ℕ) (s : Session)
+    → finite.get (after_calls opening before).sessions id ≡ Some s → IsFresh (after_calls opening before) id
+    → NeverCloses s.client id calls → ticks_in (after_calls opening before) calls < s.timeout
+    → IsSome (finite.get (after_calls (after_calls opening before) calls).sessions id)

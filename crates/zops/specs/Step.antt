@@ -73,13 +73,10 @@ with_session t client timeout =
 abbrev pub on_session : Tree → ℕ → ℕ → Tree × Reply → Tree × Reply
 on_session t client session did = if is_gone t.sessions client session then (t, reply.Refused SessionGone) else did
 
--- a tick ends the sessions whose deadline it reaches, by one change where there are any
-abbrev pub ticked : Tree → Tree × Reply
-ticked t = after (due t.sessions (t.time + 1))
-  where
-    after : List ℕ → Tree × Reply
-    after [] = (advanced t, reply.Ticked (t.time + 1) 0)
-    after (id ∷ ids) = (raised (advanced (all_ended t (id ∷ ids))), reply.Ticked (t.time + 1) (length (id ∷ ids)))
+-- a tick that ends these sessions, all by one change; where there are none, it makes no change
+abbrev pub ticked : Tree → List ℕ → Tree × Reply
+ticked t [] = (advanced t, reply.Ticked (t.time + 1) 0)
+ticked t (id ∷ ids) = (raised (advanced (all_ended t (id ∷ ids))), reply.Ticked (t.time + 1) (length (id ∷ ids)))
 
 -- an update of a client, while there is a next number
 abbrev pub changed : Tree → ℕ → Update → Tree × Reply
@@ -90,7 +87,7 @@ changed t client (Multi parts) = together t (run t client [] parts)
 changed t client (Open ticks) = with_session t client (granted ticks)
 changed t client (Ping session) = on_session t client session (touched t session, reply.Pinged)
 changed t client (Close session) = on_session t client session (raised (ended t session), reply.Closed)
-changed t client Tick = ticked t
+changed t client Tick = ticked t (due t.sessions (t.time + 1))
 
 -- an update of a client: the tree after it, and the reply
 unfoldable pub step : Tree → ℕ → Update → Tree × Reply

@@ -1,6 +1,6 @@
 //! What holds of the definitions themselves: each function's contract is a law, and its body does nothing.
 
-ghost use Rattle.zops.specs.History.{ZxidsRise, VersionCountsSets, NumbersDiffer};
+ghost use Rattle.zops.specs.History.{ZxidsRise, ChangesTakeOneZxid, VersionCountsSets, NumbersDiffer};
 ghost use Rattle.zops.specs.Laws.{RefusedChangesNothing, RefusedMultiChangesNothing, CountsTheNames, ListsInOrder};
 
 /// A refused call leaves the whole tree equal, and so does a multi that is refused in one of its parts.
@@ -19,10 +19,16 @@ pub fn names_are_in_order()
     ensures { ListsInOrder }
 {}
 
-/// After any calls from the opening, the zxid of a successful call is greater than every czxid, mzxid and
-/// pzxid that stood before it.
+/// After any calls from the opening, the zxid of a change is greater than every czxid, mzxid and pzxid that
+/// stood before it.
 pub fn zxids_rise()
     ensures { ZxidsRise }
+{}
+
+/// A call takes one zxid where it makes a change, and else none: a ping never, a tick only where it ends a
+/// session, a refused call never.
+pub fn changes_take_one_zxid()
+    ensures { ChangesTakeOneZxid }
 {}
 
 /// After any calls from the opening, a node's version is the number of successful sets from the part that
@@ -31,8 +37,8 @@ pub fn versions_count_sets()
     ensures { VersionCountsSets }
 {}
 
-/// After any calls from the opening, two sequential creates beneath one node, between the part that made it
-/// and the part that removed it, never make the same name.
+/// After any calls from the opening, two sequential creates beneath one node, from the part that made it on
+/// until it goes, never make the same name.
 pub fn numbers_differ()
     ensures { NumbersDiffer }
 {}

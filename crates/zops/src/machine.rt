@@ -40,12 +40,15 @@ impl Model for Machine {
 
 impl Machine {
     ghost use Rattle.zops.specs.Step.{opening, answer, entered};
+    ghost use Rattle.zstore.specs.Lawful.{IsLawful};
 
     /// A machine with the opening tree.
     pub fn new(alloc: Global) -> Result<Machine, Memory>
-        ensures { IfOk result (λ m. m ≡ record { state = opening; is_broken = false }) }
+        ensures opening { IfOk result (λ m. m ≡ record { state = opening; is_broken = false }) }
+        ensures lawful { IfOk result (λ m. IsLawful m.state.tree) }
     {
         let store = Store::new(alloc)?;
+        store.is_kept_lawful();
         Ok(Machine {
             alloc,
             store,
@@ -71,6 +74,7 @@ impl Machine {
         ensures sound { OnOk result ((self.old.is_broken ≡ false) × (self.new.is_broken ≡ false)) }
         ensures broken { OnErr result (self.new.is_broken ≡ true) }
         ensures stays { self.old.is_broken ≡ true → IsErr result }
+        ensures lawful { OnOk result (IsLawful self.new.state.tree) }
     {
         if self.is_broken {
             return Err(Memory);
@@ -78,6 +82,7 @@ impl Machine {
         match update(self.alloc, &mut self.store, entry.client, entry.update) {
             Ok(reply) => {
                 self.applied += 1;
+                self.store.is_kept_lawful();
                 Ok(Some(reply))
             }
             Err(memory) => {
@@ -91,10 +96,12 @@ impl Machine {
     pub fn ask(&self, query: &Query) -> Result<Reply, Memory>
         ensures ok { IfOk result (λ reply. reply ≡ answer self.now.state.tree query.now) }
         ensures broken { self.now.is_broken ≡ true → IsErr result }
+        ensures lawful { OnOk result (IsLawful self.now.state.tree) }
     {
         if self.is_broken {
             Err(Memory)
         } else {
+            self.store.is_kept_lawful();
             answer(self.alloc, &self.store, query)
         }
     }

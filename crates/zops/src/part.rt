@@ -6,16 +6,17 @@ ghost use Rattle.zpath.specs.First.{first_that_holds};
 ghost use Rattle.zpath.specs.Numbered.{is_over};
 ghost use Rattle.zops.specs.declared.part.Stop.TheVariants.{Refused, Memory as no_memory};
 ghost use Rattle.zops.specs.Part.{create_part, delete_part, set_part, check_part, part_step, is_owned, has_other_version, node_has, made_path, name_refusals, IsStop, IsStopped};
-ghost use Rattle.zops.specs.Sound.{AllNodes};
+ghost use Rattle.zstore.specs.Lawful.{AllNodes};
 ghost use Rattle.zstore.specs.Tree.{Path, HasRoom, parent_of, children};
 ghost use Rattle.zstore.specs.Held.{path_of};
 
 use crate::call::{Check, Create, Delete, Expected, Kind, Part, SetData};
+use crate::owner::has_no_owner;
 use crate::refusal::Refusal;
 use crate::reply::PartReply;
 use std::alloc::Global;
 use zpath::{Memory, Path, PathFault};
-use zstore::{Id, MAX_NODES, Store};
+use zstore::{ClientId, Id, MAX_NODES, Store};
 
 /// The last number that a node's counter gives. The limit is ZooKeeper's.
 const MAX_COUNTER: u64 = 2147483647;
@@ -37,18 +38,23 @@ impl From<Memory> for Stop {
     }
 }
 
-/// Does one part. Where it did nothing, the store is as it was.
-pub(crate) fn part(alloc: Global, store: &mut Store, part: Part) -> Result<PartReply, Stop>
+/// Does one part for a client. Where it did nothing, the store is as it was.
+pub(crate) fn part(
+    alloc: Global,
+    store: &mut Store,
+    client: ClientId,
+    part: Part,
+) -> Result<PartReply, Stop>
     requires counters { AllNodes HasRoom store.old.tree.nodes }
     requires zxid { store.old.tree.zxid + 1 < 2 ^ 40 }
     requires given { store.old.given < 2 ^ 127 }
-    ensures done { IfOk result (λ reply. part_step store.old.tree part ≡ Ok (store.new.tree, reply)) }
-    ensures stopped { IfErr result (IsStop (part_step store.old.tree part)) }
+    ensures done { IfOk result (λ reply. part_step store.old.tree client part ≡ Ok (store.new.tree, reply)) }
+    ensures stopped { IfErr result (IsStop (part_step store.old.tree client part)) }
     ensures given { store.new.given ≤ store.old.given + 1 }
     ensures same { OnErr result (store.new ≡ store.old) }
 {
     match part {
-        Part::Create(wanted) => create(alloc, store, wanted),
+        Part::Create(wanted) => create(alloc, store, client, wanted),
         Part::Delete(wanted) => delete(store, &wanted),
         Part::SetData(wanted) => set(store, wanted),
         Part::Check(wanted) => check(store, &wanted),
@@ -84,32 +90,38 @@ fn made_path(alloc: Global, store: &Store, parent: Id, kind: Kind, path: Path) -
     ensures allowed { OnOk result (first_that_holds (name_refusals store.now.tree.nodes kind path) ≡ None) }
     ensures stopped { IfErr result (IsStopped (first_that_holds (name_refusals store.now.tree.nodes kind path))) }
 {
-    match kind {
-        Kind::Persistent => Ok(path),
-        Kind::PersistentSequential => {
-            let counter = store.seq(parent).unwrap_or(0);
-            if counter > MAX_COUNTER {
-                return Err(Stop::Refused(Refusal::SequenceFull));
-            }
-            match path.numbered(alloc, counter) {
-                Ok(made) => Ok(made),
-                Err(PathFault::Memory) => Err(Stop::Memory),
-                Err(_) => Err(Stop::Refused(Refusal::PathLimit)),
-            }
-        }
+    if !kind.is_sequential() {
+        return Ok(path);
+    }
+    let counter = store.seq(parent).unwrap_or(0);
+    if counter > MAX_COUNTER {
+        return Err(Stop::Refused(Refusal::SequenceFull));
+    }
+    match path.numbered(alloc, counter) {
+        Ok(made) => Ok(made),
+        Err(PathFault::Memory) => Err(Stop::Memory),
+        Err(_) => Err(Stop::Refused(Refusal::PathLimit)),
     }
 }
 
 // Makes a node.
-fn create(alloc: Global, store: &mut Store, create: Create) -> Result<PartReply, Stop>
+fn create(
+    alloc: Global,
+    store: &mut Store,
+    client: ClientId,
+    create: Create,
+) -> Result<PartReply, Stop>
     requires counters { AllNodes HasRoom store.old.tree.nodes }
     requires zxid { store.old.tree.zxid + 1 < 2 ^ 40 }
     requires given { store.old.given < 2 ^ 127 }
-    ensures done { IfOk result (λ reply. create_part store.old.tree create ≡ Ok (store.new.tree, reply)) }
-    ensures stopped { IfErr result (IsStop (create_part store.old.tree create)) }
+    ensures done { IfOk result (λ reply. create_part store.old.tree client create ≡ Ok (store.new.tree, reply)) }
+    ensures stopped { IfErr result (IsStop (create_part store.old.tree client create)) }
     ensures given { store.new.given ≤ store.old.given + 1 }
     ensures same { OnErr result (store.new ≡ store.old) }
 {
+    if has_no_owner(store, client, create.kind) {
+        return Err(Stop::Refused(Refusal::SessionGone));
+    }
     let Some(above) = create.path.parent(alloc)? else {
         return Err(Stop::Refused(Refusal::NodeExists));
     };
@@ -127,8 +139,9 @@ fn create(alloc: Global, store: &mut Store, create: Create) -> Result<PartReply,
         return Err(Stop::Refused(Refusal::Full));
     }
     let path = made.copied(alloc)?;
+    let owner = create.kind.owner();
     let is_sequential = create.kind.is_sequential();
-    store.add(parent, made, create.bytes, 0, is_sequential)?;
+    store.add(parent, made, create.bytes, owner, is_sequential)?;
     Ok(PartReply::Created(path))
 }
 

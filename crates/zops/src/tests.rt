@@ -3,86 +3,13 @@
 
 use crate::Expected::{Any, Exactly};
 use crate::Kind::{Persistent, PersistentSequential};
+use crate::testing::{alone, apply, ask, create, multi};
 use crate::{
-    Check, ClientId, Create, Data, Delete, Entry, Expected, Kind, MAX_APPLIED, MAX_PARTS, Machine,
-    Multi, Part, PartReply, Query, Refusal, Reply, SetData, Stat, Update,
+    Check, Data, Delete, Expected, MAX_PARTS, Machine, Multi, Part, Refusal, SetData, Update,
 };
 use std::alloc::Global;
-use std::process::Abort;
 use std::test::Fail;
-use zpath::{Memory, Path};
-
-// The numbers of a stat in the order of the text.
-fn numbers(alloc: Global, stat: Stat) -> Result<String, Memory> {
-    let mut text = format!(in alloc; "{} {} {}", stat.czxid, stat.mzxid, stat.pzxid)?;
-    write!(text, " {} {}", stat.ctime, stat.mtime)?;
-    write!(text, " {} {} {}", stat.version, stat.cversion, stat.owner)?;
-    write!(text, " {} {}", stat.length, stat.children)?;
-    Ok(text)
-}
-
-// What a part did, in words.
-fn part_shown(alloc: Global, reply: &PartReply) -> Result<String, Memory> {
-    match reply {
-        PartReply::Created(path) => Ok(format!(in alloc; "created {path}")?),
-        PartReply::Deleted => Ok(format!(in alloc; "deleted")?),
-        PartReply::Set(stat) => Ok(format!(in alloc; "set {}", numbers(alloc, *stat)?)?),
-        PartReply::Checked => Ok(format!(in alloc; "checked")?),
-    }
-}
-
-// A reply in words; of data its bytes, and of each part or child a word after a comma.
-fn shown(alloc: Global, reply: Reply) -> Result<String, Memory> {
-    match reply {
-        Reply::Created(path) => Ok(format!(in alloc; "created {path}")?),
-        Reply::Deleted => Ok(format!(in alloc; "deleted")?),
-        Reply::Set(stat) => Ok(format!(in alloc; "set {}", numbers(alloc, stat)?)?),
-        Reply::Multi(replies) => {
-            let mut text = format!(in alloc; "multi")?;
-            for reply in replies.as_slice() {
-                write!(text, ", {}", part_shown(alloc, reply)?)?;
-            }
-            Ok(text)
-        }
-        Reply::Data(data, stat) => {
-            let bytes = data.as_slice();
-            Ok(format!(in alloc; "{bytes:?} {}", numbers(alloc, stat)?)?)
-        }
-        Reply::Exists(stat) => Ok(format!(in alloc; "exists {}", numbers(alloc, stat)?)?),
-        Reply::Children(names) => {
-            let mut text = format!(in alloc; "children")?;
-            for name in names.as_slice() {
-                write!(text, ", {}", name.as_str())?;
-            }
-            Ok(text)
-        }
-        Reply::Refused(refusal) => Ok(format!(in alloc; "{refusal}")?),
-        Reply::MultiRefused(number, refusal) => Ok(format!(in alloc; "part {number}: {refusal}")?),
-    }
-}
-
-// A create of a node with this data.
-fn create(alloc: Global, path: &str, kind: Kind, text: &str) -> Result<Part, Fail> {
-    let path = Path::parse(alloc, path)?;
-    let bytes = Data::new(text.as_bytes().to_vec(alloc)?)?;
-    Ok(Part::Create(Create { path, kind, bytes }))
-}
-
-// A multi of these parts.
-fn multi(parts: Vec<Part>) -> Result<Update, Fail> {
-    let parts = Multi::new(parts).ok().ok_or("there are 1 to 64")?;
-    Ok(Update::Multi(parts))
-}
-
-// The update of one part; that of a check is a multi.
-fn alone(alloc: Global, part: Part) -> Result<Update, Fail> {
-    match part {
-        Part::Create(wanted) => Ok(Update::Create(wanted)),
-        Part::Delete(wanted) => Ok(Update::Delete(wanted)),
-        Part::SetData(wanted) => Ok(Update::SetData(wanted)),
-        Part::Check(wanted) => multi(vec![in alloc; Part::Check(wanted)]?),
-    }
-}
+use zpath::Path;
 
 // What a row asks for: a create has the data "hi", and a set no bytes.
 #[derive(Clone, Copy)]
@@ -120,43 +47,6 @@ fn parts(alloc: Global, rows: &[(Act, &str, Expected)]) -> Result<Vec<Part>, Fai
     Ok(parts)
 }
 
-// Applies an update, and compares the answer.
-fn apply(
-    rt: &impl Abort,
-    alloc: Global,
-    machine: &mut Machine,
-    update: Update,
-    want: &str,
-) -> Result<(), Fail> {
-    let client = ClientId::new(7).ok_or("there is a client 7")?;
-    assert!(rt; machine.applied() < MAX_APPLIED);
-    let reply = machine.apply(Entry {
-        client,
-        number: 1,
-        update,
-    })?;
-    let reply = reply.ok_or("an update has a reply")?;
-    assert_eq!(rt; shown(alloc, reply)?.as_str(), want);
-    Ok(())
-}
-
-// Asks the three queries of a path, and compares what they tell.
-fn ask(
-    rt: &impl Abort,
-    alloc: Global,
-    machine: &Machine,
-    path: &str,
-    wants: [&str; 3],
-) -> Result<(), Fail> {
-    let data = machine.ask(&Query::GetData(Path::parse(alloc, path)?))?;
-    assert_eq!(rt; shown(alloc, data)?.as_str(), wants[0], "at {path}");
-    let exists = machine.ask(&Query::Exists(Path::parse(alloc, path)?))?;
-    assert_eq!(rt; shown(alloc, exists)?.as_str(), wants[1], "at {path}");
-    let children = machine.ask(&Query::GetChildren(Path::parse(alloc, path)?))?;
-    assert_eq!(rt; shown(alloc, children)?.as_str(), wants[2], "at {path}");
-    Ok(())
-}
-
 #[test]
 fn creates_nodes(rt: HostRuntime) -> Result<(), Fail> {
     let alloc = rt.alloc();
@@ -177,7 +67,7 @@ fn creates_nodes(rt: HostRuntime) -> Result<(), Fail> {
         (most.as_str(), PersistentSequential, made.as_str()),
     ] {
         let part = create(alloc, path, kind, "")?;
-        apply(&rt, alloc, &mut machine, alone(alloc, part)?, want)?;
+        apply(&rt, alloc, &mut machine, 7, alone(alloc, part)?, want)?;
     }
     assert_eq!(rt; machine.applied(), 10);
     let parent = [
@@ -211,7 +101,7 @@ fn sets_checks_and_deletes(rt: HostRuntime) -> Result<(), Fail> {
         (Act::Delete, "/", Any, "RootFixed"),
     ] {
         let part = part(alloc, act, path, version)?;
-        apply(&rt, alloc, &mut machine, alone(alloc, part)?, want)?;
+        apply(&rt, alloc, &mut machine, 7, alone(alloc, part)?, want)?;
     }
     Ok(())
 }
@@ -229,6 +119,7 @@ fn does_all_parts_or_none(rt: HostRuntime) -> Result<(), Fail> {
         &rt,
         alloc,
         &mut machine,
+        7,
         multi(parts(alloc, &refused)?)?,
         "part 2: NoNode",
     )?;
@@ -248,7 +139,14 @@ fn does_all_parts_or_none(rt: HostRuntime) -> Result<(), Fail> {
     ];
     let want =
         "multi, created /b, created /a, checked, set 1 1 1 0 0 1 0 0 0 0, created /a/c, deleted";
-    apply(&rt, alloc, &mut machine, multi(parts(alloc, &made)?)?, want)?;
+    apply(
+        &rt,
+        alloc,
+        &mut machine,
+        7,
+        multi(parts(alloc, &made)?)?,
+        want,
+    )?;
     let root = [
         "[] 0 0 1 0 0 0 2 0 0 2",
         "exists 0 0 1 0 0 0 2 0 0 2",
@@ -287,11 +185,18 @@ fn holds_4096_nodes(rt: HostRuntime) -> Result<(), Fail> {
         let path = format!(in alloc; "/{number}")?;
         let want = format!(in alloc; "created {path}")?;
         let part = create(alloc, path.as_str(), Persistent, "")?;
-        apply(&rt, alloc, &mut machine, alone(alloc, part)?, want.as_str())?;
+        apply(
+            &rt,
+            alloc,
+            &mut machine,
+            7,
+            alone(alloc, part)?,
+            want.as_str(),
+        )?;
     }
     for (path, want) in [("/0", "Full"), ("/1", "NodeExists"), ("/0/1", "NoNode")] {
         let part = create(alloc, path, Persistent, "")?;
-        apply(&rt, alloc, &mut machine, alone(alloc, part)?, want)?;
+        apply(&rt, alloc, &mut machine, 7, alone(alloc, part)?, want)?;
     }
     Ok(())
 }
@@ -304,10 +209,12 @@ fn names_each_refusal(rt: HostRuntime) -> Result<(), Fail> {
         (Refusal::NotEmpty, "NotEmpty"),
         (Refusal::BadVersion, "BadVersion"),
         (Refusal::NoChildrenForEphemerals, "NoChildrenForEphemerals"),
+        (Refusal::SessionGone, "SessionGone"),
         (Refusal::SequenceFull, "SequenceFull"),
         (Refusal::PathLimit, "PathLimit"),
         (Refusal::RootFixed, "RootFixed"),
         (Refusal::Full, "Full"),
+        (Refusal::TooManySessions, "TooManySessions"),
         (Refusal::Exhausted, "Exhausted"),
     ] {
         let word = format!(in rt.alloc(); "{refusal}")?;

@@ -1,7 +1,17 @@
 pub mod Sorted
+pub mod Maps
 pub mod Search
 pub mod Laid
 pub mod Children
+pub mod Lawful
+pub mod Ephemerals
+pub mod Ending
+pub mod LawfulEnd
+pub mod UnderWay
+pub mod Keyed
+pub mod Alive
+pub mod Owned
 pub mod Shown
 pub mod Nodes
+pub mod Kept
 pub mod Families

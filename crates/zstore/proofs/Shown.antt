@@ -55,7 +55,7 @@ module _ {X : Type 0} (f : Row → X) where
   insert-map [] (suc at) new = refl
   insert-map (r ∷ rows) (suc at) new = ap (λ t. f r ∷ t) (insert-map rows at new)
 
-  remove-map : (rows : List Row) (at : ℕ) → map f (remove rows at) ≡ remove (map f rows) at
+  pub remove-map : (rows : List Row) (at : ℕ) → map f (remove rows at) ≡ remove (map f rows) at
   remove-map [] zero = refl
   remove-map [] (suc at) = refl
   remove-map (r ∷ rows) zero = refl

@@ -6,7 +6,7 @@ use Rattle.std.specs.declared.cmp.Ordering.TheVariants.{Less, Equal, Greater}
 use Rattle.std.specs.Ordering.{is_lt, is_eq, eq_by_cmp}
 use Rattle.std.specs.Cmp.{IsTotalOrder, tied_itself, alike_right, eq_by_cmp_equiv}
 use Rattle.std.specs.FinMap as finite
-use Rattle.std.specs.FinMap.{find, put, is_sorted, insert, from_sorted, entries-from_sorted, entries-insert, get-from_sorted, get-remove, same_entries_map, same_map}
+use Rattle.std.specs.FinMap.{FinMap, find, put, is_sorted, entries_sorted, insert, from_sorted, entries-from_sorted, entries-insert, get-from_sorted, get-remove, same_entries_map, same_map}
 use Rattle.std.specs.List.{remove}
 use Rattle.std.specs.Cmp.Lexicographic.{lists_total, nat_list_cmp_total}
 use Rattle.std.specs.FinMap.{IsAntisymmetric, slice_cmp-IsAntisymmetric, nat_cmp-IsAntisymmetric}
@@ -48,7 +48,7 @@ module _ {K X : Type 0} (R : K → K → Ordering) where
 
   module _ (o : IsTotalOrder R) where
     -- a key below all keys is not found
-    find_below : (q k : K) (es : List (K × X)) → R q k ≡ Less → T (below_all R k es) → find R q es ≡ None
+    pub find_below : (q k : K) (es : List (K × X)) → R q k ≡ Less → T (below_all R k es) → find R q es ≡ None
     find_below q k [] l h = refl
     find_below q k (e ∷ es) l h =
         let parts = both_parts (is_lt (R k e.0)) (below_all R k es) h in
@@ -91,7 +91,7 @@ module _ {K X : Type 0} (R : K → K → Ordering) where
         )
 
     -- keys above q aren't q
-    all_others : (q k : K) (es : List (K × X)) → k ≡ q → T (below_all R k es) → where_key R (other_than R q) es ≡ es
+    pub all_others : (q k : K) (es : List (K × X)) → k ≡ q → T (below_all R k es) → where_key R (other_than R q) es ≡ es
     all_others q k [] e h = refl
     all_others q k (x ∷ es) e h =
         let parts = both_parts (is_lt (R k x.0)) (below_all R k es) h in
@@ -119,3 +119,13 @@ module _ {K X : Type 0} (R : K → K → Ordering) where
         ∙ turned (eq_by_cmp R q k) _ _
         ∙ ap (λ b. cond b None (find R k es)) ((eq_by_cmp_equiv o).symm q k)
         ∙ sym (get-remove o (from_sorted es) q k ∙ ap (λ v. cond (eq_by_cmp R k q) None v) (get-from_sorted R es k s)))
+
+    -- a map without a key has the entries with other keys
+    pub entries-remove : IsAntisymmetric R → (m : FinMap R X) (q : K) → finite.entries (finite.remove m q) ≡ where_key R (other_than R q) (finite.entries m)
+    entries-remove same m q =
+        let es = finite.entries m in
+        let fs = where_key R (other_than R q) es in
+        let itself : from_sorted {R = R} es ≡ m = same_entries_map _ _ (entries-from_sorted R es (entries_sorted m)) in
+        ap (λ (n : FinMap R X). finite.entries (finite.remove n q)) (sym itself)
+        ∙ ap finite.entries (sym (from_sorted-others same q es fs (entries_sorted m) refl))
+        ∙ entries-from_sorted R fs (others_sorted q es fs (entries_sorted m) refl)

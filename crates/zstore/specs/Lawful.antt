@@ -24,11 +24,12 @@ IsPersistent found = (n : Node) × (found ≡ Some n) × (n.owner ≡ 0)
 abbrev pub IsOwner : Sessions → ℕ → Type 0
 IsOwner sessions owner = (owner ≡ 0) ⊎ IsSome (get sessions owner)
 
--- the lawful tree (the root counts as its own parent)
+-- the lawful tree (the root counts as its own parent; 0 is nobody, and no session)
 pub record IsLawful (t : Tree) : Type 0 where
   pub root : IsPersistent (get t.nodes [])
   pub parents : (path : Path) → has_node t.nodes path ≡ true → IsPersistent (get t.nodes (parent_of path))
   pub owners : AllNodes (λ n. IsOwner t.sessions n.owner) t.nodes
+  pub ids : AllSessions (λ id s. 0 < id) t.sessions
   pub deadlines : AllSessions (λ id s. t.time < s.deadline) t.sessions
   pub few_nodes : finite.len t.nodes ≤ 4096
   pub few_sessions : finite.len t.sessions ≤ 1024

@@ -1,6 +1,6 @@
 -- The rows of a store, and what they stand for.
 use Rattle.std.specs.Str.{bytes_eq}
-use Rattle.std.specs.Prelude.{filter_map, Bool, true, false, ◌&&◌, ◌≡◌, ℕ, ◌<◌, ◌≤◌, List, [], ◌∷◌, map, length, slice_index_or, None}
+use Rattle.std.specs.Prelude.{filter_map, Bool, true, false, ◌&&◌, ◌≡◌, ℕ, ◌<◌, ◌≤◌, List, [], ◌∷◌, map, length, Option, slice_index_or, None, Some, if◌then◌else◌, ◌==◌, nat_le}
 use lib.Dec.{T}
 use Rattle.std.specs.List.{AllByRecursion}
 use Rattle.std.specs.Ordering.{nat_cmp}
@@ -12,8 +12,10 @@ use Rattle.zstore.specs.declared.session.Session.{Session}
 use Rattle.zstore.specs.declared.row.Row.{Row}
 use Rattle.zstore.specs.declared.row.SessionRow.{SessionRow}
 use Rattle.zstore.specs.declared.store.Store.TheInside.{Inside}
-use Rattle.zstore.specs.Tree.{Path, Name, child_name}
-use Rattle.zstore.specs.Held.{Held}
+use Rattle.zstore.specs.Tree.{Tree, Path, Name, child_name, ephemerals}
+use Rattle.zstore.specs.Lawful.{IsLawful}
+use Rattle.zstore.specs.Held.{Held, path_of}
+use Rattle.zstore.specs.declared.id.Id.{Id}
 
 -- a row as an entry of the map of nodes
 abbrev pub node_row : Row → Path × Node
@@ -39,16 +41,16 @@ place_rows rows = map place_row rows
 abbrev pub session_rows : List SessionRow → List (ℕ × Session)
 session_rows rows = map session_row rows
 
+-- the tree that the rows stand for
+abbrev pub tree_of : List Row → List SessionRow → ℕ → ℕ → Tree
+tree_of nodes alive time zxid =
+    record { nodes = from_sorted (node_rows nodes); sessions = from_sorted (session_rows alive); time = time; zxid = zxid }
+
 -- what the fields of a store stand for
 abbrev pub held_by : Inside → Held
 held_by s =
     record {
-      tree = record {
-        nodes = from_sorted (node_rows s.rows.items);
-        sessions = from_sorted (session_rows s.sessions.items);
-        time = s.time;
-        zxid = s.zxid;
-      };
+      tree = tree_of s.rows.items s.sessions.items s.time s.zxid;
       places = from_entries (place_rows s.rows.items);
       given = s.given;
     }
@@ -65,16 +67,32 @@ pub record IsLaid (nodes : List Row) (alive : List SessionRow) (bound : ℕ) : T
   pub numbers : AllByRecursion (λ (e : ℕ × Path). e.0 < bound) (place_rows nodes)
   pub sessions : T (is_sorted nat_cmp (session_rows alive))
 
+-- the rows are laid, and their tree is lawful
+pub record IsKept (nodes : List Row) (alive : List SessionRow) (time zxid bound : ℕ) : Type 0 where
+  pub laid : IsLaid nodes alive bound
+  pub lawful : IsLawful (tree_of nodes alive time zxid)
+
 -- the row at a place has the path
 pub record IsAt (rows : List Row) (path : Path) (at : ℕ) : Type 0 where
   pub within : at < length rows
   pub here : (d : Row) → (slice_index_or rows at d).path ≡ path
+
+-- the row at a place is the session's
+pub record IsSessionAt (rows : List SessionRow) (id : ℕ) (at : ℕ) : Type 0 where
+  pub within : at < length rows
+  pub here : (d : SessionRow) → (slice_index_or rows at d).number ≡ id
 
 -- the path has no row, and would go there
 pub record IsGapFor (rows : List Row) (path : Path) (at : ℕ) : Type 0 where
   pub within : at ≤ length rows
   pub before : (k : ℕ) (d : Row) → k < at → path_cmp (slice_index_or rows k d).path path ≡ Less
   pub behind : (k : ℕ) (d : Row) → at ≤ k → k < length rows → path_cmp (slice_index_or rows k d).path path ≡ Greater
+
+-- the session has no row, and would go there
+pub record IsSessionGap (rows : List SessionRow) (id : ℕ) (at : ℕ) : Type 0 where
+  pub within : at ≤ length rows
+  pub before : (k : ℕ) (d : SessionRow) → k < at → nat_cmp (slice_index_or rows k d).number id ≡ Less
+  pub behind : (k : ℕ) (d : SessionRow) → at ≤ k → k < length rows → nat_cmp (slice_index_or rows k d).number id ≡ Greater
 
 -- a path is p, or p with more names
 abbrev pub is_beneath : Path → Path → Bool
@@ -85,3 +103,19 @@ is_beneath (a ∷ p) (b ∷ path) = bytes_eq a b && is_beneath p path
 -- the names that rows have beneath a path, in the rows' order
 abbrev pub names_of_children : Path → List Row → List Name
 names_of_children path rows = filter_map (child_name path) (map (λ (r : Row). r.path) rows)
+
+-- the paths of the rows whose nodes a session owns, in the rows' order
+abbrev pub owned_by : ℕ → List Row → List Path
+owned_by session rows = filter_map (λ e. if e.1.owner == session then Some e.0 else None) (node_rows rows)
+
+-- the id of a session, where a tick reaches its deadline
+abbrev pub id_if_due : ℕ → ℕ × Session → Option ℕ
+id_if_due tick e = if nat_le e.1.deadline tick then Some e.0 else None
+
+-- the ids of the rows' sessions whose deadline a tick reaches, in the rows' order
+abbrev pub due_among : List SessionRow → ℕ → List ℕ
+due_among rows tick = filter_map (id_if_due tick) (session_rows rows)
+
+-- the Id names the first of the nodes that a session owns
+abbrev pub IsFirstOwned : Held → ℕ → Id → Type 0
+IsFirstOwned h session id = (path : Path) × (path_of h id ≡ Some path) × (paths : List Path) × (ephemerals h.tree.nodes session ≡ path ∷ paths)

@@ -1,7 +1,7 @@
 -- Sessions of the plain tree: how one is opened, kept alive and ended, and what the clock does.
 -- ZooKeeper Programmer's Guide, "ZooKeeper Sessions" and "Ephemeral Nodes". That time is counted in ticks, that a
 -- session's id is the zxid of its open, and that only open and ping set a deadline, is this project's profile.
-use Rattle.std.specs.Prelude.{ℕ, ◌+◌, List, [], ◌∷◌, Option, None, Some, if◌then◌else◌, nat_le}
+use Rattle.std.specs.Prelude.{ℕ, ◌+◌, List, [], ◌∷◌, None, Some, if◌then◌else◌, nat_le}
 use Rattle.std.specs.Option.{option_map_or}
 use Rattle.std.specs.FinMap.{get, insert, remove, entries}
 use Rattle.std.specs.List.{filter_map}

@@ -15,8 +15,10 @@ mod place;
 mod reading;
 mod row;
 mod session;
+mod session_place;
 mod sessions;
 mod store;
+mod taking;
 #[cfg(test)]
 mod tests;
 mod writing;

@@ -1,15 +1,19 @@
 //! What is read of sessions, and done with them.
 
-ghost use Rattle.std.specs.Prelude.{◌≡◌, ◌<◌, ◌≤◌, ◌+◌, ◌^◌, [], length, None, Some, IfOk, OnOk, OnErr, IsSome};
+ghost use Rattle.std.specs.Prelude.{◌≡◌, ◌<◌, ◌≤◌, ◌+◌, ◌^◌, [], length, None, Some, IfOk, IfSome, IfNone, OnOk, OnErr, IsSome};
 ghost use Rattle.std.specs.FinMap as finite;
 ghost use Rattle.std.specs.FinMap.{get};
 ghost use Rattle.zstore.specs.Tree.{ephemerals};
 ghost use Rattle.zstore.specs.Sessions.{opened, touched, ended, due, advanced};
-ghost use Rattle.zstore.specs.Lawful.{AllNodes, AllSessions};
+ghost use Rattle.zstore.specs.Lawful.{AllNodes, AllSessions, IsLawful};
 ghost use Rattle.zstore.specs.Held.{ForgetsGone};
+ghost use Rattle.zstore.specs.Rows.{IsFirstOwned};
 
 use crate::client::ClientId;
+use crate::id::Id;
+use crate::row::SessionRow;
 use crate::session::Session;
+use crate::session_place::{owned_place, reached, session_gap, session_place};
 use crate::store::Store;
 use std::alloc::Global;
 use zpath::Memory;
@@ -19,8 +23,10 @@ impl Store {
     pub fn session(&self, id: u64) -> Option<Session>
         ensures { result ≡ get self.now.tree.sessions id }
     {
-        let at = session_place(&self.sessions, id).ok()?;
-        Some(self.sessions[at].session)
+        match session_place(&self.sessions, id) {
+            Ok(at) => Some(self.sessions[at].session),
+            Err(_) => None,
+        }
     }
 
     /// The ids of the sessions that the next tick ends, in their order: those whose deadline it
@@ -29,13 +35,7 @@ impl Store {
         requires next { tick ≡ self.now.tree.time + 1 }
         ensures { IfOk result (λ ids. ids.items ≡ due self.now.tree.sessions tick) }
     {
-        let mut ids = Vec::new(alloc);
-        for row in &self.sessions {
-            if row.session.deadline <= tick {
-                ids.push(row.number)?;
-            }
-        }
-        Ok(ids)
+        reached(alloc, &self.sessions, tick)
     }
 
     /// Opens a session, whose id is the number of the next change and whose deadline is its timeout
@@ -58,7 +58,8 @@ impl Store {
             timeout,
             deadline: self.time + timeout,
         };
-        self.sessions.push(SessionRow { number, session })?;
+        let at = session_gap(&self.sessions, number);
+        self.sessions.insert(at, SessionRow { number, session })?;
         Ok(())
     }
 
@@ -86,12 +87,12 @@ impl Store {
         ensures forgotten { ForgetsGone self.old self.new }
         ensures given { self.new.given ≡ self.old.given }
     {
+        self.is_kept_named();
+        self.is_kept_lawful();
         while let Some(ephemeral) = self.first_owned(id) {
-            self.drop_leaf(ephemeral);
+            self.take_leaf(ephemeral);
         }
-        if let Ok(at) = session_place(&self.sessions, id) {
-            self.sessions.remove(at);
-        }
+        self.forget(id);
     }
 
     /// One tick more. No session may be due then.
@@ -102,5 +103,37 @@ impl Store {
         ensures same { (self.new.places ≡ self.old.places) × (self.new.given ≡ self.old.given) }
     {
         self.time += 1;
+    }
+
+    // What every store keeps: an Id that names a path names a node that is there.
+    fn is_kept_named(&self)
+        ensures { ForgetsGone self.now self.now }
+    {
+        let _ = &self.rows;
+    }
+
+    // The first node that a session owns, if it owns one.
+    fn first_owned(&self, session: u64) -> Option<Id>
+        ensures lawful { IsLawful self.now.tree }
+        ensures found { IfSome result (λ id. IsFirstOwned self.now session id) }
+        ensures absent { IfNone result (ephemerals self.now.tree.nodes session ≡ []) }
+    {
+        let at = owned_place(&self.rows, session)?;
+        Some(Id {
+            number: self.rows[at].number,
+            hint: at,
+        })
+    }
+
+    // A session that owns no node gone.
+    fn forget(&mut self, session: u64)
+        requires live { IsSome (get self.old.tree.sessions session) }
+        requires owns_none { ephemerals self.old.tree.nodes session ≡ [] }
+        ensures tree { self.new.tree ≡ record self.old.tree { sessions = finite.remove self.old.tree.sessions session } }
+        ensures same { (self.new.places ≡ self.old.places) × (self.new.given ≡ self.old.given) }
+    {
+        if let Ok(at) = session_place(&self.sessions, session) {
+            self.sessions.remove(at);
+        }
     }
 }

@@ -33,11 +33,11 @@ impl Model for Store {
 
     ghost coded = { coded_held };
 
-    ghost use Rattle.zstore.specs.Rows.{held_by, IsLaid};
+    ghost use Rattle.zstore.specs.Rows.{held_by, IsKept};
 
     ghost view = { held_by };
 
-    ghost invariant = { λ s. IsLaid s.rows.items s.sessions.items s.given };
+    ghost invariant = { λ s. IsKept s.rows.items s.sessions.items s.time s.zxid s.given };
 }
 
 impl Store {
@@ -108,6 +108,7 @@ impl Store {
     pub fn is_kept_lawful(&self)
         ensures { IsLawful self.now.tree }
     {
+        let _ = &self.rows;
     }
 
     /// How many Ids were given so far.

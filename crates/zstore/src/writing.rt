@@ -79,11 +79,7 @@ impl Store {
         ensures forgotten { Forgets self.old self.new id }
         ensures given { self.new.given ≡ self.old.given }
     {
-        if let Some(path) = self.take(id) {
-            if let Some(parent) = self.above(&path) {
-                self.child_changed(parent, false);
-            }
-        }
+        self.take_leaf(id);
     }
 
     /// Writes the data of a live node, by the next change. After `Memory` nothing has changed.
@@ -108,6 +104,9 @@ impl Store {
     // A row at a free path, under a new Id.
     fn insert(&mut self, path: Path, node: Node) -> Result<Id, Memory>
         requires free { has_node self.old.tree.nodes path ≡ false }
+        requires parent { IsPersistent (get self.old.tree.nodes (parent_of path)) }
+        requires owner { IsOwner self.old.tree.sessions node.owner }
+        requires few { finite.len self.old.tree.nodes < 4096 }
         requires given { self.old.given < 2 ^ 127 }
         ensures tree { IfOk result (λ _. self.new.tree ≡ record self.old.tree { nodes = finite.insert self.old.tree.nodes path node }) }
         ensures named { IfOk result (λ id. Names self.old self.new id path) }
@@ -120,20 +119,7 @@ impl Store {
         Ok(Id { number, hint: at })
     }
 
-    // A live Id's row gone, and where it was.
-    fn take(&mut self, id: Id) -> Option<Path>
-        ensures path { IfSome result (λ path. path_of self.old id ≡ Some path) }
-        ensures tree { IfSome result (λ path. self.new.tree ≡ record self.old.tree { nodes = finite.remove self.old.tree.nodes path }) }
-        ensures forgotten { IfSome result (λ _. Forgets self.old self.new id) }
-        ensures given { self.new.given ≡ self.old.given }
-        ensures gone { IfNone result (path_of self.old id ≡ None) }
-    {
-        let at = row_of(&self.rows, id)?;
-        let row = self.rows.remove(at);
-        Some(row.path)
-    }
-
-    // The marks of the next change at a node beneath which a child came or went.
+    // The marks of the next change at a node beneath which a child came.
     fn child_changed(&mut self, parent: Id, sequential: bool)
         requires live { IsSome (path_of self.old parent) }
         requires counters { (n : Node) → node_of self.old parent ≡ Some n → HasRoom n }

@@ -2,6 +2,7 @@ use Rattle.std.proofs.Common.{◌≡◌, ◌+◌, ◌*◌, [], ◌∷◌, ◌++�
 use Rattle.std.proofs.lemmas.List.{length-append, nil_from_length}
 use Rattle.zops.specs.Multi.{run}
 use Rattle.zops.proofs.Bounds.{IsRoomy, part_roomy, within_more, has_room}
+use Rattle.zops.proofs.NodesAlone.{LeavesAlone, part-alone, alone_then}
 use Rattle.zops.proofs.Runs.{run-part, run-refused, run-end}
 use Rattle.zops.proofs.run.run.Goals as goal
 
@@ -24,14 +25,15 @@ loop-wanted-preserved c =
     let pushed : c.push.new.self.items ≡ replies ++ c.in-Ok.reply ∷ [] = c.in_ok-push-in-Ok.ensures.items in
     let longer : length c.push.new.self.items ≡ length replies + 1 = ap length pushed ∙ length-append replies (c.in-Ok.reply ∷ []) in
     let shorter = ap length steps in
-    let roomy = subst (IsRoomy _ before) did (part_roomy _ before wanted here.within) in
+    let roomy = subst (IsRoomy _ before) did (part_roomy _ before c.args.client wanted here.within) in
+    let alone = subst (LeavesAlone before) did (part-alone before c.args.client wanted) in
     record {
       ran = here.ran
-          ∙ ap (run before replies) steps
-          ∙ run-part before c.part.new.store.tree replies wanted rest c.in-Ok.reply did
-          ∙ ap (λ replies. run c.part.new.store.tree replies rest) (sym pushed);
-      within = λ path n e. within_more _ _ n (omega (arith, longer)) (roomy.1 path n e);
-      zxid = roomy.0 ∙ here.zxid;
+          ∙ ap (run before c.args.client replies) steps
+          ∙ run-part before c.part.new.store.tree c.args.client replies wanted rest c.in-Ok.reply did
+          ∙ ap (λ replies. run c.part.new.store.tree c.args.client replies rest) (sym pushed);
+      within = λ path n e. within_more _ _ n (omega (arith, longer)) (roomy path n e);
+      stays = alone_then old before c.part.new.store.tree here.stays alone;
       count = omega (arith, longer, shorter, here.count);
       given = let one = c.in-Ok.ensures.given in omega (arith, longer, one, here.given);
     }
@@ -41,12 +43,12 @@ returns-in-Err-Refused-clause-stopped c =
     let here = c.loop-wanted.invariant in
     let stopped = rw c.in-Err-Refused.field-0-is at c.in-Err-Refused.ensures.stopped in
     here.ran
-    ∙ ap (run c.loop-wanted.store.tree c.loop-wanted.replies.items) c.in-Some.ensures.steps.0
-    ∙ run-refused c.loop-wanted.store.tree c.loop-wanted.replies.items c.in-Some.wanted c.next.new.self.rest.items _ stopped
+    ∙ ap (run c.loop-wanted.store.tree c.args.client c.loop-wanted.replies.items) c.in-Some.ensures.steps.0
+    ∙ run-refused c.loop-wanted.store.tree c.args.client c.loop-wanted.replies.items c.in-Some.wanted c.next.new.self.rest.items _ stopped
     ∙ rw c.in-Err-Refused.field-0-is (λ i. Err (sym (c.len.ensures ∙ c.loop-wanted.replies.ok.0) i + 1, c.in-Err-Refused.refusal))
 
 pub returns-clause-done : goal.returns-clause-done
 returns-clause-done c =
     let here = c.loop-wanted.invariant in
     let ended : c.loop-wanted.wanted-iterator.rest.items ≡ [] = nil_from_length c.loop-wanted.wanted-iterator.rest.items (sym c.loop-wanted.wanted-iterator.rest.ok.0 ∙ c.in-None.ensures.steps.0) in
-    here.ran ∙ ap (run c.loop-wanted.store.tree c.loop-wanted.replies.items) ended ∙ run-end c.loop-wanted.store.tree c.loop-wanted.replies.items
+    here.ran ∙ ap (run c.loop-wanted.store.tree c.args.client c.loop-wanted.replies.items) ended ∙ run-end c.loop-wanted.store.tree c.args.client c.loop-wanted.replies.items

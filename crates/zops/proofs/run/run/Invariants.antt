@@ -1,13 +1,14 @@
 use Rattle.std.proofs.Common.{◌≡◌, ◌+◌, ◌*◌, ◌≤◌, length, []}
 use Rattle.zops.specs.Multi.{run}
-use Rattle.zops.specs.Sound.{AllNodes, IsWithin}
+use Rattle.zstore.specs.Lawful.{AllNodes}
+use Rattle.zops.specs.Sound.{IsWithin, ChangesNodesAlone}
 use Rattle.zops.proofs.run.run.Given as goal
 
 abbrev pub invariant-loop-wanted : goal.invariant-loop-wanted
 invariant-loop-wanted l = record {
-  ran : run l.initial.store.tree [] l.fn.parts.items ≡ run l.store.tree l.replies.items l.wanted-iterator.rest.items;
+  ran : run l.initial.store.tree l.fn.client [] l.fn.parts.items ≡ run l.store.tree l.fn.client l.replies.items l.wanted-iterator.rest.items;
   within : AllNodes (IsWithin (4096 * l.initial.store.tree.zxid + length l.replies.items)) l.store.tree.nodes;
-  zxid : l.store.tree.zxid ≡ l.initial.store.tree.zxid;
+  stays : ChangesNodesAlone l.initial.store.tree l.store.tree;
   count : length l.replies.items + length l.wanted-iterator.rest.items ≡ length l.fn.parts.items;
   given : l.store.given ≤ l.initial.store.given + length l.replies.items;
 }

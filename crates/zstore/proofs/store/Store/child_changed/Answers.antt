@@ -6,7 +6,8 @@ use Rattle.zstore.specs.Tree.{HasRoom, with_child}
 use Rattle.zstore.specs.Rows.{place_row}
 use mir.Val.{bool_byte}
 use Rattle.zstore.proofs.Nodes.{changed_at-some}
-use Rattle.zstore.proofs.Shown.{nodes_of, some_is_not_none, get-at, path_of-held, node_of-held, path_of-gone, set_is_laid, nodes_of-set, places_of-set}
+use Rattle.zstore.proofs.Shown.{nodes_of, some_is_not_none, get-at, path_of-held, node_of-held, path_of-gone, nodes_of-set, places_of-set}
+use Rattle.zstore.proofs.Kept.{kept_set}
 use Rattle.zstore.proofs.store.Store.child_changed.Goals as goal
 
 byte_is : (b : Bool) → bool_byte b ≡ cond b 1 0
@@ -21,7 +22,7 @@ pub overflow_add-node-in-Some : goal.overflow_add-node-in-Some
 overflow_add-node-in-Some c =
     let found = rw c.deref.ensures.value at c.in-Some.ensures.found in
     let row = c.index_mut.result.now in
-    let is = node_of-held c.self.inside c.self.invariant _ c.self.view_is c.args.parent c.in-Some.at row found.0 (found.1 row) ∙ ap (λ (r : Row). Some r.node) (sym c.index_mut.ensures.value) in
+    let is = node_of-held c.self.inside c.self.invariant.laid _ c.self.view_is c.args.parent c.in-Some.at row found.0 (found.1 row) ∙ ap (λ (r : Row). Some r.node) (sym c.index_mut.ensures.value) in
     let room : HasRoom row.node = c.requires.counters row.node is in
     omega (arith, room.1)
 
@@ -29,7 +30,7 @@ pub overflow_add-node-in-Some-2 : goal.overflow_add-node-in-Some-2
 overflow_add-node-in-Some-2 c =
     let found = rw c.deref.ensures.value at c.in-Some.ensures.found in
     let row = c.index_mut.result.now in
-    let is = node_of-held c.self.inside c.self.invariant _ c.self.view_is c.args.parent c.in-Some.at row found.0 (found.1 row) ∙ ap (λ (r : Row). Some r.node) (sym c.index_mut.ensures.value) in
+    let is = node_of-held c.self.inside c.self.invariant.laid _ c.self.view_is c.args.parent c.in-Some.at row found.0 (found.1 row) ∙ ap (λ (r : Row). Some r.node) (sym c.index_mut.ensures.value) in
     let room : HasRoom row.node = c.requires.counters row.node is in
     let most = at_most_one c.args.sequential in
     rw c.from.ensures (omega (arith, room.2, most))
@@ -39,7 +40,7 @@ invariant_of-self c =
     let found = rw c.deref.ensures.value at c.in-Some.ensures.found in
     let s = c.self.inside in
     let row = c.index_mut.result.now in
-    set_is_laid s.rows.items s.sessions.items s.given c.self.invariant c.in-Some.at row _ found.0 (ap place_row c.index_mut.ensures.value)
+    kept_set s.rows.items s.sessions.items s.time s.zxid s.given c.self.invariant c.in-Some.at row _ found.0 (ap place_row c.index_mut.ensures.value) (ap (λ (r : Row). r.node.owner) c.index_mut.ensures.value)
 
 pub returns-in-Some-clause-tree : goal.returns-in-Some-clause-tree
 returns-in-Some-clause-tree c = λ path named.
@@ -47,23 +48,23 @@ returns-in-Some-clause-tree c = λ path named.
     let s = c.self.inside in
     let rows = s.rows.items in
     let row = c.index_mut.result.now in
-    let held = path_of-held s c.self.invariant _ c.self.view_is c.args.parent c.in-Some.at row found.0 (found.1 row) in
+    let held = path_of-held s c.self.invariant.laid _ c.self.view_is c.args.parent c.in-Some.at row found.0 (found.1 row) in
     let same : path ≡ (get_or rows c.in-Some.at row).path = cc (sym named ∙ held) in
-    let got = ap (finite.get (nodes_of rows)) same ∙ get-at rows c.self.invariant.sorted c.in-Some.at row found.0 ∙ ap (λ (r : Row). Some r.node) (sym c.index_mut.ensures.value) in
+    let got = ap (finite.get (nodes_of rows)) same ∙ get-at rows c.self.invariant.laid.sorted c.in-Some.at row found.0 ∙ ap (λ (r : Row). Some r.node) (sym c.index_mut.ensures.value) in
     let place = ap place_row c.index_mut.ensures.value in
     let new : Row = record { path = row.path; number = row.number; node = with_child (s.zxid + 1) c.args.sequential row.node } in
-    rw (c.from.ensures, byte_is c.args.sequential, ← c.self.view_is, nodes_of-set rows s.sessions.items s.given c.self.invariant c.in-Some.at row new found.0 place, changed_at-some (nodes_of rows) path (with_child (s.zxid + 1) c.args.sequential) row.node got, same) refl
+    rw (c.from.ensures, byte_is c.args.sequential, ← c.self.view_is, nodes_of-set rows s.sessions.items s.given c.self.invariant.laid c.in-Some.at row new found.0 place, changed_at-some (nodes_of rows) path (with_child (s.zxid + 1) c.args.sequential) row.node got, same) refl
 
 pub returns-in-Some-clause-same : goal.returns-in-Some-clause-same
 returns-in-Some-clause-same c =
     let found = rw c.deref.ensures.value at c.in-Some.ensures.found in
     let s = c.self.inside in
     let row = c.index_mut.result.now in (
-      places_of-set s.rows.items s.sessions.items s.given c.self.invariant c.in-Some.at row _ found.0 (ap place_row c.index_mut.ensures.value) ∙ ap (λ (h : Held). h.places) c.self.view_is,
+      places_of-set s.rows.items s.sessions.items s.given c.self.invariant.laid c.in-Some.at row _ found.0 (ap place_row c.index_mut.ensures.value) ∙ ap (λ (h : Held). h.places) c.self.view_is,
       ap (λ (h : Held). h.given) c.self.view_is,
     )
 
 pub returns-in_default-clause-tree : goal.returns-in_default-clause-tree
 returns-in_default-clause-tree c = λ path named.
     let absent = rw c.deref.ensures.value at c.in_default.ensures.absent in
-    absurd (some_is_not_none path (sym named ∙ path_of-gone c.self.inside c.self.invariant _ c.self.view_is c.args.parent absent))
+    absurd (some_is_not_none path (sym named ∙ path_of-gone c.self.inside c.self.invariant.laid _ c.self.view_is c.args.parent absent))

@@ -16,12 +16,12 @@ returns-in-Some c = if_ok c.child_names.result _ _ (rw c.deref-in-Some.ensures.v
     let found = rw c.deref.ensures.value at c.in-Some.ensures.found in
     let rows = c.self.inside.rows.items in
     let at = c.in-Some.at in
-    let held = path_of-held c.self.inside c.self.invariant _ c.self.view_is c.args.id at some_row found.0 (found.1 some_row) in
+    let held = path_of-held c.self.inside c.self.invariant.laid _ c.self.view_is c.args.id at some_row found.0 (found.1 some_row) in
     let same : path ≡ (get_or rows at some_row).path = cc (sym named ∙ held) in
     are some_row ∙ ap (λ (p : Path). names_of_children p rows) (sym same)
-    ∙ sym (ap (λ (h : Held). children h.tree.nodes path) (sym c.self.view_is) ∙ ap (filter_map (child_name path)) (keys-shown rows c.self.invariant.sorted)))
+    ∙ sym (ap (λ (h : Held). children h.tree.nodes path) (sym c.self.view_is) ∙ ap (filter_map (child_name path)) (keys-shown rows c.self.invariant.laid.sorted)))
 
 pub returns-in-None : goal.returns-in-None
 returns-in-None c = λ path named.
     let absent = rw c.deref.ensures.value at c.in-None.ensures.absent in
-    absurd (some_is_not_none path (sym named ∙ path_of-gone c.self.inside c.self.invariant _ c.self.view_is c.args.id absent))
+    absurd (some_is_not_none path (sym named ∙ path_of-gone c.self.inside c.self.invariant.laid _ c.self.view_is c.args.id absent))

@@ -2,8 +2,12 @@ use Rattle.std.proofs.Common.{[], refl}
 use Rattle.std.specs.Ordering.{nat_cmp}
 use Rattle.zstore.specs.Tree.{new_node}
 use Rattle.zstore.proofs.Nodes.{no_entries, one_entry}
+use Rattle.zstore.proofs.Kept.{kept_opening}
 use Rattle.zstore.proofs.store.Store.new.Goals as goal
 
 pub returns-clause-opening : goal.returns-clause-opening
 returns-clause-opening c =
     rw (c.in_ok-push.ensures.items, c.new-rows.ensures.items, c.new.ensures.items, c.root.ensures, c.empty.ensures, no_entries nat_cmp, one_entry [] (new_node [] 0 0 0)) refl
+
+pub invariant_of-result : goal.invariant_of-result
+invariant_of-result c = rw (c.in_ok-push.ensures.items, c.new-rows.ensures.items, c.new.ensures.items, c.root.ensures, c.empty.ensures) kept_opening

@@ -5,14 +5,15 @@ use Rattle.zstore.specs.Held.{Held}
 use Rattle.zstore.specs.Tree.{HasRoom, with_data}
 use Rattle.zstore.specs.Rows.{place_row}
 use Rattle.zstore.proofs.Nodes.{changed_at-some}
-use Rattle.zstore.proofs.Shown.{nodes_of, some_is_not_none, get-at, path_of-held, node_of-held, path_of-gone, set_is_laid, nodes_of-set, places_of-set}
+use Rattle.zstore.proofs.Shown.{nodes_of, some_is_not_none, get-at, path_of-held, node_of-held, path_of-gone, nodes_of-set, places_of-set}
+use Rattle.zstore.proofs.Kept.{kept_set}
 use Rattle.zstore.proofs.store.Store.put_data.Goals as goal
 
 pub overflow_add-node-in-Some : goal.overflow_add-node-in-Some
 overflow_add-node-in-Some c =
     let found = rw c.deref.ensures.value at c.in-Some.ensures.found in
     let row = c.index_mut.result.now in
-    let is = node_of-held c.self.inside c.self.invariant _ c.self.view_is c.args.id c.in-Some.at row found.0 (found.1 row) ∙ ap (λ (r : Row). Some r.node) (sym c.index_mut.ensures.value) in
+    let is = node_of-held c.self.inside c.self.invariant.laid _ c.self.view_is c.args.id c.in-Some.at row found.0 (found.1 row) ∙ ap (λ (r : Row). Some r.node) (sym c.index_mut.ensures.value) in
     let room : HasRoom row.node = c.requires.counters row.node is in
     omega (arith, room.0)
 
@@ -20,7 +21,7 @@ pub invariant_of-self : goal.invariant_of-self
 invariant_of-self c =
     let found = rw c.deref.ensures.value at c.in-Some.ensures.found in
     let s = c.self.inside in
-    set_is_laid s.rows.items s.sessions.items s.given c.self.invariant c.in-Some.at c.index_mut.result.now _ found.0 (ap place_row c.index_mut.ensures.value)
+    kept_set s.rows.items s.sessions.items s.time s.zxid s.given c.self.invariant c.in-Some.at c.index_mut.result.now _ found.0 (ap place_row c.index_mut.ensures.value) (ap (λ (r : Row). r.node.owner) c.index_mut.ensures.value)
 
 pub returns-in-Some-clause-tree : goal.returns-in-Some-clause-tree
 returns-in-Some-clause-tree c = λ path named.
@@ -28,22 +29,22 @@ returns-in-Some-clause-tree c = λ path named.
     let s = c.self.inside in
     let rows = s.rows.items in
     let row = c.index_mut.result.now in
-    let held = path_of-held s c.self.invariant _ c.self.view_is c.args.id c.in-Some.at row found.0 (found.1 row) in
+    let held = path_of-held s c.self.invariant.laid _ c.self.view_is c.args.id c.in-Some.at row found.0 (found.1 row) in
     let same : path ≡ (get_or rows c.in-Some.at row).path = cc (sym named ∙ held) in
-    let got = ap (finite.get (nodes_of rows)) same ∙ get-at rows c.self.invariant.sorted c.in-Some.at row found.0 ∙ ap (λ (r : Row). Some r.node) (sym c.index_mut.ensures.value) in
+    let got = ap (finite.get (nodes_of rows)) same ∙ get-at rows c.self.invariant.laid.sorted c.in-Some.at row found.0 ∙ ap (λ (r : Row). Some r.node) (sym c.index_mut.ensures.value) in
     let place = ap place_row c.index_mut.ensures.value in
     let new : Row = record { path = row.path; number = row.number; node = with_data c.args.bytes (s.zxid + 1) s.time row.node } in
-    rw (← c.self.view_is, nodes_of-set rows s.sessions.items s.given c.self.invariant c.in-Some.at row new found.0 place, changed_at-some (nodes_of rows) path (with_data c.args.bytes (s.zxid + 1) s.time) row.node got, same) refl
+    rw (← c.self.view_is, nodes_of-set rows s.sessions.items s.given c.self.invariant.laid c.in-Some.at row new found.0 place, changed_at-some (nodes_of rows) path (with_data c.args.bytes (s.zxid + 1) s.time) row.node got, same) refl
 
 pub returns-in-Some-clause-same : goal.returns-in-Some-clause-same
 returns-in-Some-clause-same c =
     let found = rw c.deref.ensures.value at c.in-Some.ensures.found in
     let s = c.self.inside in (
-      places_of-set s.rows.items s.sessions.items s.given c.self.invariant c.in-Some.at c.index_mut.result.now _ found.0 (ap place_row c.index_mut.ensures.value) ∙ ap (λ (h : Held). h.places) c.self.view_is,
+      places_of-set s.rows.items s.sessions.items s.given c.self.invariant.laid c.in-Some.at c.index_mut.result.now _ found.0 (ap place_row c.index_mut.ensures.value) ∙ ap (λ (h : Held). h.places) c.self.view_is,
       ap (λ (h : Held). h.given) c.self.view_is,
     )
 
 pub returns-in_default-clause-tree : goal.returns-in_default-clause-tree
 returns-in_default-clause-tree c = λ path named.
     let absent = rw c.deref.ensures.value at c.in_default.ensures.absent in
-    absurd (some_is_not_none path (sym named ∙ path_of-gone c.self.inside c.self.invariant _ c.self.view_is c.args.id absent))
+    absurd (some_is_not_none path (sym named ∙ path_of-gone c.self.inside c.self.invariant.laid _ c.self.view_is c.args.id absent))

@@ -1,0 +1,23 @@
+use Rattle.std.proofs.Common.{sym, subst, ◌∙◌, ap, arith}
+use Rattle.zstore.specs.Tree.{raised}
+use Rattle.zops.specs.Sound.{IsBounded}
+use Rattle.zops.proofs.Ends.{ended-ends, few_ephemerals}
+use Rattle.zops.proofs.Timed.{ended_bounded}
+use Rattle.zops.proofs.session_calls.close.Goals as goal
+
+pub end_session-requires-clause-counters : goal.end_session-requires-clause-counters
+end_session-requires-clause-counters c path n e =
+    let t = c.args.store.now.tree in
+    let here = (c.requires.bounded.counters path n e).cversion in
+    let owned = few_ephemerals t.nodes c.args.session in
+    let few = c.is_kept_lawful.ensures.few_nodes in
+    let room = c.requires.zxid in
+    omega (arith, here, owned, few, room)
+
+pub raise-requires : goal.raise-requires
+raise-requires c = rw (c.end_session.ensures.tree, (ended-ends c.args.store.now.tree c.args.session).zxid) c.requires.zxid
+
+pub returns-clause-bounded : goal.returns-clause-bounded
+returns-clause-bounded c =
+    subst IsBounded (sym (c.raise.ensures.tree ∙ ap raised c.end_session.ensures.tree))
+    (ended_bounded c.args.store.now.tree c.args.session c.requires.bounded c.is_kept_lawful.ensures c.requires.zxid)

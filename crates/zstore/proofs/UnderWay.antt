@@ -1,0 +1,90 @@
+-- A session's end under way: what holds once some of its nodes are gone, and which Ids still name a node.
+use Rattle.std.proofs.Common.{◌≡◌, ℕ, ◌<◌, ◌+◌, ◌^◌, Bool, true, false, cond, List, [], ◌∷◌, length, Option, Some, None, refl, sym, ap, ◌∙◌, arith}
+use Rattle.std.specs.Ordering.{eq_by_cmp}
+use Rattle.std.specs.Option.{option_and_then}
+use Rattle.std.specs.FinMap as finite
+use Rattle.zpath.specs.Grammar.{path_cmp}
+use Rattle.zstore.specs.declared.node.Node.{Node}
+use Rattle.zstore.specs.Tree.{Tree, Path, Nodes, Sessions, has_node, ephemerals, dropped}
+use Rattle.zstore.specs.Sessions.{all_dropped, ended}
+use Rattle.zstore.specs.Lawful.{AllNodes}
+use Rattle.zstore.specs.Held.{Held, path_of, while_there, ForgetsGone}
+use Rattle.zstore.proofs.Ephemerals.{ephemerals-dropped}
+use Rattle.zstore.proofs.Ending.{HasLost, found-dropped, has_node-dropped}
+
+-- where the same paths have nodes, the same paths are there still
+pub while_there_same : (m n : Nodes) → ((q : Path) → has_node m q ≡ has_node n q) → (o : Option Path) → option_and_then (while_there m) o ≡ option_and_then (while_there n) o
+while_there_same m n same None = refl
+while_there_same m n same (Some q) = ap (λ b. cond b (Some q) None) (same q)
+
+-- what is there at last was there between
+while_there_twice : (m n : Nodes) → ((q : Path) → has_node n q ≡ true → has_node m q ≡ true) → (o : Option Path) → option_and_then (while_there n) (option_and_then (while_there m) o) ≡ option_and_then (while_there n) o
+while_there_twice m n fewer None = refl
+while_there_twice m n fewer (Some q) = by (has_node n q) refl
+  where
+    by : (b : Bool) → has_node n q ≡ b → option_and_then (while_there n) (cond (has_node m q) (Some q) None) ≡ cond (has_node n q) (Some q) None
+    by true e = rw (fewer q e) refl
+    by false e = rw e (either (has_node m q))
+      where
+        either : (b : Bool) → option_and_then (while_there n) (cond b (Some q) None) ≡ None
+        either true = rw e refl
+        either false = refl
+
+-- one change after the other
+forgets_both : (old mid new : Held) → ForgetsGone old mid → ForgetsGone mid new → ((q : Path) → has_node new.tree.nodes q ≡ true → has_node mid.tree.nodes q ≡ true) → ForgetsGone old new
+forgets_both old mid new first then fewer id =
+    then id ∙ ap (option_and_then (while_there new.tree.nodes)) (first id) ∙ while_there_twice mid.tree.nodes new.tree.nodes fewer (path_of old id)
+
+-- what holds while the nodes of a session are taken away
+pub record IsUnderWay (old new : Held) (id : ℕ) : Type 0 where
+  pub rest : all_dropped new.tree (ephemerals new.tree.nodes id) ≡ all_dropped old.tree (ephemerals old.tree.nodes id)
+  pub sessions : new.tree.sessions ≡ old.tree.sessions
+  pub zxid : new.tree.zxid ≡ old.tree.zxid
+  pub counters : AllNodes (λ n. n.cversion + length (ephemerals new.tree.nodes id) < 2 ^ 62) new.tree.nodes
+  pub forgotten : ForgetsGone old new
+  pub given : new.given ≡ old.given
+
+-- at first
+pub under_way_first : (h : Held) (id : ℕ) → AllNodes (λ n. n.cversion + length (ephemerals h.tree.nodes id) < 2 ^ 62) h.tree.nodes → ForgetsGone h h → IsUnderWay h h id
+under_way_first h id counters named = record { rest = refl; sessions = refl; zxid = refl; counters = counters; forgotten = named; given = refl }
+
+module _ (old mid new : Held) (id : ℕ) (so_far : IsUnderWay old mid id) where
+  -- and after one node more
+  pub under_way_next : (path : Path) (paths : List Path) → ephemerals mid.tree.nodes id ≡ path ∷ paths → new.tree ≡ dropped mid.tree path → ForgetsGone mid new → new.given ≡ mid.given → IsUnderWay old new id
+  under_way_next path paths all tree gone given =
+      let left : ephemerals new.tree.nodes id ≡ paths = ap (λ (t : Tree). ephemerals t.nodes id) tree ∙ ephemerals-dropped id mid.tree path paths all in
+      record {
+        rest = ap (λ ps. all_dropped new.tree ps) left ∙ ap (λ (t : Tree). all_dropped t paths) tree ∙ sym (ap (all_dropped mid.tree) all) ∙ so_far.rest;
+        sessions = ap (λ (t : Tree). t.sessions) tree ∙ so_far.sessions;
+        zxid = ap (λ (t : Tree). t.zxid) tree ∙ so_far.zxid;
+        counters = λ q m found. room left q m (found-dropped mid.tree path q m (sym (ap (λ (t : Tree). finite.get t.nodes q) tree) ∙ found));
+        forgotten = forgets_both old mid new so_far.forgotten gone (λ q there. fewer q (eq_by_cmp path_cmp q path) refl there);
+        given = given ∙ so_far.given;
+      }
+    where
+      room : ephemerals new.tree.nodes id ≡ paths → (q : Path) (m : Node) → ((n : Node) × (finite.get mid.tree.nodes q ≡ Some n) × HasLost 1 n m) → m.cversion + length (ephemerals new.tree.nodes id) < 2 ^ 62
+      room left q m was =
+          let before = so_far.counters q was.0 was.1 in
+          let many : length (ephemerals mid.tree.nodes id) ≡ length paths + 1 = ap length all ∙ omega arith in
+          rw left (omega (arith, before, many, was.2.bound))
+
+      fewer : (q : Path) (b : Bool) → eq_by_cmp path_cmp q path ≡ b → has_node new.tree.nodes q ≡ true → has_node mid.tree.nodes q ≡ true
+      fewer q b e there = by b (ap (λ t. cond t false (has_node mid.tree.nodes q)) (sym e) ∙ sym (has_node-dropped mid.tree path q) ∙ sym (ap (λ (t : Tree). has_node t.nodes q) tree) ∙ there)
+        where
+          by : (b : Bool) → cond b false (has_node mid.tree.nodes q) ≡ true → has_node mid.tree.nodes q ≡ true
+          by true is = cc
+          by false is = is
+
+  module _ (none : ephemerals mid.tree.nodes id ≡ []) (tree : new.tree ≡ record mid.tree { sessions = finite.remove mid.tree.sessions id }) where
+    -- once none is left and the session is gone, it has ended
+    pub under_way_last : new.tree ≡ ended old.tree id
+    under_way_last =
+        let nodes : mid.tree ≡ all_dropped old.tree (ephemerals old.tree.nodes id) = ap (all_dropped mid.tree) (sym none) ∙ so_far.rest in
+        tree ∙ ap (λ (t : Tree). record t { sessions = finite.remove mid.tree.sessions id }) nodes
+        ∙ ap (λ (s : Sessions). record (all_dropped old.tree (ephemerals old.tree.nodes id)) { sessions = finite.remove s id }) so_far.sessions
+
+    -- and the Ids of its nodes name nothing
+    pub under_way_named : new.places ≡ mid.places → ForgetsGone old new
+    under_way_named same key =
+        ap (λ p. finite.get p key.number) same ∙ so_far.forgotten key
+        ∙ while_there_same mid.tree.nodes new.tree.nodes (λ q. sym (ap (λ (t : Tree). has_node t.nodes q) tree)) (path_of old key)

@@ -1,0 +1,52 @@
+use Rattle.std.proofs.Common.{◌≡◌, ◌+◌, get_or, sym, ap, ◌∙◌, Some, arith, refl}
+use Rattle.std.specs.FinMap as finite
+use Rattle.zstore.specs.declared.row.Row.{Row}
+use Rattle.zstore.specs.Held.{Held}
+use Rattle.zstore.specs.Tree.{without_child}
+use Rattle.zstore.specs.Rows.{place_row}
+use Rattle.zstore.proofs.Nodes.{changed_at-some}
+use Rattle.zstore.proofs.Shown.{nodes_of, some_is_not_none, get-at, path_of-held, node_of-held, path_of-gone, nodes_of-set, places_of-set}
+use Rattle.zstore.proofs.Kept.{kept_set}
+use Rattle.zstore.proofs.store.Store.child_gone.Goals as goal
+
+pub overflow_add-node-in-Some : goal.overflow_add-node-in-Some
+overflow_add-node-in-Some c =
+    let found = rw c.deref.ensures.value at c.in-Some.ensures.found in
+    let row = c.index_mut.result.now in
+    let is = node_of-held c.self.inside c.self.invariant.laid _ c.self.view_is c.args.parent c.in-Some.at row found.0 (found.1 row) ∙ ap (λ (r : Row). Some r.node) (sym c.index_mut.ensures.value) in
+    let room = c.requires.counters row.node is in
+    omega (arith, room)
+
+pub invariant_of-self : goal.invariant_of-self
+invariant_of-self c =
+    let found = rw c.deref.ensures.value at c.in-Some.ensures.found in
+    let s = c.self.inside in
+    let row = c.index_mut.result.now in
+    kept_set s.rows.items s.sessions.items s.time s.zxid s.given c.self.invariant c.in-Some.at row _ found.0 (ap place_row c.index_mut.ensures.value) (ap (λ (r : Row). r.node.owner) c.index_mut.ensures.value)
+
+pub returns-in-Some-clause-tree : goal.returns-in-Some-clause-tree
+returns-in-Some-clause-tree c = λ path named.
+    let found = rw c.deref.ensures.value at c.in-Some.ensures.found in
+    let s = c.self.inside in
+    let rows = s.rows.items in
+    let row = c.index_mut.result.now in
+    let held = path_of-held s c.self.invariant.laid _ c.self.view_is c.args.parent c.in-Some.at row found.0 (found.1 row) in
+    let same : path ≡ (get_or rows c.in-Some.at row).path = cc (sym named ∙ held) in
+    let got = ap (finite.get (nodes_of rows)) same ∙ get-at rows c.self.invariant.laid.sorted c.in-Some.at row found.0 ∙ ap (λ (r : Row). Some r.node) (sym c.index_mut.ensures.value) in
+    let place = ap place_row c.index_mut.ensures.value in
+    let new : Row = record { path = row.path; number = row.number; node = without_child (s.zxid + 1) row.node } in
+    rw (← c.self.view_is, nodes_of-set rows s.sessions.items s.given c.self.invariant.laid c.in-Some.at row new found.0 place, changed_at-some (nodes_of rows) path (without_child (s.zxid + 1)) row.node got, same) refl
+
+pub returns-in-Some-clause-same : goal.returns-in-Some-clause-same
+returns-in-Some-clause-same c =
+    let found = rw c.deref.ensures.value at c.in-Some.ensures.found in
+    let s = c.self.inside in
+    let row = c.index_mut.result.now in (
+      places_of-set s.rows.items s.sessions.items s.given c.self.invariant.laid c.in-Some.at row _ found.0 (ap place_row c.index_mut.ensures.value) ∙ ap (λ (h : Held). h.places) c.self.view_is,
+      ap (λ (h : Held). h.given) c.self.view_is,
+    )
+
+pub returns-in_default-clause-tree : goal.returns-in_default-clause-tree
+returns-in_default-clause-tree c = λ path named.
+    let absent = rw c.deref.ensures.value at c.in_default.ensures.absent in
+    absurd (some_is_not_none path (sym named ∙ path_of-gone c.self.inside c.self.invariant.laid _ c.self.view_is c.args.parent absent))

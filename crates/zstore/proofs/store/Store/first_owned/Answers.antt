@@ -1,0 +1,34 @@
+use Rattle.std.proofs.Common.{sym, ap, subst, ◌∙◌, drop, suc}
+use Rattle.zstore.specs.declared.id.Id.{Id}
+use Rattle.zstore.specs.declared.row.Row.{Row}
+use Rattle.zstore.specs.Held.{Held}
+use Rattle.zstore.specs.Tree.{ephemerals}
+use Rattle.zstore.specs.Lawful.{IsLawful}
+use Rattle.zstore.specs.Rows.{owned_by}
+use Rattle.zstore.proofs.Shown.{if_none, path_of-held}
+use Rattle.zstore.proofs.Owned.{ephemerals-shown}
+use Rattle.zstore.proofs.store.Store.first_owned.Goals as goal
+
+pub returns-clause-found : goal.returns-clause-found
+returns-clause-found c =
+    let s = c.self.inside in
+    let found = rw c.deref.ensures.value at c.in_ok-at.ensures.found in
+    let row = c.index.result.now in
+    let id : Id = record { number = row.number; hint = c.in_ok-at.at } in (
+      _,
+      path_of-held s c.self.invariant.laid _ c.self.view_is id c.in_ok-at.at row found.0 (ap (λ (r : Row). r.number) (sym c.index.ensures)),
+      owned_by c.args.session (drop (suc c.in_ok-at.at) s.rows.items),
+      ap (λ (h : Held). ephemerals h.tree.nodes c.args.session) (sym c.self.view_is) ∙ ephemerals-shown c.args.session s.rows.items c.self.invariant.laid.sorted ∙ found.1 row,
+    )
+
+pub returns-in_err-at-clause-absent : goal.returns-in_err-at-clause-absent
+returns-in_err-at-clause-absent c =
+    let s = c.self.inside in
+    let absent = rw c.deref.ensures.value at c.in_err-at.ensures.absent in
+    if_none c.from_residual.result _ (ap (λ (h : Held). ephemerals h.tree.nodes c.args.session) (sym c.self.view_is) ∙ ephemerals-shown c.args.session s.rows.items c.self.invariant.laid.sorted ∙ absent)
+
+pub returns-clause-lawful : goal.returns-clause-lawful
+returns-clause-lawful c = subst (λ (h : Held). IsLawful h.tree) c.self.view_is c.self.invariant.lawful
+
+pub returns-in_err-at-clause-lawful : goal.returns-in_err-at-clause-lawful
+returns-in_err-at-clause-lawful c = subst (λ (h : Held). IsLawful h.tree) c.self.view_is c.self.invariant.lawful
