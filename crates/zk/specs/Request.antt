@@ -113,12 +113,12 @@ asked_in words = Err BadLine
 abbrev pub query_in : (Path → Question) → List Word → Read Call
 query_in query words = then_read (asked_in words) (λ path. Ok (Query (query path)))
 
--- the NUMBER of a session, or of the ticks that a session is to live
+-- the NUMBER that a call of sessions names: a session, or the ticks that one is to live
 abbrev pub number_in : List Word → Read ℕ
 number_in (word ∷ []) = shaped (number_of word)
 number_in words = Err BadLine
 
--- a call of sessions
+-- open, ping or close NUMBER
 abbrev pub session_in : (ℕ → Change) → List Word → Read Call
 session_in update words = then_read (number_in words) (λ n. Ok (Update (update n)))
 
