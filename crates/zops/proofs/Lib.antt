@@ -12,6 +12,7 @@ pub mod Refused
 pub mod InOrder
 pub mod Taking
 pub mod KeptReplies
+pub mod Retries
 pub mod Zxids
 pub mod LawfulParts
 pub mod LawfulCalls
