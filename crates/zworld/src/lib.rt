@@ -10,6 +10,7 @@ mod alike_laws;
 mod event;
 mod history;
 mod join_laws;
+mod log_laws;
 mod order_laws;
 mod repair_laws;
 mod run_laws;
@@ -24,6 +25,7 @@ pub use join_laws::{
     joining_server_is_handed_the_state, stale_snapshot_is_ignored,
     state_is_lost_with_its_only_server,
 };
+pub use log_laws::log_world_stands_for_the_world;
 pub use order_laws::{
     legal_order_is_taken, other_orders_are_refused, query_leaves_the_tree, run_has_one_order,
 };
