@@ -39,7 +39,7 @@ pub use run_laws::{
 };
 pub use scenario_laws::{
     answers_survive_failures, empty_chain_takes_nobody, failed_spare_leaves_again,
-    state_outlives_its_first_server,
+    joins_survive_failures, state_outlives_its_first_server,
 };
 pub use settle_laws::{
     events_are_read, settling_ends_where_the_state_is_lost, settling_goes_link_by_link,
