@@ -1,5 +1,6 @@
 -- A world whose machines are mapped goes on as the world does, by a map that keeps what machines do.
-use Rattle.std.proofs.Common.{◌≡◌, ℕ, ◌+◌, ◌-◌, Bool, true, false, if◌then◌else◌, List, [], ◌∷◌, ◌++◌, map, Option, Some, None, refl, sym, ap, ◌∙◌}
+use Rattle.std.proofs.Common.{◌≡◌, ℕ, ◌+◌, ◌-◌, Bool, true, false, if◌then◌else◌, List, [], ◌∷◌, ◌++◌, map}
+use Rattle.std.proofs.Common.{Option, Some, None, refl, sym, ap, ◌∙◌}
 use Rattle.std.proofs.lemmas.List.{map-append, drop-map}
 use Rattle.std.specs.Prelude.{◌&&◌, not, ◌==◌, drop, nat_lt}
 use Rattle.zops.specs.declared.reply.Reply.{Reply}
@@ -7,7 +8,7 @@ use Rattle.zserver.specs.declared.message.Message.TheVariants as message
 use Rattle.zserver.specs.declared.process.Process.{Process}
 use Rattle.zserver.specs.declared.process.Process.TheVariants.{Master, Server, Client}
 use Rattle.zserver.specs.Machine.{Does}
-use Rattle.zserver.specs.View.{ServerView, MessageOf, Post, spare, opening_server}
+use Rattle.zserver.specs.View.{ServerView, Neighbour, MessageOf, Post, spare, opening_server}
 use Rattle.zserver.specs.Table as server
 use Rattle.zserver.specs.Homomorphism.{IsHomomorphism, message_with, posts_with, view_with, taken_with}
 use Rattle.zserver.proofs.Projection.{table_with}
@@ -19,7 +20,8 @@ use Rattle.zworld.specs.declared.event.Event.TheVariants.{Begin, Retry, Take, Ig
 use Rattle.zworld.specs.declared.history.CallEvent.TheVariants as call_event
 use Rattle.zworld.specs.Links.{Links, put, without_front, is_same, addressed}
 use Rattle.zworld.specs.World.{World, at, opening}
-use Rattle.zworld.specs.Events.{front_is, is_request, has_failed, is_enabled, server_does, master_does, client_does, answered, client_took, client_began, takes, takes_front, acts, happens, run}
+use Rattle.zworld.specs.Events.{front_is, is_request, has_failed, is_enabled, takes, takes_front, acts, happens, run}
+use Rattle.zworld.specs.Events.{server_does, master_does, client_does, answered, client_took, client_began}
 use Rattle.zworld.specs.LogWorld.{world_with}
 use Rattle.zworld.proofs.MappedTables.{master_with, master_takes_with, joins_with, retries_with, begins_with, client_takes_with}
 
@@ -49,7 +51,8 @@ module _ {M N : Type 0} (h : M → N) where
   put_with links sender posts from to = put_if (is_same from sender) (links from to) (addressed to posts) (addressed to (posts_with h posts)) (addressed_with to posts)
 
   -- a front that is taken
-  front_if : (b : Bool) (link : List (MessageOf M)) → (if b then drop 1 (map (message_with h) link) else map (message_with h) link) ≡ map (message_with h) (if b then drop 1 link else link)
+  front_if : (b : Bool) (link : List (MessageOf M))
+      → (if b then drop 1 (map (message_with h) link) else map (message_with h) link) ≡ map (message_with h) (if b then drop 1 link else link)
   front_if true link = drop-map (message_with h) 1 link
   front_if false link = refl
 
@@ -76,7 +79,8 @@ module _ {M N : Type 0} (h : M → N) where
   master_does_with : (w : World M) (did : master.Taken M) → master_does (world_with h w) (master_with h did) ≡ world_with h (master_does w did)
   master_does_with w did = λ i. record (world_with h w) { master = did.0; links = λ from to. put_with w.links Master did.1 from to i }
 
-  client_does_with : (w : World M) (c : ℕ) (view : ClientView) (posts : List (Post M)) → client_does (world_with h w) c view (posts_with h posts) ≡ world_with h (client_does w c view posts)
+  client_does_with : (w : World M) (c : ℕ) (view : ClientView) (posts : List (Post M))
+      → client_does (world_with h w) c view (posts_with h posts) ≡ world_with h (client_does w c view posts)
   client_does_with w c view posts = λ i. record (world_with h w) { clients = at c view w.clients; links = λ from to. put_with w.links (Client c) posts from to i }
 
   answered_with : (w : World M) (c : ℕ) (reply : Option (ℕ × Reply)) → answered (world_with h w) c reply ≡ world_with h (answered w c reply)
@@ -126,7 +130,8 @@ module _ {M N : Type 0} (h : M → N) where
     -- a message is taken
     takes_with : (w : World M) (from to : Process) (m : MessageOf M) → takes e (world_with h w) from to (message_with h m) ≡ world_with h (takes d w from to m)
     takes_with w from Master m = ap (master_does (world_with h w)) (master_takes_with h w.master from m) ∙ master_does_with w (master.takes w.master from m)
-    takes_with w from (Server s) m = ap (server_does (world_with h w) s) (table_with h same (w.servers s) from m) ∙ server_does_with w s (server.takes d (w.servers s) from m)
+    takes_with w from (Server s) m =
+        ap (server_does (world_with h w) s) (table_with h same (w.servers s) from m) ∙ server_does_with w s (server.takes d (w.servers s) from m)
     takes_with w from (Client c) m =
         let did : client.Taken M = client.takes (w.clients c) from m in
         ap (client_took (world_with h w) c) (client_takes_with h (w.clients c) from m)
@@ -144,14 +149,17 @@ module _ {M N : Type 0} (h : M → N) where
         let did : ClientView × List (Post M) = client.begins (w.clients c) call in
         ap (client_began (world_with h w) c call) (begins_with h (w.clients c) call)
         ∙ ap (λ (u : World N). record u { history = w.history ++ call_event.Begin c did.0.number call ∷ [] }) (client_does_with w c did.0 did.1)
-    acts_with w (Retry c) = ap (client_does (world_with h w) c (w.clients c)) (retries_with h (w.clients c)) ∙ client_does_with w c (w.clients c) (client.retries (w.clients c))
+    acts_with w (Retry c) =
+        ap (client_does (world_with h w) c (w.clients c)) (retries_with h (w.clients c)) ∙ client_does_with w c (w.clients c) (client.retries (w.clients c))
     acts_with w (Take from to) = takes_front_with w from to (w.links from to)
     acts_with w (Ignore from to) = popped_with w from to
-    acts_with w (Fail s) = λ i. record (world_with h w) { failed = at s true w.failed; links = λ from to. put_with w.links (Server s) ((Master, message.Gone) ∷ []) from to i }
+    acts_with w (Fail s) =
+        λ i. record (world_with h w) { failed = at s true w.failed; links = λ from to. put_with w.links (Server s) ((Master, message.Gone) ∷ []) from to i }
     acts_with w (Join s) = ap (master_does (world_with h w)) (joins_with h w.master s) ∙ master_does_with w (master.joins w.master s)
 
     -- where it can happen
-    happens_if : (b : Bool) (w acted : World M) (acted' : World N) → acted' ≡ world_with h acted → (if b then acted' else world_with h w) ≡ world_with h (if b then acted else w)
+    happens_if : (b : Bool) (w acted : World M) (acted' : World N) → acted' ≡ world_with h acted
+        → (if b then acted' else world_with h w) ≡ world_with h (if b then acted else w)
     happens_if true w acted acted' did = did
     happens_if false w acted acted' did = refl
 
@@ -164,15 +172,22 @@ module _ {M N : Type 0} (h : M → N) where
     run_with w (event ∷ events) = ap (λ u. run e u events) (happens_with w event) ∙ run_with (happens d w event) events
 
     -- the opening
-    view_if : (b : Bool) (x y : ServerView M) (x' y' : ServerView N) → x' ≡ view_with h x → y' ≡ view_with h y → (if b then x' else y') ≡ view_with h (if b then x else y)
+    view_if : (b : Bool) (x y : ServerView M) (x' y' : ServerView N) → x' ≡ view_with h x → y' ≡ view_with h y
+        → (if b then x' else y') ≡ view_with h (if b then x else y)
     view_if true x y x' y' p q = p
     view_if false x y x' y' p q = q
+
+    abbrev before : ℕ → Option Neighbour
+    before s = if s == 1 then None else Some (s - 1, 0)
+
+    abbrev behind : ℕ → ℕ → Option Neighbour
+    behind servers s = if s == servers then None else Some (s + 1, 0)
 
     opening_server_with : (servers s : ℕ) → opening_server e servers s ≡ view_with h (opening_server d servers s)
     opening_server_with servers s =
         view_if (s == 0) spare _ spare _ refl
         (view_if (nat_lt servers s) spare _ spare _ refl
-        (λ i. record { machine = Some (sym same.start i); last = 0; sent = []; pred = if s == 1 then None else Some (s - 1, 0); succ = if s == servers then None else Some (s + 1, 0) }))
+        (ap (λ start. record { machine = Some start; last = 0; sent = []; pred = before s; succ = behind servers s }) (sym same.start)))
 
     pub opening_with : (servers clients : ℕ) → opening e servers clients ≡ world_with h (opening d servers clients)
     opening_with servers clients = λ i. record (opening e servers clients) { servers = λ s. opening_server_with servers s i }

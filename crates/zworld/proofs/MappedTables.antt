@@ -1,5 +1,6 @@
 -- The tables of master and client see no machine: with mapped messages they do the same.
-use Rattle.std.proofs.Common.{◌≡◌, ℕ, ◌+◌, Bool, true, false, if◌then◌else◌, ◌==◌, List, [], ◌∷◌, ◌++◌, map, Option, Some, None, refl, sym, ap, ◌∙◌}
+use Rattle.std.proofs.Common.{◌≡◌, ℕ, ◌+◌, Bool, true, false, if◌then◌else◌, ◌==◌, List, [], ◌∷◌, ◌++◌, map}
+use Rattle.std.proofs.Common.{Option, Some, None, refl, sym, ap, ◌∙◌}
 use Rattle.std.proofs.lemmas.List.{map-append}
 use Rattle.std.specs.Prelude.{nat_lt}
 use Rattle.std.specs.List.{range_with_len, last_or}
@@ -24,7 +25,8 @@ module _ {M N : Type 0} (h : M → N) where
   master_with did = (did.0, posts_with h did.1)
 
   -- a condition is the same on both sides
-  if_with : (b : Bool) (x y : master.Taken M) (x' y' : master.Taken N) → x' ≡ master_with x → y' ≡ master_with y → (if b then x' else y') ≡ master_with (if b then x else y)
+  if_with : (b : Bool) (x y : master.Taken M) (x' y' : master.Taken N) → x' ≡ master_with x → y' ≡ master_with y
+      → (if b then x' else y') ≡ master_with (if b then x else y)
   if_with true x y x' y' p q = p
   if_with false x y x' y' p q = q
 
@@ -71,7 +73,8 @@ module _ {M N : Type 0} (h : M → N) where
       let here : Mended M = mended (v.epoch + 1) s v.chain in
       let there : Mended N = mended (v.epoch + 1) s v.chain in
       let w : MasterView = without v s here.0 in
-      let told : posts_with h (here.1 ++ tell w) ≡ posts_with h here.1 ++ tell w = map-append _ here.1 (tell w) ∙ ap (λ posts. posts_with h here.1 ++ posts) (tell_with w) in
+      let told : posts_with h (here.1 ++ tell w) ≡ posts_with h here.1 ++ tell w =
+      map-append _ here.1 (tell w) ∙ ap (λ posts. posts_with h here.1 ++ posts) (tell_with w) in
       if_with (is_among s (members v)) (w, here.1 ++ tell w) _ (without v s there.0, there.1 ++ tell (without v s there.0)) _
       (ap (λ m. (without v s m.0, m.1 ++ tell (without v s m.0))) (mended_with (v.epoch + 1) s v.chain) ∙ (λ i. (w, sym told i))) refl
 
@@ -151,14 +154,17 @@ module _ {M N : Type 0} (h : M → N) where
   abbrev pub client_with : client.Taken M → client.Taken N
   client_with did = (did.0, posts_with h did.1, did.2)
 
-  client_if : (b : Bool) (x y : client.Taken M) (x' y' : client.Taken N) → x' ≡ client_with x → y' ≡ client_with y → (if b then x' else y') ≡ client_with (if b then x else y)
+  client_if : (b : Bool) (x y : client.Taken M) (x' y' : client.Taken N) → x' ≡ client_with x → y' ≡ client_with y
+      → (if b then x' else y') ≡ client_with (if b then x else y)
   client_if true x y x' y' p q = p
   client_if false x y x' y' p q = q
 
   answer_with : (v : ClientView) (number : ℕ) (reply : Reply) → takes_answer v number reply ≡ client_with (takes_answer v number reply)
   unfolding takes_answer
   answer_with v number reply =
-      client_if (waits_for v number) (record v { outstanding = None }, [], Some (number, reply)) (v, [], None) (record v { outstanding = None }, [], Some (number, reply)) (v, [], None) refl refl
+      client_if (waits_for v number)
+      (record v { outstanding = None }, [], Some (number, reply)) (v, [], None)
+      (record v { outstanding = None }, [], Some (number, reply)) (v, [], None) refl refl
 
   config_with : (v : ClientView) (epoch : ℕ) (head tail : Option ℕ) → takes_config v epoch head tail ≡ client_with (takes_config v epoch head tail)
   unfolding takes_config
