@@ -1,7 +1,7 @@
 //! Why a call can't begin.
 
-/// Why a call can't begin: the first that holds, in this order; want of memory is met behind the
-/// other two. A refused call changes nothing.
+/// Why a call can't begin. `Busy` is tested first and then `Exhausted`; `Memory` is met where a growth
+/// is refused. A refused call changes nothing.
 #[derive(Clone, Copy, Debug, PartialEq, Eq)]
 pub enum BeginFault {
     /// The client waits for the reply to another call.

@@ -5,7 +5,9 @@
 #![tactic(auto)]
 
 mod begin_fault;
+mod laws;
 mod rows;
 
 pub use begin_fault::BeginFault;
+pub use laws::client_looks_at_no_machine;
 pub use rows::{answers_are_taken, calls_are_retried, calls_begin};

@@ -33,22 +33,22 @@ abbrev pub with_used : ℕ → List ℕ → List ℕ
 with_used s used = if is_among s used then used else used ++ s ∷ []
 
 -- a server is joining beneath another member
-abbrev pub is_joined_by_one : MasterView → Bool
-is_joined_by_one v = is_some v.joining && nat_lt 1 (length v.chain)
+abbrev pub another_joins : MasterView → Bool
+another_joins v = is_some v.joining && nat_lt 1 (length v.chain)
 
 -- the chain's only member is the one that is joining
-abbrev pub only_joins : MasterView → List ℕ → Bool
-only_joins v (s ∷ []) = is_joining v s
-only_joins v members = false
+abbrev pub only_member_joins : MasterView → List ℕ → Bool
+only_member_joins v (s ∷ []) = is_joining v s
+only_member_joins v members = false
 
 -- why a server can't join, by the first test that holds
 unfoldable pub join_fault : MasterView → ℕ → Option JoinFault
 join_fault v s =
     first_that_holds (
     (is_among s v.used, Used)
-    ∷ (is_joined_by_one v, Joining)
+    ∷ (another_joins v, Joining)
     ∷ (length v.chain == 0, NoChain)
-    ∷ (only_joins v (members v), Lost)
+    ∷ (only_member_joins v (members v), Lost)
     ∷ []
     )
 

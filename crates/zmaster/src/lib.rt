@@ -5,7 +5,9 @@
 #![tactic(auto)]
 
 mod join_fault;
+mod laws;
 mod rows;
 
 pub use join_fault::JoinFault;
+pub use laws::master_looks_at_no_machine;
 pub use rows::{chain_is_mended, opening_and_ends, reports_are_passed_on, servers_join};

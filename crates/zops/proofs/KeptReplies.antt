@@ -1,11 +1,11 @@
 -- What is found among kept replies, and what an entry does by it.
-use Rattle.std.proofs.Common.{◌≡◌, ℕ, Option, Some, None, cond, nat_cmp, true, false, nat_lt, List, ◌∷◌, ap, ◌∙◌}
+use Rattle.std.proofs.Common.{◌≡◌, ℕ, Option, Some, None, cond, nat_cmp, true, false, List, ◌∷◌, ap, ◌∙◌}
 use Rattle.std.specs.Ordering.{eq_by_cmp}
 use Rattle.std.specs.Cmp.{nat_cmp_total}
 use Rattle.std.specs.FinMap.{FinMap, get, insert, get-insert, get-empty}
 use Rattle.zops.specs.declared.call.Entry.{Entry}
 use Rattle.zops.specs.declared.reply.Reply.{Reply}
-use Rattle.zops.specs.Kept.{Kept, KeptState, PlainStep, nothing_kept, last_of, kept_reply, acted, entry_step}
+use Rattle.zops.specs.Kept.{Kept, KeptState, PlainStep, nothing_kept, entry_by, entry_step}
 use Rattle.zops.specs.KeptRows.{counting, keeping, answers}
 
 -- a reply that is kept for a client is that client's, and no other's
@@ -15,22 +15,18 @@ kept_insert kept client reply other = get-insert nat_cmp_total kept client reply
 
 -- what an entry does, by what is kept for its client
 pub entered : {P : Type 0} (step : PlainStep P) (s : KeptState P) (e : Entry) (kept : Option Kept)
-    → get s.kept e.client ≡ kept
-    → entry_step step s e ≡ cond (nat_lt (last_of kept) e.number) (acted step s e) (s, kept_reply e.number kept)
+    → get s.kept e.client ≡ kept → entry_step step s e ≡ entry_by step s e kept
 unfolding entry_step
-entered step s e kept found = ap (λ k. cond (nat_lt (last_of k) e.number) (acted step s e) (s, kept_reply e.number k)) found
+entered step s e kept found = ap (entry_by step s e) found
 
 -- what a client's first entry does
-pub entered_first : (n : ℕ) (e : Entry)
-    → entry_step counting (nothing_kept n) e ≡ cond (nat_lt 0 e.number) (acted counting (nothing_kept n) e) (nothing_kept n, None)
+pub entered_first : (n : ℕ) (e : Entry) → entry_step counting (nothing_kept n) e ≡ entry_by counting (nothing_kept n) e None
 entered_first n e = entered counting (nothing_kept n) e None (get-empty nat_cmp e.client)
 
 -- what an entry does where this reply of its client was kept last
 pub entered_again : (s : KeptState ℕ) (n client number : ℕ) (reply : Reply) (e : Entry)
     → eq_by_cmp nat_cmp e.client client ≡ true
-    → entry_step counting (keeping s n client number reply) e
-    ≡ cond (nat_lt number e.number) (acted counting (keeping s n client number reply) e)
-    (keeping s n client number reply, kept_reply e.number (Some (record { number = number; reply = reply })))
+    → entry_step counting (keeping s n client number reply) e ≡ entry_by counting (keeping s n client number reply) e (Some (record { number = number; reply = reply }))
 entered_again s n client number reply e same =
     let kept : Kept = record { number = number; reply = reply } in
     entered counting (keeping s n client number reply) e (Some kept)
@@ -39,8 +35,7 @@ entered_again s n client number reply e same =
 -- what the first entry of another client does
 pub entered_other : (n m client number : ℕ) (reply : Reply) (e : Entry)
     → eq_by_cmp nat_cmp e.client client ≡ false
-    → entry_step counting (keeping (nothing_kept n) m client number reply) e
-    ≡ cond (nat_lt 0 e.number) (acted counting (keeping (nothing_kept n) m client number reply) e) (keeping (nothing_kept n) m client number reply, None)
+    → entry_step counting (keeping (nothing_kept n) m client number reply) e ≡ entry_by counting (keeping (nothing_kept n) m client number reply) e None
 entered_other n m client number reply e other =
     let kept : Kept = record { number = number; reply = reply } in
     entered counting (keeping (nothing_kept n) m client number reply) e None

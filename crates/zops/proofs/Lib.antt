@@ -7,6 +7,7 @@ pub mod Bounds
 pub mod Refused
 pub mod InOrder
 pub mod KeptReplies
+pub mod Retries
 pub mod Zxids
 pub mod Folds
 pub mod Traced

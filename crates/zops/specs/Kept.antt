@@ -45,9 +45,12 @@ acted step s entry =
     let did = step s.plain entry.client entry.update in
     (record { plain = did.0; kept = insert s.kept entry.client (record { number = entry.number; reply = did.1 }) }, Some did.1)
 
--- the entry step: a number above the client's last one acts, the number of the kept reply gives that reply, and any
--- other gives none; what doesn't act changes nothing
-unfoldable pub entry_step : {P : Type 0} → PlainStep P → KeptState P → Entry → KeptState P × Option Reply
-entry_step step s entry =
-    let kept = get s.kept entry.client in
+-- an entry, by what is kept for its client: a number above the client's last one acts, the number of the kept reply gives
+-- that reply, and any other gives none; what doesn't act changes nothing
+abbrev pub entry_by : {P : Type 0} → PlainStep P → KeptState P → Entry → Option Kept → KeptState P × Option Reply
+entry_by step s entry kept =
     if nat_lt (last_of kept) entry.number then acted step s entry else (s, kept_reply entry.number kept)
+
+-- the entry step
+unfoldable pub entry_step : {P : Type 0} → PlainStep P → KeptState P → Entry → KeptState P × Option Reply
+entry_step step s entry = entry_by step s entry (get s.kept entry.client)

@@ -2,6 +2,7 @@ pub mod Part
 pub mod Multi
 pub mod Step
 pub mod Kept
+pub mod KeptLaws
 pub mod KeptRows
 pub mod Sound
 pub mod Laws

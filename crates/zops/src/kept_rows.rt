@@ -1,10 +1,17 @@
-//! Worked rows of the entry step with kept replies: each clause is one, and the body does nothing.
+//! The entry step with kept replies: a law of it, and worked rows. The bodies do nothing.
 
 ghost use Rattle.std.specs.Prelude.{◌≡◌, Some, None, [], ◌∷◌};
 ghost use Rattle.zops.specs.declared.refusal.Refusal.TheVariants.{NoNode};
 ghost use Rattle.zops.specs.declared.reply.Reply.TheVariants.{Refused};
 ghost use Rattle.zops.specs.Kept.{nothing_kept, entry_step};
+ghost use Rattle.zops.specs.KeptLaws.{RetryChangesNothing};
+ghost use Rattle.zops.specs.Step.{step};
 ghost use Rattle.zops.specs.KeptRows.{told, counting, creates, deletes, keeping, answers};
+
+/// An entry that had a reply has the same reply when it comes again, and then changes nothing.
+pub fn retries_change_nothing()
+    ensures { RetryChangesNothing step }
+{}
 
 /// What one entry does: where nothing is kept; and where a client's call 3 acted last, as the seventh
 /// create.

@@ -21,7 +21,7 @@ mod tests;
 mod update;
 
 pub use call::{Call, Check, Create, Delete, Entry, Expected, Kind, Part, Query, SetData, Update};
-pub use kept_rows::{refusals_are_kept, updates_act_once};
+pub use kept_rows::{refusals_are_kept, retries_change_nothing, updates_act_once};
 pub use laws::{
     names_are_in_order, numbers_differ, refused_calls_change_nothing, stat_counts_the_names,
     versions_count_sets, zxids_rise,

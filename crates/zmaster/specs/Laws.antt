@@ -1,0 +1,23 @@
+-- What holds of the master table: it looks at no machine.
+use Rattle.std.specs.Prelude.{◌≡◌, ℕ, List}
+use Rattle.zops.specs.declared.call.Entry.{Entry}
+use Rattle.zserver.specs.declared.process.Process.{Process}
+use Rattle.zserver.specs.Machine.{Does, replay}
+use Rattle.zserver.specs.View.{MessageOf}
+use Rattle.zserver.specs.Homomorphism.{message_with, posts_with}
+use Rattle.zmaster.specs.View.{MasterView}
+use Rattle.zmaster.specs.Table.{Taken, joins, takes}
+
+-- the same view, and posts whose machines are mapped
+abbrev pub taken_with : {M N : Type 0} → (M → N) → Taken M → Taken N
+taken_with h taken = (taken.0, posts_with h taken.1)
+
+-- what the master does is the same, whether the machines in messages are logs or what the logs lead to
+abbrev pub TableKeepsLogs : {M : Type 0} → Does M → Type 0
+TableKeepsLogs does =
+    (v : MasterView) (from : Process) (m : MessageOf (List Entry))
+    → takes v from (message_with (replay does) m) ≡ taken_with (replay does) (takes v from m)
+
+-- and so is a join
+abbrev pub JoinKeepsLogs : {M : Type 0} → Does M → Type 0
+JoinKeepsLogs does = (v : MasterView) (s : ℕ) → joins v s ≡ taken_with (replay does) (joins v s)

@@ -1,0 +1,11 @@
+//! What holds of the definitions themselves: each function's contract is a law, and its body does nothing.
+
+ghost use Rattle.zserver.specs.Machine.{kept_tree};
+ghost use Rattle.zmaster.specs.Laws.{TableKeepsLogs, JoinKeepsLogs};
+
+/// The master does the same among servers with logs as among servers with the trees that the logs lead
+/// to.
+pub fn master_looks_at_no_machine()
+    ensures table { TableKeepsLogs kept_tree }
+    ensures join { JoinKeepsLogs kept_tree }
+{}
