@@ -4,5 +4,4 @@ pub mod RunOrder
 pub mod Tables
 pub mod Alike
 pub mod Settling
-pub mod MappedTables
 pub mod LogWorlds

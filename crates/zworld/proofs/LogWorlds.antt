@@ -13,8 +13,11 @@ use Rattle.zserver.specs.Table as server
 use Rattle.zserver.specs.Homomorphism.{IsHomomorphism, message_with, posts_with, view_with, taken_with}
 use Rattle.zserver.proofs.Projection.{table_with}
 use Rattle.zmaster.specs.Table as master
+use Rattle.zmaster.specs.Laws.{taken_with as master_with}
+use Rattle.zmaster.proofs.Projection.{table_with as master_takes_with, join_with as joins_with}
 use Rattle.zclient.specs.View.{ClientView}
 use Rattle.zclient.specs.Table as client
+use Rattle.zclient.proofs.Projection.{begins_with, retries_with, table_with as client_takes_with}
 use Rattle.zworld.specs.declared.event.Event.{Event}
 use Rattle.zworld.specs.declared.event.Event.TheVariants.{Begin, Retry, Take, Ignore, Fail, Join}
 use Rattle.zworld.specs.declared.history.CallEvent.TheVariants as call_event
@@ -23,7 +26,6 @@ use Rattle.zworld.specs.World.{World, at, opening}
 use Rattle.zworld.specs.Events.{front_is, is_request, has_failed, is_enabled, takes, takes_front, acts, happens, run}
 use Rattle.zworld.specs.Events.{server_does, master_does, client_does, answered, client_took, client_began}
 use Rattle.zworld.specs.LogWorld.{world_with}
-use Rattle.zworld.proofs.MappedTables.{master_with, master_takes_with, joins_with, retries_with, begins_with, client_takes_with}
 
 module _ {M N : Type 0} (h : M → N) where
   -- links with mapped messages
