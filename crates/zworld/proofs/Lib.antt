@@ -5,3 +5,4 @@ pub mod FirstCalls
 pub mod Tables
 pub mod Alike
 pub mod Settling
+pub mod LogWorlds

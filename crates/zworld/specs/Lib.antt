@@ -8,6 +8,7 @@ pub mod Events
 pub mod Reading
 pub mod Settle
 pub mod SettleLaws
+pub mod LogWorld
 pub mod Alike
 pub mod Counter
 pub mod OrderRows

@@ -24,6 +24,9 @@ s2 = Server 2
 abbrev pub s3 : Process
 s3 = Server 3
 
+abbrev pub s4 : Process
+s4 = Server 4
+
 abbrev pub c0 : Process
 c0 = Client 0
 

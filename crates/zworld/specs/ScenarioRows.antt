@@ -8,7 +8,7 @@ use Rattle.zworld.specs.World.{World, opening}
 use Rattle.zworld.specs.Events.{happens, run}
 use Rattle.zworld.specs.Settle.{settle}
 use Rattle.zworld.specs.Counter.{Counting, counting, create, exists}
-use Rattle.zworld.specs.RunRows.{m, s1, s2, s3, c1}
+use Rattle.zworld.specs.RunRows.{m, s1, s2, s3, s4, c1}
 
 -- a part of a scenario: events happen, the world settles, or client 1 begins a call and the world settles
 pub data Scene : Type 0 where
@@ -48,6 +48,16 @@ head_fails_in_a_repair =
 abbrev pub state_moves_on : List Scene
 state_moves_on =
     Calls create ∷ Happen (Join 2 ∷ Join 3 ∷ []) ∷ Settles ∷ Happen (Join 3 ∷ []) ∷ Settles ∷ Happen (Fail 1 ∷ Fail 2 ∷ []) ∷ Calls exists ∷ []
+
+-- a fourth server joins, and the tail fails before it has handed the state over
+abbrev pub tail_fails_in_a_join : List Scene
+tail_fails_in_a_join =
+    Calls create ∷ Happen (Join 4 ∷ Take m s4 ∷ Take s4 m ∷ Fail 3 ∷ []) ∷ Settles ∷ Calls create ∷ []
+
+-- a fourth server joins, and fails when the tail has handed the state over
+abbrev pub joining_server_fails : List Scene
+joining_server_fails =
+    Calls create ∷ Happen (Join 4 ∷ Take m s4 ∷ Take s4 m ∷ Take m s3 ∷ Fail 4 ∷ []) ∷ Settles ∷ Calls create ∷ []
 
 -- a spare server fails, and is asked to join before the master knows
 abbrev pub failed_spare_joins : List Scene

@@ -11,6 +11,7 @@ mod event;
 mod explained_laws;
 mod history;
 mod join_laws;
+mod log_laws;
 mod order_laws;
 mod repair_laws;
 mod run_laws;
@@ -26,6 +27,7 @@ pub use join_laws::{
     joining_server_is_handed_the_state, stale_snapshot_is_ignored,
     state_is_lost_with_its_only_server,
 };
+pub use log_laws::log_world_stands_for_the_world;
 pub use order_laws::{
     legal_order_is_taken, other_orders_are_refused, query_leaves_the_tree, run_has_one_order,
 };
@@ -39,7 +41,7 @@ pub use run_laws::{
 };
 pub use scenario_laws::{
     answers_survive_failures, empty_chain_takes_nobody, failed_spare_leaves_again,
-    state_outlives_its_first_server,
+    joins_survive_failures, state_outlives_its_first_server,
 };
 pub use settle_laws::{
     events_are_read, settling_ends_where_the_state_is_lost, settling_goes_link_by_link,

@@ -1,6 +1,6 @@
 //! Worked runs of a chain in which nobody fails: each contract is the row, and the body does nothing.
 
-ghost use Rattle.std.specs.Prelude.{◌≡◌, [], ◌∷◌, true, false, take};
+ghost use Rattle.std.specs.Prelude.{◌≡◌, [], ◌∷◌, ◌++◌, true, false, take};
 ghost use Rattle.zserver.specs.declared.message.Message.TheVariants as message;
 ghost use Rattle.zworld.specs.declared.event.Event.TheVariants.{Begin, Retry, Take, Ignore, Fail, Join};
 ghost use Rattle.zworld.specs.declared.history.CallEvent.TheVariants as saw;
@@ -25,10 +25,12 @@ pub fn links_keep_order()
     ensures seen { seen 3 two_updates ≡ saw.Begin 0 1 create ∷ saw.Begin 1 1 create ∷ saw.Answer 1 1 (made 1) ∷ saw.Answer 0 1 (made 0) ∷ [] }
 {}
 
-/// An update that arrives twice counts once: its kept reply is given again, and the client takes one of the two.
+/// An update that arrives twice counts once: its kept reply is given again, and the client takes one of the two; the
+/// other is none for its next call.
 pub fn retried_update_counts_once()
     ensures two_answers { link 2 (take 6 retried_update) s2 c1 ≡ message.Answer 1 (made 0) ∷ message.Answer 1 (made 0) ∷ [] }
     ensures one_is_taken { seen 2 (take 8 retried_update) ≡ saw.Begin 1 1 create ∷ saw.Answer 1 1 (made 0) ∷ [] }
+    ensures stale_answer { seen 2 (take 7 retried_update ++ Begin 1 create ∷ Take s2 c1 ∷ []) ≡ saw.Begin 1 1 create ∷ saw.Answer 1 1 (made 0) ∷ saw.Begin 1 2 create ∷ [] }
     ensures next_count { seen 2 retried_update ≡ saw.Begin 1 1 create ∷ saw.Answer 1 1 (made 0) ∷ saw.Begin 1 2 create ∷ saw.Answer 1 2 (made 1) ∷ [] }
 {}
 

@@ -5,7 +5,7 @@ ghost use Rattle.zmaster.specs.declared.join_fault.JoinFault.TheVariants.{Used, 
 ghost use Rattle.zmaster.specs.Table.{join_fault};
 ghost use Rattle.zworld.specs.declared.history.CallEvent.TheVariants.{Begin, Answer};
 ghost use Rattle.zworld.specs.Counter.{create, exists, made, counted};
-ghost use Rattle.zworld.specs.ScenarioRows.{played, two_fail, both_middle_servers_fail, head_fails_in_a_repair, state_moves_on, failed_spare_joins, chain_is_empty};
+ghost use Rattle.zworld.specs.ScenarioRows.{played, two_fail, both_middle_servers_fail, head_fails_in_a_repair, state_moves_on, tail_fails_in_a_join, joining_server_fails, failed_spare_joins, chain_is_empty};
 
 /// Servers fail, one after the other and in the middle of a repair, and the call that was under way is answered once.
 pub fn answers_survive_failures()
@@ -18,6 +18,15 @@ pub fn answers_survive_failures()
 pub fn state_outlives_its_first_server()
     ensures seen { (played 1 state_moves_on).history ≡ Begin 1 1 create ∷ Answer 1 1 (made 0) ∷ Begin 1 2 exists ∷ Answer 1 2 (counted 1) ∷ [] }
     ensures chain { (played 1 state_moves_on).master.chain ≡ (3, 3) ∷ [] }
+{}
+
+/// Failures in a join: the server before the failed tail hands the state over, and a tail whose joining successor failed
+/// answers again.
+pub fn joins_survive_failures()
+    ensures tail_fails { (played 3 tail_fails_in_a_join).history ≡ Begin 1 1 create ∷ Answer 1 1 (made 0) ∷ Begin 1 2 create ∷ Answer 1 2 (made 1) ∷ [] }
+    ensures new_tail { (played 3 tail_fails_in_a_join).master.chain ≡ (1, 0) ∷ (2, 0) ∷ (4, 2) ∷ [] }
+    ensures joining_fails { (played 3 joining_server_fails).history ≡ Begin 1 1 create ∷ Answer 1 1 (made 0) ∷ Begin 1 2 create ∷ Answer 1 2 (made 1) ∷ [] }
+    ensures old_tail { (played 3 joining_server_fails).master.chain ≡ (1, 0) ∷ (2, 0) ∷ (3, 0) ∷ [] }
 {}
 
 /// A spare server that failed leaves the chain again when the master hears of it, and its number is used.

@@ -7,5 +7,6 @@ unfolding all_tables
 returns c = record {
   two_answers = refl;
   one_is_taken = refl;
+  stale_answer = refl;
   next_count = refl;
 }
