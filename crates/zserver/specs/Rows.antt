@@ -61,6 +61,14 @@ alone = initialised None None
 abbrev pub with_last : ℕ → ServerView ℕ
 with_last n = record alone { last = n }
 
+-- a server after the entry of call 18, which it keeps in Sent
+abbrev pub forwarding : ServerView ℕ → ServerView ℕ
+forwarding v = record v { machine = Some 8; last = 8; sent = (6, call 16) ∷ (7, call 17) ∷ (8, call 18) ∷ [] }
+
+-- a server after one more entry, which it doesn't keep
+abbrev pub processing : ServerView ℕ → ServerView ℕ
+processing v = record v { machine = Some 8; last = 8 }
+
 -- a server without state, behind server 1 as a pair of epoch 4
 abbrev pub joining : ServerView ℕ
 joining = record { machine = None; last = 0; sent = []; pred = Some (1, 4); succ = None }

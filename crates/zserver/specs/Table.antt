@@ -86,7 +86,7 @@ takes_update does v p epoch n entry =
     if has_room v then accept does v m n entry
     else ignored v else ignored v else ignored v)
 
--- Ack from the successor in their epoch: what the tail has processed goes out of Sent, and up the chain goes the word
+-- Ack from the successor in their epoch: what the tail has processed leaves Sent, and the predecessor is told
 unfoldable pub takes_ack : {M : Type 0} → ServerView M → ℕ → ℕ → ℕ → Taken M
 takes_ack v t epoch n =
     if is_neighbour v.succ t epoch then (record v { sent = above n v.sent }, acks v.pred n)
@@ -98,8 +98,10 @@ takes_snapshot v p epoch transfer =
     elim v.machine [
       | Some m ↦ ignored v
       | None ↦
-          if is_neighbour v.pred p epoch then
-          (record v { machine = Some transfer.machine; last = transfer.last; sent = [] }, (Server p, message.Ack epoch transfer.last) ∷ (Master, message.Joined epoch) ∷ [])
+          if is_neighbour v.pred p epoch then (
+            record v { machine = Some transfer.machine; last = transfer.last; sent = [] },
+            (Server p, message.Ack epoch transfer.last) ∷ (Master, message.Joined epoch) ∷ [],
+          )
           else ignored v
     ]
 

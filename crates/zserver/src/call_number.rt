@@ -4,8 +4,7 @@ ghost use Rattle.std.specs.Prelude.{◌≡◌, ◌<◌, ◌≤◌, ◌^◌, IfNo
 
 use std::marker::Model;
 
-/// The number of a client's call, from 1 on in a client that begins its calls in order.
-/// It is below 2^62.
+/// The number of a client's call: its first has 1, and each next one more. It is below 2^62.
 #[derive(Clone, Copy, Debug, PartialEq, Eq)]
 pub struct CallNumber {
     number: u64,

@@ -1,11 +1,12 @@
-//! The  the master gives each pair that it makes a number of its own, and each rises above those before it. Epochs, which the paper has no need of, are this project's profile.:epoch.
+//! The epoch of two neighbours.
 
 ghost use Rattle.std.specs.Prelude.{◌≡◌, ◌<◌, ◌≤◌, ◌^◌, IfNone, IfSome};
 
 use std::marker::Model;
 
-/// The epoch of a pair of neighbours in the chain
-/// It is below 2^62.
+/// The epoch of a pair of neighbours in the chain: the master gives each pair that it makes a number
+/// that is above all those before. The paper needs no epochs; they are this project's profile. It is
+/// below 2^62.
 #[derive(Clone, Copy, Debug, PartialEq, Eq)]
 pub struct Epoch {
     number: u64,

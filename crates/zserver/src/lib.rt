@@ -16,7 +16,7 @@ mod view_rows;
 
 pub use call_number::CallNumber;
 pub use epoch::Epoch;
-pub use laws::logs_stand_for_trees;
+pub use laws::{logs_stand_for_trees, only_tails_answer};
 pub use log_number::LogNumber;
 pub use message::Message;
 pub use process::Process;

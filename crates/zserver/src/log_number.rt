@@ -4,8 +4,8 @@ ghost use Rattle.std.specs.Prelude.{◌≡◌, ◌<◌, ◌≤◌, ◌^◌, IfNo
 
 use std::marker::Model;
 
-/// The number of an entry in the log of a server, from 1 on; 0 stands for no entry.
-/// It is below 2^62.
+/// The number of an entry in the log of a server, from 1 on; 0 stands before the first. It is below
+/// 2^62.
 #[derive(Clone, Copy, Debug, PartialEq, Eq)]
 pub struct LogNumber {
     number: u64,

@@ -6,7 +6,7 @@ ghost use Rattle.zserver.specs.declared.message.Message.TheVariants as message;
 ghost use Rattle.zserver.specs.declared.process.Process.TheVariants.{Master, Server, Client};
 ghost use Rattle.zserver.specs.Table.{takes};
 ghost use Rattle.zserver.specs.View.{spare};
-ghost use Rattle.zserver.specs.Rows.{counting, told, update, query, call, middle, head, tail, alone, with_last, joining, nine};
+ghost use Rattle.zserver.specs.Rows.{counting, told, update, query, call, middle, head, tail, alone, with_last, forwarding, processing, joining, nine};
 
 /// What an initialised server between two others ignores: it changes nothing, and nothing is put.
 #[tactic(auto, unfolding(crate::specs::Table::takes, crate::specs::Table::takes_submit, crate::specs::Table::takes_query, crate::specs::Table::takes_update, crate::specs::Table::takes_ack, crate::specs::Table::takes_snapshot))]
@@ -31,14 +31,14 @@ pub fn middle_ignores()
 /// acknowledges.
 #[tactic(auto, unfolding(crate::specs::Table::takes, crate::specs::Table::takes_submit, crate::specs::Table::takes_update, crate::specs::Table::accept))]
 pub fn updates_go_down()
-    ensures head_forwards { takes counting head (Client 5) (message.Submit 18 update) ≡ (record head { machine = Some 8; last = 8; sent = (6, call 16) ∷ (7, call 17) ∷ (8, call 18) ∷ [] }, (Server 3, message.Update 5 8 (call 18)) ∷ []) }
-    ensures alone_answers { takes counting alone (Client 5) (message.Submit 18 update) ≡ (record alone { machine = Some 8; last = 8 }, (Client 5, message.Answer 18 (told 8)) ∷ []) }
-    ensures alone_has_no_reply { takes counting alone (Client 5) (message.Submit 0 update) ≡ (record alone { machine = Some 8; last = 8 }, []) }
+    ensures head_forwards { takes counting head (Client 5) (message.Submit 18 update) ≡ (forwarding head, (Server 3, message.Update 5 8 (call 18)) ∷ []) }
+    ensures alone_answers { takes counting alone (Client 5) (message.Submit 18 update) ≡ (processing alone, (Client 5, message.Answer 18 (told 8)) ∷ []) }
+    ensures alone_has_no_reply { takes counting alone (Client 5) (message.Submit 0 update) ≡ (processing alone, []) }
     ensures last_number { takes counting (with_last (2 ^ 62 - 2)) (Client 5) (message.Submit 18 update) ≡ (record alone { machine = Some 8; last = 2 ^ 62 - 1 }, (Client 5, message.Answer 18 (told 8)) ∷ []) }
     ensures no_number_left { takes counting (with_last (2 ^ 62 - 1)) (Client 5) (message.Submit 18 update) ≡ (with_last (2 ^ 62 - 1), []) }
-    ensures middle_forwards { takes counting middle (Server 1) (message.Update 4 8 (call 18)) ≡ (record middle { machine = Some 8; last = 8; sent = (6, call 16) ∷ (7, call 17) ∷ (8, call 18) ∷ [] }, (Server 3, message.Update 5 8 (call 18)) ∷ []) }
-    ensures tail_answers_and_acknowledges { takes counting tail (Server 1) (message.Update 4 8 (call 18)) ≡ (record tail { machine = Some 8; last = 8 }, (Client 5, message.Answer 18 (told 8)) ∷ (Server 1, message.Ack 4 8) ∷ []) }
-    ensures tail_acknowledges_without_reply { takes counting tail (Server 1) (message.Update 4 8 (call 0)) ≡ (record tail { machine = Some 8; last = 8 }, (Server 1, message.Ack 4 8) ∷ []) }
+    ensures middle_forwards { takes counting middle (Server 1) (message.Update 4 8 (call 18)) ≡ (forwarding middle, (Server 3, message.Update 5 8 (call 18)) ∷ []) }
+    ensures tail_answers_and_acknowledges { takes counting tail (Server 1) (message.Update 4 8 (call 18)) ≡ (processing tail, (Client 5, message.Answer 18 (told 8)) ∷ (Server 1, message.Ack 4 8) ∷ []) }
+    ensures tail_acknowledges_without_reply { takes counting tail (Server 1) (message.Update 4 8 (call 0)) ≡ (processing tail, (Server 1, message.Ack 4 8) ∷ []) }
     ensures joining_has_no_state { takes counting joining (Server 1) (message.Update 4 1 (call 11)) ≡ (joining, []) }
     ensures spare_has_no_state { takes counting spare (Client 5) (message.Submit 18 update) ≡ (spare, []) }
 {}
@@ -82,5 +82,5 @@ pub fn state_is_handed_over()
     ensures snapshot_of_a_stranger { takes counting joining (Server 2) (message.Snapshot 4 nine) ≡ (joining, []) }
     ensures snapshot_at_a_spare { takes counting spare (Server 1) (message.Snapshot 4 nine) ≡ (spare, []) }
     ensures old_tail_is_silent { takes counting (takes counting tail Master (message.NewSucc 8 4 None)).0 (Client 5) (message.Query 18 query) ≡ (record tail { succ = Some (4, 8) }, []) }
-    ensures old_tail_forwards { takes counting (takes counting tail Master (message.NewSucc 8 4 None)).0 (Server 1) (message.Update 4 8 (call 18)) ≡ (record tail { machine = Some 8; last = 8; sent = (6, call 16) ∷ (7, call 17) ∷ (8, call 18) ∷ []; succ = Some (4, 8) }, (Server 4, message.Update 8 8 (call 18)) ∷ []) }
+    ensures old_tail_forwards { takes counting (takes counting tail Master (message.NewSucc 8 4 None)).0 (Server 1) (message.Update 4 8 (call 18)) ≡ (forwarding (record tail { succ = Some (4, 8) }), (Server 4, message.Update 8 8 (call 18)) ∷ []) }
 {}
