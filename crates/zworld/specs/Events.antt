@@ -83,7 +83,8 @@ abbrev pub takes_front : {M : Type 0} → Does M → World M → Process → Pro
 takes_front machine w from to [] = w
 takes_front machine w from to (message ∷ more) = takes machine (record w { links = without_front w.links from to }) from to message
 
--- what an enabled event does
+-- what an enabled event does. A server that fails keeps its view and what is on links into it: nobody sees them again
+-- (Alike.antt), and what it had put is still delivered
 abbrev pub acts : {M : Type 0} → Does M → World M → Event → World M
 acts machine w (Begin c call) = client_began w c call (client.begins (w.clients c) call)
 acts machine w (Retry c) = client_does w c (w.clients c) (client.retries (w.clients c))

@@ -2,8 +2,9 @@
 //!
 //! What comes in are events (calls that begin, deliveries, failures, joins); what goes out is a history of calls and
 //! their answers. Here stand the definitions: the world and its events in `specs/World.antt` and `specs/Events.antt`,
-//! over the tables of servers, master and clients, and the legal order of a history in `specs/LegalOrder.antt`, which
-//! knows nothing of chains. `laws` shows them on worked rows.
+//! over the tables of servers, master and clients and over any machine, and the legal order of a history in
+//! `specs/LegalOrder.antt`, which knows nothing of chains. The modules of laws show the definitions on worked rows, and
+//! prove what holds of them in every run.
 #![tactic(auto)]
 
 mod alike_laws;
@@ -36,7 +37,7 @@ pub use repair_laws::{
     new_head_is_asked_again, tail_fails_before_it_answered,
 };
 pub use run_laws::{
-    idle_events, links_keep_order, request_is_lost, retried_update_counts_once,
+    links_keep_order, only_enabled_events_happen, request_is_lost, retried_update_counts_once,
     update_is_answered_by_the_tail,
 };
 pub use scenario_laws::{

@@ -34,8 +34,8 @@ pub fn retried_update_counts_once()
     ensures next_count { seen 2 retried_update ≡ saw.Begin 1 1 create ∷ saw.Answer 1 1 (made 0) ∷ saw.Begin 1 2 create ∷ saw.Answer 1 2 (made 1) ∷ [] }
 {}
 
-/// Events that can't happen: they change nothing.
-pub fn idle_events()
+/// Which events can happen; one that can't changes nothing.
+pub fn only_enabled_events_happen()
     ensures busy_client { is_enabled (after 3 (Begin 1 create ∷ [])) (Begin 1 exists) ≡ false }
     ensures strange_client { is_enabled (after 3 []) (Begin 2 create) ≡ false }
     ensures nothing_to_retry { is_enabled (after 3 []) (Retry 1) ≡ false }

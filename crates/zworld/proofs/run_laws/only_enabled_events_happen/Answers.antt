@@ -1,6 +1,6 @@
 use Rattle.std.proofs.Common.{refl}
 use Rattle.zworld.proofs.Tables.{all_tables}
-use Rattle.zworld.proofs.run_laws.idle_events.Goals as goal
+use Rattle.zworld.proofs.run_laws.only_enabled_events_happen.Goals as goal
 
 pub returns : goal.returns
 unfolding all_tables
