@@ -12,14 +12,11 @@ use Rattle.zserver.specs.Machine.{Does}
 use Rattle.zserver.specs.View.{ServerView, Neighbour, Transfer, Post, is_tail}
 use Rattle.zserver.specs.Table.{Taken, ignored, is_neighbour, has_room, acks, forwards, above, accept, takes_submit, takes_query, takes_update, takes_ack, takes_snapshot, takes_new_pred, takes_new_succ, becomes_head, becomes_tail, takes}
 use Rattle.zserver.specs.Laws.{is_answer, OnlyTailsAnswer}
+use Rattle.zserver.proofs.Fields.{view_of}
 
 -- whether a call is answered
 abbrev answers_some : {M : Type 0} → List (Post M) → Bool
 answers_some posts = list_any (λ post. is_answer post.1) posts
-
--- a view of a server by its fields
-abbrev view_of : {M : Type 0} → Option M → ℕ → List (ℕ × Entry) → Option Neighbour → Option Neighbour → ServerView M
-view_of machine last sent pred succ = record { machine = machine; last = last; sent = sent; pred = pred; succ = succ }
 
 module _ {M : Type 0} (d : Does M) where
   -- where nobody is answered there is nothing to show

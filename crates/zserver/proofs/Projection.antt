@@ -12,6 +12,7 @@ use Rattle.zserver.specs.Machine.{Does, after_entries, replay, log_of}
 use Rattle.zserver.specs.View.{ServerView, Neighbour, Transfer, MessageOf}
 use Rattle.zserver.specs.Table.{Taken, ignored, is_neighbour, has_room, acks, answers, forwards, above, accept, takes_submit, takes_query, takes_update, takes_ack, takes_snapshot, takes_new_pred, takes_new_succ, becomes_head, becomes_tail, takes}
 use Rattle.zserver.specs.Homomorphism.{IsHomomorphism, message_with, posts_with, view_with, taken_with}
+use Rattle.zserver.proofs.Fields.{view_of}
 
 -- the machine after one more entry
 pub after_one_more : {M : Type 0} (does : Does M) (m : M) (log : List Entry) (entry : Entry)
@@ -27,10 +28,6 @@ log_stands_for_machine does =
       apply = λ log entry i. (sym (after_one_more does does.start log entry) i, (does.apply (replay does log) entry).1);
       ask = λ log query. refl;
     }
-
--- a view of a server by its fields
-abbrev view_of : {M : Type 0} → Option M → ℕ → List (ℕ × Entry) → Option Neighbour → Option Neighbour → ServerView M
-view_of machine last sent pred succ = record { machine = machine; last = last; sent = sent; pred = pred; succ = succ }
 
 module _ {M N : Type 0} {d : Does M} {e : Does N} (h : M → N) (same : IsHomomorphism d e h) where
   -- replies and acknowledgements name no machine
