@@ -5,8 +5,8 @@ ghost use Rattle.std.specs.Prelude.{◌≡◌, ◌<◌, ◌≤◌, ◌^◌, IfNo
 use std::marker::Model;
 
 /// The epoch of a pair of neighbours in the chain: the master gives each pair that it makes a number
-/// that is above all those before. The paper needs no epochs; they are this project's profile. It is
-/// below 2^62.
+/// that is above all those before. Chain replication as published has none; they are this project's
+/// profile. It is below 2^62.
 #[derive(Clone, Copy, Debug, PartialEq, Eq)]
 pub struct Epoch {
     number: u64,
