@@ -115,7 +115,7 @@ pub record State : Type 0 where
 abbrev pub opening : State
 opening = record { tree = tree.opening; applied = 0 }
 
--- the entry step: an entry acts by the plain step
+-- an entry acts by the plain step, and is counted
 unfoldable pub entered : State → Entry → State × Option Reply
 entered s entry =
     let did = step s.tree entry.client entry.update in

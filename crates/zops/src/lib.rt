@@ -1,7 +1,7 @@
 //! The calls of the service, and the machine that answers them.
 //!
 //! What comes in are entries (updates with their client and number) and queries; what goes out are
-//! replies. `Machine::apply` is the entry step of the plain tree and `Machine::ask` is its answer:
+//! replies. `Machine::apply` is the plain step of the plain tree and `Machine::ask` is its answer:
 //! both are defined in `specs/Step.antt`, without a word of how the machine keeps its tree.
 #![tactic(auto)]
 
