@@ -107,7 +107,7 @@ fn sets_checks_and_deletes(rt: HostRuntime) -> Result<(), Fail> {
 }
 
 #[test]
-fn does_all_parts_or_none(rt: HostRuntime) -> Result<(), Fail> {
+fn refused_multi_leaves_the_opening(rt: HostRuntime) -> Result<(), Fail> {
     let alloc = rt.alloc();
     let mut machine = Machine::new(alloc)?;
     let refused = [
@@ -128,7 +128,13 @@ fn does_all_parts_or_none(rt: HostRuntime) -> Result<(), Fail> {
         "exists 0 0 0 0 0 0 0 0 0 0",
         "children",
     ];
-    ask(&rt, alloc, &machine, "/", opening)?;
+    ask(&rt, alloc, &machine, "/", opening)
+}
+
+#[test]
+fn multi_takes_one_zxid(rt: HostRuntime) -> Result<(), Fail> {
+    let alloc = rt.alloc();
+    let mut machine = Machine::new(alloc)?;
     let made = [
         (Act::Create, "/b", Any),
         (Act::Create, "/a", Any),

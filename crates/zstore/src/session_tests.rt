@@ -73,7 +73,7 @@ fn end(rt: &impl Abort, store: &mut Store, id: u64) -> Result<(), Fail>
 }
 
 #[test]
-fn ends_sessions(rt: HostRuntime) -> Result<(), Fail> {
+fn opens_sessions(rt: HostRuntime) -> Result<(), Fail> {
     let alloc = rt.alloc();
     let client = ClientId::new(3).ok_or("there is such a client")?;
     let mut store = Store::new(alloc)?;
@@ -88,7 +88,16 @@ fn ends_sessions(rt: HostRuntime) -> Result<(), Fail> {
     assert_eq!(rt; (store.session(3), store.sessions()), (None, 2));
     assert!(rt; store.now() == 0);
     assert_eq!(rt; store.due(alloc, 1)?.as_slice(), [1].as_slice());
+    Ok(())
+}
 
+#[test]
+fn ends_sessions(rt: HostRuntime) -> Result<(), Fail> {
+    let alloc = rt.alloc();
+    let client = ClientId::new(3).ok_or("there is such a client")?;
+    let mut store = Store::new(alloc)?;
+    begin(&rt, &mut store, client, 1)?;
+    begin(&rt, &mut store, client, 5)?;
     own(&rt, alloc, &mut store, "/e", 2)?;
     own(&rt, alloc, &mut store, "/p", 0)?;
     own(&rt, alloc, &mut store, "/p/e", 2)?;
