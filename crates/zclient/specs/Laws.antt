@@ -1,7 +1,7 @@
 -- What holds of the client table: it looks at no machine.
 use Rattle.std.specs.Prelude.{◌≡◌, List}
-use Rattle.zops.specs.declared.call.Call.{Call}
-use Rattle.zops.specs.declared.call.Entry.{Entry}
+use Rattle.zcalls.specs.declared.call.Call.{Call}
+use Rattle.zcalls.specs.declared.call.Entry.{Entry}
 use Rattle.zserver.specs.declared.process.Process.{Process}
 use Rattle.zserver.specs.Machine.{Does, replay}
 use Rattle.zserver.specs.View.{MessageOf}

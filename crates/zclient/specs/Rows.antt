@@ -1,12 +1,12 @@
 -- What the worked rows of the client table speak of: calls, a reply, and some clients.
 use Rattle.std.specs.Prelude.{ℕ, Option, None, Some, []}
-use Rattle.zops.specs.declared.call.Call.{Call}
-use Rattle.zops.specs.declared.call.Call.TheVariants as call
-use Rattle.zops.specs.declared.call.Expected.TheVariants.{Any}
-use Rattle.zops.specs.declared.call.Update.{Update}
-use Rattle.zops.specs.declared.call.Update.TheVariants.{Delete}
-use Rattle.zops.specs.declared.call.Query.{Query}
-use Rattle.zops.specs.declared.call.Query.TheVariants.{Exists}
+use Rattle.zcalls.specs.declared.call.Call.{Call}
+use Rattle.zcalls.specs.declared.call.Call.TheVariants as call
+use Rattle.zcalls.specs.declared.call.Expected.TheVariants.{Any}
+use Rattle.zcalls.specs.declared.call.Update.{Update}
+use Rattle.zcalls.specs.declared.call.Update.TheVariants.{Delete}
+use Rattle.zcalls.specs.declared.call.Query.{Query}
+use Rattle.zcalls.specs.declared.call.Query.TheVariants.{Exists}
 use Rattle.zclient.specs.View.{ClientView}
 
 -- an update, and a query

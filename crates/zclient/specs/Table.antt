@@ -3,9 +3,9 @@
 -- section 2: updates go to the head and queries to the tail; a request may be lost, and the client asks again.
 use Rattle.std.specs.Prelude.{ℕ, ◌+◌, ◌-◌, ◌^◌, Bool, false, not, Option, None, Some, List, [], ◌∷◌, if◌then◌else◌, is_some, nat_lt, ◌==◌}
 use Rattle.zpath.specs.First.{first_that_holds}
-use Rattle.zops.specs.declared.call.Call.{Call}
-use Rattle.zops.specs.declared.call.Call.TheVariants as call
-use Rattle.zops.specs.declared.reply.Reply.{Reply}
+use Rattle.zcalls.specs.declared.call.Call.{Call}
+use Rattle.zcalls.specs.declared.call.Call.TheVariants as call
+use Rattle.zcalls.specs.declared.reply.Reply.{Reply}
 use Rattle.zserver.specs.declared.message.Message.TheVariants as message
 use Rattle.zserver.specs.declared.process.Process.{Process}
 use Rattle.zserver.specs.declared.process.Process.TheVariants.{Master, Server}

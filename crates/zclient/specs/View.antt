@@ -2,7 +2,7 @@
 -- Van Renesse and Schneider, "Chain Replication for Supporting High Throughput and Availability" (OSDI 2004),
 -- section 2; that a client has one call at a time is this project's profile.
 use Rattle.std.specs.Prelude.{ℕ, Option, None, Some}
-use Rattle.zops.specs.declared.call.Call.{Call}
+use Rattle.zcalls.specs.declared.call.Call.{Call}
 
 -- what a client knows: the number of its last call, the call that it waits for, with its number, and the chain's head and
 -- tail as the master told them last, in an epoch

@@ -2,8 +2,8 @@
 //! of `specs/Rows.antt`, and the messages those between servers whose machine is a number.
 
 ghost use Rattle.std.specs.Prelude.{◌≡◌, ◌-◌, ◌^◌, ℕ, None, Some, [], ◌∷◌};
-ghost use Rattle.zops.specs.declared.call.Call.TheVariants as call;
-ghost use Rattle.zops.specs.declared.reply.Reply.TheVariants.{Deleted};
+ghost use Rattle.zcalls.specs.declared.call.Call.TheVariants as call;
+ghost use Rattle.zcalls.specs.declared.reply.Reply.TheVariants.{Deleted};
 ghost use Rattle.zserver.specs.declared.message.Message.TheVariants as message;
 ghost use Rattle.zserver.specs.declared.process.Process.TheVariants.{Master, Server, Client};
 ghost use Rattle.zclient.specs.declared.begin_fault.BeginFault.TheVariants.{Busy, Exhausted};

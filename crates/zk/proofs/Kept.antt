@@ -3,7 +3,7 @@ use Rattle.std.proofs.Common.{◌+◌, ◌-◌, Bool, true, false, nat_le, ◌�
 use Rattle.std.proofs.lemmas.List.{take_all, take_min, length-take, append-nil}
 use Rattle.std.proofs.lemmas.Bool.Decides.{nat_tests}
 use Rattle.std.proofs.Math.Seq.{take-append-add}
-use Rattle.zops.specs.Step.{State}
+use Rattle.zops.specs.Machine.{MachineState}
 use Rattle.zk.specs.Line.{answer, after}
 use Rattle.zk.specs.Script.{after_all, answers}
 use Rattle.zk.specs.Playing.{kept}
@@ -55,35 +55,35 @@ kept-room line part h =
     let e : 524289 ≡ length line + room = omega arith in
     ap (λ n. take n (line ++ part)) e ∙ take-append-add line part room ∙ ap (λ t. line ++ t) (sym (take-room room part))
 
-pub answer-kept : (state : State) (line : List ℕ) → answer state (kept line) ≡ answer state line
+pub answer-kept : (state : MachineState) (line : List ℕ) → answer state (kept line) ≡ answer state line
 answer-kept state line =
     elim (short_or_long (length line)) [
       | inl h ↦ ap (answer state) (kept-short line h)
       | inr h ↦ answer-long state (kept line) (length-kept line h) ∙ sym (answer-long state line h)
     ]
 
-pub after-kept : (state : State) (line : List ℕ) → after state (kept line) ≡ after state line
+pub after-kept : (state : MachineState) (line : List ℕ) → after state (kept line) ≡ after state line
 after-kept state line =
     elim (short_or_long (length line)) [
       | inl h ↦ ap (after state) (kept-short line h)
       | inr h ↦ after-long state (kept line) (length-kept line h) ∙ sym (after-long state line h)
     ]
 
-answers-kept : (lines : List (List ℕ)) (state : State) → answers state (map kept lines) ≡ answers state lines
+answers-kept : (lines : List (List ℕ)) (state : MachineState) → answers state (map kept lines) ≡ answers state lines
 answers-kept [] state = refl
 answers-kept (line ∷ lines) state =
     (λ i. answer-kept state line i ++ answers (after-kept state line i) (map kept lines))
     ∙ ap (λ t. answer state line ++ t) (answers-kept lines (after state line))
 
-after_all-kept : (lines : List (List ℕ)) (state : State) → after_all state (map kept lines) ≡ after_all state lines
+after_all-kept : (lines : List (List ℕ)) (state : MachineState) → after_all state (map kept lines) ≡ after_all state lines
 after_all-kept [] state = refl
 after_all-kept (line ∷ lines) state = ap (λ s. after_all s (map kept lines)) (after-kept state line) ∙ after_all-kept lines (after state line)
 
 -- lines of which the same is kept do the same
-pub answers-alike : (state : State) (xs ys : List (List ℕ)) → map kept xs ≡ map kept ys → answers state xs ≡ answers state ys
+pub answers-alike : (state : MachineState) (xs ys : List (List ℕ)) → map kept xs ≡ map kept ys → answers state xs ≡ answers state ys
 answers-alike state xs ys e = sym (answers-kept xs state) ∙ ap (answers state) e ∙ answers-kept ys state
 
-pub after_all-alike : (state : State) (xs ys : List (List ℕ)) → map kept xs ≡ map kept ys → after_all state xs ≡ after_all state ys
+pub after_all-alike : (state : MachineState) (xs ys : List (List ℕ)) → map kept xs ≡ map kept ys → after_all state xs ≡ after_all state ys
 after_all-alike state xs ys e = sym (after_all-kept xs state) ∙ ap (after_all state) e ∙ after_all-kept ys state
 
 pub kept-none : (line part : List ℕ) → length line ≤ 524289 → length part ≡ 0 → line ≡ kept (line ++ part)

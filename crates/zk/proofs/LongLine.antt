@@ -1,7 +1,7 @@
 -- A line that is too long: all such lines are answered alike, and change nothing.
 use Rattle.std.proofs.Common.{◌≡◌, ◌<◌, ℕ, List, [], ◌∷◌, ◌++◌, length, codes, refl, ap, true, arith}
 use Rattle.std.proofs.lemmas.Bool.Decides.{nat_tests}
-use Rattle.zops.specs.Step.{State}
+use Rattle.zops.specs.Machine.{MachineState}
 use Rattle.zk.specs.LineWords.{is_long}
 use Rattle.zk.specs.Request.{request_of}
 use Rattle.zk.specs.Line.{played, answer, after}
@@ -9,14 +9,14 @@ use Rattle.zk.specs.Line.{played, answer, after}
 long : (line : List ℕ) → 524288 < length line → is_long line ≡ true
 long line h = grind (arith, nat_tests)
 
-played-long : (state : State) (line : List ℕ) → 524288 < length line → played state line ≡ (state, codes "bad line")
+played-long : (state : MachineState) (line : List ℕ) → 524288 < length line → played state line ≡ (state, codes "bad line")
 unfolding played request_of
 played-long state line h = rw (long line h) refl
 
-pub answer-long : (state : State) (line : List ℕ) → 524288 < length line → answer state line ≡ codes "bad line" ++ 10 ∷ []
+pub answer-long : (state : MachineState) (line : List ℕ) → 524288 < length line → answer state line ≡ codes "bad line" ++ 10 ∷ []
 unfolding answer
 answer-long state line h = ap (λ did. did.1 ++ 10 ∷ []) (played-long state line h)
 
-pub after-long : (state : State) (line : List ℕ) → 524288 < length line → after state line ≡ state
+pub after-long : (state : MachineState) (line : List ℕ) → 524288 < length line → after state line ≡ state
 unfolding after
 after-long state line h = ap (λ did. did.0) (played-long state line h)

@@ -2,7 +2,7 @@
 use Rattle.std.proofs.Common.{◌≡◌, ℕ, zero, suc, ◌<◌, ◌≤◌, ◌⊎◌, inl, inr, Bool, true, false, List, [], ◌∷◌, length, Option, None, Some, Ok, Err, if◌then◌else◌, codes, refl, subst, arith}
 use Rattle.std.specs.Option.{option_map}
 use Rattle.std.specs.Str.{bytes_eq}
-use Rattle.zops.specs.declared.call.Part.{Part}
+use Rattle.zcalls.specs.declared.call.Part.{Part}
 use Rattle.zk.specs.declared.part_words.PartWords.{PartWords}
 use Rattle.zk.specs.LineWords.{Word}
 use Rattle.zk.specs.Shape.{Shape, part_shape, and_parts, parts_shape}

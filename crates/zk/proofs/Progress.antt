@@ -1,7 +1,7 @@
 -- How far a player has come among the lines of one block.
 use Rattle.std.proofs.Common.{◌≡◌, ◌<◌, ℕ, List, [], ◌∷◌, ◌++◌, length, refl, sym, ap, ◌∙◌, append_assoc, arith}
 use Rattle.std.proofs.lemmas.List.{append-nil}
-use Rattle.zops.specs.Step.{State}
+use Rattle.zops.specs.Machine.{MachineState}
 use Rattle.zk.specs.Line.{answer, after}
 use Rattle.zk.specs.Device.{TookBeginning}
 use Rattle.zk.specs.Script.{whole_lines_after, line_left, after_all, answers, IsPart}
@@ -70,7 +70,7 @@ progress-cut took more_took all_took p q bytes rest end more both h part is cut 
     }
 
 -- memory ran out at the next line
-pub record StoppedBefore (took : List ℕ → Type 0) (state : State) (lines : List (List ℕ)) : Type 0 where
+pub record StoppedBefore (took : List ℕ → Type 0) (state : MachineState) (lines : List (List ℕ)) : Type 0 where
   pub stopped : Stopped state lines took
   pub some : 0 < length stopped.rest
 

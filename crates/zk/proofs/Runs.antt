@@ -1,7 +1,7 @@
 -- A run of a player, piece by piece.
 use Rattle.std.proofs.Common.{◌≡◌, ◌<◌, ℕ, List, [], ◌++◌, length, map, refl, sym, ap, ◌∙◌, append_assoc}
 use Rattle.std.proofs.lemmas.List.{append-nil}
-use Rattle.zops.specs.Step.{State}
+use Rattle.zops.specs.Machine.{MachineState}
 use Rattle.zk.specs.Script.{whole_lines_after, line_left, last_line, lines_after, after_all, answers}
 use Rattle.zk.specs.Playing.{Playing, start, heard, kept}
 use Rattle.zk.specs.Outcome.{Stopped}
@@ -45,11 +45,11 @@ told-last p a =
     ∙ ap (λ t. before ++ t) (answers-alike (heard p a).state _ _ (last_line-alike line (kept line) (sym (kept-kept line))))
 
 -- what stopped behind some lines that were played, stopped among all of them
-pub record StoppedLater (took : List ℕ → Type 0) (state : State) (lines : List (List ℕ)) (left : ℕ) : Type 0 where
+pub record StoppedLater (took : List ℕ → Type 0) (state : MachineState) (lines : List (List ℕ)) (left : ℕ) : Type 0 where
   pub stopped : Stopped state lines took
   pub some : 0 < left → 0 < length stopped.rest
 
-stopped_behind : (took more : List ℕ → Type 0) (state : State) (before xs ys lines : List (List ℕ)) → map kept xs ≡ map kept ys → lines ≡ before ++ ys → ((t : List ℕ) → took t → more (answers state before ++ t)) → (h : Stopped (after_all state before) xs took) → StoppedLater more state lines (length h.rest)
+stopped_behind : (took more : List ℕ → Type 0) (state : MachineState) (before xs ys lines : List (List ℕ)) → map kept xs ≡ map kept ys → lines ≡ before ++ ys → ((t : List ℕ) → took t → more (answers state before ++ t)) → (h : Stopped (after_all state before) xs took) → StoppedLater more state lines (length h.rest)
 stopped_behind took more state before xs ys lines alike is grow h =
     let s = splits h.played h.rest ys (ap (map kept) (sym h.split) ∙ alike) in
     let text : answers state (before ++ s.front) ≡ answers state before ++ answers (after_all state before) h.played =

@@ -1,7 +1,7 @@
 -- What a fault leaves, carried from a line to its block, and from a block to the run.
 use Rattle.std.proofs.Common.{◌≡◌, ◌<◌, ◌+◌, ℕ, List, [], ◌∷◌, ◌++◌, length, refl, sym, ap, ◌∙◌, subst, append_assoc, arith, length-append}
 use Rattle.std.proofs.lemmas.List.{append-nil}
-use Rattle.zops.specs.Step.{State}
+use Rattle.zops.specs.Machine.{MachineState}
 use Rattle.zk.specs.Line.{answer}
 use Rattle.zk.specs.Device.{TookBeginning, Failed}
 use Rattle.zk.specs.Script.{whole_lines_after, line_left, last_line, lines_after, answers, IsPart}
@@ -24,7 +24,7 @@ progress-stopped took more_took all_took failed all_failed p q bytes rest end mo
     (s.stopped, s.some, grow 0 stop.1)
 
 -- lines behind those that were stopped are not played either
-abbrev longer : (took : List ℕ → Type 0) (state : State) (xs ys : List (List ℕ)) → Stopped state xs took → Stopped state (xs ++ ys) took
+abbrev longer : (took : List ℕ → Type 0) (state : MachineState) (xs ys : List (List ℕ)) → Stopped state xs took → Stopped state (xs ++ ys) took
 longer took state xs ys h = record {
   played = h.played;
   rest = h.rest ++ ys;
@@ -32,7 +32,7 @@ longer took state xs ys h = record {
   taken = h.taken;
 }
 
-pub stopped-longer : (took : List ℕ → Type 0) (failed : ℕ → Type 0) (state : State) (xs ys : List (List ℕ)) (fault : PlayFault) → IsStoppedBy state xs took failed fault → IsStoppedBy state (xs ++ ys) took failed fault
+pub stopped-longer : (took : List ℕ → Type 0) (failed : ℕ → Type 0) (state : MachineState) (xs ys : List (List ℕ)) (fault : PlayFault) → IsStoppedBy state xs took failed fault → IsStoppedBy state (xs ++ ys) took failed fault
 stopped-longer took failed state xs ys Read h = h
 stopped-longer took failed state xs ys Write h = (longer took state xs ys h.0, h.1)
 stopped-longer took failed state xs ys Memory h =
@@ -40,7 +40,7 @@ stopped-longer took failed state xs ys Memory h =
     (longer took state xs ys h.0, some, h.2)
 
 -- a fault at the one line that is played
-pub line-stopped : (took : List ℕ → Type 0) (failed : ℕ → Type 0) (state : State) (held line : List ℕ) → held ≡ [] → (fault : PlayFault) → IsLineStoppedBy held (answer state line) took failed fault → IsStoppedBy state (line ∷ []) took failed fault
+pub line-stopped : (took : List ℕ → Type 0) (failed : ℕ → Type 0) (state : MachineState) (held line : List ℕ) → held ≡ [] → (fault : PlayFault) → IsLineStoppedBy held (answer state line) took failed fault → IsStoppedBy state (line ∷ []) took failed fault
 line-stopped took failed state held line none Read h = h
 line-stopped took failed state held line none Write h = (
   record {
@@ -62,7 +62,7 @@ last_line-some [] h = absurd (omega arith)
 last_line-some (x ∷ line) h = refl
 
 -- memory ran out at the line that the block leaves
-pub left-stopped : (took : List ℕ → Type 0) (state : State) (line bytes held : List ℕ) → 0 < length (line_left line bytes) → Tells took (answers state (whole_lines_after line bytes)) held → (stopped : Stopped state (lines_after line bytes) took) × (0 < length stopped.rest)
+pub left-stopped : (took : List ℕ → Type 0) (state : MachineState) (line bytes held : List ℕ) → 0 < length (line_left line bytes) → Tells took (answers state (whole_lines_after line bytes)) held → (stopped : Stopped state (lines_after line bytes) took) × (0 < length stopped.rest)
 left-stopped took state line bytes held some tells = (
   record {
     played = whole_lines_after line bytes;
@@ -74,7 +74,7 @@ left-stopped took state line bytes held some tells = (
 )
 
 -- the sink failed at the replies of a block
-pub replies-stopped : (took more_took all_took : List ℕ → Type 0) (state : State) (line bytes held : List ℕ) → ((a b : List ℕ) → took a → more_took b → all_took (a ++ b)) → Tells took (answers state (whole_lines_after line bytes)) held → TookBeginning more_took held → Stopped state (lines_after line bytes) all_took
+pub replies-stopped : (took more_took all_took : List ℕ → Type 0) (state : MachineState) (line bytes held : List ℕ) → ((a b : List ℕ) → took a → more_took b → all_took (a ++ b)) → Tells took (answers state (whole_lines_after line bytes)) held → TookBeginning more_took held → Stopped state (lines_after line bytes) all_took
 replies-stopped took more_took all_took state line bytes held both tells cut = record {
   played = whole_lines_after line bytes;
   rest = last_line (line_left line bytes);
@@ -98,11 +98,11 @@ pub beginning-later : (took more_took all_took : List ℕ → Type 0) (a b : Lis
 beginning-later took more_took all_took a b both h cut = (a ++ cut.0, (cut.1.0, ap (λ t. a ++ t) cut.1.1 ∙ sym (append_assoc a cut.0 cut.1.0)), both a cut.0 h cut.2)
 
 -- the one line that is played is told in two steps, or the second fails
-pub line-told : (took more_took all_took : List ℕ → Type 0) (state : State) (held line left : List ℕ) → ((a b : List ℕ) → took a → more_took b → all_took (a ++ b)) → held ≡ [] → Tells took (held ++ answer state line) left → more_took left → all_took (answers state (line ∷ []))
+pub line-told : (took more_took all_took : List ℕ → Type 0) (state : MachineState) (held line left : List ℕ) → ((a b : List ℕ) → took a → more_took b → all_took (a ++ b)) → held ≡ [] → Tells took (held ++ answer state line) left → more_took left → all_took (answers state (line ∷ []))
 line-told took more_took all_took state held line left both none tells rest =
     subst all_took (ap (λ t. t ++ answer state line) none ∙ sym (append-nil _)) (tells_both took more_took all_took (held ++ answer state line) left both tells rest)
 
-pub line-cut : (took more_took all_took : List ℕ → Type 0) (state : State) (held line left : List ℕ) → ((a b : List ℕ) → took a → more_took b → all_took (a ++ b)) → held ≡ [] → Tells took (held ++ answer state line) left → TookBeginning more_took left → Stopped state (line ∷ []) all_took
+pub line-cut : (took more_took all_took : List ℕ → Type 0) (state : MachineState) (held line left : List ℕ) → ((a b : List ℕ) → took a → more_took b → all_took (a ++ b)) → held ≡ [] → Tells took (held ++ answer state line) left → TookBeginning more_took left → Stopped state (line ∷ []) all_took
 line-cut took more_took all_took state held line left both none tells cut = record {
   played = line ∷ [];
   rest = [];

@@ -1,7 +1,7 @@
 -- What a run of the player comes to, told by what its devices did from its start to its end.
 use Rattle.std.specs.Prelude.{◌≡◌, ℕ, ◌<◌, ◌⊎◌, List, [], ◌++◌, length, codes}
 use Rattle.zk.specs.Device.{Failed, TookBeginning}
-use Rattle.zops.specs.Step.{State, opening}
+use Rattle.zops.specs.Machine.{MachineState, opening_machine}
 use Rattle.zk.specs.Script.{lines_of, whole_lines_of, answers, text_of}
 use Rattle.zk.specs.declared.fault.PlayFault.{PlayFault}
 use Rattle.zk.specs.declared.fault.PlayFault.TheVariants.{Read, Write, Memory}
@@ -13,7 +13,7 @@ pub record Played (gave took : List ℕ → Type 0) : Type 0 where
   pub taken : took (text_of bytes)
 
 -- Of these lines the first ones were played, and the sink took a beginning of their answers.
-pub record Stopped (state : State) (lines : List (List ℕ)) (took : List ℕ → Type 0) : Type 0 where
+pub record Stopped (state : MachineState) (lines : List (List ℕ)) (took : List ℕ → Type 0) : Type 0 where
   pub played : List (List ℕ)
   pub rest : List (List ℕ)
   pub split : lines ≡ played ++ rest
@@ -23,13 +23,13 @@ pub record Stopped (state : State) (lines : List (List ℕ)) (took : List ℕ �
 pub record Cut (gave took : List ℕ → Type 0) : Type 0 where
   pub bytes : List ℕ
   pub given : gave bytes
-  pub stopped : Stopped opening (lines_of bytes) took
+  pub stopped : Stopped opening_machine (lines_of bytes) took
 
 -- Each line that had its LF was answered, and no other.
 pub record PlayedWholeLines (gave took : List ℕ → Type 0) : Type 0 where
   pub bytes : List ℕ
   pub given : gave bytes
-  pub taken : took (answers opening (whole_lines_of bytes))
+  pub taken : took (answers opening_machine (whole_lines_of bytes))
 
 -- Some line was not played.
 abbrev pub CutBeforeLine : (gave took : List ℕ → Type 0) → Type 0
@@ -44,7 +44,7 @@ IsCutBy gave took source_failed sink_failed Memory =
     (CutBeforeLine gave took ⊎ (gave [] × took [])) × source_failed 0 × sink_failed 0
 
 -- The same within one block of bytes: a player's own faults.
-abbrev pub IsStoppedBy : State → List (List ℕ) → (took : List ℕ → Type 0) (failed : ℕ → Type 0) → PlayFault → Type 0
+abbrev pub IsStoppedBy : MachineState → List (List ℕ) → (took : List ℕ → Type 0) (failed : ℕ → Type 0) → PlayFault → Type 0
 IsStoppedBy state lines took failed Read = ⊥
 IsStoppedBy state lines took failed Write = Stopped state lines took × Failed failed
 IsStoppedBy state lines took failed Memory = (stopped : Stopped state lines took) × (0 < length stopped.rest) × failed 0

@@ -2,24 +2,24 @@
 use Rattle.std.specs.Prelude.{◌≡◌, ℕ, List, [], ◌++◌, take}
 use Rattle.std.specs.Coded.{Coded, code_by, coded×, coded_ℕ, coded_list}
 use Rattle.std.proofs.Common.{refl}
-use Rattle.zops.specs.Step.{State, coded_state, opening}
+use Rattle.zops.specs.Machine.{MachineState, coded_machine_state, opening_machine}
 use Rattle.zk.specs.Script.{whole_lines_after, line_left, after_all}
 
 -- The state, what is kept of the line that has begun, and the replies that were not written yet.
 pub record Playing : Type 0 where
-  pub state : State
+  pub state : MachineState
   pub line : List ℕ
   pub held : List ℕ
 
 -- How it is stored.
 abbrev pub coded_playing : Coded Playing
-coded_playing = code_by (State × (List ℕ × List ℕ)) (coded× coded_state (coded× (coded_list coded_ℕ) (coded_list coded_ℕ)))
+coded_playing = code_by (MachineState × (List ℕ × List ℕ)) (coded× coded_machine_state (coded× (coded_list coded_ℕ) (coded_list coded_ℕ)))
     (λ p. (p.state, (p.line, p.held)))
     (λ q. record { state = q.0; line = q.1.0; held = q.1.1 }) (λ _. refl)
 
 -- A player that has heard nothing.
 abbrev pub start : Playing
-start = record { state = opening; line = []; held = [] }
+start = record { state = opening_machine; line = []; held = [] }
 
 -- What is kept of a line: no more than shows that it is too long.
 unfoldable pub kept : List ℕ → List ℕ

@@ -3,12 +3,12 @@ use Rattle.std.specs.Prelude.{ℕ, List, [], ◌∷◌, ◌++◌, length, codes}
 use Rattle.std.specs.Fmt.{decimal}
 use Rattle.std.specs.List.{flat_map}
 use Rattle.zpath.specs.Grammar.{text_of}
-use Rattle.zstore.specs.declared.node.Stat.{Stat}
-use Rattle.zops.specs.declared.reply.Reply.{Reply}
-use Rattle.zops.specs.declared.reply.Reply.TheVariants.{Created, Deleted, Set, Multi, Opened, Pinged, Closed, Ticked, Data, Exists, Children, Refused, MultiRefused}
-use Rattle.zops.specs.declared.reply.PartReply.{PartReply}
-use Rattle.zops.specs.declared.reply.PartReply.TheVariants as part
-use Rattle.zops.specs.Step.{refusal_name}
+use Rattle.ztree.specs.declared.node.Stat.{Stat}
+use Rattle.zcalls.specs.declared.reply.Reply.{Reply}
+use Rattle.zcalls.specs.declared.reply.Reply.TheVariants.{Created, Deleted, Set, Multi, Opened, Pinged, Closed, Ticked, Data, Exists, Children, Refused, MultiRefused}
+use Rattle.zcalls.specs.declared.reply.PartReply.{PartReply}
+use Rattle.zcalls.specs.declared.reply.PartReply.TheVariants as part
+use Rattle.zcalls.specs.Step.{refusal_name}
 use Rattle.zk.specs.LineWords.{data_text}
 
 -- the ten numbers of a stat, in the order of the text

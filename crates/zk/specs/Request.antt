@@ -4,21 +4,21 @@ use Rattle.std.specs.Prelude.{ℕ, List, [], ◌∷◌, codes, nat_eq, Option, N
 use Rattle.std.specs.Option.{option_map_or}
 use Rattle.std.specs.Str.{bytes_eq}
 use Rattle.zpath.specs.Faults.{fault_of, names_of}
-use Rattle.zops.specs.declared.call.Kind.{Kind}
-use Rattle.zops.specs.declared.call.Expected.{Expected}
-use Rattle.zops.specs.declared.call.Create.{Create}
-use Rattle.zops.specs.declared.call.Delete.{Delete}
-use Rattle.zops.specs.declared.call.SetData.{SetData}
-use Rattle.zops.specs.declared.call.Check.{Check}
-use Rattle.zops.specs.declared.call.Part.{Part}
-use Rattle.zops.specs.declared.call.Part.TheVariants as part_of
-use Rattle.zops.specs.declared.call.Update.{Update as Change}
-use Rattle.zops.specs.declared.call.Update.TheVariants as update_of
-use Rattle.zops.specs.declared.call.Query.{Query as Question}
-use Rattle.zops.specs.declared.call.Query.TheVariants.{GetData, Exists, GetChildren}
-use Rattle.zops.specs.declared.call.Call.{Call}
-use Rattle.zops.specs.declared.call.Call.TheVariants.{Update, Query}
-use Rattle.zstore.specs.Tree.{Path}
+use Rattle.zcalls.specs.declared.call.Kind.{Kind}
+use Rattle.zcalls.specs.declared.call.Expected.{Expected}
+use Rattle.zcalls.specs.declared.call.Create.{Create}
+use Rattle.zcalls.specs.declared.call.Delete.{Delete}
+use Rattle.zcalls.specs.declared.call.SetData.{SetData}
+use Rattle.zcalls.specs.declared.call.Check.{Check}
+use Rattle.zcalls.specs.declared.call.Part.{Part}
+use Rattle.zcalls.specs.declared.call.Part.TheVariants as part_of
+use Rattle.zcalls.specs.declared.call.Update.{Update as Change}
+use Rattle.zcalls.specs.declared.call.Update.TheVariants as update_of
+use Rattle.zcalls.specs.declared.call.Query.{Query as Question}
+use Rattle.zcalls.specs.declared.call.Query.TheVariants.{GetData, Exists, GetChildren}
+use Rattle.zcalls.specs.declared.call.Call.{Call}
+use Rattle.zcalls.specs.declared.call.Call.TheVariants.{Update, Query}
+use Rattle.ztree.specs.Tree.{Path}
 use Rattle.zk.specs.declared.part_words.PartWords.{PartWords}
 use Rattle.zk.specs.declared.part_words.PartWords.TheVariants as words_of_part
 use Rattle.zk.specs.declared.request.Request.{Request}

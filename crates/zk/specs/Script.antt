@@ -1,6 +1,6 @@
 -- What a script's bytes are answered with: line by line, each on the state that the lines before it left.
 use Rattle.std.specs.Prelude.{◌≡◌, ℕ, false, List, [], ◌∷◌, ◌++◌, ◌==◌, if◌then◌else◌}
-use Rattle.zops.specs.Step.{State, opening}
+use Rattle.zops.specs.Machine.{MachineState, opening_machine}
 use Rattle.zk.specs.Line.{answer, after}
 
 -- The lines that end within some bytes, each without its LF, where a line has begun before them.
@@ -31,18 +31,18 @@ abbrev pub lines_of : List ℕ → List (List ℕ)
 lines_of bytes = lines_after [] bytes
 
 -- The state after some lines.
-abbrev pub after_all : State → List (List ℕ) → State
+abbrev pub after_all : MachineState → List (List ℕ) → MachineState
 after_all state [] = state
 after_all state (line ∷ lines) = after_all (after state line) lines
 
 -- The bytes that answer some lines.
-abbrev pub answers : State → List (List ℕ) → List ℕ
+abbrev pub answers : MachineState → List (List ℕ) → List ℕ
 answers state [] = []
 answers state (line ∷ lines) = answer state line ++ answers (after state line) lines
 
 -- The whole text that a script is answered with.
 abbrev pub text_of : List ℕ → List ℕ
-text_of bytes = answers opening (lines_of bytes)
+text_of bytes = answers opening_machine (lines_of bytes)
 
 -- No LF is in these bytes.
 abbrev pub IsPart : List ℕ → Type 0

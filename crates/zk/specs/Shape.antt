@@ -4,10 +4,10 @@ use Rattle.std.specs.Prelude.{ℕ, zero, suc, nat_eq, List, [], ◌∷◌, drop,
 use Rattle.std.specs.Option.{option_map}
 use Rattle.std.specs.List.{starts_with}
 use Rattle.std.specs.Str.{bytes_eq}
-use Rattle.zops.specs.declared.call.Kind.{Kind}
-use Rattle.zops.specs.declared.call.Kind.TheVariants.{Persistent, PersistentSequential, Ephemeral, EphemeralSequential}
-use Rattle.zops.specs.declared.call.Expected.{Expected}
-use Rattle.zops.specs.declared.call.Expected.TheVariants.{Any, Exactly}
+use Rattle.zcalls.specs.declared.call.Kind.{Kind}
+use Rattle.zcalls.specs.declared.call.Kind.TheVariants.{Persistent, PersistentSequential, Ephemeral, EphemeralSequential}
+use Rattle.zcalls.specs.declared.call.Expected.{Expected}
+use Rattle.zcalls.specs.declared.call.Expected.TheVariants.{Any, Exactly}
 use Rattle.zk.specs.declared.part_words.PartWords.{PartWords}
 use Rattle.zk.specs.declared.part_words.PartWords.TheVariants.{Create, Delete, SetData, Check}
 use Rattle.zk.specs.LineWords.{Word, number_of}

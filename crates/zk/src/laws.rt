@@ -2,12 +2,12 @@
 
 ghost use Rattle.std.specs.Prelude.{◌≡◌, [], ◌∷◌, ◌++◌, Some, None, Ok, Err, codes};
 ghost use Rattle.zpath.specs.declared.fault.PathFault.TheVariants.{NotAbsolute};
-ghost use Rattle.zops.specs.declared.call.Kind.TheVariants.{Persistent, Ephemeral, EphemeralSequential};
-ghost use Rattle.zops.specs.declared.call.Update.TheVariants.{Create, Open, Ping, Close, Tick};
-ghost use Rattle.zops.specs.declared.call.Query.TheVariants.{GetData};
-ghost use Rattle.zops.specs.declared.call.Call.TheVariants.{Update, Query};
-ghost use Rattle.zops.specs.declared.refusal.Refusal.TheVariants.{NoNode};
-ghost use Rattle.zops.specs.declared.reply.Reply.TheVariants.{Created, Opened, Ticked, Refused};
+ghost use Rattle.zcalls.specs.declared.call.Kind.TheVariants.{Persistent, Ephemeral, EphemeralSequential};
+ghost use Rattle.zcalls.specs.declared.call.Update.TheVariants.{Create, Open, Ping, Close, Tick};
+ghost use Rattle.zcalls.specs.declared.call.Query.TheVariants.{GetData};
+ghost use Rattle.zcalls.specs.declared.call.Call.TheVariants.{Update, Query};
+ghost use Rattle.zcalls.specs.declared.refusal.Refusal.TheVariants.{NoNode};
+ghost use Rattle.zcalls.specs.declared.reply.Reply.TheVariants.{Created, Opened, Ticked, Refused};
 ghost use Rattle.zk.specs.declared.request.LineFault.TheVariants.{BadLine, BadPath, BadData};
 ghost use Rattle.zk.specs.LineWords.{number_of, client_of, data_of, data_text};
 ghost use Rattle.zk.specs.Request.{request_of};

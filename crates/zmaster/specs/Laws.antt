@@ -1,6 +1,6 @@
 -- What holds of the master table: it looks at no machine.
 use Rattle.std.specs.Prelude.{◌≡◌, ℕ, List}
-use Rattle.zops.specs.declared.call.Entry.{Entry}
+use Rattle.zcalls.specs.declared.call.Entry.{Entry}
 use Rattle.zserver.specs.declared.process.Process.{Process}
 use Rattle.zserver.specs.Machine.{Does, replay}
 use Rattle.zserver.specs.View.{MessageOf}

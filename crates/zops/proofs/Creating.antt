@@ -3,28 +3,29 @@ use Rattle.std.proofs.Common.{◌≡◌, ℕ, Bool, true, false, List, Some, Non
 use Rattle.std.specs.Prelude.{nat_le}
 use Rattle.std.specs.FinMap as finite
 use Rattle.zpath.specs.First.{first_that_holds}
-use Rattle.zstore.specs.Tree.{Tree, Nodes, Path, parent_of, has_node, added}
-use Rattle.zops.specs.declared.call.Create.{Create}
-use Rattle.zops.specs.declared.refusal.Refusal.{Refusal}
-use Rattle.zops.specs.declared.refusal.Refusal.TheVariants.{NodeExists, Full}
-use Rattle.zops.specs.declared.reply.PartReply.TheVariants.{Created}
+use Rattle.ztree.specs.Tree.{Tree, Nodes, Path, parent_of, has_node, with_node}
+use Rattle.zcalls.specs.declared.call.Create.{Create}
+use Rattle.zcalls.specs.declared.refusal.Refusal.{Refusal}
+use Rattle.zcalls.specs.declared.refusal.Refusal.TheVariants.{NodeExists, Full}
+use Rattle.zcalls.specs.declared.reply.PartReply.TheVariants.{Created}
 use Rattle.zops.specs.declared.part.Stop.{Stop}
 use Rattle.zops.specs.declared.part.Stop.TheVariants.{Refused, Memory}
-use Rattle.zops.specs.Part.{create_part, create_refusals, name_refusals, made_path, unless_refused, is_root, is_owned, IsStop, IsStopped, is_sequential, owner_of, has_no_owner, node_has}
-use Rattle.zops.proofs.Tables.{first_of_both, second_of_both}
+use Rattle.zcalls.specs.Part.{create_part, create_refusals, name_refusals, made_path, unless_refused, is_root, is_owned, is_sequential, owner_of, has_no_owner, node_has}
+use Rattle.zops.specs.Stops.{IsStop, IsStopped}
+use Rattle.zcalls.proofs.Tables.{first_of_both, second_of_both}
 
 pub created-refused : (t : Tree) (client : ℕ) (create : Create) (refusal : Refusal) → first_that_holds (create_refusals t client create) ≡ Some refusal → create_part t client create ≡ Err refusal
 unfolding create_part
 created-refused t client create refusal e =
     let made = made_path t.nodes create.kind create.path in
-    ap (λ o. unless_refused o (added t made create.bytes (owner_of create.kind) (is_sequential create.kind), Created made)) e
+    ap (λ o. unless_refused o (with_node t made create.bytes (owner_of create.kind) (is_sequential create.kind), Created made)) e
 
 pub created-done : (t : Tree) (client : ℕ) (create : Create) → first_that_holds (create_refusals t client create) ≡ None
-    → create_part t client create ≡ Ok (added t (made_path t.nodes create.kind create.path) create.bytes (owner_of create.kind) (is_sequential create.kind), Created (made_path t.nodes create.kind create.path))
+    → create_part t client create ≡ Ok (with_node t (made_path t.nodes create.kind create.path) create.bytes (owner_of create.kind) (is_sequential create.kind), Created (made_path t.nodes create.kind create.path))
 unfolding create_part
 created-done t client create e =
     let made = made_path t.nodes create.kind create.path in
-    ap (λ o. unless_refused o (added t made create.bytes (owner_of create.kind) (is_sequential create.kind), Created made)) e
+    ap (λ o. unless_refused o (with_node t made create.bytes (owner_of create.kind) (is_sequential create.kind), Created made)) e
 
 -- the tests of the place that a made path has
 abbrev place_refusals : Nodes → Create → List (Bool × Refusal)

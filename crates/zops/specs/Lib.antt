@@ -1,10 +1,3 @@
-pub mod Part
-pub mod Multi
-pub mod Step
-pub mod Kept
-pub mod KeptLaws
-pub mod KeptRows
+pub mod Stops
+pub mod Machine
 pub mod Sound
-pub mod Laws
-pub mod History
-pub mod SessionLaws

@@ -1,38 +1,10 @@
 -- What a machine keeps of its numbers, so that none of them can grow too large.
-use Rattle.std.specs.Prelude.{◌≡◌, ℕ, ◌+◌, ◌*◌, ◌^◌, ◌<◌, ◌≤◌}
-use Rattle.zstore.specs.Tree.{Tree}
-use Rattle.zstore.specs.Held.{Held}
-use Rattle.zstore.specs.Lawful.{AllNodes, AllSessions}
-use Rattle.zstore.specs.declared.node.Node.{Node}
-use Rattle.zstore.specs.declared.session.Session.{Session}
-
--- the version and the cversion of a node were raised at most so often, and a counter has an end of its own
-pub record IsWithin (raises : ℕ) (n : Node) : Type 0 where
-  pub version : n.version ≤ raises
-  pub cversion : n.cversion ≤ raises
-  pub seq : n.seq ≤ 2147483648
-
--- a session's id is the number of a change that was made, and its timeout is one that is granted
-pub record IsGranted (zxid id : ℕ) (s : Session) : Type 0 where
-  pub before : id ≤ zxid
-  pub least : 2 ≤ s.timeout
-  pub most : s.timeout ≤ 20
-
--- every number of the tree leaves room for one more change: each change raises a node's at most 4,096 times
-pub record IsBounded (t : Tree) : Type 0 where
-  pub zxid : t.zxid < 2 ^ 40
-  pub time : t.time < 2 ^ 40
-  pub counters : AllNodes (IsWithin (4096 * t.zxid)) t.nodes
-  pub sessions : AllSessions (IsGranted t.zxid) t.sessions
-
--- of two trees only the nodes differ: the number of the last change, the clock and the sessions are the same
-pub record ChangesNodesAlone (t u : Tree) : Type 0 where
-  pub zxid : u.zxid ≡ t.zxid
-  pub time : u.time ≡ t.time
-  pub sessions : u.sessions ≡ t.sessions
+use Rattle.std.specs.Prelude.{ℕ, ◌+◌, ◌*◌, ◌^◌, ◌<◌, ◌≤◌}
+use Rattle.zstore.specs.StoreView.{StoreView}
+use Rattle.zcalls.specs.Bounds.{IsBounded}
 
 -- what a machine keeps: room for the next change, few entries, and few Ids for each entry
-pub record IsSound (store : Held) (applied : ℕ) : Type 0 where
+pub record IsSound (store : StoreView) (applied : ℕ) : Type 0 where
   pub bounded : IsBounded store.tree
   pub applied_few : applied < 2 ^ 62
   pub given_few : store.given ≤ 64 * applied + 1

@@ -2,12 +2,11 @@
 
 ghost use Rattle.std.specs.Prelude.{◌≡◌, ◌<◌, ◌-◌, ◌^◌, IfOk, OnOk, OnErr, IsErr, true, false};
 
-use crate::call::{Entry, Query};
 use crate::query::answer;
-use crate::reply::Reply;
 use crate::update::update;
 use std::alloc::Global;
 use std::marker::Model;
+use zcalls::{Entry, Query, Reply};
 use zpath::Memory;
 use zstore::Store;
 
@@ -25,11 +24,11 @@ pub struct Machine {
 }
 
 impl Model for Machine {
-    ghost use Rattle.zops.specs.Step.{Seen, coded_seen};
+    ghost use Rattle.zops.specs.Machine.{MachineView, coded_machine_view};
 
-    ghost Value = { Seen };
+    ghost Value = { MachineView };
 
-    ghost coded = { coded_seen };
+    ghost coded = { coded_machine_view };
 
     ghost use Rattle.zops.specs.Sound.{IsSound};
 
@@ -39,16 +38,17 @@ impl Model for Machine {
 }
 
 impl Machine {
-    ghost use Rattle.zops.specs.Step.{opening, answer, entered};
-    ghost use Rattle.zstore.specs.Lawful.{IsLawful};
+    ghost use Rattle.zcalls.specs.Step.{query_reply};
+    ghost use Rattle.zops.specs.Machine.{opening_machine, entry_result};
+    ghost use Rattle.ztree.specs.Lawful.{IsLawful};
 
     /// A machine with the opening tree.
     pub fn new(alloc: Global) -> Result<Machine, Memory>
-        ensures opening { IfOk result (λ m. m ≡ record { state = opening; is_broken = false }) }
+        ensures opening { IfOk result (λ m. m ≡ record { state = opening_machine; is_broken = false }) }
         ensures lawful { IfOk result (λ m. IsLawful m.state.tree) }
     {
         let store = Store::new(alloc)?;
-        store.is_kept_lawful();
+        store.keeps_lawful();
         Ok(Machine {
             alloc,
             store,
@@ -63,16 +63,16 @@ impl Machine {
         ensures few { result < 2 ^ 62 }
         ensures lawful { IsLawful self.now.state.tree }
     {
-        self.store.is_kept_lawful();
+        self.store.keeps_lawful();
         self.applied
     }
 
     /// Applies an entry by the plain step; the reply is that of its update. After `Memory` the machine
     /// answers `Memory` for good.
-    #[tactic(auto, unfolding(crate::specs::Step::entered))]
+    #[tactic(auto, unfolding(crate::specs::Machine::entry_result))]
     pub fn apply(&mut self, entry: Entry) -> Result<Option<Reply>, Memory>
         requires { self.old.state.applied < 2 ^ 62 - 1 }
-        ensures ok { IfOk result (λ reply. (self.new.state, reply) ≡ entered self.old.state entry) }
+        ensures ok { IfOk result (λ reply. (self.new.state, reply) ≡ entry_result self.old.state entry) }
         ensures sound { OnOk result ((self.old.is_broken ≡ false) × (self.new.is_broken ≡ false)) }
         ensures broken { OnErr result (self.new.is_broken ≡ true) }
         ensures stays { self.old.is_broken ≡ true → IsErr result }
@@ -84,7 +84,7 @@ impl Machine {
         match update(self.alloc, &mut self.store, entry.client, entry.update) {
             Ok(reply) => {
                 self.applied += 1;
-                self.store.is_kept_lawful();
+                self.store.keeps_lawful();
                 Ok(Some(reply))
             }
             Err(memory) => {
@@ -96,14 +96,14 @@ impl Machine {
 
     /// Answers a query, and changes nothing.
     pub fn ask(&self, query: &Query) -> Result<Reply, Memory>
-        ensures ok { IfOk result (λ reply. reply ≡ answer self.now.state.tree query.now) }
+        ensures ok { IfOk result (λ reply. reply ≡ query_reply self.now.state.tree query.now) }
         ensures broken { self.now.is_broken ≡ true → IsErr result }
         ensures lawful { OnOk result (IsLawful self.now.state.tree) }
     {
         if self.is_broken {
             Err(Memory)
         } else {
-            self.store.is_kept_lawful();
+            self.store.keeps_lawful();
             answer(self.alloc, &self.store, query)
         }
     }

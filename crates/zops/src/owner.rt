@@ -1,9 +1,9 @@
 //! Whose a session is.
 
 ghost use Rattle.std.specs.Prelude.{◌≡◌};
-ghost use Rattle.zops.specs.Part.{is_gone, has_no_owner};
+ghost use Rattle.zcalls.specs.Part.{is_gone, has_no_owner};
 
-use crate::call::Kind;
+use zcalls::Kind;
 use zstore::{ClientId, Store};
 
 /// Whether the session is gone to this client: it isn't there, or is another client's.

@@ -5,16 +5,15 @@ ghost use Rattle.std.specs.FinMap.{get};
 ghost use Rattle.zpath.specs.First.{first_that_holds};
 ghost use Rattle.zpath.specs.Numbered.{is_over};
 ghost use Rattle.zops.specs.declared.part.Stop.TheVariants.{Refused, Memory as no_memory};
-ghost use Rattle.zops.specs.Part.{create_part, delete_part, set_part, check_part, part_step, is_owned, has_other_version, node_has, made_path, name_refusals, IsStop, IsStopped};
-ghost use Rattle.zstore.specs.Lawful.{AllNodes};
-ghost use Rattle.zstore.specs.Tree.{Path, HasRoom, parent_of, children};
-ghost use Rattle.zstore.specs.Held.{path_of};
+ghost use Rattle.zcalls.specs.Part.{create_part, delete_part, set_part, check_part, part_step, is_owned, has_other_version, node_has, made_path, name_refusals};
+ghost use Rattle.zops.specs.Stops.{IsStop, IsStopped};
+ghost use Rattle.ztree.specs.Lawful.{AllNodes};
+ghost use Rattle.ztree.specs.Tree.{Path, HasRoom, parent_of, children};
+ghost use Rattle.zstore.specs.StoreView.{path_of};
 
-use crate::call::{Check, Create, Delete, Expected, Kind, Part, SetData};
 use crate::owner::has_no_owner;
-use crate::refusal::Refusal;
-use crate::reply::PartReply;
 use std::alloc::Global;
+use zcalls::{Check, Create, Delete, Expected, Kind, Part, PartReply, Refusal, SetData};
 use zpath::{Memory, Path, PathFault};
 use zstore::{ClientId, Id, MAX_NODES, Store};
 

@@ -2,20 +2,17 @@
 
 ghost use Rattle.std.specs.Prelude.{◌≡◌, IfOk};
 ghost use Rattle.std.specs.FinMap.{get};
-ghost use Rattle.zops.specs.Step.{answer, on_node};
-ghost use Rattle.zops.specs.declared.call.Query.TheVariants.{GetData, Exists, GetChildren};
+ghost use Rattle.zcalls.specs.Step.{query_reply, on_node};
+ghost use Rattle.zcalls.specs.declared.call.Query.TheVariants.{GetData, Exists, GetChildren};
 
-use crate::call::Query;
-use crate::listed::Names;
-use crate::refusal::Refusal;
-use crate::reply::Reply;
 use std::alloc::Global;
+use zcalls::{Names, Query, Refusal, Reply};
 use zpath::{Memory, Path};
 use zstore::Store;
 
 /// Answers a query.
 pub(crate) fn answer(alloc: Global, store: &Store, query: &Query) -> Result<Reply, Memory>
-    ensures { IfOk result (λ reply. reply ≡ answer store.now.tree query.now) }
+    ensures { IfOk result (λ reply. reply ≡ query_reply store.now.tree query.now) }
 {
     match query {
         Query::GetData(path) => get_data(alloc, store, path),
@@ -25,9 +22,9 @@ pub(crate) fn answer(alloc: Global, store: &Store, query: &Query) -> Result<Repl
 }
 
 // The data and the stat of the node at a path.
-#[tactic(auto, unfolding(crate::specs::Step::answer))]
+#[tactic(auto, unfolding(zcalls::specs::Step::query_reply))]
 fn get_data(alloc: Global, store: &Store, path: &Path) -> Result<Reply, Memory>
-    ensures { IfOk result (λ reply. reply ≡ answer store.now.tree (GetData path.now)) }
+    ensures { IfOk result (λ reply. reply ≡ query_reply store.now.tree (GetData path.now)) }
 {
     let Some(id) = store.find(path) else {
         return Ok(Reply::Refused(Refusal::NoNode));
@@ -39,9 +36,9 @@ fn get_data(alloc: Global, store: &Store, path: &Path) -> Result<Reply, Memory>
 }
 
 // The stat of the node at a path.
-#[tactic(auto, unfolding(crate::specs::Step::answer))]
+#[tactic(auto, unfolding(zcalls::specs::Step::query_reply))]
 fn exists(store: &Store, path: &Path) -> Reply
-    ensures { result ≡ answer store.now.tree (Exists path.now) }
+    ensures { result ≡ query_reply store.now.tree (Exists path.now) }
 {
     let Some(id) = store.find(path) else {
         return Reply::Refused(Refusal::NoNode);
@@ -53,9 +50,9 @@ fn exists(store: &Store, path: &Path) -> Reply
 }
 
 // The names of the children of the node at a path.
-#[tactic(auto, unfolding(crate::specs::Step::answer))]
+#[tactic(auto, unfolding(zcalls::specs::Step::query_reply))]
 fn get_children(alloc: Global, store: &Store, path: &Path) -> Result<Reply, Memory>
-    ensures { IfOk result (λ reply. reply ≡ answer store.now.tree (GetChildren path.now)) }
+    ensures { IfOk result (λ reply. reply ≡ query_reply store.now.tree (GetChildren path.now)) }
 {
     let Some(id) = store.find(path) else {
         return Ok(Reply::Refused(Refusal::NoNode));

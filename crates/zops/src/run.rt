@@ -2,15 +2,14 @@
 
 ghost use Rattle.std.specs.Prelude.{◌≡◌, ◌<◌, ◌+◌, ◌≤◌, ◌*◌, ◌^◌, Ok, [], drop, length, IfOk, IfErr, OnOk};
 ghost use Rattle.zops.specs.declared.run.Halt.TheVariants.{Memory as no_memory};
-ghost use Rattle.zops.specs.Multi.{run, IsHalt};
-ghost use Rattle.zops.specs.Sound.{IsBounded, ChangesNodesAlone, IsWithin};
-ghost use Rattle.zstore.specs.Lawful.{AllNodes};
+ghost use Rattle.zcalls.specs.Multi.{run};
+ghost use Rattle.zops.specs.Stops.{IsHalt};
+ghost use Rattle.zcalls.specs.Bounds.{IsBounded, ChangesNodesAlone, IsWithin};
+ghost use Rattle.ztree.specs.Lawful.{AllNodes};
 
-use crate::call::Part;
 use crate::part::{Stop, part};
-use crate::refusal::Refusal;
-use crate::reply::PartReply;
 use std::alloc::{AllocFailed, Global};
+use zcalls::{Part, PartReply, Refusal};
 use zstore::{ClientId, Store};
 
 /// Why the parts of a multi were not all done.

@@ -1,16 +1,15 @@
 //! The calls of sessions and the tick of the clock, done to a store.
 
 ghost use Rattle.std.specs.Prelude.{◌≡◌, ◌<◌, ◌+◌, ◌≤◌, ◌^◌, IfOk, OnOk, OnErr};
-ghost use Rattle.zstore.specs.Sessions.{touched, ended, all_ended, due};
-ghost use Rattle.zstore.specs.Tree.{raised};
-ghost use Rattle.zops.specs.Sound.{IsBounded};
-ghost use Rattle.zops.specs.Step.{granted, with_session, on_session, ticked};
-ghost use Rattle.zops.specs.declared.reply.Reply.TheVariants as reply;
+ghost use Rattle.ztree.specs.Sessions.{with_renewed_session, without_session, without_sessions, due_sessions};
+ghost use Rattle.ztree.specs.Tree.{with_next_zxid};
+ghost use Rattle.zcalls.specs.Bounds.{IsBounded};
+ghost use Rattle.zcalls.specs.Step.{granted_timeout, open_result, session_result, tick_result};
+ghost use Rattle.zcalls.specs.declared.reply.Reply.TheVariants as reply;
 
 use crate::owner::is_gone;
-use crate::refusal::Refusal;
-use crate::reply::Reply;
 use std::alloc::Global;
+use zcalls::{Refusal, Reply};
 use zpath::Memory;
 use zstore::{ClientId, MAX_SESSIONS, Store};
 
@@ -22,7 +21,7 @@ const MAX_TIMEOUT: u64 = 20;
 
 // The timeout that is given to who asks for so many ticks.
 fn granted(ticks: u64) -> u64
-    ensures { result ≡ granted ticks }
+    ensures { result ≡ granted_timeout ticks }
 {
     if ticks < MIN_TIMEOUT {
         MIN_TIMEOUT
@@ -38,7 +37,7 @@ pub(crate) fn open(store: &mut Store, client: ClientId, ticks: u64) -> Result<Re
     requires bounded { IsBounded store.old.tree }
     requires zxid { store.old.tree.zxid + 1 < 2 ^ 40 }
     requires given { store.old.given < 2 ^ 127 }
-    ensures done { IfOk result (λ reply. (store.new.tree, reply) ≡ with_session store.old.tree client (granted ticks)) }
+    ensures done { IfOk result (λ reply. (store.new.tree, reply) ≡ open_result store.old.tree client (granted_timeout ticks)) }
     ensures given { store.new.given ≤ store.old.given + 1 }
     ensures bounded { OnOk result (IsBounded store.new.tree) }
     ensures same { OnErr result (store.new ≡ store.old) }
@@ -55,7 +54,7 @@ pub(crate) fn open(store: &mut Store, client: ClientId, ticks: u64) -> Result<Re
 /// Keeps a client's session alive.
 pub(crate) fn ping(store: &mut Store, client: ClientId, session: u64) -> Reply
     requires bounded { IsBounded store.old.tree }
-    ensures done { (store.new.tree, result) ≡ on_session store.old.tree client session (touched store.old.tree session, reply.Pinged) }
+    ensures done { (store.new.tree, result) ≡ session_result store.old.tree client session (with_renewed_session store.old.tree session, reply.Pinged) }
     ensures given { store.new.given ≡ store.old.given }
     ensures bounded { IsBounded store.new.tree }
 {
@@ -70,14 +69,14 @@ pub(crate) fn ping(store: &mut Store, client: ClientId, session: u64) -> Reply
 pub(crate) fn close(store: &mut Store, client: ClientId, session: u64) -> Reply
     requires bounded { IsBounded store.old.tree }
     requires zxid { store.old.tree.zxid + 1 < 2 ^ 40 }
-    ensures done { (store.new.tree, result) ≡ on_session store.old.tree client session (raised (ended store.old.tree session), reply.Closed) }
+    ensures done { (store.new.tree, result) ≡ session_result store.old.tree client session (with_next_zxid (without_session store.old.tree session), reply.Closed) }
     ensures given { store.new.given ≡ store.old.given }
     ensures bounded { IsBounded store.new.tree }
 {
     if is_gone(store, client, session) {
         return Reply::Refused(Refusal::SessionGone);
     }
-    store.is_kept_lawful();
+    store.keeps_lawful();
     store.end_session(session);
     store.raise();
     Reply::Closed
@@ -85,13 +84,13 @@ pub(crate) fn close(store: &mut Store, client: ClientId, session: u64) -> Reply
 
 // Ends the sessions that the next tick reaches, by the next change.
 fn end_all(store: &mut Store, ids: Vec<u64>)
-    requires due { ids.items ≡ due store.old.tree.sessions (store.old.tree.time + 1) }
+    requires due { ids.items ≡ due_sessions store.old.tree.sessions (store.old.tree.time + 1) }
     requires bounded { IsBounded store.old.tree }
     requires zxid { store.old.tree.zxid + 1 < 2 ^ 40 }
-    ensures tree { store.new.tree ≡ all_ended store.old.tree ids.items }
+    ensures tree { store.new.tree ≡ without_sessions store.old.tree ids.items }
     ensures given { store.new.given ≡ store.old.given }
 {
-    store.is_kept_lawful();
+    store.keeps_lawful();
     for id in ids {
         store.end_session(id);
     }
@@ -103,12 +102,12 @@ pub(crate) fn tick(alloc: Global, store: &mut Store) -> Result<Reply, Memory>
     requires bounded { IsBounded store.old.tree }
     requires zxid { store.old.tree.zxid + 1 < 2 ^ 40 }
     requires time { store.old.tree.time + 1 < 2 ^ 40 }
-    ensures done { IfOk result (λ reply. (store.new.tree, reply) ≡ ticked store.old.tree (due store.old.tree.sessions (store.old.tree.time + 1))) }
+    ensures done { IfOk result (λ reply. (store.new.tree, reply) ≡ tick_result store.old.tree (due_sessions store.old.tree.sessions (store.old.tree.time + 1))) }
     ensures given { store.new.given ≡ store.old.given }
     ensures bounded { OnOk result (IsBounded store.new.tree) }
     ensures same { OnErr result (store.new ≡ store.old) }
 {
-    store.is_kept_lawful();
+    store.keeps_lawful();
     let due = store.due(alloc, store.now() + 1)?;
     let ended = due.len();
     end_all(store, due);

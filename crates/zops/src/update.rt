@@ -1,20 +1,16 @@
 //! An update, done to a store by the plain step.
 
 ghost use Rattle.std.specs.Prelude.{◌≡◌, ◌<◌, ◌+◌, ◌≤◌, ◌^◌, Ok, Err, [], length, IfOk, IfErr, OnOk, OnErr};
-ghost use Rattle.zops.specs.Part.{part_step};
-ghost use Rattle.zops.specs.Multi.{run};
-ghost use Rattle.zops.specs.Sound.{IsBounded};
-ghost use Rattle.zops.specs.Step.{step, alone, together, is_exhausted};
+ghost use Rattle.zcalls.specs.Part.{part_step};
+ghost use Rattle.zcalls.specs.Multi.{run};
+ghost use Rattle.zcalls.specs.Bounds.{IsBounded};
+ghost use Rattle.zcalls.specs.Step.{step, part_result, multi_result, is_exhausted};
 
-use crate::call::{Part, Update};
-use crate::listed::Replies;
-use crate::multi::Multi;
 use crate::part::{Stop, part};
-use crate::refusal::Refusal;
-use crate::reply::Reply;
 use crate::run::{Halt, run};
 use crate::session_calls::{close, open, ping, tick};
 use std::alloc::Global;
+use zcalls::{Multi, Part, Refusal, Replies, Reply, Update};
 use zpath::Memory;
 use zstore::{ClientId, Store};
 
@@ -22,7 +18,7 @@ use zstore::{ClientId, Store};
 const MAX_ZXID: u64 = (1 << 40) - 1;
 
 /// Does an update. Where it finds no memory, the store is as it was.
-#[tactic(auto, unfolding(crate::specs::Step::step))]
+#[tactic(auto, unfolding(zcalls::specs::Step::step))]
 pub(crate) fn update(
     alloc: Global,
     store: &mut Store,
@@ -73,7 +69,7 @@ fn single(alloc: Global, store: &mut Store, client: ClientId, wanted: Part) -> R
     requires bounded { IsBounded store.old.tree }
     requires zxid { store.old.tree.zxid + 1 < 2 ^ 40 }
     requires given { store.old.given < 2 ^ 127 }
-    ensures done { IfOk result (λ reply. (store.new.tree, reply) ≡ alone store.old.tree (part_step store.old.tree client wanted)) }
+    ensures done { IfOk result (λ reply. (store.new.tree, reply) ≡ part_result store.old.tree (part_step store.old.tree client wanted)) }
     ensures given { store.new.given ≤ store.old.given + 1 }
     ensures bounded { OnOk result (IsBounded store.new.tree) }
     ensures same { OnErr result (store.new ≡ store.old) }
@@ -93,7 +89,7 @@ fn multi(alloc: Global, store: &mut Store, client: ClientId, parts: Multi) -> Re
     requires bounded { IsBounded store.old.tree }
     requires zxid { store.old.tree.zxid + 1 < 2 ^ 40 }
     requires given { store.old.given + 64 < 2 ^ 127 }
-    ensures done { IfOk result (λ reply. (store.new.tree, reply) ≡ together store.old.tree (run store.old.tree client [] parts)) }
+    ensures done { IfOk result (λ reply. (store.new.tree, reply) ≡ multi_result store.old.tree (run store.old.tree client [] parts)) }
     ensures given { store.new.given ≤ store.old.given + 64 }
     ensures bounded { OnOk result (IsBounded store.new.tree) }
     ensures same { OnErr result (store.new ≡ store.old) }

@@ -1,6 +1,6 @@
 -- A view of a server by its fields, for proofs by cases on them.
 use Rattle.std.proofs.Common.{ℕ, Option, List}
-use Rattle.zops.specs.declared.call.Entry.{Entry}
+use Rattle.zcalls.specs.declared.call.Entry.{Entry}
 use Rattle.zserver.specs.View.{ServerView, Neighbour}
 
 -- the view with these fields

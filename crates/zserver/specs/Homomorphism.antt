@@ -2,8 +2,8 @@
 -- the table over logs says all that the table over the tree does.
 use Rattle.std.specs.Prelude.{◌≡◌, List, map}
 use Rattle.std.specs.Option.{option_map}
-use Rattle.zops.specs.declared.call.Entry.{Entry}
-use Rattle.zops.specs.declared.call.Query.{Query}
+use Rattle.zcalls.specs.declared.call.Entry.{Entry}
+use Rattle.zcalls.specs.declared.call.Query.{Query}
 use Rattle.zserver.specs.declared.message.Message.TheVariants as message
 use Rattle.zserver.specs.declared.process.Process.{Process}
 use Rattle.zserver.specs.Machine.{Does, replay, log_of}

@@ -3,12 +3,12 @@
 -- Van Renesse and Schneider, "Chain Replication for Supporting High Throughput and Availability" (OSDI 2004),
 -- sections 2 and 3. A copy of a machine is its value.
 use Rattle.std.specs.Prelude.{Option, List, [], ◌∷◌, ◌++◌}
-use Rattle.zstore.specs.Tree.{Tree, opening}
-use Rattle.zops.specs.declared.call.Entry.{Entry}
-use Rattle.zops.specs.declared.call.Query.{Query}
-use Rattle.zops.specs.declared.reply.Reply.{Reply}
-use Rattle.zops.specs.Step.{step, answer}
-use Rattle.zops.specs.Kept.{KeptState, nothing_kept, entry_step}
+use Rattle.ztree.specs.Tree.{Tree, opening_tree}
+use Rattle.zcalls.specs.declared.call.Entry.{Entry}
+use Rattle.zcalls.specs.declared.call.Query.{Query}
+use Rattle.zcalls.specs.declared.reply.Reply.{Reply}
+use Rattle.zcalls.specs.Step.{step, query_reply}
+use Rattle.zcalls.specs.Kept.{KeptState, nothing_kept, entry_step}
 
 -- what a machine does: where it starts, what an entry makes of it and the reply or none, and its reply to a query
 pub record Does (M : Type 0) : Type 0 where
@@ -18,7 +18,7 @@ pub record Does (M : Type 0) : Type 0 where
 
 -- the plain tree with kept replies: entries act by the entry step over the plain step, and queries are asked of the tree
 abbrev pub kept_tree : Does (KeptState Tree)
-kept_tree = record { start = nothing_kept opening; apply = entry_step step; ask = λ s query. answer s.plain query }
+kept_tree = record { start = nothing_kept opening_tree; apply = entry_step step; ask = λ s query. query_reply s.plain query }
 
 -- a machine after more entries, one after the other
 abbrev pub after_entries : {M : Type 0} → Does M → M → List Entry → M

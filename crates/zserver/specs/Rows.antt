@@ -1,14 +1,14 @@
 -- What the worked rows of the server table speak of: a machine that counts, entries, and some servers.
 use Rattle.std.specs.Prelude.{ℕ, ◌+◌, Option, None, Some, List, [], ◌∷◌, length, if◌then◌else◌, ◌==◌}
-use Rattle.zops.specs.declared.call.Entry.{Entry}
-use Rattle.zops.specs.declared.call.Expected.TheVariants.{Any}
-use Rattle.zops.specs.declared.call.Update.{Update}
-use Rattle.zops.specs.declared.call.Update.TheVariants.{Delete}
-use Rattle.zops.specs.declared.call.Query.{Query}
-use Rattle.zops.specs.declared.call.Query.TheVariants.{Exists}
-use Rattle.zops.specs.declared.refusal.Refusal.TheVariants.{NoNode}
-use Rattle.zops.specs.declared.reply.Reply.{Reply}
-use Rattle.zops.specs.declared.reply.Reply.TheVariants.{MultiRefused}
+use Rattle.zcalls.specs.declared.call.Entry.{Entry}
+use Rattle.zcalls.specs.declared.call.Expected.TheVariants.{Any}
+use Rattle.zcalls.specs.declared.call.Update.{Update}
+use Rattle.zcalls.specs.declared.call.Update.TheVariants.{Delete}
+use Rattle.zcalls.specs.declared.call.Query.{Query}
+use Rattle.zcalls.specs.declared.call.Query.TheVariants.{Exists}
+use Rattle.zcalls.specs.declared.refusal.Refusal.TheVariants.{NoNode}
+use Rattle.zcalls.specs.declared.reply.Reply.{Reply}
+use Rattle.zcalls.specs.declared.reply.Reply.TheVariants.{MultiRefused}
 use Rattle.zserver.specs.Machine.{Does}
 use Rattle.zserver.specs.View.{ServerView, Transfer, Neighbour}
 

@@ -3,10 +3,10 @@
 -- Van Renesse and Schneider, "Chain Replication for Supporting High Throughput and Availability" (OSDI 2004),
 -- section 3; epochs, Have, Joined and the one Snapshot for a new server are this project's profile.
 use Rattle.std.specs.Prelude.{ℕ, ◌+◌, ◌-◌, ◌^◌, Bool, false, Option, None, Some, List, [], ◌∷◌, ◌++◌, if◌then◌else◌, is_none, nat_lt, ◌==◌, map, filter}
-use Rattle.zops.specs.declared.call.Entry.{Entry}
-use Rattle.zops.specs.declared.call.Update.{Update}
-use Rattle.zops.specs.declared.call.Query.{Query}
-use Rattle.zops.specs.declared.reply.Reply.{Reply}
+use Rattle.zcalls.specs.declared.call.Entry.{Entry}
+use Rattle.zcalls.specs.declared.call.Update.{Update}
+use Rattle.zcalls.specs.declared.call.Query.{Query}
+use Rattle.zcalls.specs.declared.reply.Reply.{Reply}
 use Rattle.zserver.specs.declared.message.Message.TheVariants as message
 use Rattle.zserver.specs.declared.process.Process.{Process}
 use Rattle.zserver.specs.declared.process.Process.TheVariants.{Master, Server, Client}

@@ -2,7 +2,7 @@
 -- Van Renesse and Schneider, "Chain Replication for Supporting High Throughput and Availability" (OSDI 2004),
 -- section 3; epochs, and the spare servers, are this project's profile.
 use Rattle.std.specs.Prelude.{ℕ, ◌+◌, ◌-◌, Bool, ◌&&◌, Option, None, Some, List, [], if◌then◌else◌, is_some, is_none, nat_lt, ◌==◌}
-use Rattle.zops.specs.declared.call.Entry.{Entry}
+use Rattle.zcalls.specs.declared.call.Entry.{Entry}
 use Rattle.zserver.specs.declared.message.Message.{Message}
 use Rattle.zserver.specs.declared.process.Process.{Process}
 use Rattle.zserver.specs.Machine.{Does}

@@ -4,7 +4,6 @@
 //! server table (`specs/Table.antt`) is the chain's protocol at one server, over any machine.
 #![tactic(auto)]
 
-mod call_number;
 mod epoch;
 mod laws;
 mod log_number;
@@ -14,7 +13,6 @@ mod rows;
 mod server_id;
 mod view_rows;
 
-pub use call_number::CallNumber;
 pub use epoch::Epoch;
 pub use laws::{logs_stand_for_trees, only_tails_answer};
 pub use log_number::LogNumber;
@@ -25,4 +23,4 @@ pub use rows::{
 };
 pub use server_id::{MAX_SERVERS, ServerId};
 pub use view_rows::{log_replies_as_its_machine, opening_views, roles_of_servers};
-pub use zops::ClientId;
+pub use zcalls::{CallNumber, ClientId};

@@ -1,10 +1,9 @@
 //! Messages.
 
-use crate::call_number::CallNumber;
 use crate::epoch::Epoch;
 use crate::log_number::LogNumber;
 use crate::server_id::ServerId;
-use zops::{Entry, Query, Reply, Update};
+use zcalls::{CallNumber, Entry, Query, Reply, Update};
 
 /// What processes send each other. `T` is what a `Snapshot` hands over: a machine with the number of
 /// its last entry (van Renesse and Schneider, "Chain Replication for Supporting High Throughput and

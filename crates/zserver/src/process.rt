@@ -1,7 +1,7 @@
 //! Processes.
 
 use crate::server_id::ServerId;
-use zops::ClientId;
+use zcalls::ClientId;
 
 /// One of the processes that send each other messages.
 #[derive(Clone, Copy, Debug, PartialEq, Eq)]

@@ -9,15 +9,15 @@ use Rattle.std.specs.List.Sorted.{IsSearchInRange, IsBinarySearchResult}
 use Rattle.std.specs.Cmp.{nat_cmp_total}
 use Rattle.std.specs.FinMap as finite
 use Rattle.std.specs.FinMap.{nat_cmp-IsAntisymmetric, find, is_sorted, from_sorted, entries-from_sorted}
-use Rattle.zstore.specs.declared.session.Session.{Session}
+use Rattle.ztree.specs.declared.session.Session.{Session}
 use Rattle.zstore.specs.declared.row.SessionRow.{SessionRow}
-use Rattle.zstore.specs.Tree.{Tree, Sessions}
-use Rattle.zstore.specs.Sessions.{due, renewed, touched}
+use Rattle.ztree.specs.Tree.{Tree, Sessions}
+use Rattle.ztree.specs.Sessions.{due_sessions, renewed_session, with_renewed_session}
 use Rattle.zstore.specs.Rows.{IsSessionAt, IsSessionGap, session_row, session_rows, id_if_due, due_among}
 use Rattle.zstore.proofs.Keyed.{Has, Goes, at_key, search_ends, get_key, no_key, set_inserts, insert_inserts, remove_removes}
 use Rattle.std.specs.Prelude.{nat_le}
-use Rattle.zstore.proofs.Ending.{keys_where}
-use Rattle.zstore.proofs.Sorted.{found_at}
+use Rattle.ztree.proofs.Ending.{keys_where}
+use Rattle.ztree.proofs.Sorted.{found_at}
 
 -- the sessions that rows stand for
 abbrev pub sessions_of : List SessionRow → Sessions
@@ -63,7 +63,7 @@ module _ (rows : List SessionRow) (id at : ℕ) (s : T (is_sorted nat_cmp (sessi
       (did.0, did.1 ∙ ap (λ k. finite.insert (sessions_of rows) k new.session) same)
 
 -- the sessions that are due are those that the rows say
-pub due-shown : (rows : List SessionRow) (tick : ℕ) → T (is_sorted nat_cmp (session_rows rows)) → due (sessions_of rows) tick ≡ due_among rows tick
+pub due-shown : (rows : List SessionRow) (tick : ℕ) → T (is_sorted nat_cmp (session_rows rows)) → due_sessions (sessions_of rows) tick ≡ due_among rows tick
 due-shown rows tick s = ap (λ es. keys_where nat_cmp_total nat_cmp-IsAntisymmetric (λ (x : Session). nat_le x.deadline tick) es) (entries-from_sorted nat_cmp (session_rows rows) s)
 
 -- one more row, due or not
@@ -71,5 +71,5 @@ pub due_among-push : (tick : ℕ) (rows : List SessionRow) (r : SessionRow) → 
 due_among-push tick rows r = ap (filter_map (id_if_due tick)) (map-append session_row rows (r ∷ [])) ∙ filter_map-append (id_if_due tick) (session_rows rows) (session_row r ∷ [])
 
 -- a session that is there, kept alive
-pub touched-some : (t : Tree) (id : ℕ) (s : Session) → finite.get t.sessions id ≡ Some s → touched t id ≡ record t { sessions = finite.insert t.sessions id (renewed t.time s) }
+pub touched-some : (t : Tree) (id : ℕ) (s : Session) → finite.get t.sessions id ≡ Some s → with_renewed_session t id ≡ record t { sessions = finite.insert t.sessions id (renewed_session t.time s) }
 touched-some t id s e = rw e refl

@@ -10,18 +10,18 @@ use Rattle.std.specs.FinMap as finite
 use Rattle.std.specs.FinMap.{find, is_sorted, get-from_sorted}
 use Rattle.std.proofs.lemmas.List.{length-map}
 use Rattle.zpath.specs.Grammar.{path_cmp}
-use Rattle.zstore.specs.declared.node.Node.{Node}
+use Rattle.ztree.specs.declared.node.Node.{Node}
 use Rattle.zstore.specs.declared.row.Row.{Row}
 use Rattle.zstore.specs.declared.row.SessionRow.{SessionRow}
-use Rattle.zstore.specs.Tree.{Path, Nodes, opening, new_node, parent_of, has_node, children}
-use Rattle.zstore.specs.Lawful.{IsPersistent, IsOwner, IsLawful}
-use Rattle.zstore.specs.Held.{while_there}
+use Rattle.ztree.specs.Tree.{Path, Nodes, opening_tree, new_node, parent_of, has_node, children}
+use Rattle.ztree.specs.Lawful.{IsPersistent, IsOwner, IsLawful}
+use Rattle.zstore.specs.StoreView.{while_there}
 use Rattle.zstore.specs.Rows.{node_rows, place_row, place_rows, tree_of, IsKept, IsGapFor}
-use Rattle.zstore.proofs.Sorted.{paths_total, same_path}
-use Rattle.zstore.proofs.Maps.{get-remove-here}
-use Rattle.zstore.proofs.Nodes.{changed_at-some, no_entries, one_entry}
+use Rattle.ztree.proofs.Sorted.{paths_total, same_path}
+use Rattle.ztree.proofs.Maps.{get-remove-here}
+use Rattle.ztree.proofs.Nodes.{changed_at-some, no_entries, one_entry}
 use Rattle.zstore.proofs.Laid.{find_place, find_less}
-use Rattle.zstore.proofs.Lawful.{lawful_opening, lawful_changed, lawful_inserted, lawful_removed}
+use Rattle.ztree.proofs.Lawful.{lawful_opening, lawful_changed, lawful_inserted, lawful_removed}
 use Rattle.zstore.proofs.Alive.{sessions_of}
 use Rattle.zstore.proofs.Shown.{nodes_of, get-at, get-gap, get_or-map, remove-map, set_is_laid, nodes_of-set, insert_is_laid, nodes_of-insert, remove_is_laid, nodes_of-remove}
 
@@ -55,7 +55,7 @@ root_row = record { path = []; number = 0; node = new_node [] 0 0 0 }
 -- the opening's rows
 pub kept_opening : IsKept (root_row ∷ []) [] 0 0 1
 kept_opening =
-    let opens : tree_of (root_row ∷ []) [] 0 0 ≡ opening = λ i. record { nodes = one_entry [] (new_node [] 0 0 0) i; sessions = no_entries nat_cmp i; time = 0; zxid = 0 } in
+    let opens : tree_of (root_row ∷ []) [] 0 0 ≡ opening_tree = λ i. record { nodes = one_entry [] (new_node [] 0 0 0) i; sessions = no_entries nat_cmp i; time = 0; zxid = 0 } in
     record {
       laid = record { sorted = tt; apart = (refl, tt); numbers = (omega arith, tt); sessions = tt };
       lawful = subst IsLawful (sym opens) lawful_opening;

@@ -10,7 +10,7 @@ use Rattle.std.specs.Cmp.{IsTotalOrder}
 use Rattle.std.specs.FinMap as finite
 use Rattle.std.specs.FinMap.{IsAntisymmetric, is_sorted, from_sorted, get-from_sorted}
 use Rattle.std.specs.FinMap.Entries.{below_all}
-use Rattle.zstore.proofs.Sorted.{At, Gap, both_parts, is_less, find_at, find_gap, set_at, insert_gap, remove_at, put_sorted, from_sorted-put, others_sorted, from_sorted-others}
+use Rattle.ztree.proofs.Sorted.{At, Gap, both_parts, is_less, find_at, find_gap, set_at, insert_gap, remove_at, put_sorted, from_sorted-put, others_sorted, from_sorted-others}
 
 module _ {A X : Type 0} (f : A → X) where
   get_or-map : (rows : List A) (at : ℕ) (d : A) → get_or (map f rows) at (f d) ≡ f (get_or rows at d)

@@ -7,7 +7,7 @@ use Rattle.std.specs.Cmp.{nat_cmp_total, unsigned_tied}
 use Rattle.std.specs.FinMap as finite
 use Rattle.std.specs.FinMap.{nat_cmp-IsAntisymmetric, find, from_entries, same_map, get-from_entries, get-insert, get-remove}
 use Rattle.std.proofs.lemmas.Bool.Decides.{nat_tests}
-use Rattle.zstore.specs.Tree.{Path}
+use Rattle.ztree.specs.Tree.{Path}
 use Rattle.zstore.specs.declared.row.Row.{Row}
 use Rattle.zstore.specs.Rows.{AllApart, place_rows}
 

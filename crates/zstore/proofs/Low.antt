@@ -5,13 +5,13 @@ use Rattle.std.specs.Option.{option_map_or}
 use Rattle.std.specs.FinMap as finite
 use Rattle.std.specs.FinMap.{get-empty}
 use Rattle.zpath.specs.Grammar.{path_cmp}
-use Rattle.zstore.specs.declared.node.Node.{Node}
-use Rattle.zstore.specs.Tree.{Tree, Path, Nodes, opening, new_node, parent_of, ephemerals, changed_at, with_child, added, raised, dropped}
-use Rattle.zstore.specs.Sessions.{all_dropped, ended}
-use Rattle.zstore.specs.Lawful.{AllNodes}
-use Rattle.zstore.proofs.Sorted.{paths_total, same_path}
-use Rattle.zstore.proofs.Maps.{none_some, get-inserted}
-use Rattle.zstore.proofs.Ephemerals.{path_if_owned}
+use Rattle.ztree.specs.declared.node.Node.{Node}
+use Rattle.ztree.specs.Tree.{Tree, Path, Nodes, opening_tree, new_node, parent_of, ephemerals, with_change_at, with_child, with_node, with_next_zxid, without_node}
+use Rattle.ztree.specs.Sessions.{without_nodes, without_session}
+use Rattle.ztree.specs.Lawful.{AllNodes}
+use Rattle.ztree.proofs.Sorted.{paths_total, same_path}
+use Rattle.ztree.proofs.Maps.{none_some, get-inserted}
+use Rattle.ztree.proofs.Ephemerals.{path_if_owned}
 
 -- no node's children changed more often than the tree
 abbrev pub IsLow : Tree → Type 0
@@ -25,7 +25,7 @@ module _ (P : Node → Type 0) (nodes : Nodes) (all : AllNodes P nodes) where
       by (inl is) = subst P is.1 h
       by (inr old) = all q n old.1
 
-  all_changed : (path : Path) (f : Node → Node) → ((n : Node) → finite.get nodes path ≡ Some n → P (f n)) → AllNodes P (changed_at nodes path f)
+  all_changed : (path : Path) (f : Node → Node) → ((n : Node) → finite.get nodes path ≡ Some n → P (f n)) → AllNodes P (with_change_at nodes path f)
   all_changed path f h = by (finite.get nodes path) refl
     where
       by : (o : Option Node) → finite.get nodes path ≡ o → AllNodes P (option_map_or (λ n. finite.insert nodes path (f n)) o nodes)
@@ -33,11 +33,11 @@ module _ (P : Node → Type 0) (nodes : Nodes) (all : AllNodes P nodes) where
       by (Some n) e = all_inserted path (f n) (h n e)
 
 -- the opening has no change
-pub low_opening : IsLow opening
+pub low_opening : IsLow opening_tree
 low_opening = all_inserted (λ n. n.cversion ≤ 0) finite.empty (λ q n e. absurd (none_some n (sym (get-empty path_cmp q) ∙ e))) [] (new_node [] 0 0 0) (omega arith)
 
 -- one more node, by the next change
-pub low_added : (t : Tree) (path : Path) (bytes : List ℕ) (owner : ℕ) (sequential : Bool) → IsLow t → IsLow (raised (added t path bytes owner sequential))
+pub low_added : (t : Tree) (path : Path) (bytes : List ℕ) (owner : ℕ) (sequential : Bool) → IsLow t → IsLow (with_next_zxid (with_node t path bytes owner sequential))
 low_added t path bytes owner sequential low = all_marked
   where
     few : AllNodes (λ n. n.cversion ≤ t.zxid) (finite.insert t.nodes path (new_node bytes owner (t.zxid + 1) t.time))
@@ -46,7 +46,7 @@ low_added t path bytes owner sequential low = all_marked
     more : AllNodes (λ n. n.cversion ≤ t.zxid + 1) (finite.insert t.nodes path (new_node bytes owner (t.zxid + 1) t.time))
     more q n e = let before = few q n e in omega (arith, before)
 
-    all_marked : IsLow (raised (added t path bytes owner sequential))
+    all_marked : IsLow (with_next_zxid (with_node t path bytes owner sequential))
     all_marked = all_changed (λ n. n.cversion ≤ t.zxid + 1) (finite.insert t.nodes path (new_node bytes owner (t.zxid + 1) t.time)) more (parent_of path) (with_child (t.zxid + 1) sequential) (λ n e. let before = few (parent_of path) n e in omega (arith, before))
 
 few_given : {X Y : Type 0} (h : X → Option Y) (xs : List X) → length (filter_map h xs) ≤ length xs
@@ -66,9 +66,9 @@ low_counters t id low changes nodes q n e =
     omega (arith, before, owned, many, changes, nodes)
 
 -- nor does its end count as a change
-pub zxid-ended : (t : Tree) (id : ℕ) → (ended t id).zxid ≡ t.zxid
+pub zxid-ended : (t : Tree) (id : ℕ) → (without_session t id).zxid ≡ t.zxid
 zxid-ended t id = by t (ephemerals t.nodes id)
   where
-    by : (u : Tree) (paths : List Path) → (all_dropped u paths).zxid ≡ u.zxid
+    by : (u : Tree) (paths : List Path) → (without_nodes u paths).zxid ≡ u.zxid
     by u [] = refl
-    by u (path ∷ paths) = by (dropped u path) paths
+    by u (path ∷ paths) = by (without_node u path) paths

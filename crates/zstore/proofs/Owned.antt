@@ -8,9 +8,9 @@ use lib.Dec.{T}
 use Rattle.std.specs.FinMap.{is_sorted, from_sorted, entries-from_sorted}
 use Rattle.zpath.specs.Grammar.{path_cmp}
 use Rattle.zstore.specs.declared.row.Row.{Row}
-use Rattle.zstore.specs.Tree.{ephemerals}
+use Rattle.ztree.specs.Tree.{ephemerals}
 use Rattle.zstore.specs.Rows.{node_rows, owned_by}
-use Rattle.zstore.proofs.Ephemerals.{owned_in}
+use Rattle.ztree.proofs.Ephemerals.{owned_in}
 
 -- the first row from a place on, where the session owns its node
 pub owned_here : (session : ℕ) (rows : List Row) (at : ℕ) (row d : Row) → at < length rows → row ≡ get_or rows at row → (row.node.owner == session) ≡ true → owned_by session (drop at rows) ≡ (get_or rows at d).path ∷ owned_by session (drop (suc at) rows)

@@ -9,9 +9,9 @@ use Rattle.std.specs.FinMap.{is_sorted}
 use Rattle.std.specs.FinMap.Entries.{below_all}
 use Rattle.zpath.specs.Grammar.{path_cmp}
 use Rattle.zstore.specs.declared.row.Row.{Row}
-use Rattle.zstore.specs.Tree.{Path}
+use Rattle.ztree.specs.Tree.{Path}
 use Rattle.zstore.specs.Rows.{node_rows, IsAt, IsGapFor}
-use Rattle.zstore.proofs.Sorted.{At, Gap, both_parts, is_less, paths_total, same_path}
+use Rattle.ztree.proofs.Sorted.{At, Gap, both_parts, is_less, paths_total, same_path}
 
 -- the rows behind one that isn't below q are above q
 later : (k q x : Path) (r : Ordering) → path_cmp k q ≡ r → path_cmp k x ≡ Less → ordering_index r ≤ ordering_index (path_cmp x q)

@@ -12,14 +12,14 @@ use Rattle.std.specs.FinMap.Entries.{where_key}
 use Rattle.std.proofs.lemmas.List.{length-map}
 use Rattle.zpath.specs.Grammar.{path_cmp}
 use Rattle.zstore.specs.declared.id.Id.{Id}
-use Rattle.zstore.specs.declared.node.Node.{Node}
+use Rattle.ztree.specs.declared.node.Node.{Node}
 use Rattle.zstore.specs.declared.row.Row.{Row}
 use Rattle.zstore.specs.declared.row.SessionRow.{SessionRow}
 use Rattle.zstore.specs.declared.store.Store.TheInside.{Inside}
-use Rattle.zstore.specs.Tree.{Path, Nodes, child_name, stat_with, stat_at}
-use Rattle.zstore.specs.Held.{Held, path_of, node_of}
+use Rattle.ztree.specs.Tree.{Path, Nodes, child_name, stat_with, stat_at}
+use Rattle.zstore.specs.StoreView.{StoreView, path_of, node_of}
 use Rattle.zstore.specs.Rows.{node_row, node_rows, place_row, place_rows, held_by, IsLaid, IsGapFor}
-use Rattle.zstore.proofs.Sorted.{paths_total, same_path, other_than, remove_at, others_sorted, from_sorted-others, find_at, find_gap, set_at, insert_gap, put_sorted, from_sorted-put}
+use Rattle.ztree.proofs.Sorted.{paths_total, same_path, other_than, remove_at, others_sorted, from_sorted-others, find_at, find_gap, set_at, insert_gap, put_sorted, from_sorted-put}
 use Rattle.zstore.proofs.Search.{at_rows, gap_rows}
 use Rattle.zstore.proofs.Laid.{find_place, find_fresh, numbers_insert, apart_insert, places_insert, numbers_remove, apart_remove, places_remove}
 
@@ -187,21 +187,21 @@ module _ (rows : List Row) (alive : List SessionRow) (bound : ℕ) (laid : IsLai
       ∙ places_remove (place_rows rows) at (place_row d) laid.apart (rw (length-map rows place_row) l)
       ∙ ap (λ (e : ℕ × Path). finite.remove (from_entries {R = nat_cmp} (place_rows rows)) e.0) (get_or-map place_row rows at d)
 
-module _ (s : Inside) (laid : IsLaid s.rows.items s.sessions.items s.given) (h : Held) (view : held_by s ≡ h) (id : Id) where
+module _ (s : Inside) (laid : IsLaid s.rows.items s.sessions.items s.given) (h : StoreView) (view : held_by s ≡ h) (id : Id) where
   -- an Id names the path and the node of the row with its number
   pub path_of-held : (at : ℕ) (d : Row) → at < length s.rows.items → (get_or s.rows.items at d).number ≡ id.number → path_of h id ≡ Some (get_or s.rows.items at d).path
   path_of-held at d l same =
-      ap (λ (h : Held). path_of h id) (sym view)
+      ap (λ (h : StoreView). path_of h id) (sym view)
       ∙ ap (λ n. finite.get (from_entries {R = nat_cmp} (place_rows s.rows.items)) n) (sym same) ∙ place-at s.rows.items s.sessions.items s.given laid at d l
 
   pub node_of-held : (at : ℕ) (d : Row) → at < length s.rows.items → (get_or s.rows.items at d).number ≡ id.number → node_of h id ≡ Some (get_or s.rows.items at d).node
   node_of-held at d l same =
       ap (option_and_then (finite.get h.tree.nodes)) (path_of-held at d l same)
-      ∙ ap (λ (h : Held). finite.get h.tree.nodes (get_or s.rows.items at d).path) (sym view) ∙ get-at s.rows.items laid.sorted at d l
+      ∙ ap (λ (h : StoreView). finite.get h.tree.nodes (get_or s.rows.items at d).path) (sym view) ∙ get-at s.rows.items laid.sorted at d l
 
   -- and where no row has its number, none
   pub path_of-gone : find nat_cmp id.number (place_rows s.rows.items) ≡ None → path_of h id ≡ None
-  path_of-gone none = ap (λ (h : Held). path_of h id) (sym view) ∙ get-from_entries nat_cmp_total (place_rows s.rows.items) id.number ∙ none
+  path_of-gone none = ap (λ (h : StoreView). path_of h id) (sym view) ∙ get-from_entries nat_cmp_total (place_rows s.rows.items) id.number ∙ none
 
   pub node_of-gone : find nat_cmp id.number (place_rows s.rows.items) ≡ None → node_of h id ≡ None
   node_of-gone none = ap (option_and_then (finite.get h.tree.nodes)) (path_of-gone none)

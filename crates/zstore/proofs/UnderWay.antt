@@ -4,13 +4,13 @@ use Rattle.std.specs.Ordering.{eq_by_cmp}
 use Rattle.std.specs.Option.{option_and_then}
 use Rattle.std.specs.FinMap as finite
 use Rattle.zpath.specs.Grammar.{path_cmp}
-use Rattle.zstore.specs.declared.node.Node.{Node}
-use Rattle.zstore.specs.Tree.{Tree, Path, Nodes, has_node, ephemerals, dropped}
-use Rattle.zstore.specs.Sessions.{all_dropped}
-use Rattle.zstore.specs.Lawful.{AllNodes}
-use Rattle.zstore.specs.Held.{Held, path_of, while_there, ForgetsGone}
-use Rattle.zstore.proofs.Ephemerals.{ephemerals-dropped}
-use Rattle.zstore.proofs.Ending.{HasLost, found-dropped, has_node-dropped}
+use Rattle.ztree.specs.declared.node.Node.{Node}
+use Rattle.ztree.specs.Tree.{Tree, Path, Nodes, has_node, ephemerals, without_node}
+use Rattle.ztree.specs.Sessions.{without_nodes}
+use Rattle.ztree.specs.Lawful.{AllNodes}
+use Rattle.zstore.specs.StoreView.{StoreView, path_of, while_there, ForgetsGone}
+use Rattle.ztree.proofs.Ephemerals.{ephemerals-dropped}
+use Rattle.ztree.proofs.Ending.{HasLost, found-dropped, has_node-dropped}
 
 -- where the same paths have nodes, the same paths are there still
 pub while_there_same : (m n : Nodes) → ((q : Path) → has_node m q ≡ has_node n q) → (o : Option Path) → option_and_then (while_there m) o ≡ option_and_then (while_there n) o
@@ -31,26 +31,26 @@ while_there_twice m n fewer (Some q) = by (has_node n q) refl
         either false = refl
 
 -- one change after the other
-forgets_both : (old mid new : Held) → ForgetsGone old mid → ForgetsGone mid new → ((q : Path) → has_node new.tree.nodes q ≡ true → has_node mid.tree.nodes q ≡ true) → ForgetsGone old new
+forgets_both : (old mid new : StoreView) → ForgetsGone old mid → ForgetsGone mid new → ((q : Path) → has_node new.tree.nodes q ≡ true → has_node mid.tree.nodes q ≡ true) → ForgetsGone old new
 forgets_both old mid new first then fewer id =
     then id ∙ ap (option_and_then (while_there new.tree.nodes)) (first id) ∙ while_there_twice mid.tree.nodes new.tree.nodes fewer (path_of old id)
 
 -- what holds while the nodes of a session are taken away
-pub record IsUnderWay (old new : Held) (id : ℕ) : Type 0 where
-  pub rest : all_dropped new.tree (ephemerals new.tree.nodes id) ≡ all_dropped old.tree (ephemerals old.tree.nodes id)
+pub record IsUnderWay (old new : StoreView) (id : ℕ) : Type 0 where
+  pub rest : without_nodes new.tree (ephemerals new.tree.nodes id) ≡ without_nodes old.tree (ephemerals old.tree.nodes id)
   pub sessions : new.tree.sessions ≡ old.tree.sessions
   pub zxid : new.tree.zxid ≡ old.tree.zxid
   pub counters : AllNodes (λ n. n.cversion + length (ephemerals new.tree.nodes id) < 2 ^ 62) new.tree.nodes
   pub forgotten : ForgetsGone old new
   pub given : new.given ≡ old.given
 
-module _ (old mid new : Held) (id : ℕ) (so_far : IsUnderWay old mid id) where
+module _ (old mid new : StoreView) (id : ℕ) (so_far : IsUnderWay old mid id) where
   -- holds after one node more
-  pub under_way_next : (path : Path) (paths : List Path) → ephemerals mid.tree.nodes id ≡ path ∷ paths → new.tree ≡ dropped mid.tree path → ForgetsGone mid new → new.given ≡ mid.given → IsUnderWay old new id
+  pub under_way_next : (path : Path) (paths : List Path) → ephemerals mid.tree.nodes id ≡ path ∷ paths → new.tree ≡ without_node mid.tree path → ForgetsGone mid new → new.given ≡ mid.given → IsUnderWay old new id
   under_way_next path paths all tree gone given =
       let left : ephemerals new.tree.nodes id ≡ paths = ap (λ (t : Tree). ephemerals t.nodes id) tree ∙ ephemerals-dropped id mid.tree path paths all in
       record {
-        rest = ap (λ ps. all_dropped new.tree ps) left ∙ ap (λ (t : Tree). all_dropped t paths) tree ∙ sym (ap (all_dropped mid.tree) all) ∙ so_far.rest;
+        rest = ap (λ ps. without_nodes new.tree ps) left ∙ ap (λ (t : Tree). without_nodes t paths) tree ∙ sym (ap (without_nodes mid.tree) all) ∙ so_far.rest;
         sessions = ap (λ (t : Tree). t.sessions) tree ∙ so_far.sessions;
         zxid = ap (λ (t : Tree). t.zxid) tree ∙ so_far.zxid;
         counters = λ q m found. room left q m (found-dropped mid.tree path q m (sym (ap (λ (t : Tree). finite.get t.nodes q) tree) ∙ found));

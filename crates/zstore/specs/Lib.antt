@@ -1,5 +1,2 @@
-pub mod Tree
-pub mod Sessions
-pub mod Lawful
-pub mod Held
+pub mod StoreView
 pub mod Rows

@@ -7,14 +7,14 @@ use Rattle.std.specs.Ordering.{nat_cmp}
 use Rattle.std.specs.declared.cmp.Ordering.TheVariants.{Less, Greater}
 use Rattle.std.specs.FinMap.{from_sorted, from_entries, is_sorted, find}
 use Rattle.zpath.specs.Grammar.{path_cmp}
-use Rattle.zstore.specs.declared.node.Node.{Node}
-use Rattle.zstore.specs.declared.session.Session.{Session}
+use Rattle.ztree.specs.declared.node.Node.{Node}
+use Rattle.ztree.specs.declared.session.Session.{Session}
 use Rattle.zstore.specs.declared.row.Row.{Row}
 use Rattle.zstore.specs.declared.row.SessionRow.{SessionRow}
 use Rattle.zstore.specs.declared.store.Store.TheInside.{Inside}
-use Rattle.zstore.specs.Tree.{Tree, Path, Name, child_name, ephemerals}
-use Rattle.zstore.specs.Lawful.{IsLawful}
-use Rattle.zstore.specs.Held.{Held, path_of}
+use Rattle.ztree.specs.Tree.{Tree, Path, Name, child_name, ephemerals}
+use Rattle.ztree.specs.Lawful.{IsLawful}
+use Rattle.zstore.specs.StoreView.{StoreView, path_of}
 use Rattle.zstore.specs.declared.id.Id.{Id}
 
 -- a row as an entry of the map of nodes
@@ -47,7 +47,7 @@ tree_of nodes alive time zxid =
     record { nodes = from_sorted (node_rows nodes); sessions = from_sorted (session_rows alive); time = time; zxid = zxid }
 
 -- what the fields of a store stand for
-abbrev pub held_by : Inside → Held
+abbrev pub held_by : Inside → StoreView
 held_by s =
     record {
       tree = tree_of s.rows.items s.sessions.items s.time s.zxid;
@@ -117,5 +117,5 @@ abbrev pub due_among : List SessionRow → ℕ → List ℕ
 due_among rows tick = filter_map (id_if_due tick) (session_rows rows)
 
 -- the Id names the first of the nodes that a session owns
-abbrev pub IsFirstOwned : Held → ℕ → Id → Type 0
+abbrev pub IsFirstOwned : StoreView → ℕ → Id → Type 0
 IsFirstOwned h session id = (path : Path) × (path_of h id ≡ Some path) × (paths : List Path) × (ephemerals h.tree.nodes session ≡ path ∷ paths)

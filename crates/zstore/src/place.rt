@@ -7,7 +7,7 @@ ghost use Rattle.std.specs.FinMap.{find, is_sorted};
 ghost use Rattle.zpath.specs.Grammar.{path_cmp};
 ghost use Rattle.zstore.specs.declared.row.Row.{Row};
 ghost use Rattle.zstore.specs.Rows.{IsAt, IsGapFor, node_rows, place_rows};
-ghost use Rattle.zstore.specs.Tree.{parent_of};
+ghost use Rattle.ztree.specs.Tree.{parent_of};
 
 use crate::id::Id;
 use crate::row::Row;

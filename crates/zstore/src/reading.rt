@@ -3,17 +3,17 @@
 ghost use Rattle.std.specs.Prelude.{◌≡◌, ◌≢◌, [], Some, None, IfOk, IfSome, IfNone, is_some, IsSome};
 ghost use Rattle.std.specs.FinMap.{get};
 ghost use Rattle.std.specs.Option.{option_map};
-ghost use Rattle.zstore.specs.Tree.{Path, parent_of, has_node, stat_at, children};
-ghost use Rattle.zstore.specs.Held.{path_of, node_of};
+ghost use Rattle.ztree.specs.Tree.{Path, parent_of, has_node, stat_at, children};
+ghost use Rattle.zstore.specs.StoreView.{path_of, node_of};
 
 use crate::family::{child_count, child_names};
 use crate::id::Id;
-use crate::node::{Node, Stat};
 use crate::place::{parent_place, place_of, row_of};
 use crate::row::{copied_rows, copied_sessions};
 use crate::store::Store;
 use std::alloc::Global;
 use zpath::{Memory, Name, Path};
+use ztree::{Node, Stat};
 
 impl Store {
     /// The node at a path; none where there is none. It is found by binary search.

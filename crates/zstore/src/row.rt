@@ -2,10 +2,9 @@
 
 ghost use Rattle.std.specs.Prelude.{◌≡◌, IfOk};
 
-use crate::node::Node;
-use crate::session::Session;
 use std::alloc::Global;
 use zpath::{Memory, Path};
+use ztree::{Node, Session};
 
 /// A node, where it is, and the number of its Id.
 #[derive(Drop)]

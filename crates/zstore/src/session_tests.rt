@@ -1,7 +1,7 @@
 //! What no clause says of sessions: that they can be opened and listed, and one end as it shows.
 
 ghost use Rattle.std.specs.Prelude.{◌≤◌, OnOk};
-ghost use Rattle.zstore.specs.Lawful.{AllNodes};
+ghost use Rattle.ztree.specs.Lawful.{AllNodes};
 
 use crate::tests::has;
 use crate::{ClientId, Data, MAX_NODES, MAX_SESSIONS, Session, Store};

@@ -3,20 +3,19 @@
 ghost use Rattle.std.specs.Prelude.{◌≡◌, ◌<◌, ◌≤◌, ◌+◌, ◌^◌, [], length, None, Some, IfOk, IfSome, IfNone, OnOk, OnErr, IsSome};
 ghost use Rattle.std.specs.FinMap as finite;
 ghost use Rattle.std.specs.FinMap.{get};
-ghost use Rattle.zstore.specs.Tree.{ephemerals};
-ghost use Rattle.zstore.specs.Sessions.{opened, touched, ended, due, advanced};
-ghost use Rattle.zstore.specs.Lawful.{AllNodes, AllSessions, IsLawful};
-ghost use Rattle.zstore.specs.Held.{ForgetsGone};
+ghost use Rattle.ztree.specs.Tree.{ephemerals};
+ghost use Rattle.ztree.specs.Sessions.{with_session, with_renewed_session, without_session, due_sessions, with_next_tick};
+ghost use Rattle.ztree.specs.Lawful.{AllNodes, AllSessions, IsLawful};
+ghost use Rattle.zstore.specs.StoreView.{ForgetsGone};
 ghost use Rattle.zstore.specs.Rows.{IsFirstOwned};
 
-use crate::client::ClientId;
 use crate::id::Id;
 use crate::row::SessionRow;
-use crate::session::Session;
 use crate::session_place::{owned_place, reached, session_gap, session_place};
 use crate::store::Store;
 use std::alloc::Global;
 use zpath::Memory;
+use ztree::{ClientId, Session};
 
 impl Store {
     /// The session of that id; none where there is none.
@@ -33,7 +32,7 @@ impl Store {
     /// reaches. All sessions are looked at.
     pub fn due(&self, alloc: Global, tick: u64) -> Result<Vec<u64>, Memory>
         requires next { tick ≡ self.now.tree.time + 1 }
-        ensures { IfOk result (λ ids. ids.items ≡ due self.now.tree.sessions tick) }
+        ensures { IfOk result (λ ids. ids.items ≡ due_sessions self.now.tree.sessions tick) }
     {
         reached(alloc, &self.sessions, tick)
     }
@@ -47,7 +46,7 @@ impl Store {
         requires deadline { self.old.tree.time + timeout < 2 ^ 62 }
         requires zxid { self.old.tree.zxid + 1 < 2 ^ 40 }
         requires given { self.old.given < 2 ^ 127 }
-        ensures tree { OnOk result (self.new.tree ≡ opened self.old.tree client timeout) }
+        ensures tree { OnOk result (self.new.tree ≡ with_session self.old.tree client timeout) }
         ensures places { self.new.places ≡ self.old.places }
         ensures given { self.new.given ≤ self.old.given + 1 }
         ensures err { OnErr result (self.new ≡ self.old) }
@@ -67,7 +66,7 @@ impl Store {
     pub fn touch(&mut self, id: u64)
         requires live { IsSome (get self.old.tree.sessions id) }
         requires deadlines { AllSessions (λ id s. (0 < s.timeout) × (self.old.tree.time + s.timeout < 2 ^ 62)) self.old.tree.sessions }
-        ensures tree { self.new.tree ≡ touched self.old.tree id }
+        ensures tree { self.new.tree ≡ with_renewed_session self.old.tree id }
         ensures same { (self.new.places ≡ self.old.places) × (self.new.given ≡ self.old.given) }
     {
         if let Ok(at) = session_place(&self.sessions, id) {
@@ -83,12 +82,12 @@ impl Store {
         requires live { IsSome (get self.old.tree.sessions id) }
         requires counters { AllNodes (λ n. n.cversion + length (ephemerals self.old.tree.nodes id) < 2 ^ 62) self.old.tree.nodes }
         requires zxid { self.old.tree.zxid + 1 < 2 ^ 40 }
-        ensures tree { self.new.tree ≡ ended self.old.tree id }
+        ensures tree { self.new.tree ≡ without_session self.old.tree id }
         ensures forgotten { ForgetsGone self.old self.new }
         ensures given { self.new.given ≡ self.old.given }
     {
         self.is_kept_named();
-        self.is_kept_lawful();
+        self.keeps_lawful();
         while let Some(ephemeral) = self.first_owned(id) {
             self.take_leaf(ephemeral);
         }
@@ -97,9 +96,9 @@ impl Store {
 
     /// One tick more. No session may be due then.
     pub fn advance(&mut self)
-        requires none_due { due self.old.tree.sessions (self.old.tree.time + 1) ≡ [] }
+        requires none_due { due_sessions self.old.tree.sessions (self.old.tree.time + 1) ≡ [] }
         requires ticks { self.old.tree.time + 1 < 2 ^ 40 }
-        ensures tree { self.new.tree ≡ advanced self.old.tree }
+        ensures tree { self.new.tree ≡ with_next_tick self.old.tree }
         ensures same { (self.new.places ≡ self.old.places) × (self.new.given ≡ self.old.given) }
     {
         self.time += 1;

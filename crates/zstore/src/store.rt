@@ -3,12 +3,11 @@
 ghost use Rattle.std.specs.Prelude.{◌≡◌, ◌≤◌, IfOk};
 ghost use Rattle.std.specs.FinMap as finite;
 
-use crate::node::Node;
-use crate::node_data::Data;
 use crate::row::{Row, SessionRow};
 use std::alloc::Global;
 use std::marker::Model;
 use zpath::{Memory, Path};
+use ztree::{Data, Node};
 
 /// The most znodes that a store may hold, the root among them. The limit is this project's profile.
 pub const MAX_NODES: usize = 4096;
@@ -27,11 +26,11 @@ pub struct Store {
 }
 
 impl Model for Store {
-    ghost use Rattle.zstore.specs.Held.{Held, coded_held};
+    ghost use Rattle.zstore.specs.StoreView.{StoreView, coded_store_view};
 
-    ghost Value = { Held };
+    ghost Value = { StoreView };
 
-    ghost coded = { coded_held };
+    ghost coded = { coded_store_view };
 
     ghost use Rattle.zstore.specs.Rows.{held_by, IsKept};
 
@@ -41,12 +40,12 @@ impl Model for Store {
 }
 
 impl Store {
-    ghost use Rattle.zstore.specs.Tree.{opening};
-    ghost use Rattle.zstore.specs.Lawful.{IsLawful};
+    ghost use Rattle.ztree.specs.Tree.{opening_tree};
+    ghost use Rattle.ztree.specs.Lawful.{IsLawful};
 
     /// The opening: the root alone.
     pub fn new(alloc: Global) -> Result<Store, Memory>
-        ensures opening { IfOk result (λ s. s.tree ≡ opening) }
+        ensures opening { IfOk result (λ s. s.tree ≡ opening_tree) }
         ensures given { IfOk result (λ s. s.given ≤ 1) }
     {
         let root = Node {
@@ -105,7 +104,7 @@ impl Store {
     }
 
     /// What every store keeps: its tree is lawful.
-    pub fn is_kept_lawful(&self)
+    pub fn keeps_lawful(&self)
         ensures { IsLawful self.now.tree }
     {
         let _ = &self.rows;

@@ -3,9 +3,9 @@
 ghost use Rattle.std.specs.Prelude.{◌≡◌, ◌≢◌, ◌<◌, ◌+◌, ◌^◌, [], Some, None, IfSome, IfNone, IsSome};
 ghost use Rattle.std.specs.FinMap as finite;
 ghost use Rattle.std.specs.FinMap.{get};
-ghost use Rattle.zstore.specs.declared.node.Node.{Node};
-ghost use Rattle.zstore.specs.Tree.{Path, parent_of, children, changed_at, without_child, dropped};
-ghost use Rattle.zstore.specs.Held.{path_of, node_of, Forgets, ForgetsGone};
+ghost use Rattle.ztree.specs.declared.node.Node.{Node};
+ghost use Rattle.ztree.specs.Tree.{Path, parent_of, children, with_change_at, without_child, without_node};
+ghost use Rattle.zstore.specs.StoreView.{path_of, node_of, Forgets, ForgetsGone};
 
 use crate::id::Id;
 use crate::place::row_of;
@@ -20,7 +20,7 @@ impl Store {
         requires leaf { (path : Path) → path_of self.old id ≡ Some path → children self.old.tree.nodes path ≡ [] }
         requires counters { (path : Path) (n : Node) → path_of self.old id ≡ Some path → get self.old.tree.nodes (parent_of path) ≡ Some n → n.cversion + 1 < 2 ^ 62 }
         requires zxid { self.old.tree.zxid + 1 < 2 ^ 40 }
-        ensures tree { (path : Path) → path_of self.old id ≡ Some path → self.new.tree ≡ dropped self.old.tree path }
+        ensures tree { (path : Path) → path_of self.old id ≡ Some path → self.new.tree ≡ without_node self.old.tree path }
         ensures forgotten { Forgets self.old self.new id }
         ensures gone { ForgetsGone self.old self.new }
         ensures given { self.new.given ≡ self.old.given }
@@ -53,7 +53,7 @@ impl Store {
         requires live { IsSome (path_of self.old parent) }
         requires counters { (n : Node) → node_of self.old parent ≡ Some n → n.cversion + 1 < 2 ^ 62 }
         requires zxid { self.old.tree.zxid + 1 < 2 ^ 40 }
-        ensures tree { (path : Path) → path_of self.old parent ≡ Some path → self.new.tree ≡ record self.old.tree { nodes = changed_at self.old.tree.nodes path (without_child (self.old.tree.zxid + 1)) } }
+        ensures tree { (path : Path) → path_of self.old parent ≡ Some path → self.new.tree ≡ record self.old.tree { nodes = with_change_at self.old.tree.nodes path (without_child (self.old.tree.zxid + 1)) } }
         ensures same { (self.new.places ≡ self.old.places) × (self.new.given ≡ self.old.given) }
     {
         if let Some(at) = row_of(&self.rows, parent) {

@@ -3,24 +3,23 @@
 ghost use Rattle.std.specs.Prelude.{◌≡◌, ◌≢◌, ◌≤◌, ◌<◌, ◌+◌, ◌^◌, [], Some, IfOk, IfSome, IfNone, OnOk, OnErr, IsSome, false};
 ghost use Rattle.std.specs.FinMap as finite;
 ghost use Rattle.std.specs.FinMap.{get};
-ghost use Rattle.zstore.specs.declared.node.Node.{Node};
-ghost use Rattle.zstore.specs.Tree.{Path, HasRoom, parent_of, has_node, children, changed_at, with_child, added, dropped, written, raised};
-ghost use Rattle.zstore.specs.Held.{path_of, node_of, Names, Forgets};
-ghost use Rattle.zstore.specs.Lawful.{IsPersistent, IsOwner};
+ghost use Rattle.ztree.specs.declared.node.Node.{Node};
+ghost use Rattle.ztree.specs.Tree.{Path, HasRoom, parent_of, has_node, children, with_change_at, with_child, with_node, without_node, with_data_at, with_next_zxid};
+ghost use Rattle.zstore.specs.StoreView.{path_of, node_of, Names, Forgets};
+ghost use Rattle.ztree.specs.Lawful.{IsPersistent, IsOwner};
 
 use crate::id::Id;
-use crate::node::Node;
-use crate::node_data::Data;
 use crate::place::{gap_of, row_of};
 use crate::row::Row;
 use crate::store::Store;
 use zpath::{Memory, Path};
+use ztree::{Data, Node};
 
 impl Store {
     /// One more change. No other call changes the number.
     pub fn raise(&mut self)
         requires { self.old.tree.zxid + 1 < 2 ^ 40 }
-        ensures tree { self.new.tree ≡ raised self.old.tree }
+        ensures tree { self.new.tree ≡ with_next_zxid self.old.tree }
         ensures same { (self.new.places ≡ self.old.places) × (self.new.given ≡ self.old.given) }
     {
         self.zxid += 1;
@@ -45,7 +44,7 @@ impl Store {
         requires few { finite.len self.old.tree.nodes < 4096 }
         requires zxid { self.old.tree.zxid + 1 < 2 ^ 40 }
         requires given { self.old.given < 2 ^ 127 }
-        ensures added { IfOk result (λ _. self.new.tree ≡ added self.old.tree path bytes owner sequential) }
+        ensures added { IfOk result (λ _. self.new.tree ≡ with_node self.old.tree path bytes owner sequential) }
         ensures named { IfOk result (λ id. Names self.old self.new id path) }
         ensures given { self.new.given ≤ self.old.given + 1 }
         ensures err { OnErr result (self.new ≡ self.old) }
@@ -75,7 +74,7 @@ impl Store {
         requires leaf { (path : Path) → path_of self.old id ≡ Some path → children self.old.tree.nodes path ≡ [] }
         requires counters { (path : Path) (n : Node) → path_of self.old id ≡ Some path → get self.old.tree.nodes (parent_of path) ≡ Some n → HasRoom n }
         requires zxid { self.old.tree.zxid + 1 < 2 ^ 40 }
-        ensures tree { (path : Path) → path_of self.old id ≡ Some path → self.new.tree ≡ dropped self.old.tree path }
+        ensures tree { (path : Path) → path_of self.old id ≡ Some path → self.new.tree ≡ without_node self.old.tree path }
         ensures forgotten { Forgets self.old self.new id }
         ensures given { self.new.given ≡ self.old.given }
     {
@@ -87,7 +86,7 @@ impl Store {
         requires live { IsSome (path_of self.old id) }
         requires counters { (n : Node) → node_of self.old id ≡ Some n → HasRoom n }
         requires zxid { self.old.tree.zxid + 1 < 2 ^ 40 }
-        ensures tree { OnOk result ((path : Path) → path_of self.old id ≡ Some path → self.new.tree ≡ written self.old.tree path bytes) }
+        ensures tree { OnOk result ((path : Path) → path_of self.old id ≡ Some path → self.new.tree ≡ with_data_at self.old.tree path bytes) }
         ensures same { OnOk result ((self.new.places ≡ self.old.places) × (self.new.given ≡ self.old.given)) }
         ensures err { OnErr result (self.new ≡ self.old) }
     {
@@ -124,7 +123,7 @@ impl Store {
         requires live { IsSome (path_of self.old parent) }
         requires counters { (n : Node) → node_of self.old parent ≡ Some n → HasRoom n }
         requires zxid { self.old.tree.zxid + 1 < 2 ^ 40 }
-        ensures tree { (path : Path) → path_of self.old parent ≡ Some path → self.new.tree ≡ record self.old.tree { nodes = changed_at self.old.tree.nodes path (with_child (self.old.tree.zxid + 1) sequential) } }
+        ensures tree { (path : Path) → path_of self.old parent ≡ Some path → self.new.tree ≡ record self.old.tree { nodes = with_change_at self.old.tree.nodes path (with_child (self.old.tree.zxid + 1) sequential) } }
         ensures same { (self.new.places ≡ self.old.places) × (self.new.given ≡ self.old.given) }
     {
         if let Some(at) = row_of(&self.rows, parent) {

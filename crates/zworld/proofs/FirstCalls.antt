@@ -1,12 +1,12 @@
 -- The plain tree explains the first histories: nobody calls, or one query of the opening tree is asked and answered.
 use Rattle.std.proofs.Common.{◌≡◌, ℕ, [], ◌∷◌, inl, inr, refl, sym}
-use Rattle.zstore.specs.Tree.{opening}
-use Rattle.zstore.proofs.Lawful.{lawful_opening}
-use Rattle.zops.specs.declared.call.Query.{Query as Question}
-use Rattle.zops.specs.declared.call.Call.{Call}
-use Rattle.zops.specs.declared.call.Call.TheVariants.{Query}
-use Rattle.zops.specs.declared.reply.Reply.{Reply}
-use Rattle.zops.specs.Step.{answer}
+use Rattle.ztree.specs.Tree.{opening_tree}
+use Rattle.ztree.proofs.Lawful.{lawful_opening}
+use Rattle.zcalls.specs.declared.call.Query.{Query as Question}
+use Rattle.zcalls.specs.declared.call.Call.{Call}
+use Rattle.zcalls.specs.declared.call.Call.TheVariants.{Query}
+use Rattle.zcalls.specs.declared.reply.Reply.{Reply}
+use Rattle.zcalls.specs.Step.{query_reply}
 use Rattle.zworld.specs.declared.history.CallEvent.TheVariants.{Begin, Answer}
 use Rattle.zworld.specs.Lists.{Among}
 use Rattle.std.specs.Prelude.{◌⊎◌}
@@ -42,7 +42,7 @@ module _ (query : Question) where
   asked = record { client = 1; number = 1; call = Query query }
 
   seen : History
-  seen = Begin 1 1 (Query query) ∷ Answer 1 1 (answer opening query) ∷ []
+  seen = Begin 1 1 (Query query) ∷ Answer 1 1 (query_reply opening_tree query) ∷ []
 
   -- the answer is the replay's
   replayed : (c n : ℕ) (reply : Reply) → Among (Answer c n reply) seen → IsReplayed plain_tree (asked ∷ []) c n reply
@@ -61,7 +61,7 @@ module _ (query : Question) where
   nothing_ends a b (reply, inr (inr p)) = p
 
   -- the order of that one query explains it
-  pub first_query : IsExplained (Begin 1 1 (Query query) ∷ Answer 1 1 (answer opening query) ∷ [])
+  pub first_query : IsExplained (Begin 1 1 (Query query) ∷ Answer 1 1 (query_reply opening_tree query) ∷ [])
   unfolding asked seen
   first_query = (
     asked ∷ [],
@@ -80,5 +80,5 @@ module _ (query : Question) where
       begun o (inr e) = absurd e
 
       answered : (o : Operation) → Among o (asked ∷ []) → IsUpdate o.call ⊎ IsAnswered seen o
-      answered o (inl e) = rw (sym e) (inr (answer opening query, inr (inl refl)))
+      answered o (inl e) = rw (sym e) (inr (query_reply opening_tree query, inr (inl refl)))
       answered o (inr e) = absurd e

@@ -1,10 +1,10 @@
 -- The worked rows of the legal order.
 use Rattle.std.proofs.Common.{◌≡◌, ℕ, [], ◌∷◌, inl, inr, refl, sym, ap, arith}
 use Rattle.std.specs.Prelude.{◌⊎◌}
-use Rattle.zops.specs.declared.call.Call.{Call}
-use Rattle.zstore.specs.declared.node.Stat.{Stat}
-use Rattle.zops.specs.declared.reply.Reply.{Reply}
-use Rattle.zops.specs.declared.reply.Reply.TheVariants.{Exists}
+use Rattle.zcalls.specs.declared.call.Call.{Call}
+use Rattle.ztree.specs.declared.node.Stat.{Stat}
+use Rattle.zcalls.specs.declared.reply.Reply.{Reply}
+use Rattle.zcalls.specs.declared.reply.Reply.TheVariants.{Exists}
 use Rattle.zworld.specs.declared.history.CallEvent.{CallEvent}
 use Rattle.zworld.specs.declared.history.CallEvent.TheVariants.{Begin, Answer}
 use Rattle.zworld.specs.Lists.{Among, ComesBefore}

@@ -1,7 +1,7 @@
 -- The order of a run: its history has a legal order, and no other one.
 use Rattle.std.proofs.Common.{◌≡◌, ℕ, List, [], ◌∷◌, inl, inr, refl, sym, ap, subst, arith}
 use Rattle.std.specs.Prelude.{◌⊎◌}
-use Rattle.zops.specs.declared.reply.Reply.{Reply}
+use Rattle.zcalls.specs.declared.reply.Reply.{Reply}
 use Rattle.zworld.specs.declared.history.CallEvent.TheVariants.{Begin, Answer}
 use Rattle.zworld.specs.Lists.{Among}
 use Rattle.zworld.specs.History.{History, Operation, HasBegun, IsUpdate, IsAnswered, EndsBefore}

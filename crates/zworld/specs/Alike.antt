@@ -3,8 +3,8 @@
 -- That servers fail for good: van Renesse and Schneider, "Chain Replication for Supporting High Throughput and
 -- Availability" (OSDI 2004), section 3.
 use Rattle.std.specs.Prelude.{◌≡◌, ℕ, false, List}
-use Rattle.zstore.specs.Tree.{Tree}
-use Rattle.zops.specs.Kept.{KeptState}
+use Rattle.ztree.specs.Tree.{Tree}
+use Rattle.zcalls.specs.Kept.{KeptState}
 use Rattle.zserver.specs.declared.process.Process.{Process}
 use Rattle.zserver.specs.Machine.{kept_tree}
 use Rattle.zworld.specs.declared.event.Event.{Event}

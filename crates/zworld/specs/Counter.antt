@@ -2,14 +2,14 @@
 -- tree and its machine, and compute. An update is answered with the name that it made, the number of updates before it;
 -- a query is answered with the number of updates so far.
 use Rattle.std.specs.Prelude.{ℕ, ◌+◌, ◌==◌, nat_lt, if◌then◌else◌, List, [], ◌∷◌, Option, None, Some}
-use Rattle.zops.specs.declared.call.Kind.TheVariants.{PersistentSequential}
-use Rattle.zops.specs.declared.call.Entry.{Entry}
-use Rattle.zops.specs.declared.call.Update as update
-use Rattle.zops.specs.declared.call.Query.TheVariants as query
-use Rattle.zops.specs.declared.call.Call.{Call}
-use Rattle.zops.specs.declared.call.Call.TheVariants.{Update, Query}
-use Rattle.zops.specs.declared.reply.Reply.{Reply}
-use Rattle.zops.specs.declared.reply.Reply.TheVariants.{Created, Exists}
+use Rattle.zcalls.specs.declared.call.Kind.TheVariants.{PersistentSequential}
+use Rattle.zcalls.specs.declared.call.Entry.{Entry}
+use Rattle.zcalls.specs.declared.call.Update as update
+use Rattle.zcalls.specs.declared.call.Query.TheVariants as query
+use Rattle.zcalls.specs.declared.call.Call.{Call}
+use Rattle.zcalls.specs.declared.call.Call.TheVariants.{Update, Query}
+use Rattle.zcalls.specs.declared.reply.Reply.{Reply}
+use Rattle.zcalls.specs.declared.reply.Reply.TheVariants.{Created, Exists}
 use Rattle.zserver.specs.Machine.{Does}
 use Rattle.zworld.specs.LegalOrder.{Service}
 

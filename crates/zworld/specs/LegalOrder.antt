@@ -3,8 +3,8 @@
 -- Herlihy and Wing, "Linearizability: A Correctness Condition for Concurrent Objects" (TOPLAS 1990), section 2.
 use Rattle.std.specs.Prelude.{◌≡◌, ◌⊎◌, ℕ, List, [], ◌∷◌}
 use Rattle.std.specs.List.{AllByRecursion}
-use Rattle.zops.specs.declared.call.Call.{Call}
-use Rattle.zops.specs.declared.reply.Reply.{Reply}
+use Rattle.zcalls.specs.declared.call.Call.{Call}
+use Rattle.zcalls.specs.declared.reply.Reply.{Reply}
 use Rattle.zworld.specs.declared.history.CallEvent.TheVariants.{Answer}
 use Rattle.zworld.specs.Lists.{Among, ComesBefore, NoTwo}
 use Rattle.zworld.specs.History.{History, Operation, IsUpdate, HasBegun, IsAnswered, EndsBefore}

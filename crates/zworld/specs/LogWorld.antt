@@ -3,7 +3,7 @@
 -- Van Renesse and Schneider, "Chain Replication for Supporting High Throughput and Availability" (OSDI 2004), section 2:
 -- an object's state is what its history of updates makes of it.
 use Rattle.std.specs.Prelude.{◌≡◌, ℕ, List, map}
-use Rattle.zops.specs.declared.call.Entry.{Entry}
+use Rattle.zcalls.specs.declared.call.Entry.{Entry}
 use Rattle.zserver.specs.Machine.{kept_tree, log_of, replay}
 use Rattle.zserver.specs.Homomorphism.{message_with, view_with}
 use Rattle.zworld.specs.declared.event.Event.{Event}

@@ -1,6 +1,6 @@
 -- Worked runs of a chain in which nobody fails, over a machine that counts, with two clients (0 and 1).
 use Rattle.std.specs.Prelude.{ℕ, List, [], ◌∷◌}
-use Rattle.zops.specs.declared.call.Entry.{Entry}
+use Rattle.zcalls.specs.declared.call.Entry.{Entry}
 use Rattle.zserver.specs.declared.process.Process.{Process}
 use Rattle.zserver.specs.declared.process.Process.TheVariants.{Master, Server, Client}
 use Rattle.zserver.specs.View.{ServerView, MessageOf}

@@ -1,7 +1,7 @@
 -- Worked scenarios: calls that settle, with failures and joins between them, over a machine that counts, with two clients
 -- (0 and 1). In each the chain keeps the state as long as one server that has it lives.
 use Rattle.std.specs.Prelude.{ℕ, List, [], ◌∷◌}
-use Rattle.zops.specs.declared.call.Call.{Call}
+use Rattle.zcalls.specs.declared.call.Call.{Call}
 use Rattle.zworld.specs.declared.event.Event.{Event}
 use Rattle.zworld.specs.declared.event.Event.TheVariants.{Begin, Take, Fail, Join}
 use Rattle.zworld.specs.World.{World, opening}

@@ -1,8 +1,8 @@
 -- What holds of settling, in every world: each statement is a contract in `src/settle_laws.rt`.
 use Rattle.std.specs.Prelude.{◌≡◌, ℕ, ◌+◌, false, List, length}
 use Rattle.std.specs.List.{list_any}
-use Rattle.zstore.specs.Tree.{Tree}
-use Rattle.zops.specs.Kept.{KeptState}
+use Rattle.ztree.specs.Tree.{Tree}
+use Rattle.zcalls.specs.Kept.{KeptState}
 use Rattle.zserver.specs.Machine.{kept_tree}
 use Rattle.zworld.specs.declared.settled.Settled.TheVariants.{Quiet}
 use Rattle.zworld.specs.World.{World}

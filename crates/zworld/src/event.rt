@@ -1,6 +1,6 @@
 //! The events of the world.
 
-use zops::{Call, ClientId};
+use zcalls::{Call, ClientId};
 use zserver::{Process, ServerId};
 
 /// One event: a call that begins, a delivery, a failure or a join. Each is one atomic step: at most one process changes

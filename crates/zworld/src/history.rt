@@ -1,6 +1,6 @@
 //! What callers see of a run.
 
-use zops::{Call, ClientId, Reply};
+use zcalls::{Call, ClientId, Reply};
 
 /// A call that begins or is answered. A history is a list of these, in the order of their events.
 #[derive(Drop)]

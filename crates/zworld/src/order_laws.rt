@@ -1,9 +1,9 @@
 //! What holds of the definitions themselves: each function's contract is a law, and its body does nothing.
 
 ghost use Rattle.std.specs.Prelude.{◌≡◌, ℕ, [], ◌∷◌};
-ghost use Rattle.zstore.specs.Tree.{Tree};
-ghost use Rattle.zops.specs.declared.call.Query.{Query};
-ghost use Rattle.zops.specs.declared.call.Call.TheVariants as call;
+ghost use Rattle.ztree.specs.Tree.{Tree};
+ghost use Rattle.zcalls.specs.declared.call.Query.{Query};
+ghost use Rattle.zcalls.specs.declared.call.Call.TheVariants as call;
 ghost use Rattle.zworld.specs.PlainTree.{call_step};
 ghost use Rattle.zworld.specs.OrderRows.{ExplainsTheRun, first_down, second_down, Explains, true_order, first_create, lost_create, lost_exists, last_exists, strange_create};
 

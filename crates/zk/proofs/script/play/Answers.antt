@@ -2,7 +2,7 @@ use Rattle.std.proofs.Common.{◌≡◌, ℕ, List, [], ◌++◌, length, take, 
 use Rattle.std.proofs.lemmas.List.{append-nil}
 use Rattle.std.proofs.lemmas.Result.{err_from_is_err_and}
 use Rattle.std.proofs.Math.Seq.{take-append_seam}
-use Rattle.zops.specs.Step.{opening}
+use Rattle.zops.specs.Machine.{opening_machine}
 use Rattle.zk.specs.Device.{Between}
 use Rattle.zk.specs.Script.{answers, whole_lines_of, whole_lines_after, last_line}
 use Rattle.zk.specs.Playing.{Playing, start, heard}
@@ -85,11 +85,11 @@ pub returns-then-count-eq0-clause-played : goal.returns-then-count-eq0-clause-pl
 returns-then-count-eq0-clause-played g c =
     let so_far = c.loop-count.invariant.so_far in
     let none = c.if-count-eq0.true in
-    let text = told-last start so_far.0 ∙ ap (λ (p : Playing). answers opening (whole_lines_of so_far.0) ++ answers p.state (last_line p.line)) (sym so_far.3) in
+    let text = told-last start so_far.0 ∙ ap (λ (p : Playing). answers opening_machine (whole_lines_of so_far.0) ++ answers p.state (last_line p.line)) (sym so_far.3) in
     record {
       bytes = so_far.0;
       given = rw append-nil at (g.met.S.Source.gave_both _ _ _ _ _ so_far.1 (rw none at c.in-Ok.ensures.gave));
-      taken = subst (λ t. g.K.Sink.took c.args.sink.now t c.finish.new.sink) (sym text) (g.met.K.Sink.took_both c.args.sink.now c.loop-count.sink c.finish.new.sink (answers opening (whole_lines_of so_far.0)) (answers c.loop-count.player.state (last_line c.loop-count.player.line)) so_far.2 c.in_ok-finish.ensures.took);
+      taken = subst (λ t. g.K.Sink.took c.args.sink.now t c.finish.new.sink) (sym text) (g.met.K.Sink.took_both c.args.sink.now c.loop-count.sink c.finish.new.sink (answers opening_machine (whole_lines_of so_far.0)) (answers c.loop-count.player.state (last_line c.loop-count.player.line)) so_far.2 c.in_ok-finish.ensures.took);
     }
 
 pub returns-then-count-eq0-clause-source_sound : goal.returns-then-count-eq0-clause-source_sound
@@ -104,13 +104,13 @@ loop-count-preserved g c =
     let chunk = take c.in-Ok.count c.deref.result.now in
     let len : c.loop-count.block.len ≡ length c.read.new.buffer = omega arith in
     let read : c.deref.result.now ≡ c.read.new.buffer = c.deref.ensures.value ∙ block_read c.loop-count.block.len c.read.new.buffer c.loop-count.block.items len in
-    let text = told-append start so_far.0 chunk ∙ ap (λ (p : Playing). answers opening (whole_lines_of so_far.0) ++ answers p.state (whole_lines_after p.line chunk)) (sym so_far.3) in
+    let text = told-append start so_far.0 chunk ∙ ap (λ (p : Playing). answers opening_machine (whole_lines_of so_far.0) ++ answers p.state (whole_lines_after p.line chunk)) (sym so_far.3) in
     let more : heard c.loop-count.player chunk ≡ heard start (so_far.0 ++ chunk) = ap (λ (p : Playing). heard p chunk) so_far.3 ∙ sym (heard-append start so_far.0 chunk) in
     record {
       so_far = (
         so_far.0 ++ chunk,
         g.met.S.Source.gave_both c.args.source.now c.loop-count.source c.read.new.self so_far.0 chunk so_far.1 (subst (λ b. g.S.Source.gave c.loop-count.source (take c.in-Ok.count b) c.read.new.self) (sym read) c.in-Ok.ensures.gave),
-        subst (λ t. g.K.Sink.took c.args.sink.now t c.hear.new.sink) (sym text) (g.met.K.Sink.took_both c.args.sink.now c.loop-count.sink c.hear.new.sink (answers opening (whole_lines_of so_far.0)) (answers c.loop-count.player.state (whole_lines_after c.loop-count.player.line chunk)) so_far.2 c.in_ok-hear.ensures.took),
+        subst (λ t. g.K.Sink.took c.args.sink.now t c.hear.new.sink) (sym text) (g.met.K.Sink.took_both c.args.sink.now c.loop-count.sink c.hear.new.sink (answers opening_machine (whole_lines_of so_far.0)) (answers c.loop-count.player.state (whole_lines_after c.loop-count.player.line chunk)) so_far.2 c.in_ok-hear.ensures.took),
         ◌∙◌ {b = heard c.loop-count.player chunk} c.in_ok-hear.ensures.heard more,
       );
       room = c.loop-count.invariant.room;

@@ -1,8 +1,8 @@
 use Rattle.std.proofs.Common.{sym, ◌∙◌}
 use Rattle.std.specs.FinMap as finite
-use Rattle.zops.specs.declared.reply.PartReply.TheVariants.{Checked}
-use Rattle.zops.specs.Part.{check_part}
-use Rattle.zops.proofs.Tables.{absent-on_version, stale-on_version, fresh-on_version, node_there}
+use Rattle.zcalls.specs.declared.reply.PartReply.TheVariants.{Checked}
+use Rattle.zcalls.specs.Part.{check_part}
+use Rattle.zcalls.proofs.Tables.{absent-on_version, stale-on_version, fresh-on_version, node_there}
 use Rattle.zops.proofs.part.check.Goals as goal
 
 pub returns-in_default-clause-stopped : goal.returns-in_default-clause-stopped

@@ -2,13 +2,13 @@ use Rattle.std.proofs.Common.{ap, subst, sym, ◌∙◌, refl, Some, Ok}
 use Rattle.std.proofs.lemmas.Result.{err_from_is_err_and}
 use Rattle.std.specs.Option.{option_and_then}
 use Rattle.std.specs.FinMap as finite
-use Rattle.zstore.specs.Lawful.{IsPersistent, IsOwner}
-use Rattle.zstore.specs.Tree.{has_node, parent_of, added}
-use Rattle.zops.specs.declared.reply.PartReply.TheVariants.{Created}
-use Rattle.zops.specs.Part.{create_part, is_owned, node_has}
-use Rattle.zops.proofs.Paths.{below, is_over-path, at_least, less_than, parent_of-made, made-below_root, not_root}
+use Rattle.ztree.specs.Lawful.{IsPersistent, IsOwner}
+use Rattle.ztree.specs.Tree.{has_node, parent_of, with_node}
+use Rattle.zcalls.specs.declared.reply.PartReply.TheVariants.{Created}
+use Rattle.zcalls.specs.Part.{create_part, is_owned, node_has}
+use Rattle.zcalls.proofs.Paths.{below, is_over-path, at_least, less_than, parent_of-made, made-below_root, not_root}
 use Rattle.zops.proofs.Creating.{created-refused, created-done, nameless, taken, full, all_clear}
-use Rattle.zops.proofs.Owners.{persistent, owner_lives}
+use Rattle.zcalls.proofs.Owners.{persistent, owner_lives}
 use Rattle.zops.proofs.part.create.Goals as goal
 
 pub returns-in_default-clause-stopped : goal.returns-in_default-clause-stopped
@@ -108,7 +108,7 @@ returns-clause-done c =
     let create = c.args.create in
     created-done t c.args.client create
     (all_clear t c.args.client create owner below.root there owned c.in_ok-made.made c.in_ok-made.ensures.made c.in_ok-made.ensures.allowed free few)
-    ∙ (λ i. Ok (added t (sym c.in_ok-made.ensures.made i) create.bytes (sym c.owner-owner.ensures i) (sym c.is_sequential-is_sequential.ensures i), Created (sym c.in_ok-made.ensures.made i)))
+    ∙ (λ i. Ok (with_node t (sym c.in_ok-made.ensures.made i) create.bytes (sym c.owner-owner.ensures i) (sym c.is_sequential-is_sequential.ensures i), Created (sym c.in_ok-made.ensures.made i)))
     ∙ (λ i. Ok (sym c.in_ok-add.ensures.added i, Created (sym c.in_ok-path.ensures i)))
 
 pub returns-then-has_no_owner-clause-stopped : goal.returns-then-has_no_owner-clause-stopped

@@ -1,10 +1,10 @@
 use Rattle.std.proofs.Common.{◌≡◌, length, None, Ok, ap, refl, sym, ◌∙◌}
 use Rattle.std.specs.Prelude.{◌==◌}
 use Rattle.zpath.specs.First.{first_that_holds}
-use Rattle.zstore.specs.Tree.{dropped}
-use Rattle.zops.specs.declared.reply.PartReply.TheVariants.{Deleted}
-use Rattle.zops.specs.Part.{delete_part, delete_refusals, unless_refused}
-use Rattle.zops.proofs.Paths.{is_root-no_names}
+use Rattle.ztree.specs.Tree.{without_node}
+use Rattle.zcalls.specs.declared.reply.PartReply.TheVariants.{Deleted}
+use Rattle.zcalls.specs.Part.{delete_part, delete_refusals, unless_refused}
+use Rattle.zcalls.proofs.Paths.{is_root-no_names}
 use Rattle.zops.proofs.part.delete.Goals as goal
 
 pub returns-then-is_empty-clause-stopped : goal.returns-then-is_empty-clause-stopped
@@ -43,5 +43,5 @@ returns-clause-done c =
     let t = c.args.store.now.tree in
     let path = c.args.delete.now.path in
     let none : first_that_holds (delete_refusals t.nodes c.args.delete.now) ≡ None = rw (root, ← c.in-Some.ensures.node, other, kids) refl in
-    ap (λ o. unless_refused o (dropped t path, Deleted)) none
+    ap (λ o. unless_refused o (without_node t path, Deleted)) none
     ∙ (λ i. Ok (sym (c.drop_leaf.ensures.tree path c.in-Some.ensures.found) i, Deleted))

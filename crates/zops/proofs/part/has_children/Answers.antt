@@ -1,6 +1,6 @@
 use Rattle.std.proofs.Common.{ap}
 use Rattle.std.specs.Prelude.{nat_lt}
-use Rattle.zops.proofs.Told.{told_children}
+use Rattle.zcalls.proofs.Told.{told_children}
 use Rattle.zops.proofs.part.has_children.Goals as goal
 
 pub returns-in-Some : goal.returns-in-Some

@@ -1,9 +1,9 @@
 use Rattle.std.proofs.Common.{◌≡◌, ◌+◌, ◌*◌, [], ◌∷◌, ◌++◌, ◌<◌, ◌^◌, Err, length, ap, sym, subst, ◌∙◌, arith}
 use Rattle.std.proofs.lemmas.List.{length-append, nil_from_length}
-use Rattle.zops.specs.Multi.{run}
-use Rattle.zops.proofs.Bounds.{IsRoomy, part_roomy, within_more, has_room}
-use Rattle.zops.proofs.NodesAlone.{LeavesAlone, part-alone, alone_then}
-use Rattle.zops.proofs.Runs.{run-part, run-refused, run-end}
+use Rattle.zcalls.specs.Multi.{run}
+use Rattle.zcalls.proofs.Bounds.{IsRoomy, part_roomy, within_more, has_room}
+use Rattle.zcalls.proofs.NodesAlone.{LeavesAlone, part-alone, alone_then}
+use Rattle.zcalls.proofs.Runs.{run-part, run-refused, run-end}
 use Rattle.zops.proofs.run.run.Goals as goal
 
 pub part-requires-clause-counters : goal.part-requires-clause-counters

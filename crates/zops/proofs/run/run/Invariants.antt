@@ -1,7 +1,7 @@
 use Rattle.std.proofs.Common.{◌≡◌, ◌+◌, ◌*◌, ◌≤◌, length, []}
-use Rattle.zops.specs.Multi.{run}
-use Rattle.zstore.specs.Lawful.{AllNodes}
-use Rattle.zops.specs.Sound.{IsWithin, ChangesNodesAlone}
+use Rattle.zcalls.specs.Multi.{run}
+use Rattle.ztree.specs.Lawful.{AllNodes}
+use Rattle.zcalls.specs.Bounds.{IsWithin, ChangesNodesAlone}
 use Rattle.zops.proofs.run.run.Given as goal
 
 abbrev pub invariant-loop-wanted : goal.invariant-loop-wanted

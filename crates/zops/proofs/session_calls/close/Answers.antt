@@ -1,8 +1,8 @@
 use Rattle.std.proofs.Common.{sym, subst, ◌∙◌, ap, arith}
-use Rattle.zstore.specs.Tree.{raised}
-use Rattle.zops.specs.Sound.{IsBounded}
-use Rattle.zops.proofs.Ends.{ended-ends, few_ephemerals}
-use Rattle.zops.proofs.Timed.{ended_bounded}
+use Rattle.ztree.specs.Tree.{with_next_zxid}
+use Rattle.zcalls.specs.Bounds.{IsBounded}
+use Rattle.zcalls.proofs.Ends.{ended-ends, few_ephemerals}
+use Rattle.zcalls.proofs.Timed.{ended_bounded}
 use Rattle.zops.proofs.session_calls.close.Goals as goal
 
 pub end_session-requires-clause-counters : goal.end_session-requires-clause-counters
@@ -10,7 +10,7 @@ end_session-requires-clause-counters c path n e =
     let t = c.args.store.now.tree in
     let here = (c.requires.bounded.counters path n e).cversion in
     let owned = few_ephemerals t.nodes c.args.session in
-    let few = c.is_kept_lawful.ensures.few_nodes in
+    let few = c.keeps_lawful.ensures.few_nodes in
     let room = c.requires.zxid in
     omega (arith, here, owned, few, room)
 
@@ -19,5 +19,5 @@ raise-requires c = rw (c.end_session.ensures.tree, (ended-ends c.args.store.now.
 
 pub returns-clause-bounded : goal.returns-clause-bounded
 returns-clause-bounded c =
-    subst IsBounded (sym (c.raise.ensures.tree ∙ ap raised c.end_session.ensures.tree))
-    (ended_bounded c.args.store.now.tree c.args.session c.requires.bounded c.is_kept_lawful.ensures c.requires.zxid)
+    subst IsBounded (sym (c.raise.ensures.tree ∙ ap with_next_zxid c.end_session.ensures.tree))
+    (ended_bounded c.args.store.now.tree c.args.session c.requires.bounded c.keeps_lawful.ensures c.requires.zxid)

@@ -1,7 +1,7 @@
 use Rattle.std.proofs.Common.{◌+◌, ◌*◌, refl, ap, sym, subst, ◌∙◌, arith}
-use Rattle.zstore.specs.Tree.{Tree}
-use Rattle.zstore.specs.Sessions.{all_ended}
-use Rattle.zops.proofs.Ends.{RoomForEnds, AreLive, room_before, ended-room, few_ephemerals, ended-ends, due_live}
+use Rattle.ztree.specs.Tree.{Tree}
+use Rattle.ztree.specs.Sessions.{without_sessions}
+use Rattle.zcalls.proofs.Ends.{RoomForEnds, AreLive, room_before, ended-room, few_ephemerals, ended-ends, due_live}
 use Rattle.zops.proofs.session_calls.end_all.Goals as goal
 
 pub loop-id-init : goal.loop-id-init
@@ -9,8 +9,8 @@ loop-id-init c =
     let t = c.args.store.now.tree in
     let all = c.into_iter-id-iterator.ensures.into_iter_gives.0 in
     record {
-      did = ap (all_ended t) (sym all);
-      room = room_before (4096 * t.zxid) t.nodes c.requires.bounded.counters c.is_kept_lawful.ensures.few_nodes;
+      did = ap (without_sessions t) (sym all);
+      room = room_before (4096 * t.zxid) t.nodes c.requires.bounded.counters c.keeps_lawful.ensures.few_nodes;
       zxid = refl;
       live = subst (AreLive t.sessions) (sym (all ∙ c.requires.due)) (due_live t.sessions (t.time + 1));
       given = refl;
@@ -32,7 +32,7 @@ loop-id-preserved c =
     let steps = c.in-Some.ensures.steps.0 in
     let now = c.end_session.ensures.tree in
     record {
-      did = here.did ∙ ap (all_ended before) steps ∙ ap (λ (u : Tree). all_ended u rest) (sym now);
+      did = here.did ∙ ap (without_sessions before) steps ∙ ap (λ (u : Tree). without_sessions u rest) (sym now);
       room = subst (λ (u : Tree). RoomForEnds (4096 * c.args.store.now.tree.zxid + 4096) u.nodes) (sym now) (ended-room (4096 * c.args.store.now.tree.zxid + 4096) before id here.room);
       zxid = ap (λ (u : Tree). u.zxid) now ∙ (ended-ends before id).zxid ∙ here.zxid;
       live = subst (λ (u : Tree). AreLive u.sessions rest) (sym now) (subst (AreLive before.sessions) steps here.live).1;

@@ -1,6 +1,6 @@
 use Rattle.std.proofs.Common.{sym, subst}
-use Rattle.zops.specs.Sound.{IsBounded}
-use Rattle.zops.proofs.Timed.{touched_bounded}
+use Rattle.zcalls.specs.Bounds.{IsBounded}
+use Rattle.zcalls.proofs.Timed.{touched_bounded}
 use Rattle.zops.proofs.session_calls.ping.Goals as goal
 
 pub returns-clause-bounded : goal.returns-clause-bounded

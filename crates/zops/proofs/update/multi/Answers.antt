@@ -1,10 +1,10 @@
 use Rattle.std.proofs.Common.{◌≡◌, ◌+◌, ◌*◌, Ok, [], subst, sym, ap, ◌∙◌, arith}
-use Rattle.zops.specs.declared.reply.Reply.TheVariants.{Multi}
-use Rattle.zops.specs.Multi.{run}
-use Rattle.zops.specs.Sound.{IsBounded, IsWithin, ChangesNodesAlone}
-use Rattle.zstore.specs.Lawful.{AllNodes}
-use Rattle.zops.specs.Step.{together}
-use Rattle.zops.proofs.Bounds.{raised_bounded}
+use Rattle.zcalls.specs.declared.reply.Reply.TheVariants.{Multi}
+use Rattle.zcalls.specs.Multi.{run}
+use Rattle.zcalls.specs.Bounds.{IsBounded, IsWithin, ChangesNodesAlone}
+use Rattle.ztree.specs.Lawful.{AllNodes}
+use Rattle.zcalls.specs.Step.{multi_result}
+use Rattle.zcalls.proofs.Bounds.{raised_bounded}
 use Rattle.zops.proofs.update.multi.Goals as goal
 
 pub raise-requires : goal.raise-requires
@@ -23,4 +23,4 @@ returns-in-Ok-clause-done c =
     let t = c.args.store.now.tree in
     let did : run t c.args.client [] c.args.parts ≡ Ok (c.run.new.store.tree, c.in-Ok.replies.items) =
     (λ i. run (sym c.in_ok-copy.ensures i).tree c.args.client [] (sym c.into_parts.ensures.parts i)) ∙ c.in-Ok.ensures.done in
-    sym (ap (together t) did ∙ (λ i. (sym c.raise.ensures.tree i, Multi (sym c.new.ensures i))))
+    sym (ap (multi_result t) did ∙ (λ i. (sym c.raise.ensures.tree i, Multi (sym c.new.ensures i))))

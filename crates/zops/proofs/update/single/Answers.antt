@@ -1,7 +1,7 @@
 use Rattle.std.proofs.Common.{subst, sym, arith}
-use Rattle.zops.specs.Sound.{IsBounded}
-use Rattle.zops.proofs.Bounds.{IsRoomy, part_roomy, raised_bounded}
-use Rattle.zops.proofs.NodesAlone.{LeavesAlone, part-alone}
+use Rattle.zcalls.specs.Bounds.{IsBounded}
+use Rattle.zcalls.proofs.Bounds.{IsRoomy, part_roomy, raised_bounded}
+use Rattle.zcalls.proofs.NodesAlone.{LeavesAlone, part-alone}
 use Rattle.zops.proofs.update.single.Goals as goal
 
 pub raise-requires : goal.raise-requires

@@ -1,6 +1,6 @@
 use Rattle.std.proofs.Common.{◌≡◌, ◌∙◌, ap, sym, cond, [], ◌∷◌, length, None, Some, refl, arith}
-use Rattle.zstore.specs.Tree.{Path}
-use Rattle.zstore.proofs.Children.{root_is_no_child, child_name-front}
+use Rattle.ztree.specs.Tree.{Path}
+use Rattle.ztree.proofs.Children.{root_is_no_child, child_name-front}
 use Rattle.zstore.proofs.family.child_name.Goals as goal
 
 no_names : (path : Path) → length path ≡ 0 → path ≡ []

@@ -4,10 +4,10 @@ use Rattle.std.proofs.lemmas.Fn.{always_returns_same}
 use Rattle.zpath.specs.Grammar.{path_cmp}
 use Rattle.zstore.specs.declared.row.Row.{Row}
 use Rattle.zstore.specs.Rows.{IsAt, IsGapFor, node_rows}
-use Rattle.zstore.specs.Tree.{parent_of}
-use Rattle.zstore.proofs.Sorted.{find_gap, paths_total}
+use Rattle.ztree.specs.Tree.{parent_of}
+use Rattle.ztree.proofs.Sorted.{find_gap, paths_total}
 use Rattle.zstore.proofs.Search.{searched, gap_rows}
-use Rattle.zstore.proofs.Nodes.{parent_of-front}
+use Rattle.ztree.proofs.Nodes.{parent_of-front}
 use Rattle.zstore.proofs.place.parent_place.Goals as goal
 
 found_some : (r : Result ℕ ℕ) (P : ℕ → Type 0) → IfOk r P → IfSome (result_ok r) P

@@ -1,5 +1,5 @@
 use Rattle.std.proofs.Common.{◌≡◌, ap, ◌∙◌, arith}
-use Rattle.zstore.specs.Tree.{Tree}
+use Rattle.ztree.specs.Tree.{Tree}
 use Rattle.zstore.proofs.Low.{low_counters, zxid-ended}
 use Rattle.zstore.proofs.session_tests.end.Goals as goal
 

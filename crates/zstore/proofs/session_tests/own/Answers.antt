@@ -1,6 +1,6 @@
 use Rattle.std.proofs.Common.{Some, false, sym, ap, subst, ◌∙◌}
-use Rattle.zstore.specs.Tree.{parent_of, raised}
-use Rattle.zstore.proofs.Nodes.{parent_of-front}
+use Rattle.ztree.specs.Tree.{parent_of, with_next_zxid}
+use Rattle.ztree.proofs.Nodes.{parent_of-front}
 use Rattle.zstore.proofs.Low.{IsLow, low_added}
 use Rattle.zstore.proofs.session_tests.own.Goals as goal
 
@@ -11,5 +11,5 @@ add-requires-clause-live g c =
 
 pub returns : goal.returns
 returns g c =
-    let tree = c.raise.ensures.tree ∙ ap raised c.in_ok-add.ensures.added in
+    let tree = c.raise.ensures.tree ∙ ap with_next_zxid c.in_ok-add.ensures.added in
     record { low = subst IsLow (sym tree) (low_added c.args.store.now.tree c.in_ok-path.path _ c.args.owner false c.requires.low) }

@@ -1,6 +1,6 @@
 use Rattle.std.proofs.Common.{Some, sym, ap, ◌∙◌}
-use Rattle.zstore.specs.Tree.{parent_of}
-use Rattle.zstore.proofs.Nodes.{parent_of-front}
+use Rattle.ztree.specs.Tree.{parent_of}
+use Rattle.ztree.proofs.Nodes.{parent_of-front}
 use Rattle.zstore.proofs.tests.change.Goals as goal
 
 pub add-requires-clause-live : goal.add-requires-clause-live

@@ -1,8 +1,8 @@
 use Rattle.std.proofs.Common.{◌≡◌, sym, ap, ◌∙◌, arith}
 use Rattle.std.specs.Option.{option_and_then}
 use Rattle.std.specs.FinMap as finite
-use Rattle.zstore.specs.Tree.{Tree, parent_of}
-use Rattle.zstore.proofs.Nodes.{parent_of-front}
+use Rattle.ztree.specs.Tree.{Tree, parent_of}
+use Rattle.ztree.proofs.Nodes.{parent_of-front}
 use Rattle.zstore.proofs.tests.take_away.Goals as goal
 
 pub drop_leaf-requires-clause-counters : goal.drop_leaf-requires-clause-counters

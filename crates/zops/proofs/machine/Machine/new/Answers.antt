@@ -1,6 +1,6 @@
 use Rattle.std.proofs.Common.{sym, subst, lit<, arith}
-use Rattle.zops.specs.Sound.{IsBounded}
-use Rattle.zops.proofs.Bounds.{opening_bounded}
+use Rattle.zcalls.specs.Bounds.{IsBounded}
+use Rattle.zcalls.proofs.Bounds.{opening_bounded}
 use Rattle.zops.proofs.machine.Machine.new.Goals as goal
 
 pub invariant_of-result : goal.invariant_of-result

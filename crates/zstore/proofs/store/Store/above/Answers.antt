@@ -3,9 +3,9 @@ use Rattle.std.specs.FinMap.{get, get-from_sorted}
 use Rattle.zpath.specs.Grammar.{path_cmp}
 use Rattle.zstore.specs.declared.id.Id.{Id}
 use Rattle.zstore.specs.declared.row.Row.{Row}
-use Rattle.zstore.specs.Held.{Held}
+use Rattle.zstore.specs.StoreView.{StoreView}
 use Rattle.zstore.specs.Rows.{node_rows}
-use Rattle.zstore.specs.Tree.{parent_of}
+use Rattle.ztree.specs.Tree.{parent_of}
 use Rattle.zstore.proofs.Shown.{if_none, path_of-held}
 use Rattle.zstore.proofs.store.Store.above.Goals as goal
 
@@ -14,7 +14,7 @@ returns-in_err-at-clause-absent c =
     let rows = c.self.inside.rows.items in
     let parent = parent_of c.args.path.now in
     let absent = rw c.deref.ensures.value at c.in_err-at.ensures.absent in
-    if_none c.from_residual.result _ (ap (λ (h : Held). get h.tree.nodes parent) (sym c.self.view_is) ∙ get-from_sorted path_cmp (node_rows rows) parent c.self.invariant.laid.sorted ∙ absent)
+    if_none c.from_residual.result _ (ap (λ (h : StoreView). get h.tree.nodes parent) (sym c.self.view_is) ∙ get-from_sorted path_cmp (node_rows rows) parent c.self.invariant.laid.sorted ∙ absent)
 
 pub returns-clause-found : goal.returns-clause-found
 returns-clause-found c =

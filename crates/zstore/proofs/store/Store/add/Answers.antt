@@ -1,10 +1,11 @@
 use Rattle.std.proofs.Common.{◌+◌, sym, ap, ◌∙◌, rules}
 use Rattle.std.specs.FinMap as finite
-use Rattle.zstore.specs.declared.node.Node.{Node}
-use Rattle.zstore.specs.Tree.{Tree, parent_of, new_node, changed_at, with_child}
-use Rattle.zstore.specs.Held.{Held}
+use Rattle.ztree.specs.declared.node.Node.{Node}
+use Rattle.ztree.specs.Tree.{Tree, parent_of, new_node, with_change_at, with_child}
+use Rattle.zstore.specs.StoreView.{StoreView}
 use Rattle.std.specs.Option.{option_and_then}
-use Rattle.zstore.proofs.Nodes.{get-insert-other, parent_is_other, still_named}
+use Rattle.ztree.proofs.Nodes.{get-insert-other, parent_is_other}
+use Rattle.zstore.proofs.Naming.{still_named}
 use Rattle.zstore.proofs.store.Store.add.Goals as goal
 
 pub child_changed-requires-clause-live : goal.child_changed-requires-clause-live
@@ -23,7 +24,7 @@ pub returns-clause-added : goal.returns-clause-added
 returns-clause-added c =
     let path = c.args.path in
     let live = still_named c.args.self.now c.insert.new.self c.in_ok-id.id path c.args.parent (parent_of path) c.in_ok-id.ensures.named c.requires.live in
-    let made = ap (λ (h : Held). new_node c.args.bytes c.args.owner (h.tree.zxid + 1) h.tree.time) c.self.view_is in
+    let made = ap (λ (h : StoreView). new_node c.args.bytes c.args.owner (h.tree.zxid + 1) h.tree.time) c.self.view_is in
     c.child_changed.ensures.tree (parent_of path) live
-    ∙ ap (λ (t : Tree). record t { nodes = changed_at t.nodes (parent_of path) (with_child (t.zxid + 1) c.args.sequential) }) c.in_ok-id.ensures.tree
-    ∙ ap (λ (n : Node). record c.args.self.now.tree { nodes = changed_at (finite.insert c.args.self.now.tree.nodes path n) (parent_of path) (with_child (c.args.self.now.tree.zxid + 1) c.args.sequential) }) made
+    ∙ ap (λ (t : Tree). record t { nodes = with_change_at t.nodes (parent_of path) (with_child (t.zxid + 1) c.args.sequential) }) c.in_ok-id.ensures.tree
+    ∙ ap (λ (n : Node). record c.args.self.now.tree { nodes = with_change_at (finite.insert c.args.self.now.tree.nodes path n) (parent_of path) (with_child (c.args.self.now.tree.zxid + 1) c.args.sequential) }) made

@@ -1,11 +1,11 @@
 use Rattle.std.proofs.Common.{◌≡◌, ◌≤◌, Bool, true, false, ◌+◌, get_or, sym, ap, ◌∙◌, Some, cond, arith, refl}
 use Rattle.std.specs.FinMap as finite
 use Rattle.zstore.specs.declared.row.Row.{Row}
-use Rattle.zstore.specs.Held.{Held}
-use Rattle.zstore.specs.Tree.{HasRoom, with_child}
+use Rattle.zstore.specs.StoreView.{StoreView}
+use Rattle.ztree.specs.Tree.{HasRoom, with_child}
 use Rattle.zstore.specs.Rows.{place_row}
 use mir.Val.{bool_byte}
-use Rattle.zstore.proofs.Nodes.{changed_at-some}
+use Rattle.ztree.proofs.Nodes.{changed_at-some}
 use Rattle.zstore.proofs.Shown.{nodes_of, some_is_not_none, get-at, path_of-held, node_of-held, path_of-gone, nodes_of-set, places_of-set}
 use Rattle.zstore.proofs.Kept.{kept_set}
 use Rattle.zstore.proofs.store.Store.child_changed.Goals as goal
@@ -60,8 +60,8 @@ returns-in-Some-clause-same c =
     let found = rw c.deref.ensures.value at c.in-Some.ensures.found in
     let s = c.self.inside in
     let row = c.index_mut.result.now in (
-      places_of-set s.rows.items s.sessions.items s.given c.self.invariant.laid c.in-Some.at row _ found.0 (ap place_row c.index_mut.ensures.value) ∙ ap (λ (h : Held). h.places) c.self.view_is,
-      ap (λ (h : Held). h.given) c.self.view_is,
+      places_of-set s.rows.items s.sessions.items s.given c.self.invariant.laid c.in-Some.at row _ found.0 (ap place_row c.index_mut.ensures.value) ∙ ap (λ (h : StoreView). h.places) c.self.view_is,
+      ap (λ (h : StoreView). h.given) c.self.view_is,
     )
 
 pub returns-in_default-clause-tree : goal.returns-in_default-clause-tree

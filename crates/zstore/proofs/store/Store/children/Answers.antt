@@ -1,8 +1,8 @@
 use Rattle.std.proofs.Common.{◌≡◌, [], get_or, sym, ap, ◌∙◌}
 use Rattle.std.specs.List.{filter_map}
 use Rattle.zstore.specs.declared.row.Row.{Row}
-use Rattle.zstore.specs.Held.{Held}
-use Rattle.zstore.specs.Tree.{Path, new_node, child_name, children}
+use Rattle.zstore.specs.StoreView.{StoreView}
+use Rattle.ztree.specs.Tree.{Path, new_node, child_name, children}
 use Rattle.zstore.specs.Rows.{names_of_children}
 use Rattle.zstore.proofs.Shown.{if_ok, some_is_not_none, keys-shown, path_of-held, path_of-gone}
 use Rattle.zstore.proofs.store.Store.children.Goals as goal
@@ -19,7 +19,7 @@ returns-in-Some c = if_ok c.child_names.result _ _ (rw c.deref-in-Some.ensures.v
     let held = path_of-held c.self.inside c.self.invariant.laid _ c.self.view_is c.args.id at some_row found.0 (found.1 some_row) in
     let same : path ≡ (get_or rows at some_row).path = cc (sym named ∙ held) in
     are some_row ∙ ap (λ (p : Path). names_of_children p rows) (sym same)
-    ∙ sym (ap (λ (h : Held). children h.tree.nodes path) (sym c.self.view_is) ∙ ap (filter_map (child_name path)) (keys-shown rows c.self.invariant.laid.sorted)))
+    ∙ sym (ap (λ (h : StoreView). children h.tree.nodes path) (sym c.self.view_is) ∙ ap (filter_map (child_name path)) (keys-shown rows c.self.invariant.laid.sorted)))
 
 pub returns-in-None : goal.returns-in-None
 returns-in-None c = λ path named.

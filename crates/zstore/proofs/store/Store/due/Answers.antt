@@ -1,6 +1,6 @@
 use Rattle.std.proofs.Common.{ap, ◌∙◌, sym}
-use Rattle.zstore.specs.Held.{Held}
-use Rattle.zstore.specs.Sessions.{due}
+use Rattle.zstore.specs.StoreView.{StoreView}
+use Rattle.ztree.specs.Sessions.{due_sessions}
 use Rattle.zstore.proofs.Alive.{due-shown}
 use Rattle.zstore.proofs.Shown.{if_ok}
 use Rattle.zstore.proofs.store.Store.due.Goals as goal
@@ -9,4 +9,4 @@ pub returns : goal.returns
 returns c =
     let s = c.self.inside in
     if_ok c.reached.result _ _ (rw c.deref.ensures.value at c.reached.ensures) (λ ids is.
-    is ∙ sym (ap (λ (h : Held). due h.tree.sessions c.args.tick) (sym c.self.view_is) ∙ due-shown s.sessions.items c.args.tick c.self.invariant.laid.sessions))
+    is ∙ sym (ap (λ (h : StoreView). due_sessions h.tree.sessions c.args.tick) (sym c.self.view_is) ∙ due-shown s.sessions.items c.args.tick c.self.invariant.laid.sessions))

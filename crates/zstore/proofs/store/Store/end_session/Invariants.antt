@@ -1,5 +1,5 @@
 use Rattle.std.proofs.Common.{length}
-use Rattle.zstore.specs.Tree.{ephemerals}
+use Rattle.ztree.specs.Tree.{ephemerals}
 use Rattle.zstore.proofs.UnderWay.{IsUnderWay}
 use Rattle.zstore.proofs.store.Store.end_session.Given as goal
 

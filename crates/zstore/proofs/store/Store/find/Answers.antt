@@ -2,8 +2,8 @@ use Rattle.std.proofs.Common.{sym, ap, ◌∙◌, Some}
 use Rattle.std.specs.Prelude.{is_some}
 use Rattle.zstore.specs.declared.id.Id.{Id}
 use Rattle.zstore.specs.declared.row.Row.{Row}
-use Rattle.zstore.specs.Held.{Held}
-use Rattle.zstore.specs.Tree.{has_node}
+use Rattle.zstore.specs.StoreView.{StoreView}
+use Rattle.ztree.specs.Tree.{has_node}
 use Rattle.zstore.proofs.Shown.{nodes_of, get-at, get-gap, path_of-held}
 use Rattle.zstore.proofs.store.Store.find.Goals as goal
 
@@ -20,9 +20,9 @@ returns-in-Ok-clause-node c =
     let row = c.index.result.now in
     let rows = c.self.inside.rows.items in
     let found = get-at rows c.self.invariant.laid.sorted c.in-Ok.at row at.within in
-    sym (ap (λ (h : Held). has_node h.tree.nodes c.args.path.now) (sym c.self.view_is) ∙ ap (has_node (nodes_of rows)) (sym (at.here row)) ∙ ap is_some found)
+    sym (ap (λ (h : StoreView). has_node h.tree.nodes c.args.path.now) (sym c.self.view_is) ∙ ap (has_node (nodes_of rows)) (sym (at.here row)) ∙ ap is_some found)
 
 pub returns-in-Err-clause-node : goal.returns-in-Err-clause-node
 returns-in-Err-clause-node c =
     let gap = rw c.deref.ensures.value at c.in-Err.ensures.absent in
-    sym (ap (λ (h : Held). has_node h.tree.nodes c.args.path.now) (sym c.self.view_is) ∙ ap is_some (get-gap c.self.inside.rows.items c.self.invariant.laid.sorted c.args.path.now c.in-Err.field-0 gap))
+    sym (ap (λ (h : StoreView). has_node h.tree.nodes c.args.path.now) (sym c.self.view_is) ∙ ap is_some (get-gap c.self.inside.rows.items c.self.invariant.laid.sorted c.args.path.now c.in-Err.field-0 gap))

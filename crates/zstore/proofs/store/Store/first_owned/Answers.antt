@@ -1,9 +1,9 @@
 use Rattle.std.proofs.Common.{sym, ap, subst, ◌∙◌, drop, suc}
 use Rattle.zstore.specs.declared.id.Id.{Id}
 use Rattle.zstore.specs.declared.row.Row.{Row}
-use Rattle.zstore.specs.Held.{Held}
-use Rattle.zstore.specs.Tree.{ephemerals}
-use Rattle.zstore.specs.Lawful.{IsLawful}
+use Rattle.zstore.specs.StoreView.{StoreView}
+use Rattle.ztree.specs.Tree.{ephemerals}
+use Rattle.ztree.specs.Lawful.{IsLawful}
 use Rattle.zstore.specs.Rows.{owned_by}
 use Rattle.zstore.proofs.Shown.{if_none, path_of-held}
 use Rattle.zstore.proofs.Owned.{ephemerals-shown}
@@ -18,17 +18,17 @@ returns-clause-found c =
       _,
       path_of-held s c.self.invariant.laid _ c.self.view_is id c.in_ok-at.at row found.0 (ap (λ (r : Row). r.number) (sym c.index.ensures)),
       owned_by c.args.session (drop (suc c.in_ok-at.at) s.rows.items),
-      ap (λ (h : Held). ephemerals h.tree.nodes c.args.session) (sym c.self.view_is) ∙ ephemerals-shown c.args.session s.rows.items c.self.invariant.laid.sorted ∙ found.1 row,
+      ap (λ (h : StoreView). ephemerals h.tree.nodes c.args.session) (sym c.self.view_is) ∙ ephemerals-shown c.args.session s.rows.items c.self.invariant.laid.sorted ∙ found.1 row,
     )
 
 pub returns-in_err-at-clause-absent : goal.returns-in_err-at-clause-absent
 returns-in_err-at-clause-absent c =
     let s = c.self.inside in
     let absent = rw c.deref.ensures.value at c.in_err-at.ensures.absent in
-    if_none c.from_residual.result _ (ap (λ (h : Held). ephemerals h.tree.nodes c.args.session) (sym c.self.view_is) ∙ ephemerals-shown c.args.session s.rows.items c.self.invariant.laid.sorted ∙ absent)
+    if_none c.from_residual.result _ (ap (λ (h : StoreView). ephemerals h.tree.nodes c.args.session) (sym c.self.view_is) ∙ ephemerals-shown c.args.session s.rows.items c.self.invariant.laid.sorted ∙ absent)
 
 pub returns-clause-lawful : goal.returns-clause-lawful
-returns-clause-lawful c = subst (λ (h : Held). IsLawful h.tree) c.self.view_is c.self.invariant.lawful
+returns-clause-lawful c = subst (λ (h : StoreView). IsLawful h.tree) c.self.view_is c.self.invariant.lawful
 
 pub returns-in_err-at-clause-lawful : goal.returns-in_err-at-clause-lawful
-returns-in_err-at-clause-lawful c = subst (λ (h : Held). IsLawful h.tree) c.self.view_is c.self.invariant.lawful
+returns-in_err-at-clause-lawful c = subst (λ (h : StoreView). IsLawful h.tree) c.self.view_is c.self.invariant.lawful

@@ -1,13 +1,13 @@
 use Rattle.std.proofs.Common.{sym, ap, subst, ◌∙◌, refl}
 use Rattle.std.specs.FinMap as finite
-use Rattle.zstore.specs.Held.{Held}
-use Rattle.zstore.specs.Tree.{Sessions, ephemerals}
-use Rattle.zstore.specs.Lawful.{IsLawful}
+use Rattle.zstore.specs.StoreView.{StoreView}
+use Rattle.ztree.specs.Tree.{Sessions, ephemerals}
+use Rattle.ztree.specs.Lawful.{IsLawful}
 use Rattle.zstore.specs.Rows.{tree_of}
 use Rattle.zstore.proofs.Shown.{nodes_of}
 use Rattle.zstore.proofs.Alive.{alive_remove, alive_nowhere}
-use Rattle.zstore.proofs.Maps.{not_none}
-use Rattle.zstore.proofs.LawfulEnd.{lawful_forgotten}
+use Rattle.ztree.proofs.Maps.{not_none}
+use Rattle.ztree.proofs.LawfulEnd.{lawful_forgotten}
 use Rattle.zstore.proofs.store.Store.forget.Goals as goal
 
 pub invariant_of-self : goal.invariant_of-self
@@ -15,7 +15,7 @@ invariant_of-self c =
     let s = c.self.inside in
     let here = rw c.deref.ensures.value at c.in-Ok.ensures.found in
     let gone = alive_remove s.sessions.items c.args.session c.in-Ok.at c.self.invariant.laid.sessions here in
-    let none = ap (λ (h : Held). ephemerals h.tree.nodes c.args.session) c.self.view_is ∙ c.requires.owns_none in
+    let none = ap (λ (h : StoreView). ephemerals h.tree.nodes c.args.session) c.self.view_is ∙ c.requires.owns_none in
     let laid = c.self.invariant.laid in
     rw c.remove.ensures.items (record {
       laid = record { sorted = laid.sorted; apart = laid.apart; numbers = laid.numbers; sessions = gone.0 };
@@ -30,11 +30,11 @@ returns-in-Ok-clause-tree c =
     rw (c.remove.ensures.items, ← c.self.view_is, gone.1) refl
 
 pub returns-in-Ok-clause-same : goal.returns-in-Ok-clause-same
-returns-in-Ok-clause-same c = (ap (λ (h : Held). h.places) c.self.view_is, ap (λ (h : Held). h.given) c.self.view_is)
+returns-in-Ok-clause-same c = (ap (λ (h : StoreView). h.places) c.self.view_is, ap (λ (h : StoreView). h.given) c.self.view_is)
 
 pub returns-in_default-clause-tree : goal.returns-in_default-clause-tree
 returns-in_default-clause-tree c =
     let s = c.self.inside in
     let gap = rw c.deref.ensures.value at c.in_default.ensures.absent in
-    let none = ap (λ (h : Held). finite.get h.tree.sessions c.args.session) (sym c.self.view_is) ∙ alive_nowhere s.sessions.items c.args.session c.in_default.field-0 c.self.invariant.laid.sessions gap in
+    let none = ap (λ (h : StoreView). finite.get h.tree.sessions c.args.session) (sym c.self.view_is) ∙ alive_nowhere s.sessions.items c.args.session c.in_default.field-0 c.self.invariant.laid.sessions gap in
     absurd (not_none _ c.requires.live none)

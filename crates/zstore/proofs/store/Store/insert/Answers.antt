@@ -3,9 +3,9 @@ use Rattle.std.specs.FinMap as finite
 use Rattle.std.specs.FinMap.{get-from_sorted}
 use Rattle.zpath.specs.Grammar.{path_cmp}
 use Rattle.zstore.specs.declared.row.Row.{Row}
-use Rattle.zstore.specs.Held.{Held}
-use Rattle.zstore.specs.Tree.{has_node, parent_of}
-use Rattle.zstore.specs.Lawful.{IsPersistent, IsOwner}
+use Rattle.zstore.specs.StoreView.{StoreView}
+use Rattle.ztree.specs.Tree.{has_node, parent_of}
+use Rattle.ztree.specs.Lawful.{IsPersistent, IsOwner}
 use Rattle.zstore.specs.Rows.{node_rows}
 use Rattle.zstore.proofs.Shown.{nodes_of-insert, places_of-insert, fresh_place, none_of}
 use Rattle.zstore.proofs.Kept.{kept_insert}
@@ -15,16 +15,16 @@ pub gap_of-at-requires : goal.gap_of-at-requires
 gap_of-at-requires c =
     let rows = c.self.inside.rows.items in
     let path = c.args.path in
-    let free = none_of _ (ap (λ (h : Held). has_node h.tree.nodes path) c.self.view_is ∙ c.requires.free) in
+    let free = none_of _ (ap (λ (h : StoreView). has_node h.tree.nodes path) c.self.view_is ∙ c.requires.free) in
     rw c.deref.ensures.value (record { sorted = c.self.invariant.laid.sorted; free = sym (get-from_sorted path_cmp (node_rows rows) path c.self.invariant.laid.sorted) ∙ free })
 
 pub invariant_of-self-2 : goal.invariant_of-self-2
 invariant_of-self-2 c =
     let s = c.self.inside in
     let row : Row = record { path = c.args.path; number = s.given; node = c.args.node } in
-    let parent = subst (λ (h : Held). IsPersistent (finite.get h.tree.nodes (parent_of c.args.path))) (sym c.self.view_is) c.requires.parent in
-    let owner = subst (λ (h : Held). IsOwner h.tree.sessions c.args.node.owner) (sym c.self.view_is) c.requires.owner in
-    let few = subst (λ (h : Held). finite.len h.tree.nodes < 4096) (sym c.self.view_is) c.requires.few in
+    let parent = subst (λ (h : StoreView). IsPersistent (finite.get h.tree.nodes (parent_of c.args.path))) (sym c.self.view_is) c.requires.parent in
+    let owner = subst (λ (h : StoreView). IsOwner h.tree.sessions c.args.node.owner) (sym c.self.view_is) c.requires.owner in
+    let few = subst (λ (h : StoreView). finite.len h.tree.nodes < 4096) (sym c.self.view_is) c.requires.few in
     rw c.in_ok-insert.ensures.items (kept_insert s.rows.items s.sessions.items s.time s.zxid s.given c.self.invariant c.gap_of-at.result row refl (rw c.deref.ensures.value at c.gap_of-at.ensures) parent owner few)
 
 pub returns-clause-tree : goal.returns-clause-tree

@@ -1,6 +1,6 @@
 use Rattle.std.proofs.Common.{◌≡◌, sym, ap, ◌∙◌, length, rules}
 use Rattle.std.specs.FinMap as finite
-use Rattle.zstore.specs.Held.{Held}
+use Rattle.zstore.specs.StoreView.{StoreView}
 use Rattle.zstore.proofs.Shown.{len-shown}
 use Rattle.zstore.proofs.store.Store.nodes.Goals as goal
 
@@ -8,4 +8,4 @@ pub returns : goal.returns
 returns c =
     let rows = c.self.inside.rows.items in
     let len : c.len.result ≡ length rows = search rules in
-    len ∙ sym (ap (λ (h : Held). finite.len h.tree.nodes) (sym c.self.view_is) ∙ len-shown rows c.self.invariant.laid.sorted)
+    len ∙ sym (ap (λ (h : StoreView). finite.len h.tree.nodes) (sym c.self.view_is) ∙ len-shown rows c.self.invariant.laid.sorted)

@@ -1,10 +1,10 @@
 use Rattle.std.proofs.Common.{◌≡◌, ◌+◌, get_or, sym, ap, ◌∙◌, Some, arith, refl}
 use Rattle.std.specs.FinMap as finite
 use Rattle.zstore.specs.declared.row.Row.{Row}
-use Rattle.zstore.specs.Held.{Held}
-use Rattle.zstore.specs.Tree.{HasRoom, with_data}
+use Rattle.zstore.specs.StoreView.{StoreView}
+use Rattle.ztree.specs.Tree.{HasRoom, with_data}
 use Rattle.zstore.specs.Rows.{place_row}
-use Rattle.zstore.proofs.Nodes.{changed_at-some}
+use Rattle.ztree.proofs.Nodes.{changed_at-some}
 use Rattle.zstore.proofs.Shown.{nodes_of, some_is_not_none, get-at, path_of-held, node_of-held, path_of-gone, nodes_of-set, places_of-set}
 use Rattle.zstore.proofs.Kept.{kept_set}
 use Rattle.zstore.proofs.store.Store.put_data.Goals as goal
@@ -40,8 +40,8 @@ pub returns-in-Some-clause-same : goal.returns-in-Some-clause-same
 returns-in-Some-clause-same c =
     let found = rw c.deref.ensures.value at c.in-Some.ensures.found in
     let s = c.self.inside in (
-      places_of-set s.rows.items s.sessions.items s.given c.self.invariant.laid c.in-Some.at c.index_mut.result.now _ found.0 (ap place_row c.index_mut.ensures.value) ∙ ap (λ (h : Held). h.places) c.self.view_is,
-      ap (λ (h : Held). h.given) c.self.view_is,
+      places_of-set s.rows.items s.sessions.items s.given c.self.invariant.laid c.in-Some.at c.index_mut.result.now _ found.0 (ap place_row c.index_mut.ensures.value) ∙ ap (λ (h : StoreView). h.places) c.self.view_is,
+      ap (λ (h : StoreView). h.given) c.self.view_is,
     )
 
 pub returns-in_default-clause-tree : goal.returns-in_default-clause-tree

@@ -1,5 +1,5 @@
 use Rattle.zstore.specs.Rows.{tree_of}
-use Rattle.zstore.proofs.Lawful.{lawful_raised}
+use Rattle.ztree.proofs.Lawful.{lawful_raised}
 use Rattle.zstore.proofs.store.Store.raise.Goals as goal
 
 pub invariant_of-self : goal.invariant_of-self

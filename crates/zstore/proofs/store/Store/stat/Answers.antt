@@ -1,7 +1,7 @@
 use Rattle.std.proofs.Common.{◌≡◌, get_or, sym, ap, ◌∙◌, Some, rules}
 use Rattle.zstore.specs.declared.row.Row.{Row}
-use Rattle.zstore.specs.Held.{Held}
-use Rattle.zstore.specs.Tree.{stat_at, stat_with}
+use Rattle.zstore.specs.StoreView.{StoreView}
+use Rattle.ztree.specs.Tree.{stat_at, stat_with}
 use Rattle.zstore.proofs.Shown.{nodes_of, if_none, stat-at, path_of-held, path_of-gone}
 use Rattle.zstore.proofs.store.Store.stat.Goals as goal
 
@@ -25,7 +25,7 @@ returns-clause-stat c = λ path named.
     let held = path_of-held c.self.inside c.self.invariant.laid _ c.self.view_is c.args.id at row found.0 (found.1 row) in
     let same : path ≡ (get_or rows at row).path = cc (sym named ∙ held) in
     let count = rw c.deref-2.ensures.value at (c.child_count-children.ensures row) in
-    ap (λ (h : Held). stat_at h.tree.nodes path) (sym c.self.view_is)
+    ap (λ (h : StoreView). stat_at h.tree.nodes path) (sym c.self.view_is)
     ∙ ap (stat_at (nodes_of rows)) same
     ∙ stat-at rows c.self.invariant.laid.sorted at row found.0
     ∙ ap (λ n. Some (stat_with (get_or rows at row).node n)) (sym count)

@@ -6,8 +6,8 @@ use Rattle.std.specs.List.{remove}
 use Rattle.std.specs.Option.{option_and_then}
 use Rattle.std.specs.FinMap.{from_entries, get-from_entries}
 use Rattle.zstore.specs.declared.row.Row.{Row}
-use Rattle.zstore.specs.Held.{Held, while_there}
-use Rattle.zstore.specs.Tree.{children}
+use Rattle.zstore.specs.StoreView.{StoreView, while_there}
+use Rattle.ztree.specs.Tree.{children}
 use Rattle.zstore.specs.Rows.{place_rows}
 use Rattle.zstore.proofs.Shown.{nodes_of, if_none, path_of-held, path_of-gone, nodes_of-remove, places_of-remove}
 use Rattle.zstore.proofs.Kept.{kept_remove, forgets_removed}
@@ -25,7 +25,7 @@ invariant_of-self c =
     let row = c.remove-row.result in
     let named = path_of-held s c.self.invariant.laid _ c.self.view_is c.args.id c.in_ok-at.at row found.0 (found.1 row) in
     let path = (get_or s.rows.items c.in_ok-at.at row).path in
-    let leaf = ap (λ (h : Held). children h.tree.nodes path) c.self.view_is ∙ c.requires.leaf path named in
+    let leaf = ap (λ (h : StoreView). children h.tree.nodes path) c.self.view_is ∙ c.requires.leaf path named in
     rw c.remove-row.ensures.items (kept_remove s.rows.items s.sessions.items s.time s.zxid s.given c.self.invariant c.in_ok-at.at row found.0 (c.requires.below_root path named) leaf)
 
 pub returns-clause-path : goal.returns-clause-path

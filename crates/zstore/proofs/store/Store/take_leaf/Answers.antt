@@ -3,11 +3,11 @@ use Rattle.std.specs.Option.{option_and_then}
 use Rattle.std.specs.FinMap as finite
 use Rattle.std.specs.Ordering.{nat_cmp}
 use Rattle.std.specs.FinMap.{FinMap, get-remove}
-use Rattle.zstore.specs.Tree.{Tree, Path, parent_of, has_node, without_child}
-use Rattle.zstore.specs.Held.{path_of}
-use Rattle.zstore.proofs.Ending.{has_node-changed}
+use Rattle.ztree.specs.Tree.{Tree, Path, parent_of, has_node, without_child}
+use Rattle.zstore.specs.StoreView.{path_of}
+use Rattle.ztree.proofs.Ending.{has_node-changed}
 use Rattle.zstore.proofs.UnderWay.{while_there_same}
-use Rattle.zstore.proofs.Sorted.{paths_total}
+use Rattle.ztree.proofs.Sorted.{paths_total}
 use Rattle.zstore.proofs.store.Store.take_leaf.Goals as goal
 
 kept : {A : Type 0} (t : Bool) (o : Option A) (x : A) → cond t None o ≡ Some x → o ≡ Some x

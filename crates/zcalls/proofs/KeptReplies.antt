@@ -1,0 +1,47 @@
+-- What is found among kept replies, and what an entry does by it.
+use Rattle.std.proofs.Common.{◌≡◌, ℕ, Option, Some, None, cond, nat_cmp, true, false, List, ◌∷◌, ap, ◌∙◌}
+use Rattle.std.specs.Ordering.{eq_by_cmp}
+use Rattle.std.specs.Cmp.{nat_cmp_total}
+use Rattle.std.specs.FinMap.{FinMap, get, insert, get-insert, get-empty}
+use Rattle.zcalls.specs.declared.call.Entry.{Entry}
+use Rattle.zcalls.specs.declared.reply.Reply.{Reply}
+use Rattle.zcalls.specs.Kept.{Kept, KeptState, PlainStep, nothing_kept, entry_by, entry_step}
+use Rattle.zcalls.specs.KeptRows.{counting, keeping, answers}
+
+-- a reply that is kept for a client is that client's, and no other's
+pub kept_insert : (kept : FinMap nat_cmp Kept) (client : ℕ) (reply : Kept) (other : ℕ)
+    → get (insert kept client reply) other ≡ cond (eq_by_cmp nat_cmp other client) (Some reply) (get kept other)
+kept_insert kept client reply other = get-insert nat_cmp_total kept client reply other
+
+-- what an entry does, by what is kept for its client
+pub entered : {P : Type 0} (step : PlainStep P) (s : KeptState P) (e : Entry) (kept : Option Kept)
+    → get s.kept e.client ≡ kept → entry_step step s e ≡ entry_by step s e kept
+unfolding entry_step
+entered step s e kept found = ap (entry_by step s e) found
+
+-- what a client's first entry does
+pub entered_first : (n : ℕ) (e : Entry) → entry_step counting (nothing_kept n) e ≡ entry_by counting (nothing_kept n) e None
+entered_first n e = entered counting (nothing_kept n) e None (get-empty nat_cmp e.client)
+
+-- what an entry does where this reply of its client was kept last
+pub entered_again : (s : KeptState ℕ) (n client number : ℕ) (reply : Reply) (e : Entry)
+    → eq_by_cmp nat_cmp e.client client ≡ true
+    → entry_step counting (keeping s n client number reply) e ≡ entry_by counting (keeping s n client number reply) e (Some (record { number = number; reply = reply }))
+entered_again s n client number reply e same =
+    let kept : Kept = record { number = number; reply = reply } in
+    entered counting (keeping s n client number reply) e (Some kept)
+    (kept_insert s.kept client kept e.client ∙ ap (λ b. cond b (Some kept) (get s.kept e.client)) same)
+
+-- what the first entry of another client does
+pub entered_other : (n m client number : ℕ) (reply : Reply) (e : Entry)
+    → eq_by_cmp nat_cmp e.client client ≡ false
+    → entry_step counting (keeping (nothing_kept n) m client number reply) e ≡ entry_by counting (keeping (nothing_kept n) m client number reply) e None
+entered_other n m client number reply e other =
+    let kept : Kept = record { number = number; reply = reply } in
+    entered counting (keeping (nothing_kept n) m client number reply) e None
+    (kept_insert (nothing_kept n).kept client kept e.client ∙ ap (λ b. cond b (Some kept) (get (nothing_kept n).kept e.client)) other ∙ get-empty nat_cmp e.client)
+
+-- what entries are answered, when it is known what the first does
+pub answers_on : (s : KeptState ℕ) (e : Entry) (es : List Entry) (did : KeptState ℕ × Option Reply)
+    → entry_step counting s e ≡ did → answers s (e ∷ es) ≡ did.1 ∷ answers did.0 es
+answers_on s e es did known = ap (λ r. r.1 ∷ answers r.0 es) known

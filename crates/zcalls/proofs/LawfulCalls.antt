@@ -1,0 +1,132 @@
+-- After any calls from the opening the tree is lawful, and its sessions' ids are those of changes that were made.
+use Rattle.std.proofs.Common.{◌≡◌, ◌<◌, ◌≤◌, ℕ, ◌+◌, Bool, true, false, if◌then◌else◌, List, [], ◌∷◌, ◌++◌, length, Some, Result, Ok, Err, refl, sym, subst, arith}
+use Rattle.std.specs.Prelude.{nat_le}
+use Rattle.std.specs.Option.{option_map_or}
+use Rattle.std.specs.FinMap as finite
+use Rattle.std.proofs.lemmas.Bool.Decides.{nat_tests}
+use Rattle.ztree.specs.declared.session.Session.{Session}
+use Rattle.ztree.specs.Tree.{Tree, opening_tree, with_next_zxid}
+use Rattle.ztree.specs.Sessions.{new_session, with_session, renewed_session, with_renewed_session, without_session, without_sessions, due_sessions, with_next_tick}
+use Rattle.ztree.specs.Lawful.{IsLawful, AllSessions}
+use Rattle.ztree.proofs.Lawful.{lawful_opening, lawful_raised, lawful_opened, lawful_touched}
+use Rattle.ztree.proofs.LawfulEnd.{lawful_ended, lawful_ticked}
+use Rattle.zcalls.specs.declared.call.Part.{Part}
+use Rattle.zcalls.specs.declared.call.Update.{Update}
+use Rattle.zcalls.specs.declared.call.Update.TheVariants.{Create, Delete, SetData, Multi, Open, Ping, Close, Tick}
+use Rattle.zcalls.specs.declared.refusal.Refusal.{Refusal}
+use Rattle.zcalls.specs.declared.refusal.Refusal.TheVariants.{SessionGone, TooManySessions, Exhausted}
+use Rattle.zcalls.specs.declared.reply.PartReply.{PartReply}
+use Rattle.zcalls.specs.declared.reply.Reply.{Reply}
+use Rattle.zcalls.specs.declared.reply.Reply.TheVariants as reply
+use Rattle.zcalls.specs.Part.{create_part, delete_part, set_part, part_step, is_gone}
+use Rattle.zcalls.specs.Multi.{Run, and_then, run}
+use Rattle.zcalls.specs.Step.{step, update_result, part_result, multi_result, granted_timeout, tick_result, is_exhausted}
+use Rattle.zcalls.specs.Bounds.{IsGranted}
+use Rattle.zcalls.specs.CallRuns.{after_calls}
+use Rattle.zcalls.specs.SessionLaws.{TreesAreLawful}
+use Rattle.zcalls.proofs.Bounds.{granted_more, no_sessions}
+use Rattle.zcalls.proofs.Owners.{is_own}
+use Rattle.zcalls.proofs.Ends.{ended-ends, all_ended-ends}
+use Rattle.zcalls.proofs.Timed.{put-granted, granted-least, granted-most}
+use Rattle.zcalls.proofs.LawfulParts.{IsGood, LeavesGood, create-good, delete-good, set-good, part-good}
+
+-- what a run leaves, where all its parts were done
+abbrev RunGood : Run → Type 0
+RunGood (Err stopped) = Unit {0}
+RunGood (Ok (u, replies)) = IsGood u
+
+and_then-good : (did : Result (Tree × PartReply) Refusal) (number : ℕ) (go_on : Tree → PartReply → Run) → LeavesGood did → ((u : Tree) (reply : PartReply) → IsGood u → RunGood (go_on u reply)) → RunGood (and_then did number go_on)
+and_then-good (Err refusal) number go_on good each = tt
+and_then-good (Ok (u, reply)) number go_on good each = each u reply good
+
+run-good : (parts : List Part) (t : Tree) (client : ℕ) (replies : List PartReply) → IsGood t → RunGood (run t client replies parts)
+unfolding run
+run-good [] t client replies good = good
+run-good (part ∷ parts) t client replies good =
+    and_then-good (part_step t client part) (length replies + 1) (λ u reply. run u client (replies ++ reply ∷ []) parts)
+    (part-good t client part good) (λ u reply good. run-good parts u client (replies ++ reply ∷ []) good)
+
+-- a change counted
+raised-good : (t : Tree) → IsGood t → IsGood (with_next_zxid t)
+raised-good t good = (lawful_raised t good.0, λ id s e. granted_more t.zxid (t.zxid + 1) id s (omega arith) (good.1 id s e))
+
+alone-good : (t : Tree) (part : Result (Tree × PartReply) Refusal) → IsGood t → LeavesGood part → IsGood (part_result t part).0
+alone-good t (Err refusal) good left = good
+alone-good t (Ok (u, done)) good left = raised-good u left
+
+together-good : (t : Tree) (did : Run) → IsGood t → RunGood did → IsGood (multi_result t did).0
+together-good t (Err (number, refusal)) good left = good
+together-good t (Ok (u, replies)) good left = raised-good u left
+
+-- a choice between the tree and what is good too
+either : (t : Tree) (why : Reply) (did : Tree × Reply) (b : Bool) → IsGood t → (b ≡ false → IsGood did.0) → IsGood (if b then (t, why) else did).0
+either t why did true good done = good
+either t why did false good done = done refl
+
+few : (n : ℕ) → nat_le 1024 n ≡ false → n < 1024
+few n e = grind (arith, nat_tests)
+
+opened-good : (t : Tree) (client timeout : ℕ) → 2 ≤ timeout → timeout ≤ 20 → finite.len t.sessions < 1024 → IsGood t → IsGood (with_next_zxid (with_session t client timeout))
+opened-good t client timeout least most left good = (
+  lawful_raised (with_session t client timeout) (lawful_opened t client timeout good.0 (omega (arith, least)) left),
+  put-granted (t.zxid + 1) t.sessions (t.zxid + 1) (new_session client timeout t.time)
+      (λ id s e. granted_more t.zxid (t.zxid + 1) id s (omega arith) (good.1 id s e))
+      (record { before = omega arith; least = least; most = most }),
+)
+
+touched-good : (t : Tree) (id : ℕ) (s : Session) → finite.get t.sessions id ≡ Some s → IsGood t → IsGood (with_renewed_session t id)
+touched-good t id s there good =
+    let here = good.1 id s there in (
+      lawful_touched t id good.0 (λ x e. let h = (good.1 id x e).least in omega (arith, h)),
+      subst (λ o. AllSessions (IsGranted t.zxid) (option_map_or (λ s. finite.insert t.sessions id (renewed_session t.time s)) o t.sessions)) (sym there)
+          (put-granted t.zxid t.sessions id (renewed_session t.time s) good.1 (record { before = here.before; least = here.least; most = here.most })),
+    )
+
+closed-good : (t : Tree) (id : ℕ) (s : Session) → finite.get t.sessions id ≡ Some s → IsGood t → IsGood (with_next_zxid (without_session t id))
+closed-good t id s there good =
+    let ends = ended-ends t id in
+    raised-good (without_session t id) (
+      lawful_ended t id good.0 (good.0.ids id s there),
+      λ q x e. subst (λ zxid. IsGranted zxid q x) (sym ends.zxid) (good.1 q x (ends.sessions q x e)),
+    )
+
+-- a tick: its sessions, and whether it makes a change, are told by those that are due
+ticked-good : (t : Tree) (ids : List ℕ) → due_sessions t.sessions (t.time + 1) ≡ ids → IsGood t → IsGood (tick_result t ids).0
+ticked-good t ids is good = by ids (subst (λ ids. IsLawful (with_next_tick (without_sessions t ids))) is (lawful_ticked t good.0))
+  where
+    by : (ids : List ℕ) → IsLawful (with_next_tick (without_sessions t ids)) → IsGood (tick_result t ids).0
+    by [] lawful = (lawful, good.1)
+    by (id ∷ ids) lawful =
+        let ends = all_ended-ends (id ∷ ids) t in
+        raised-good (with_next_tick (without_sessions t (id ∷ ids))) (lawful, λ q x e. subst (λ zxid. IsGranted zxid q x) (sym ends.zxid) (good.1 q x (ends.sessions q x e)))
+
+changed-good : (t : Tree) (client : ℕ) (update : Update) → IsGood t → IsGood (update_result t client update).0
+changed-good t client (Create create) good = alone-good t (create_part t client create) good (create-good t client create good)
+changed-good t client (Delete delete) good = alone-good t (delete_part t delete) good (delete-good t delete good)
+changed-good t client (SetData set) good = alone-good t (set_part t set) good (set-good t set good)
+changed-good t client (Multi parts) good = together-good t (run t client [] parts) good (run-good parts t client [] good)
+changed-good t client (Open ticks) good =
+    either t (reply.Refused TooManySessions) (with_next_zxid (with_session t client (granted_timeout ticks)), reply.Opened (t.zxid + 1) (granted_timeout ticks)) (nat_le 1024 (finite.len t.sessions)) good
+    (λ left. opened-good t client (granted_timeout ticks) (granted-least ticks) (granted-most ticks) (few (finite.len t.sessions) left) good)
+changed-good t client (Ping session) good =
+    either t (reply.Refused SessionGone) (with_renewed_session t session, reply.Pinged) (is_gone t.sessions client session) good
+    (λ here. let own = is_own t.sessions client session here in touched-good t session own.session own.there good)
+changed-good t client (Close session) good =
+    either t (reply.Refused SessionGone) (with_next_zxid (without_session t session), reply.Closed) (is_gone t.sessions client session) good
+    (λ here. let own = is_own t.sessions client session here in closed-good t session own.session own.there good)
+changed-good t client Tick good = ticked-good t (due_sessions t.sessions (t.time + 1)) refl good
+
+pub step-good : (t : Tree) (client : ℕ) (update : Update) → IsGood t → IsGood (step t client update).0
+unfolding step
+step-good t client update good =
+    either t (reply.Refused Exhausted) (update_result t client update) (is_exhausted t update) good (λ left. changed-good t client update good)
+
+calls-good : (calls : List (ℕ × Update)) (t : Tree) → IsGood t → IsGood (after_calls t calls)
+calls-good [] t good = good
+calls-good (call ∷ calls) t good = calls-good calls (step t call.0 call.1).0 (step-good t call.0 call.1 good)
+
+pub after-good : (calls : List (ℕ × Update)) → IsGood (after_calls opening_tree calls)
+after-good calls = calls-good calls opening_tree (lawful_opening, no_sessions)
+
+pub trees_are_lawful : TreesAreLawful
+trees_are_lawful calls = (after-good calls).0

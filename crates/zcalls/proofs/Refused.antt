@@ -1,0 +1,121 @@
+-- A refused call leaves the tree.
+use Rattle.std.proofs.Common.{◌≡◌, ℕ, ◌+◌, Bool, true, false, if◌then◌else◌, List, [], ◌∷◌, Option, Some, None, Result, Ok, Err, length, refl, sym, ap, ◌∙◌}
+use Rattle.std.specs.Prelude.{nat_le}
+use Rattle.std.specs.FinMap as finite
+use Rattle.ztree.specs.Tree.{Tree, children, stat_of, with_next_zxid}
+use Rattle.ztree.specs.Sessions.{with_session, with_renewed_session, without_session, due_sessions}
+use Rattle.ztree.specs.declared.node.Node.{Node}
+use Rattle.ztree.specs.declared.node.Stat.{Stat}
+use Rattle.zcalls.specs.declared.call.Update.{Update}
+use Rattle.zcalls.specs.declared.call.Update.TheVariants.{Create, Delete, SetData, Multi, Open, Ping, Close, Tick}
+use Rattle.zcalls.specs.declared.refusal.Refusal.{Refusal}
+use Rattle.zcalls.specs.declared.refusal.Refusal.TheVariants.{SessionGone, TooManySessions, Exhausted}
+use Rattle.zcalls.specs.declared.reply.PartReply.{PartReply}
+use Rattle.zcalls.specs.declared.reply.PartReply.TheVariants as part_reply
+use Rattle.zcalls.specs.declared.reply.Reply.{Reply}
+use Rattle.zcalls.specs.declared.reply.Reply.TheVariants as reply
+use Rattle.zcalls.specs.Part.{create_part, delete_part, set_part, is_gone}
+use Rattle.zcalls.specs.Multi.{Run, run}
+use Rattle.zcalls.specs.Step.{step, query_reply, update_result, part_result, multi_result, reply_of, granted_timeout, open_result, session_result, tick_result, is_exhausted, on_node}
+use Rattle.zcalls.specs.Laws.{RefusedChangesNothing, RefusedMultiChangesNothing, CountsTheNames}
+
+-- no part that was done answers a refusal
+done_is_not_refused : (done : PartReply) (refusal : Refusal) → reply_of done ≡ reply.Refused refusal → ⊥
+done_is_not_refused (part_reply.Created path) refusal e = cc
+done_is_not_refused part_reply.Deleted refusal e = cc
+done_is_not_refused (part_reply.Set stat) refusal e = cc
+done_is_not_refused part_reply.Checked refusal e = cc
+
+done_is_no_multi : (done : PartReply) (number : ℕ) (refusal : Refusal) → reply_of done ≡ reply.MultiRefused number refusal → ⊥
+done_is_no_multi (part_reply.Created path) number refusal e = cc
+done_is_no_multi part_reply.Deleted number refusal e = cc
+done_is_no_multi (part_reply.Set stat) number refusal e = cc
+done_is_no_multi part_reply.Checked number refusal e = cc
+
+alone-refused : (t : Tree) (part : Result (Tree × PartReply) Refusal) (refusal : Refusal) → (part_result t part).1 ≡ reply.Refused refusal → (part_result t part).0 ≡ t
+alone-refused t (Err why) refusal e = refl
+alone-refused t (Ok (u, done)) refusal e = absurd (done_is_not_refused done refusal e)
+
+alone-no_multi : (t : Tree) (part : Result (Tree × PartReply) Refusal) (number : ℕ) (refusal : Refusal) → (part_result t part).1 ≡ reply.MultiRefused number refusal → (part_result t part).0 ≡ t
+alone-no_multi t (Err why) number refusal e = refl
+alone-no_multi t (Ok (u, done)) number refusal e = absurd (done_is_no_multi done number refusal e)
+
+together-refused : (t : Tree) (did : Run) (refusal : Refusal) → (multi_result t did).1 ≡ reply.Refused refusal → (multi_result t did).0 ≡ t
+together-refused t (Err (number, why)) refusal e = refl
+together-refused t (Ok (u, replies)) refusal e = cc
+
+together-no_multi : (t : Tree) (did : Run) (number : ℕ) (refusal : Refusal) → (multi_result t did).1 ≡ reply.MultiRefused number refusal → (multi_result t did).0 ≡ t
+together-no_multi t (Err (n, why)) number refusal e = refl
+together-no_multi t (Ok (u, replies)) number refusal e = cc
+
+-- what is shown of a reply and a tree, where the tree stays for a refusal
+refused_or : (t : Tree) (why : Refusal) (did : Tree × Reply) (P : Tree × Reply → Type 0) → P (t, reply.Refused why) → P did → (b : Bool) → P (if b then (t, reply.Refused why) else did)
+refused_or t why did P refused done true = refused
+refused_or t why did P refused done false = done
+
+with_session-refused : (t : Tree) (client timeout : ℕ) (refusal : Refusal) → (open_result t client timeout).1 ≡ reply.Refused refusal → (open_result t client timeout).0 ≡ t
+with_session-refused t client timeout refusal =
+    refused_or t TooManySessions (with_next_zxid (with_session t client timeout), reply.Opened (t.zxid + 1) timeout)
+    (λ did. did.1 ≡ reply.Refused refusal → did.0 ≡ t) (λ e. refl) (λ e. cc) (nat_le 1024 (finite.len t.sessions))
+
+with_session-no_multi : (t : Tree) (client timeout number : ℕ) (refusal : Refusal) → (open_result t client timeout).1 ≡ reply.MultiRefused number refusal → ⊥
+with_session-no_multi t client timeout number refusal =
+    refused_or t TooManySessions (with_next_zxid (with_session t client timeout), reply.Opened (t.zxid + 1) timeout)
+    (λ did. did.1 ≡ reply.MultiRefused number refusal → ⊥) (λ e. cc) (λ e. cc) (nat_le 1024 (finite.len t.sessions))
+
+on_session-refused : (t : Tree) (client session : ℕ) (did : Tree × Reply) (refusal : Refusal) → (did.1 ≡ reply.Refused refusal → ⊥) → (session_result t client session did).1 ≡ reply.Refused refusal → (session_result t client session did).0 ≡ t
+on_session-refused t client session did refusal isnt =
+    refused_or t SessionGone did (λ did. did.1 ≡ reply.Refused refusal → did.0 ≡ t) (λ e. refl) (λ e. absurd (isnt e)) (is_gone t.sessions client session)
+
+on_session-no_multi : (t : Tree) (client session : ℕ) (did : Tree × Reply) (number : ℕ) (refusal : Refusal) → (did.1 ≡ reply.MultiRefused number refusal → ⊥) → (session_result t client session did).1 ≡ reply.MultiRefused number refusal → ⊥
+on_session-no_multi t client session did number refusal isnt =
+    refused_or t SessionGone did (λ did. did.1 ≡ reply.MultiRefused number refusal → ⊥) (λ e. cc) isnt (is_gone t.sessions client session)
+
+tick_is_not_refused : (t : Tree) (ids : List ℕ) (refusal : Refusal) → (tick_result t ids).1 ≡ reply.Refused refusal → ⊥
+tick_is_not_refused t [] refusal e = cc
+tick_is_not_refused t (id ∷ ids) refusal e = cc
+
+tick_is_no_multi : (t : Tree) (ids : List ℕ) (number : ℕ) (refusal : Refusal) → (tick_result t ids).1 ≡ reply.MultiRefused number refusal → ⊥
+tick_is_no_multi t [] number refusal e = cc
+tick_is_no_multi t (id ∷ ids) number refusal e = cc
+
+changed-refused : (t : Tree) (client : ℕ) (update : Update) (refusal : Refusal) → (update_result t client update).1 ≡ reply.Refused refusal → (update_result t client update).0 ≡ t
+changed-refused t client (Create create) refusal e = alone-refused t (create_part t client create) refusal e
+changed-refused t client (Delete delete) refusal e = alone-refused t (delete_part t delete) refusal e
+changed-refused t client (SetData set) refusal e = alone-refused t (set_part t set) refusal e
+changed-refused t client (Multi parts) refusal e = together-refused t (run t client [] parts) refusal e
+changed-refused t client (Open ticks) refusal e = with_session-refused t client (granted_timeout ticks) refusal e
+changed-refused t client (Ping session) refusal e = on_session-refused t client session (with_renewed_session t session, reply.Pinged) refusal (λ e. cc) e
+changed-refused t client (Close session) refusal e = on_session-refused t client session (with_next_zxid (without_session t session), reply.Closed) refusal (λ e. cc) e
+changed-refused t client Tick refusal e = absurd (tick_is_not_refused t (due_sessions t.sessions (t.time + 1)) refusal e)
+
+changed-no_multi : (t : Tree) (client : ℕ) (update : Update) (number : ℕ) (refusal : Refusal) → (update_result t client update).1 ≡ reply.MultiRefused number refusal → (update_result t client update).0 ≡ t
+changed-no_multi t client (Create create) number refusal e = alone-no_multi t (create_part t client create) number refusal e
+changed-no_multi t client (Delete delete) number refusal e = alone-no_multi t (delete_part t delete) number refusal e
+changed-no_multi t client (SetData set) number refusal e = alone-no_multi t (set_part t set) number refusal e
+changed-no_multi t client (Multi parts) number refusal e = together-no_multi t (run t client [] parts) number refusal e
+changed-no_multi t client (Open ticks) number refusal e = absurd (with_session-no_multi t client (granted_timeout ticks) number refusal e)
+changed-no_multi t client (Ping session) number refusal e = absurd (on_session-no_multi t client session (with_renewed_session t session, reply.Pinged) number refusal (λ e. cc) e)
+changed-no_multi t client (Close session) number refusal e = absurd (on_session-no_multi t client session (with_next_zxid (without_session t session), reply.Closed) number refusal (λ e. cc) e)
+changed-no_multi t client Tick number refusal e = absurd (tick_is_no_multi t (due_sessions t.sessions (t.time + 1)) number refusal e)
+
+pub refused_changes_nothing : RefusedChangesNothing
+unfolding step
+refused_changes_nothing t client update refusal =
+    refused_or t Exhausted (update_result t client update) (λ did. did.1 ≡ reply.Refused refusal → did.0 ≡ t) (λ e. refl) (changed-refused t client update refusal) (is_exhausted t update)
+
+pub refused_multi_changes_nothing : RefusedMultiChangesNothing
+unfolding step
+refused_multi_changes_nothing t client update number refusal =
+    refused_or t Exhausted (update_result t client update) (λ did. did.1 ≡ reply.MultiRefused number refusal → did.0 ≡ t) (λ e. refl) (changed-no_multi t client update number refusal) (is_exhausted t update)
+
+pub counts_the_names : CountsTheNames
+unfolding query_reply
+counts_the_names t path stat names = by (finite.get t.nodes path)
+  where
+    by : (o : Option Node) → on_node o (λ n. reply.Exists (stat_of t.nodes path n)) ≡ reply.Exists stat → on_node o (λ n. reply.Children (children t.nodes path)) ≡ reply.Children names → stat.children ≡ length names
+    by None told listed = cc
+    by (Some n) told listed =
+        let is_stat : stat_of t.nodes path n ≡ stat = cc told in
+        let is_names : children t.nodes path ≡ names = cc listed in
+        sym (ap (λ (s : Stat). s.children) is_stat) ∙ ap length is_names

@@ -1,0 +1,83 @@
+-- A call takes one zxid where it makes a change, and else none.
+use Rattle.std.proofs.Common.{◌≡◌, ℕ, ◌+◌, Bool, true, false, if◌then◌else◌, List, [], ◌∷◌, length, Result, Ok, Err, refl, ap, arith}
+use Rattle.std.specs.Prelude.{nat_le, nat_lt}
+use Rattle.std.specs.FinMap as finite
+use Rattle.std.proofs.lemmas.Bool.Decides.{nat_tests}
+use Rattle.ztree.specs.Tree.{Tree, with_next_zxid}
+use Rattle.ztree.specs.Sessions.{with_session, with_renewed_session, without_session, without_sessions, due_sessions, with_next_tick}
+use Rattle.zcalls.specs.declared.call.Part.TheVariants as part_of
+use Rattle.zcalls.specs.declared.call.Update.{Update}
+use Rattle.zcalls.specs.declared.call.Update.TheVariants.{Create, Delete, SetData, Multi, Open, Ping, Close, Tick}
+use Rattle.zcalls.specs.declared.refusal.Refusal.{Refusal}
+use Rattle.zcalls.specs.declared.refusal.Refusal.TheVariants.{SessionGone, TooManySessions, Exhausted}
+use Rattle.zcalls.specs.declared.reply.PartReply.{PartReply}
+use Rattle.zcalls.specs.declared.reply.PartReply.TheVariants.{Created, Deleted, Set, Checked}
+use Rattle.zcalls.specs.declared.reply.Reply.{Reply}
+use Rattle.zcalls.specs.declared.reply.Reply.TheVariants as reply
+use Rattle.zcalls.specs.Part.{create_part, delete_part, set_part, is_gone}
+use Rattle.zcalls.specs.Multi.{Run, run}
+use Rattle.zcalls.specs.Step.{step, update_result, part_result, multi_result, reply_of, granted_timeout, tick_result, is_exhausted}
+use Rattle.zcalls.specs.CallRuns.{is_change, ChangesTakeOneZxid}
+use Rattle.zcalls.proofs.NodesAlone.{LeavesAlone, RunAlone, part-alone, run-alone}
+use Rattle.zcalls.proofs.Ends.{ended-ends, all_ended-ends}
+
+-- what a call did, and how many zxids it took
+abbrev Takes : Tree → Tree × Reply → Type 0
+Takes t did = did.0.zxid ≡ t.zxid + (if is_change did.1 then 1 else 0)
+
+none : (n : ℕ) → n ≡ n + 0
+none n = omega arith
+
+-- an outcome that makes no change
+unchanged : (t u : Tree) (told : Reply) → is_change told ≡ false → u.zxid ≡ t.zxid → Takes t (u, told)
+unchanged t u told isnt same = rw (isnt, same) (none t.zxid)
+
+-- one that makes a change
+changes : (t u : Tree) (told : Reply) → is_change told ≡ true → u.zxid ≡ t.zxid → Takes t (with_next_zxid u, told)
+changes t u told does same = rw does (ap (λ z. z + 1) same)
+
+-- a choice of two outcomes
+either : (t : Tree) (why : Reply) (did : Tree × Reply) (b : Bool) → is_change why ≡ false → Takes t did → Takes t (if b then (t, why) else did)
+either t why did true isnt takes = unchanged t t why isnt refl
+either t why did false isnt takes = takes
+
+reply_of-changes : (done : PartReply) → is_change (reply_of done) ≡ true
+reply_of-changes (Created path) = refl
+reply_of-changes Deleted = refl
+reply_of-changes (Set stat) = refl
+reply_of-changes Checked = refl
+
+alone-takes : (t : Tree) (part : Result (Tree × PartReply) Refusal) → LeavesAlone t part → Takes t (part_result t part)
+alone-takes t (Err refusal) left = unchanged t t (reply.Refused refusal) refl refl
+alone-takes t (Ok (u, done)) left = changes t u (reply_of done) (reply_of-changes done) left.zxid
+
+together-takes : (t : Tree) (did : Run) → RunAlone t did → Takes t (multi_result t did)
+together-takes t (Err (number, refusal)) left = unchanged t t (reply.MultiRefused number refusal) refl refl
+together-takes t (Ok (u, replies)) left = changes t u (reply.Multi replies) refl left.zxid
+
+ticked-takes : (t : Tree) (ids : List ℕ) → Takes t (tick_result t ids)
+ticked-takes t [] = unchanged t (with_next_tick t) (reply.Ticked (t.time + 1) 0) refl refl
+ticked-takes t (id ∷ ids) =
+    let some : nat_lt 0 (length (id ∷ ids)) ≡ true = grind (arith, nat_tests) in
+    changes t (with_next_tick (without_sessions t (id ∷ ids))) (reply.Ticked (t.time + 1) (length (id ∷ ids))) some (all_ended-ends (id ∷ ids) t).zxid
+
+changed-takes : (t : Tree) (client : ℕ) (update : Update) → Takes t (update_result t client update)
+changed-takes t client (Create create) = alone-takes t (create_part t client create) (part-alone t client (part_of.Create create))
+changed-takes t client (Delete delete) = alone-takes t (delete_part t delete) (part-alone t client (part_of.Delete delete))
+changed-takes t client (SetData set) = alone-takes t (set_part t set) (part-alone t client (part_of.SetData set))
+changed-takes t client (Multi parts) = together-takes t (run t client [] parts) (run-alone parts t client [])
+changed-takes t client (Open ticks) =
+    let timeout = granted_timeout ticks in
+    either t (reply.Refused TooManySessions) (with_next_zxid (with_session t client timeout), reply.Opened (t.zxid + 1) timeout) (nat_le 1024 (finite.len t.sessions)) refl
+    (changes t (with_session t client timeout) (reply.Opened (t.zxid + 1) timeout) refl refl)
+changed-takes t client (Ping session) =
+    either t (reply.Refused SessionGone) (with_renewed_session t session, reply.Pinged) (is_gone t.sessions client session) refl (unchanged t (with_renewed_session t session) reply.Pinged refl refl)
+changed-takes t client (Close session) =
+    either t (reply.Refused SessionGone) (with_next_zxid (without_session t session), reply.Closed) (is_gone t.sessions client session) refl
+    (changes t (without_session t session) reply.Closed refl (ended-ends t session).zxid)
+changed-takes t client Tick = ticked-takes t (due_sessions t.sessions (t.time + 1))
+
+pub changes_take_one_zxid : ChangesTakeOneZxid
+unfolding step
+changes_take_one_zxid t client update =
+    either t (reply.Refused Exhausted) (update_result t client update) (is_exhausted t update) refl (changed-takes t client update)

@@ -1,0 +1,97 @@
+-- What the calls of sessions leave of the bounds on a tree's numbers.
+use Rattle.std.proofs.Common.{◌≡◌, ◌≢◌, ◌⊎◌, inl, inr, ℕ, ◌+◌, ◌*◌, ◌^◌, ◌<◌, ◌≤◌, Bool, true, false, List, [], ◌∷◌, length, Option, Some, None, refl, arith}
+use Rattle.std.specs.Prelude.{if◌then◌else◌, nat_lt}
+use Rattle.std.proofs.lemmas.Bool.Decides.{nat_tests}
+use Rattle.std.specs.Cmp.{nat_cmp_total}
+use Rattle.std.specs.Option.{option_map_or}
+use Rattle.std.specs.FinMap as finite
+use Rattle.std.specs.FinMap.{nat_cmp-IsAntisymmetric}
+use Rattle.ztree.specs.declared.session.Session.{Session}
+use Rattle.ztree.specs.Tree.{Tree, Sessions, with_next_zxid}
+use Rattle.ztree.specs.Sessions.{new_session, with_session, renewed_session, with_renewed_session, without_session, without_sessions, with_next_tick}
+use Rattle.ztree.specs.Lawful.{IsLawful, AllSessions}
+use Rattle.ztree.proofs.Maps.{get-inserted}
+use Rattle.zcalls.specs.Step.{granted_timeout, tick_result}
+use Rattle.zcalls.specs.Bounds.{IsBounded, IsGranted}
+use Rattle.zcalls.specs.declared.reply.Reply.TheVariants as reply
+use Rattle.zcalls.proofs.Bounds.{within_more, granted_more, still_bounded}
+use Rattle.zcalls.proofs.Ends.{room_before, within_after, ended-room, all_ended-room, ended-ends, all_ended-ends}
+
+-- a session put under an id
+pub put-granted : (zxid : ℕ) (sessions : Sessions) (id : ℕ) (new : Session) → AllSessions (IsGranted zxid) sessions → IsGranted zxid id new → AllSessions (IsGranted zxid) (finite.insert sessions id new)
+put-granted zxid sessions id new all here q s e = by (get-inserted nat_cmp_total nat_cmp-IsAntisymmetric sessions id new q s e)
+  where
+    by : ((q ≡ id) × (new ≡ s)) ⊎ ((q ≢ id) × (finite.get sessions q ≡ Some s)) → IsGranted zxid q s
+    by (inl is) = rw (is.0, ← is.1) here
+    by (inr old) = all q s old.1
+
+-- a timeout that is granted is at least 2 and at most 20
+module _ (ticks : ℕ) where
+  abbrev chosen : Bool → Bool → ℕ
+  chosen short long = if short then 2 else if long then 20 else ticks
+
+  least : (a b : Bool) → nat_lt ticks 2 ≡ a → 2 ≤ chosen a b
+  least true b e = omega arith
+  least false true e = omega arith
+  least false false e = grind (arith, nat_tests)
+
+  most : (a b : Bool) → nat_lt 20 ticks ≡ b → chosen a b ≤ 20
+  most true b e = omega arith
+  most false true e = omega arith
+  most false false e = grind (arith, nat_tests)
+
+  pub granted-least : 2 ≤ granted_timeout ticks
+  granted-least = least (nat_lt ticks 2) (nat_lt 20 ticks) refl
+
+  pub granted-most : granted_timeout ticks ≤ 20
+  granted-most = most (nat_lt ticks 2) (nat_lt 20 ticks) refl
+
+-- a session opened
+pub opened_bounded : (t : Tree) (client timeout : ℕ) → IsBounded t → t.zxid + 1 < 2 ^ 40 → 2 ≤ timeout → timeout ≤ 20 → IsBounded (with_next_zxid (with_session t client timeout))
+opened_bounded t client timeout bounded room least most =
+    record {
+      zxid = room;
+      time = bounded.time;
+      counters = λ path n e. within_more (4096 * t.zxid) (4096 * (t.zxid + 1)) n (omega arith) (bounded.counters path n e);
+      sessions = put-granted (t.zxid + 1) t.sessions (t.zxid + 1) (new_session client timeout t.time)
+          (λ id s e. granted_more t.zxid (t.zxid + 1) id s (omega arith) (bounded.sessions id s e))
+          (record { before = omega arith; least = least; most = most });
+    }
+
+-- a session kept alive
+pub touched_bounded : (t : Tree) (id : ℕ) → IsBounded t → IsBounded (with_renewed_session t id)
+touched_bounded t id bounded = by (finite.get t.sessions id) refl
+  where
+    by : (o : Option Session) → finite.get t.sessions id ≡ o → IsBounded (record t { sessions = option_map_or (λ s. finite.insert t.sessions id (renewed_session t.time s)) o t.sessions })
+    by None e = record { zxid = bounded.zxid; time = bounded.time; counters = bounded.counters; sessions = bounded.sessions }
+    by (Some s) e =
+        let here = bounded.sessions id s e in
+        record {
+          zxid = bounded.zxid;
+          time = bounded.time;
+          counters = bounded.counters;
+          sessions = put-granted t.zxid t.sessions id (renewed_session t.time s) bounded.sessions (record { before = here.before; least = here.least; most = here.most });
+        }
+
+-- a session ended: it takes at most 4,095 nodes
+pub ended_bounded : (t : Tree) (id : ℕ) → IsBounded t → IsLawful t → t.zxid + 1 < 2 ^ 40 → IsBounded (with_next_zxid (without_session t id))
+ended_bounded t id bounded lawful room =
+    let k = 4096 * t.zxid + 4096 in
+    let ends = ended-ends t id in
+    still_bounded t (without_session t id) k bounded room (omega arith) ends.zxid
+    (within_after k (without_session t id).nodes (ended-room k t id (room_before (4096 * t.zxid) t.nodes bounded.counters lawful.few_nodes)))
+    (rw ends.time bounded.time) ends.sessions
+
+-- a tick that ends sessions: together they take at most 4,095 nodes
+pub ticked_bounded : (t : Tree) (ids : List ℕ) → IsBounded t → IsLawful t → t.zxid + 1 < 2 ^ 40 → t.time + 1 < 2 ^ 40 → IsBounded (with_next_zxid (with_next_tick (without_sessions t ids)))
+ticked_bounded t ids bounded lawful room early =
+    let k = 4096 * t.zxid + 4096 in
+    let ends = all_ended-ends ids t in
+    still_bounded t (with_next_tick (without_sessions t ids)) k bounded room (omega arith) ends.zxid
+    (within_after k (without_sessions t ids).nodes (all_ended-room k ids t (room_before (4096 * t.zxid) t.nodes bounded.counters lawful.few_nodes)))
+    (rw ends.time early) ends.sessions
+
+-- what a tick does where some sessions are due
+pub ticked-some : (t : Tree) (ids : List ℕ) → 0 < length ids → tick_result t ids ≡ (with_next_zxid (with_next_tick (without_sessions t ids)), reply.Ticked (t.time + 1) (length ids))
+ticked-some t [] some = absurd (omega (arith, some))
+ticked-some t (id ∷ ids) some = refl

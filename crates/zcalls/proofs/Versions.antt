@@ -1,0 +1,96 @@
+-- A node's version counts its sets.
+use Rattle.std.proofs.Common.{◌≡◌, ℕ, ◌+◌, Bool, true, false, cond, if◌then◌else◌, List, [], Option, Some, None, Ok, Err, refl, sym, ap, ◌∙◌}
+use Rattle.std.specs.FinMap as finite
+use Rattle.std.specs.FinMap.{get-insert, get-empty}
+use Rattle.zpath.specs.First.{first_that_holds}
+use Rattle.zpath.specs.Grammar.{path_cmp}
+use Rattle.ztree.specs.declared.node.Node.{Node}
+use Rattle.ztree.specs.Tree.{Tree, Nodes, Path, opening_tree, new_node, parent_of, with_child, without_child, with_data, stat_of, with_node, without_node, with_data_at}
+use Rattle.ztree.proofs.Sorted.{paths_total}
+use Rattle.zcalls.specs.declared.call.Expected.{Expected}
+use Rattle.zcalls.specs.declared.call.Part.{Part}
+use Rattle.zcalls.specs.declared.call.Part.TheVariants.{Create, Delete, SetData, Check}
+use Rattle.zcalls.specs.declared.refusal.Refusal.{Refusal}
+use Rattle.zcalls.specs.declared.refusal.Refusal.TheVariants.{BadVersion}
+use Rattle.zcalls.specs.declared.reply.PartReply.{PartReply}
+use Rattle.zcalls.specs.declared.reply.PartReply.TheVariants.{Created, Deleted, Set, Checked}
+use Rattle.zcalls.specs.Part.{part_step, create_part, delete_part, set_part, check_part, create_refusals, delete_refusals, made_path, is_sequential, owner_of, unless_refused, on_version, has_other_version}
+use Rattle.zcalls.specs.CallRuns.{is_same, sets_since, VersionCountsSets}
+use Rattle.zcalls.proofs.Folds.{Leaves, kept_by_calls}
+use Rattle.zcalls.proofs.Traced.{traced, remained, same_of}
+
+module _ (path : Path) where
+  -- the version of the node at the path, where there is one
+  abbrev HasVersion : ℕ → Nodes → Type 0
+  HasVersion sets nodes = (n : Node) → finite.get nodes path ≡ Some n → n.version ≡ sets
+
+  new_or_old : (sets : ℕ) (t : Tree) (made : Path) (new m : Node) → new.version ≡ 0 → HasVersion sets t.nodes → finite.get (finite.insert t.nodes made new) path ≡ Some m → m.version ≡ (if is_same path made then 0 else sets)
+  new_or_old sets t made new m zero_sets inv e = by (is_same path made) (sym (get-insert paths_total t.nodes made new path) ∙ e)
+    where
+      by : (b : Bool) → cond b (Some new) (finite.get t.nodes path) ≡ Some m → m.version ≡ (if b then 0 else sets)
+      by true e = let is_new : new ≡ m = cc e in sym (ap (λ (n : Node). n.version) is_new) ∙ zero_sets
+      by false e = inv m e
+
+  added-counts : (sets : ℕ) (t : Tree) (made : Path) (bytes : List ℕ) (owner : ℕ) (sequential : Bool) → HasVersion sets t.nodes → HasVersion (if is_same path made then 0 else sets) (with_node t made bytes owner sequential).nodes
+  added-counts sets t made bytes owner sequential inv n e =
+      let new = new_node bytes owner (t.zxid + 1) t.time in
+      let f = with_child (t.zxid + 1) sequential in
+      let from = traced (finite.insert t.nodes made new) (parent_of made) f path n e in
+      same_of (λ (n : Node). n.version) f (λ m. refl) (is_same path (parent_of made)) n from.before from.is
+      ∙ new_or_old sets t made new from.before refl inv from.there
+
+  dropped-counts : (sets : ℕ) (t : Tree) (gone : Path) → HasVersion sets t.nodes → HasVersion sets (without_node t gone).nodes
+  dropped-counts sets t gone inv n e =
+      let f = without_child (t.zxid + 1) in
+      let from = traced (finite.remove t.nodes gone) (parent_of gone) f path n e in
+      same_of (λ (n : Node). n.version) f (λ m. refl) (is_same path (parent_of gone)) n from.before from.is
+      ∙ inv from.before (remained t.nodes gone path from.before from.there)
+
+  written-counts : (sets : ℕ) (t : Tree) (at : Path) (bytes : List ℕ) → HasVersion sets t.nodes → HasVersion (if is_same path at then sets + 1 else sets) (with_data_at t at bytes).nodes
+  written-counts sets t at bytes inv n e =
+      let f = with_data bytes (t.zxid + 1) t.time in
+      let from = traced t.nodes at f path n e in
+      by f (λ m. refl) from.before (inv from.before from.there) (is_same path at) from.is
+    where
+      by : (f : Node → Node) → ((m : Node) → (f m).version ≡ m.version + 1) → (m : Node) → m.version ≡ sets → (b : Bool) → cond b (n ≡ f m) (n ≡ m) → n.version ≡ (if b then sets + 1 else sets)
+      by f one_more m is true now = ap (λ (n : Node). n.version) now ∙ one_more m ∙ ap (λ v. v + 1) is
+      by f one_more m is false now = ap (λ (n : Node). n.version) now ∙ is
+
+  on_version-leaves : (sets : ℕ) (part : Part) (expected : Expected) (o : Option Node) (act : Node → Tree × PartReply)
+      → ((n : Node) → Leaves (sets_since path) HasVersion sets part (Ok (act n))) → Leaves (sets_since path) HasVersion sets part (on_version expected o act)
+  on_version-leaves sets part expected None act each = tt
+  on_version-leaves sets part expected (Some n) act each = by (has_other_version expected n)
+    where
+      by : (b : Bool) → Leaves (sets_since path) HasVersion sets part (if b then Err BadVersion else Ok (act n))
+      by true = tt
+      by false = each n
+
+  unless_refused-leaves : (sets : ℕ) (part : Part) (o : Option Refusal) (did : Tree × PartReply) → Leaves (sets_since path) HasVersion sets part (Ok did) → Leaves (sets_since path) HasVersion sets part (unless_refused o did)
+  unless_refused-leaves sets part (Some refusal) did left = tt
+  unless_refused-leaves sets part None did left = left
+
+  part-counts : (sets : ℕ) (t : Tree) (client : ℕ) (part : Part) → HasVersion sets t.nodes → Leaves (sets_since path) HasVersion sets part (part_step t client part)
+  unfolding create_part delete_part set_part check_part
+  part-counts sets t client (Create create) inv =
+      let made = made_path t.nodes create.kind create.path in
+      unless_refused-leaves sets (Create create) (first_that_holds (create_refusals t client create)) (with_node t made create.bytes (owner_of create.kind) (is_sequential create.kind), Created made)
+      (added-counts sets t made create.bytes (owner_of create.kind) (is_sequential create.kind) inv)
+  part-counts sets t client (Delete delete) inv =
+      unless_refused-leaves sets (Delete delete) (first_that_holds (delete_refusals t.nodes delete)) (without_node t delete.path, Deleted) (dropped-counts sets t delete.path inv)
+  part-counts sets t client (SetData set) inv =
+      on_version-leaves sets (SetData set) set.version (finite.get t.nodes set.path)
+      (λ n. (with_data_at t set.path set.bytes, Set (stat_of (with_data_at t set.path set.bytes).nodes set.path (with_data set.bytes (t.zxid + 1) t.time n))))
+      (λ n. written-counts sets t set.path set.bytes inv)
+  part-counts sets t client (Check check) inv =
+      on_version-leaves sets (Check check) check.version (finite.get t.nodes check.path) (λ n. (t, Checked)) (λ n. inv)
+
+  opening-counts : HasVersion 0 opening_tree.nodes
+  opening-counts n e = by (is_same path []) (sym (get-insert paths_total finite.empty [] (new_node [] 0 0 0) path) ∙ e)
+    where
+      by : (b : Bool) → cond b (Some (new_node [] 0 0 0)) (finite.get {R = path_cmp} finite.empty path) ≡ Some n → n.version ≡ 0
+      by true e = let is_new : new_node [] 0 0 0 ≡ n = cc e in sym (ap (λ (n : Node). n.version) is_new)
+      by false e = let clash : None ≡ Some n = sym (get-empty path_cmp path) ∙ e in cc
+
+pub version_counts_sets : VersionCountsSets
+version_counts_sets calls path =
+    kept_by_calls (sets_since path) (HasVersion path) (part-counts path) (dropped-counts path) calls 0 opening_tree (opening-counts path)

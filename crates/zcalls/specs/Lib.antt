@@ -1,0 +1,11 @@
+pub mod Part
+pub mod Multi
+pub mod Step
+pub mod Kept
+pub mod PlainTree
+pub mod KeptLaws
+pub mod KeptRows
+pub mod Bounds
+pub mod Laws
+pub mod CallRuns
+pub mod SessionLaws

@@ -1,0 +1,145 @@
+-- The part step: one operation of a change, on the plain tree.
+-- ZooKeeper Programmer's Guide, "ZNodes", "Ephemeral Nodes", "Sequence Nodes -- Unique Naming" and "Time in ZooKeeper";
+-- the order of refusals and the limits are this project's profile.
+use Rattle.std.specs.Prelude.{ℕ, ◌+◌, Bool, true, false, not, ◌&&◌, List, [], ◌∷◌, ◌++◌, length, Option, None, Some, Result, Ok, Err, if◌then◌else◌, nat_lt, nat_le, ◌==◌}
+use Rattle.std.specs.Option.{option_map_or}
+use Rattle.std.specs.FinMap as finite
+use Rattle.zpath.specs.First.{first_that_holds}
+use Rattle.zpath.specs.Numbered.{numbered, is_over}
+use Rattle.ztree.specs.Tree.{Tree, Nodes, Sessions, Path, parent_of, has_node, children, stat_of, with_node, without_node, with_data_at, with_data}
+use Rattle.ztree.specs.declared.node.Node.{Node}
+use Rattle.ztree.specs.declared.session.Session.{Session}
+use Rattle.zcalls.specs.declared.call.Kind.{Kind}
+use Rattle.zcalls.specs.declared.call.Kind.TheVariants.{Persistent, PersistentSequential, Ephemeral, EphemeralSequential}
+use Rattle.zcalls.specs.declared.call.Expected.{Expected}
+use Rattle.zcalls.specs.declared.call.Expected.TheVariants.{Any, Exactly}
+use Rattle.zcalls.specs.declared.call.Create.{Create}
+use Rattle.zcalls.specs.declared.call.Delete.{Delete}
+use Rattle.zcalls.specs.declared.call.SetData.{SetData}
+use Rattle.zcalls.specs.declared.call.Check.{Check}
+use Rattle.zcalls.specs.declared.call.Part.{Part}
+use Rattle.zcalls.specs.declared.call.Part.TheVariants as part_of
+use Rattle.zcalls.specs.declared.refusal.Refusal.{Refusal}
+use Rattle.zcalls.specs.declared.refusal.Refusal.TheVariants.{NoNode, NodeExists, NotEmpty, BadVersion, NoChildrenForEphemerals, SessionGone, SequenceFull, PathLimit, RootFixed, Full}
+use Rattle.zcalls.specs.declared.reply.PartReply.{PartReply}
+use Rattle.zcalls.specs.declared.reply.PartReply.TheVariants.{Created, Deleted, Set, Checked}
+
+-- the path is the root's
+abbrev pub is_root : Path → Bool
+is_root [] = true
+is_root (name ∷ path) = false
+
+-- the node at the path has this; where there is none, it has not
+abbrev pub node_has : (Node → Bool) → Nodes → Path → Bool
+node_has test nodes path = option_map_or test (finite.get nodes path) false
+
+-- a session owns the node
+abbrev pub is_owned : Node → Bool
+is_owned n = not (n.owner == 0)
+
+-- the node's version is not the one that is expected
+abbrev pub has_other_version : Expected → Node → Bool
+has_other_version Any n = false
+has_other_version (Exactly version) n = not (n.version == version)
+
+-- the last number of a node's counter was given
+abbrev pub is_spent : Node → Bool
+is_spent n = nat_lt 2147483647 n.seq
+
+-- the kind takes a number of the parent's counter
+abbrev pub is_sequential : Kind → Bool
+is_sequential Persistent = false
+is_sequential PersistentSequential = true
+is_sequential (Ephemeral session) = false
+is_sequential (EphemeralSequential session) = true
+
+-- the session that is to own the node, or nobody
+abbrev pub owner_of : Kind → ℕ
+owner_of Persistent = 0
+owner_of PersistentSequential = 0
+owner_of (Ephemeral session) = session
+owner_of (EphemeralSequential session) = session
+
+-- to this client the session is gone: it isn't there, or is another client's
+abbrev pub is_gone : Sessions → ℕ → ℕ → Bool
+is_gone sessions client session = option_map_or (λ (s : Session). not (s.client == client)) (finite.get sessions session) true
+
+-- the node is to be owned by a session that is gone
+abbrev pub has_no_owner : Sessions → ℕ → Kind → Bool
+has_no_owner sessions client Persistent = false
+has_no_owner sessions client PersistentSequential = false
+has_no_owner sessions client (Ephemeral session) = is_gone sessions client session
+has_no_owner sessions client (EphemeralSequential session) = is_gone sessions client session
+
+-- the counter of the node at the path
+abbrev pub counter_at : Nodes → Path → ℕ
+counter_at nodes path = option_map_or (λ n. n.seq) (finite.get nodes path) 0
+
+-- the path of the node that a create makes
+abbrev pub made_path : Nodes → Kind → Path → Path
+made_path nodes kind path = if is_sequential kind then numbered path (counter_at nodes (parent_of path)) else path
+
+-- when a create has no path for its node
+abbrev pub name_refusals : Nodes → Kind → Path → List (Bool × Refusal)
+name_refusals nodes kind path =
+    (is_sequential kind && node_has is_spent nodes (parent_of path), SequenceFull)
+    ∷ (is_over (made_path nodes kind path), PathLimit)
+    ∷ []
+
+-- when a client's create is refused, in the order of the tests
+abbrev pub create_refusals : Tree → ℕ → Create → List (Bool × Refusal)
+create_refusals t client create =
+    (has_no_owner t.sessions client create.kind, SessionGone)
+    ∷ (is_root create.path, NodeExists)
+    ∷ (not (has_node t.nodes (parent_of create.path)), NoNode)
+    ∷ (node_has is_owned t.nodes (parent_of create.path), NoChildrenForEphemerals)
+    ∷ name_refusals t.nodes create.kind create.path
+    ++ (has_node t.nodes (made_path t.nodes create.kind create.path), NodeExists)
+    ∷ (nat_le 4096 (finite.len t.nodes), Full)
+    ∷ []
+
+-- when a delete is refused, in the order of the tests
+abbrev pub delete_refusals : Nodes → Delete → List (Bool × Refusal)
+delete_refusals nodes delete =
+    (is_root delete.path, RootFixed)
+    ∷ (not (has_node nodes delete.path), NoNode)
+    ∷ (node_has (has_other_version delete.version) nodes delete.path, BadVersion)
+    ∷ (nat_lt 0 (length (children nodes delete.path)), NotEmpty)
+    ∷ []
+
+-- a refusal, or else this
+abbrev pub unless_refused : {A : Type 0} → Option Refusal → A → Result A Refusal
+unless_refused (Some refusal) x = Err refusal
+unless_refused None x = Ok x
+
+-- what is done with a node of the version that is expected
+abbrev pub on_version : {A : Type 0} → Expected → Option Node → (Node → A) → Result A Refusal
+on_version expected None act = Err NoNode
+on_version expected (Some n) act = if has_other_version expected n then Err BadVersion else Ok (act n)
+
+-- a client's create makes one node, beneath a parent that is there and no session owns
+unfoldable pub create_part : Tree → ℕ → Create → Result (Tree × PartReply) Refusal
+create_part t client create =
+    let made = made_path t.nodes create.kind create.path in
+    unless_refused (first_that_holds (create_refusals t client create)) (with_node t made create.bytes (owner_of create.kind) (is_sequential create.kind), Created made)
+
+-- a delete takes one node away, beneath which there is none
+unfoldable pub delete_part : Tree → Delete → Result (Tree × PartReply) Refusal
+delete_part t delete = unless_refused (first_that_holds (delete_refusals t.nodes delete)) (without_node t delete.path, Deleted)
+
+-- a set writes one node's data, and tells its stat after it
+unfoldable pub set_part : Tree → SetData → Result (Tree × PartReply) Refusal
+set_part t set =
+    on_version set.version (finite.get t.nodes set.path)
+    (λ n. (with_data_at t set.path set.bytes, Set (stat_of (with_data_at t set.path set.bytes).nodes set.path (with_data set.bytes (t.zxid + 1) t.time n))))
+
+-- a check changes nothing
+unfoldable pub check_part : Tree → Check → Result (Tree × PartReply) Refusal
+check_part t check = on_version check.version (finite.get t.nodes check.path) (λ n. (t, Checked))
+
+-- the part step, for a client
+abbrev pub part_step : Tree → ℕ → Part → Result (Tree × PartReply) Refusal
+part_step t client (part_of.Create create) = create_part t client create
+part_step t client (part_of.Delete delete) = delete_part t delete
+part_step t client (part_of.SetData set) = set_part t set
+part_step t client (part_of.Check check) = check_part t check

@@ -1,0 +1,49 @@
+//! The parts of a multi.
+
+use crate::call::Part;
+use std::marker::Model;
+
+/// The most parts of one multi. The limit is this project's profile.
+pub const MAX_PARTS: usize = 64;
+
+/// The parts of a multi, 1 to 64, in their order.
+#[derive(Drop)]
+pub struct Multi {
+    parts: Vec<Part>,
+}
+
+impl Model for Multi {
+    ghost use Rattle.std.specs.Prelude.{ℕ, List, ◌≤◌, ◌<◌, length};
+    ghost use Rattle.zcalls.specs.declared.call.Part.{Part};
+
+    ghost Value = { List Part };
+
+    ghost view = { λ multi. multi.parts.items };
+
+    ghost invariant = { λ multi. (0 < length multi.parts.items) × (length multi.parts.items ≤ 64) };
+}
+
+impl Multi {
+    ghost use Rattle.std.specs.Prelude.{◌≡◌, ◌≤◌, ◌<◌, IfOk, IfErr, ◌⊎◌, length};
+
+    /// The parts of a multi; none or more than 64 are handed back.
+    pub fn new(parts: Vec<Part>) -> Result<Multi, Vec<Part>>
+        ensures multi { IfOk result (λ multi. multi ≡ parts.items) }
+        ensures back { IfErr result (λ back. back ≡ parts) }
+        ensures limits { IfErr result (λ _. (length parts.items ≡ 0) ⊎ (64 < length parts.items)) }
+    {
+        if parts.is_empty() || parts.len() > MAX_PARTS {
+            Err(parts)
+        } else {
+            Ok(Multi { parts })
+        }
+    }
+
+    /// The parts.
+    pub fn into_parts(self) -> Vec<Part>
+        ensures parts { result.items ≡ self }
+        ensures few { length self ≤ 64 }
+    {
+        self.parts
+    }
+}

@@ -1,5 +1,0 @@
-use Rattle.zops.proofs.Refused.{counts_the_names}
-use Rattle.zops.proofs.laws.stat_counts_the_names.Goals as goal
-
-pub returns : goal.returns
-returns c = counts_the_names

@@ -1,5 +1,0 @@
-use Rattle.zops.proofs.Versions.{version_counts_sets}
-use Rattle.zops.proofs.laws.versions_count_sets.Goals as goal
-
-pub returns : goal.returns
-returns c = version_counts_sets

@@ -1,5 +1,0 @@
-use Rattle.zops.proofs.Sessions.{tick_ends_the_due}
-use Rattle.zops.proofs.session_laws.a_tick_ends_the_due.Goals as goal
-
-pub returns : goal.returns
-returns c = tick_ends_the_due

@@ -1,5 +1,0 @@
-use Rattle.zops.proofs.LawfulCalls.{trees_are_lawful}
-use Rattle.zops.proofs.session_laws.trees_are_lawful.Goals as goal
-
-pub returns : goal.returns
-returns c = trees_are_lawful

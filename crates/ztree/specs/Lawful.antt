@@ -1,0 +1,35 @@
+-- The lawful tree: what holds of every plain tree that is ever shown.
+-- ZooKeeper Programmer's Guide, "The ZooKeeper Data Model" ("ZNodes", "Ephemeral Nodes") and "ZooKeeper Sessions". The
+-- limits, and deadlines in ticks, are this project's profile.
+use Rattle.std.specs.Prelude.{◌≡◌, ℕ, ◌<◌, ◌≤◌, ◌⊎◌, true, [], Option, Some, IsSome}
+use Rattle.std.specs.FinMap as finite
+use Rattle.std.specs.FinMap.{get}
+use Rattle.ztree.specs.declared.node.Node.{Node}
+use Rattle.ztree.specs.declared.session.Session.{Session}
+use Rattle.ztree.specs.Tree.{Tree, Path, Nodes, Sessions, parent_of, has_node}
+
+-- a fact on every node
+abbrev pub AllNodes : (Node → Type 0) → Nodes → Type 0
+AllNodes P nodes = (path : Path) (n : Node) → get nodes path ≡ Some n → P n
+
+-- a fact on every session, with its id
+abbrev pub AllSessions : (ℕ → Session → Type 0) → Sessions → Type 0
+AllSessions P sessions = (id : ℕ) (s : Session) → get sessions id ≡ Some s → P id s
+
+-- the node is there, and no session owns it
+abbrev pub IsPersistent : Option Node → Type 0
+IsPersistent found = (n : Node) × (found ≡ Some n) × (n.owner ≡ 0)
+
+-- an owner is nobody, or a session that lives
+abbrev pub IsOwner : Sessions → ℕ → Type 0
+IsOwner sessions owner = (owner ≡ 0) ⊎ IsSome (get sessions owner)
+
+-- the lawful tree (the root counts as its own parent; 0 is nobody, and no session)
+pub record IsLawful (t : Tree) : Type 0 where
+  pub root : IsPersistent (get t.nodes [])
+  pub parents : (path : Path) → has_node t.nodes path ≡ true → IsPersistent (get t.nodes (parent_of path))
+  pub owners : AllNodes (λ n. IsOwner t.sessions n.owner) t.nodes
+  pub ids : AllSessions (λ id s. 0 < id) t.sessions
+  pub deadlines : AllSessions (λ id s. t.time < s.deadline) t.sessions
+  pub few_nodes : finite.len t.nodes ≤ 4096
+  pub few_sessions : finite.len t.sessions ≤ 1024

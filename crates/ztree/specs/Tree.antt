@@ -1,0 +1,171 @@
+-- The plain tree: the sequential specification's state. Every call of every layer is stated on it.
+-- ZooKeeper Programmer's Guide, "The ZooKeeper Data Model" ("ZNodes", "ZooKeeper Stat Structure",
+-- "Time in ZooKeeper"). Ticks, the counter of a node and zxids as a plain counter are this project's profile.
+use Rattle.std.specs.Prelude.{ℕ, ◌+◌, ◌<◌, ◌^◌, Bool, List, [], ◌∷◌, length, Option, None, Some, refl, if◌then◌else◌, is_some, ◌==◌}
+use Rattle.std.specs.Coded.{Coded, code_by, coded×, coded_ℕ, coded_list}
+use Rattle.std.specs.Option.{option_map, option_map_or}
+use Rattle.std.specs.Ordering.{nat_cmp}
+use Rattle.std.specs.FinMap as finite
+use Rattle.std.specs.FinMap.{FinMap, get, insert, remove, keys, entries}
+use Rattle.std.specs.List.{filter_map}
+use Rattle.std.specs.Str.{bytes_eq}
+use Rattle.zpath.specs.Grammar.{path_cmp}
+use Rattle.ztree.specs.declared.node.Node.{Node}
+use Rattle.ztree.specs.declared.node.Stat.{Stat}
+use Rattle.ztree.specs.declared.session.Session.{Session}
+
+-- a name is a list of bytes
+abbrev pub Name : Type 0
+Name = List ℕ
+
+-- a path is the names from the root down
+abbrev pub Path : Type 0
+Path = List Name
+
+-- the znodes, by their paths
+abbrev pub Nodes : Type 0
+Nodes = FinMap path_cmp Node
+
+-- the sessions, by their ids
+abbrev pub Sessions : Type 0
+Sessions = FinMap nat_cmp Session
+
+-- the znodes and sessions, the clock in ticks, and the number of the last change
+pub record Tree : Type 0 where
+  pub nodes : Nodes
+  pub sessions : Sessions
+  pub time : ℕ
+  pub zxid : ℕ
+
+-- a node made by change z at a tick
+abbrev pub new_node : List ℕ → ℕ → ℕ → ℕ → Node
+new_node bytes owner z time =
+    record { bytes = bytes; czxid = z; mzxid = z; pzxid = z; ctime = time; mtime = time; version = 0; cversion = 0; owner = owner; seq = 0 }
+
+-- the opening: the root alone, with no data and zeros, and no session
+abbrev pub opening_tree : Tree
+opening_tree = record { nodes = insert finite.empty [] (new_node [] 0 0 0); sessions = finite.empty; time = 0; zxid = 0 }
+
+-- the path without its last name, and the root's is the root
+abbrev pub parent_of : Path → Path
+parent_of [] = []
+parent_of (n ∷ []) = []
+parent_of (n ∷ (m ∷ path)) = n ∷ parent_of (m ∷ path)
+
+-- there is a node
+abbrev pub has_node : Nodes → Path → Bool
+has_node nodes path = is_some (get nodes path)
+
+-- the name that a path has beneath p: some where it is p with one more name
+abbrev pub child_name : Path → Path → Option Name
+child_name [] [] = None
+child_name [] (n ∷ []) = Some n
+child_name [] (n ∷ (m ∷ path)) = None
+child_name (a ∷ p) [] = None
+child_name (a ∷ p) (b ∷ path) = if bytes_eq a b then child_name p path else None
+
+-- the names of the children, in the order of their bytes
+abbrev pub children : Nodes → Path → List Name
+children nodes p = filter_map (child_name p) (keys nodes)
+
+-- the paths of the nodes that a session owns, in the order of paths
+abbrev pub ephemerals : Nodes → ℕ → List Path
+ephemerals nodes session = filter_map (λ e. if e.1.owner == session then Some e.0 else None) (entries nodes)
+
+-- what is told of a node that has so many children
+abbrev pub stat_with : Node → ℕ → Stat
+stat_with n children =
+    record {
+      czxid = n.czxid;
+      mzxid = n.mzxid;
+      pzxid = n.pzxid;
+      ctime = n.ctime;
+      mtime = n.mtime;
+      version = n.version;
+      cversion = n.cversion;
+      owner = n.owner;
+      length = length n.bytes;
+      children = children;
+    }
+
+-- what is told of a node
+abbrev pub stat_of : Nodes → Path → Node → Stat
+stat_of nodes p n = stat_with n (length (children nodes p))
+
+-- the same, where there is a node
+abbrev pub stat_at : Nodes → Path → Option Stat
+stat_at nodes p = option_map (stat_of nodes p) (get nodes p)
+
+-- a node after change z made a child beneath it
+abbrev pub with_child : ℕ → Bool → Node → Node
+with_child z sequential n =
+    record n { pzxid = z; cversion = n.cversion + 1; seq = n.seq + (if sequential then 1 else 0) }
+
+-- the nodes with the one at a path changed, where there is one
+abbrev pub with_change_at : Nodes → Path → (Node → Node) → Nodes
+with_change_at nodes p f = option_map_or (λ n. insert nodes p (f n)) (get nodes p) nodes
+
+-- one more node, made by the next change: the new node, and the marks at its parent
+abbrev pub with_node : Tree → Path → List ℕ → ℕ → Bool → Tree
+with_node t path bytes owner sequential =
+    record t { nodes = with_change_at (insert t.nodes path (new_node bytes owner (t.zxid + 1) t.time)) (parent_of path) (with_child (t.zxid + 1) sequential) }
+
+-- a node after change z took a child from beneath it
+abbrev pub without_child : ℕ → Node → Node
+without_child z n = record n { pzxid = z; cversion = n.cversion + 1 }
+
+-- one node fewer, taken by the next change: the node gone, and the marks at its parent
+abbrev pub without_node : Tree → Path → Tree
+without_node t path = record t { nodes = with_change_at (remove t.nodes path) (parent_of path) (without_child (t.zxid + 1)) }
+
+-- a node after change z wrote its data at a tick
+abbrev pub with_data : List ℕ → ℕ → ℕ → Node → Node
+with_data bytes z time n = record n { bytes = bytes; mzxid = z; mtime = time; version = n.version + 1 }
+
+-- the data of a node, written by the next change
+abbrev pub with_data_at : Tree → Path → List ℕ → Tree
+with_data_at t path bytes = record t { nodes = with_change_at t.nodes path (with_data bytes (t.zxid + 1) t.time) }
+
+-- one more change
+abbrev pub with_next_zxid : Tree → Tree
+with_next_zxid t = record t { zxid = t.zxid + 1 }
+
+-- the counters of a node have room for one more
+abbrev pub HasRoom : Node → Type 0
+HasRoom n = (n.version + 1 < 2 ^ 62) × (n.cversion + 1 < 2 ^ 62) × (n.seq + 1 < 2 ^ 62)
+
+-- how a path is stored
+abbrev pub coded_path : Coded Path
+coded_path = coded_list (coded_list coded_ℕ)
+
+-- how a node is stored
+abbrev pub coded_node : Coded Node
+coded_node =
+    code_by (List ℕ × (ℕ × (ℕ × (ℕ × (ℕ × (ℕ × (ℕ × (ℕ × (ℕ × ℕ)))))))))
+    (coded× (coded_list coded_ℕ) (coded× coded_ℕ (coded× coded_ℕ (coded× coded_ℕ (coded× coded_ℕ (coded× coded_ℕ (coded× coded_ℕ (coded× coded_ℕ (coded× coded_ℕ coded_ℕ)))))))))
+    (λ n. (n.bytes, (n.czxid, (n.mzxid, (n.pzxid, (n.ctime, (n.mtime, (n.version, (n.cversion, (n.owner, n.seq))))))))))
+    (λ p. record {
+      bytes = p.0;
+      czxid = p.1.0;
+      mzxid = p.1.1.0;
+      pzxid = p.1.1.1.0;
+      ctime = p.1.1.1.1.0;
+      mtime = p.1.1.1.1.1.0;
+      version = p.1.1.1.1.1.1.0;
+      cversion = p.1.1.1.1.1.1.1.0;
+      owner = p.1.1.1.1.1.1.1.1.0;
+      seq = p.1.1.1.1.1.1.1.1.1;
+    }) (λ _. refl)
+
+-- how a session is stored
+abbrev pub coded_session : Coded Session
+coded_session =
+    code_by (ℕ × (ℕ × ℕ)) (coded× coded_ℕ (coded× coded_ℕ coded_ℕ))
+    (λ s. (s.client, (s.timeout, s.deadline))) (λ p. record { client = p.0; timeout = p.1.0; deadline = p.1.1 }) (λ _. refl)
+
+-- how a tree is stored
+abbrev pub coded_tree : Coded Tree
+coded_tree =
+    code_by (Nodes × (Sessions × (ℕ × ℕ)))
+    (coded× (finite.code coded_path coded_node) (coded× (finite.code coded_ℕ coded_session) (coded× coded_ℕ coded_ℕ)))
+    (λ t. (t.nodes, (t.sessions, (t.time, t.zxid)))) (λ p. record { nodes = p.0; sessions = p.1.0; time = p.1.1.0; zxid = p.1.1.1 }) (λ _. refl)
