@@ -17,7 +17,7 @@ call_step t client (Query query) = (t, query_reply t query)
 
 -- the plain tree, opened with the root alone
 abbrev pub plain_tree : Service Tree
-plain_tree = record { opening_tree = opening_tree; step = call_step }
+plain_tree = record { opening = opening_tree; step = call_step }
 
 -- the plain tree explains a history: it has a legal order, and every tree on the way is lawful
 abbrev pub IsExplained : History → Type 0
