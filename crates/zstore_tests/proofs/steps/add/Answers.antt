@@ -1,8 +1,9 @@
 use Rattle.std.proofs.Common.{Some, false, sym, ap, subst, ◌∙◌}
 use Rattle.ztree.specs.Tree.{parent_of, with_next_zxid}
 use Rattle.ztree.proofs.Nodes.{parent_of-front}
-use Rattle.zstore.proofs.Low.{IsLow, low_added}
-use Rattle.zstore.proofs.session_tests.own.Goals as goal
+use Rattle.zstore_tests.specs.Low.{IsLow}
+use Rattle.zstore_tests.proofs.Low.{low_added}
+use Rattle.zstore_tests.proofs.steps.add.Goals as goal
 
 pub add-requires-clause-live : goal.add-requires-clause-live
 add-requires-clause-live g c =
@@ -12,4 +13,4 @@ add-requires-clause-live g c =
 pub returns : goal.returns
 returns g c =
     let tree = c.raise.ensures.tree ∙ ap with_next_zxid c.in_ok-add.ensures.added in
-    record { low = subst IsLow (sym tree) (low_added c.args.store.now.tree c.in_ok-path.path _ c.args.owner false c.requires.low) }
+    record { low = λ low. subst IsLow (sym tree) (low_added c.args.store.now.tree c.in_ok-path.path _ c.args.owner false low) }
