@@ -21,7 +21,8 @@ pub fn families()
 pub fn changes_of_a_node()
     ensures stat { stat_with some_node 11 ≡ some_stat }
     ensures child { with_child 20 false some_node ≡ record some_node { pzxid = 20; cversion = 9 } }
-    ensures sequential { with_child 20 true some_node ≡ record some_node { pzxid = 20; cversion = 9; seq = 11 } }
+    ensures sequential { with_child 20 true some_node
+        ≡ record some_node { pzxid = 20; cversion = 9; seq = 11 } }
     ensures loss { without_child 20 some_node ≡ record some_node { pzxid = 20; cversion = 9 } }
     ensures data { with_data b 20 21 some_node
         ≡ record some_node { bytes = b; mzxid = 20; mtime = 21; version = 7 } }
