@@ -108,7 +108,8 @@ impl Path {
     /// Of a counter with more digits the last ones are taken.
     pub fn numbered(&self, alloc: Global, counter: u64) -> Result<Path, PathFault>
         requires below_root { self.now ≢ [] }
-        ensures numbered { IfOk result (λ path. IsPath path × (path ≡ numbered_path self.now counter)) }
+        ensures numbered { IfOk result (λ path.
+            IsPath path × (path ≡ numbered_path self.now counter)) }
         ensures fits { OnOk result (numbered_fault self.now counter ≡ None) }
         ensures within { OnOk result (is_over (numbered_path self.now counter) ≡ false) }
         ensures fault { IfErr result (IsMemoryOr (numbered_fault self.now counter)) }

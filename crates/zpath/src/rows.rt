@@ -2,7 +2,7 @@
 
 ghost use Rattle.std.specs.Prelude.{◌≡◌, ◌+◌, [], ◌∷◌, None, Some, codes, replicate};
 ghost use Rattle.zpath.specs.declared.fault.PathFault.TheVariants.{Empty, NotAbsolute, EmptyName, DotName, BadByte, NameTooLong, PathTooLong, TooDeep, Reserved};
-ghost use Rattle.zpath.specs.declared.limits.TheConstants.{MAX_NAME_LEN, MAX_TEXT_LEN, MAX_DEPTH};
+ghost use Rattle.zpath.specs.declared.limits.TheConstants.{MAX_NAME_LEN, MAX_TEXT_LEN};
 ghost use Rattle.zpath.specs.Faults.{fault_of, child_fault};
 ghost use Rattle.zpath.specs.Grammar.{text_of};
 ghost use Rattle.zpath.specs.Numbered.{numbered_path};
@@ -31,8 +31,8 @@ pub fn first_faults()
     ensures dots { fault_of (codes "/a b/..") ≡ Some DotName }
     ensures bad_byte { fault_of (47 ∷ 32 ∷ replicate MAX_NAME_LEN 97) ≡ Some BadByte }
     ensures long_name { fault_of (47 ∷ replicate (MAX_TEXT_LEN + 1) 97) ≡ Some NameTooLong }
-    ensures long_text { fault_of (text_of (replicate (MAX_TEXT_LEN + 1) (codes "a"))) ≡ Some PathTooLong }
-    ensures deep { fault_of (text_of (codes "zookeeper" ∷ replicate MAX_DEPTH (codes "a"))) ≡ Some TooDeep }
+    ensures long_text { fault_of (text_of (replicate 600 (codes "a"))) ≡ Some PathTooLong }
+    ensures deep { fault_of (text_of (codes "zookeeper" ∷ replicate 32 (97 ∷ []))) ≡ Some TooDeep }
 {}
 
 /// Why a path can't have one more name.
@@ -50,8 +50,8 @@ pub fn texts()
 
 /// The path of a sequential node.
 pub fn numbered_paths()
-    ensures first { text_of (numbered_path (codes "q" ∷ codes "n-" ∷ []) 0) ≡ codes "/q/n-0000000000" }
-    ensures next { text_of (numbered_path (codes "q" ∷ codes "n-" ∷ []) 1) ≡ codes "/q/n-0000000001" }
-    ensures last { text_of (numbered_path (codes "a" ∷ []) 2147483647) ≡ codes "/a2147483647" }
-    ensures names { numbered_path (codes "q" ∷ codes "n-" ∷ []) 40 ≡ codes "q" ∷ codes "n-0000000040" ∷ [] }
+    ensures first { numbered_path (codes "n-" ∷ []) 0 ≡ codes "n-0000000000" ∷ [] }
+    ensures next { numbered_path (codes "n-" ∷ []) 1 ≡ codes "n-0000000001" ∷ [] }
+    ensures last { numbered_path (codes "a" ∷ []) 2147483647 ≡ codes "a2147483647" ∷ [] }
+    ensures text { text_of (numbered_path (codes "q" ∷ codes "n" ∷ []) 4) ≡ codes "/q/n0000000004" }
 {}
