@@ -12,6 +12,9 @@ pub mod InOrder
 pub mod Taking
 pub mod KeptReplies
 pub mod Retries
+pub mod Among
+pub mod Acting
+pub mod ActedLogs
 pub mod Zxids
 pub mod LawfulParts
 pub mod LawfulCalls

@@ -3,9 +3,9 @@ use Rattle.zcalls.specs.declared.refusal.Refusal.TheVariants.{NoNode}
 use Rattle.zcalls.specs.declared.reply.Reply.TheVariants.{Refused}
 use Rattle.zcalls.specs.declared.call.Entry.{Entry}
 use Rattle.zcalls.specs.Kept.{KeptState, nothing_kept}
-use Rattle.zcalls.specs.KeptRows.{told, creates, deletes, keeping}
+use Rattle.zcalls.specs.Rows.{told, creates, deletes, keeping}
 use Rattle.zcalls.proofs.KeptReplies.{entered_first, entered_again, answers_on}
-use Rattle.zcalls.proofs.kept_rows.refusals_are_kept.Goals as goal
+use Rattle.zcalls.proofs.rows.refusals_are_kept.Goals as goal
 
 pub returns : goal.returns
 returns c =

@@ -1,17 +1,15 @@
-//! The entry step with kept replies: a law of it, and worked rows. The bodies do nothing.
+//! Worked rows of the definitions: each function's contract has some, and its body does nothing.
 
-ghost use Rattle.std.specs.Prelude.{◌≡◌, Some, None, [], ◌∷◌};
+ghost use Rattle.std.specs.Prelude.{◌≡◌, ℕ, Some, None, [], ◌∷◌};
 ghost use Rattle.zcalls.specs.declared.refusal.Refusal.TheVariants.{NoNode};
 ghost use Rattle.zcalls.specs.declared.reply.Reply.TheVariants.{Refused};
+ghost use Rattle.ztree.specs.Tree.{Tree, opening_tree};
+ghost use Rattle.zcalls.specs.declared.call.Query.{Query};
+ghost use Rattle.zcalls.specs.declared.call.Update.{Update};
 ghost use Rattle.zcalls.specs.Kept.{nothing_kept, entry_step};
-ghost use Rattle.zcalls.specs.KeptLaws.{RetryChangesNothing};
-ghost use Rattle.zcalls.specs.Step.{step};
-ghost use Rattle.zcalls.specs.KeptRows.{told, counting, creates, deletes, keeping, answers};
-
-/// An entry that had a reply has the same reply when it comes again, and then changes nothing.
-pub fn retries_change_nothing()
-    ensures { RetryChangesNothing step }
-{}
+ghost use Rattle.zcalls.specs.PlainTree.{plain_tree};
+ghost use Rattle.zcalls.specs.Step.{step, query_reply};
+ghost use Rattle.zcalls.specs.Rows.{told, counting, creates, deletes, keeping, answers};
 
 /// What one entry does: where nothing is kept; and where a client's call 3 acted last, as the seventh
 /// create.
@@ -27,4 +25,11 @@ pub fn updates_act_once()
 pub fn refusals_are_kept()
     ensures { answers (nothing_kept 1) (creates 1 0 ∷ creates 1 1 ∷ creates 1 1 ∷ deletes 1 2 ∷ creates 1 1 ∷ deletes 1 2 ∷ [])
         ≡ None ∷ Some (told 2) ∷ Some (told 2) ∷ Some (Refused NoNode) ∷ None ∷ Some (Refused NoNode) ∷ [] }
+{}
+
+/// The plain tree as a service: where it starts, what an update does to it, and what a query is answered.
+pub fn plain_tree_steps()
+    ensures opening { plain_tree.opening ≡ opening_tree }
+    ensures update { (t : Tree) (c : ℕ) (u : Update) → plain_tree.update t c u ≡ step t c u }
+    ensures ask { (t : Tree) (query : Query) → plain_tree.ask t query ≡ query_reply t query }
 {}

@@ -1,8 +1,8 @@
 use Rattle.std.proofs.Common.{refl}
 use Rattle.zcalls.specs.Kept.{nothing_kept}
-use Rattle.zcalls.specs.KeptRows.{told, creates}
+use Rattle.zcalls.specs.Rows.{told, creates}
 use Rattle.zcalls.proofs.KeptReplies.{entered_first, entered_again, entered_other}
-use Rattle.zcalls.proofs.kept_rows.updates_act_once.Goals as goal
+use Rattle.zcalls.proofs.rows.updates_act_once.Goals as goal
 
 pub returns-clause-number_0 : goal.returns-clause-number_0
 returns-clause-number_0 c = entered_first 7 (creates 1 0)
