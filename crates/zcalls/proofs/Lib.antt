@@ -2,6 +2,7 @@ pub mod Paths
 pub mod Tables
 pub mod Told
 pub mod Owners
+pub mod Leaving
 pub mod Runs
 pub mod NodesAlone
 pub mod Bounds

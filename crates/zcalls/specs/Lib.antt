@@ -1,3 +1,4 @@
+pub mod Change
 pub mod Part
 pub mod Multi
 pub mod Step

@@ -7,6 +7,7 @@
 
 mod call;
 mod call_number;
+mod change;
 pub mod laws;
 mod listed;
 mod multi;
@@ -16,6 +17,7 @@ mod rows;
 
 pub use call::{Call, Check, Create, Delete, Entry, Expected, Kind, Part, Query, SetData, Update};
 pub use call_number::CallNumber;
+pub use change::{Change, ChangeReply};
 pub use listed::{Names, Replies};
 pub use multi::{MAX_PARTS, Multi};
 pub use refusal::Refusal;
