@@ -4,35 +4,35 @@ use Rattle.std.specs.Option.{option_and_then}
 use Rattle.std.specs.FinMap as finite
 use Rattle.ztree.specs.Lawful.{IsPersistent, IsOwner}
 use Rattle.ztree.specs.Tree.{has_node, parent_of, with_node}
-use Rattle.zcalls.specs.declared.reply.PartReply.TheVariants.{Created}
-use Rattle.zcalls.specs.Part.{create_part, is_owned, node_has}
+use Rattle.zcalls.specs.declared.change.ChangeReply.TheVariants.{Created}
+use Rattle.zcalls.specs.Part.{create_step, is_owned, node_has}
 use Rattle.zcalls.proofs.Paths.{below, is_over-path, at_least, less_than, parent_of-made, made-below_root, not_root}
 use Rattle.zops.proofs.Creating.{created-refused, created-done, nameless, taken, full, all_clear}
 use Rattle.zcalls.proofs.Owners.{persistent, owner_lives}
-use Rattle.zops.proofs.part.create.Goals as goal
+use Rattle.zops.proofs.change.create.Goals as goal
 
 pub returns-in_default-clause-stopped : goal.returns-in_default-clause-stopped
-unfolding create_part
+unfolding create_step
 returns-in_default-clause-stopped c =
     let owner = sym c.has_no_owner.ensures ∙ c.if-has_no_owner.false in
-    rw (owner, rw c.in_default.is at c.in_ok-above.ensures.root) refl
+    record { says = rw (owner, rw c.in_default.is at c.in_ok-above.ensures.root) refl; same = refl }
 
 pub returns-in_default-find-clause-stopped : goal.returns-in_default-find-clause-stopped
-unfolding create_part
+unfolding create_step
 returns-in_default-find-clause-stopped c =
     let last = rw c.in-Some.is at c.in_ok-above.ensures.front in
     let below = below c.args.create.path c.in-Some.above last.0 last.1 in
     let owner = sym c.has_no_owner.ensures ∙ c.if-has_no_owner.false in
-    rw (owner, below.root, below.parent, ← c.in_default-find.ensures.node) refl
+    record { says = rw (owner, below.root, below.parent, ← c.in_default-find.ensures.node) refl; same = refl }
 
 pub returns-then-is_ephemeral-clause-stopped : goal.returns-then-is_ephemeral-clause-stopped
-unfolding create_part
+unfolding create_step
 returns-then-is_ephemeral-clause-stopped c =
     let last = rw c.in-Some.is at c.in_ok-above.ensures.front in
     let below = below c.args.create.path c.in-Some.above last.0 last.1 in
     let owned = sym (c.is_ephemeral.ensures c.in-Some.above c.in-Some-find.ensures.found) ∙ c.if-is_ephemeral.true in
     let owner = sym c.has_no_owner.ensures ∙ c.if-has_no_owner.false in
-    rw (owner, below.root, below.parent, ← c.in-Some-find.ensures.node, owned) refl
+    record { says = rw (owner, below.root, below.parent, ← c.in-Some-find.ensures.node, owned) refl; same = refl }
 
 pub made_path-requires-clause-live : goal.made_path-requires-clause-live
 made_path-requires-clause-live c =
@@ -52,7 +52,7 @@ returns-in_err-made-clause-stopped c =
     let owned = ap (node_has is_owned nodes) below.parent ∙ sym (c.is_ephemeral.ensures c.in-Some.above c.in-Some-find.ensures.found) ∙ c.if-is_ephemeral.false in
     let owner = sym c.has_no_owner.ensures ∙ c.if-has_no_owner.false in
     let p = err_from_is_err_and c.from_residual-in_err-made.result c.from_residual-in_err-made.ensures.1 in
-    rw (p.1, p.2) (nameless c.args.store.now.tree c.args.client c.args.create owner below.root there owned c.in_err-made.field-0.0 c.in_err-made.ensures.stopped)
+    rw (p.1, p.2) (record { says = nameless c.args.store.now.tree c.args.client c.args.create owner below.root there owned c.in_err-made.field-0.0 c.in_err-made.ensures.stopped; same = refl })
 
 pub returns-then-is_some-clause-stopped : goal.returns-then-is_some-clause-stopped
 returns-then-is_some-clause-stopped c =
@@ -63,8 +63,11 @@ returns-then-is_some-clause-stopped c =
     let owned = ap (node_has is_owned nodes) below.parent ∙ sym (c.is_ephemeral.ensures c.in-Some.above c.in-Some-find.ensures.found) ∙ c.if-is_ephemeral.false in
     let here = sym c.find-2.ensures.node ∙ sym c.is_some.ensures ∙ c.if-is_some.true in
     let owner = sym c.has_no_owner.ensures ∙ c.if-has_no_owner.false in
-    created-refused c.args.store.now.tree c.args.client c.args.create _
-    (taken c.args.store.now.tree c.args.client c.args.create owner below.root there owned c.in_ok-made.made c.in_ok-made.ensures.made c.in_ok-made.ensures.allowed here)
+    record {
+      says = created-refused c.args.store.now.tree c.args.client c.args.create _
+          (taken c.args.store.now.tree c.args.client c.args.create owner below.root there owned c.in_ok-made.made c.in_ok-made.ensures.made c.in_ok-made.ensures.allowed here);
+      same = refl;
+    }
 
 pub returns-then-nodes-ge-MAX_NODES-clause-stopped : goal.returns-then-nodes-ge-MAX_NODES-clause-stopped
 returns-then-nodes-ge-MAX_NODES-clause-stopped c =
@@ -76,8 +79,11 @@ returns-then-nodes-ge-MAX_NODES-clause-stopped c =
     let free = sym c.find-2.ensures.node ∙ sym c.is_some.ensures ∙ c.if-is_some.false in
     let many = at_least 4096 _ (rw c.nodes.ensures at c.if-nodes-ge-MAX_NODES.true) in
     let owner = sym c.has_no_owner.ensures ∙ c.if-has_no_owner.false in
-    created-refused c.args.store.now.tree c.args.client c.args.create _
-    (full c.args.store.now.tree c.args.client c.args.create owner below.root there owned c.in_ok-made.made c.in_ok-made.ensures.made c.in_ok-made.ensures.allowed free many)
+    record {
+      says = created-refused c.args.store.now.tree c.args.client c.args.create _
+          (full c.args.store.now.tree c.args.client c.args.create owner below.root there owned c.in_ok-made.made c.in_ok-made.ensures.made c.in_ok-made.ensures.allowed free many);
+      same = refl;
+    }
 
 pub add-requires-clause-live : goal.add-requires-clause-live
 add-requires-clause-live c =
@@ -106,14 +112,17 @@ returns-clause-done c =
     let owner = sym c.has_no_owner.ensures ∙ c.if-has_no_owner.false in
     let t = c.args.store.now.tree in
     let create = c.args.create in
-    created-done t c.args.client create
-    (all_clear t c.args.client create owner below.root there owned c.in_ok-made.made c.in_ok-made.ensures.made c.in_ok-made.ensures.allowed free few)
-    ∙ (λ i. Ok (with_node t (sym c.in_ok-made.ensures.made i) create.bytes (sym c.owner-owner.ensures i) (sym c.is_sequential-is_sequential.ensures i), Created (sym c.in_ok-made.ensures.made i)))
-    ∙ (λ i. Ok (sym c.in_ok-add.ensures.added i, Created (sym c.in_ok-path.ensures i)))
+    record {
+      step_is = created-done t c.args.client create
+          (all_clear t c.args.client create owner below.root there owned c.in_ok-made.made c.in_ok-made.ensures.made c.in_ok-made.ensures.allowed free few)
+          ∙ (λ i. Ok (with_node t (sym c.in_ok-made.ensures.made i) create.bytes (sym c.owner-owner.ensures i) (sym c.is_sequential-is_sequential.ensures i), Created (sym c.in_ok-made.ensures.made i)))
+          ∙ (λ i. Ok (sym c.in_ok-add.ensures.added i, Created (sym c.in_ok-path.ensures i)));
+      given = c.in_ok-add.ensures.given;
+    }
 
 pub returns-then-has_no_owner-clause-stopped : goal.returns-then-has_no_owner-clause-stopped
-unfolding create_part
-returns-then-has_no_owner-clause-stopped c = rw (sym c.has_no_owner.ensures ∙ c.if-has_no_owner.true) refl
+unfolding create_step
+returns-then-has_no_owner-clause-stopped c = record { says = rw (sym c.has_no_owner.ensures ∙ c.if-has_no_owner.true) refl; same = refl }
 
 pub add-requires-clause-persistent : goal.add-requires-clause-persistent
 add-requires-clause-persistent c =
