@@ -1,6 +1,6 @@
 -- The rows of a store, and what they stand for.
 use Rattle.std.specs.Str.{bytes_eq}
-use Rattle.std.specs.Prelude.{filter_map, Bool, true, false, ◌&&◌, ◌≡◌, ℕ, ◌<◌, ◌≤◌, List, [], ◌∷◌, map, length, Option, slice_index_or, None, Some, if◌then◌else◌, ◌==◌, nat_le}
+use Rattle.std.specs.Prelude.{filter_map, Bool, true, false, ◌&&◌, ◌≡◌, ℕ, ◌<◌, ◌≤◌, List, [], ◌∷◌, map, length, drop, suc, Option, slice_index_or, None, Some, if◌then◌else◌, ◌==◌, nat_le}
 use lib.Dec.{T}
 use Rattle.std.specs.List.{AllByRecursion}
 use Rattle.std.specs.Ordering.{nat_cmp}
@@ -13,7 +13,7 @@ use Rattle.zstore.specs.declared.row.Row.{Row}
 use Rattle.zstore.specs.declared.row.SessionRow.{SessionRow}
 use Rattle.zstore.specs.declared.store.Store.TheInside.{Inside}
 use Rattle.ztree.specs.Tree.{Tree, Path, Name, child_name, ephemerals}
-use Rattle.ztree.specs.Lawful.{IsLawful}
+use Rattle.ztree.specs.Lawful.{IsLawful, HasPaths}
 use Rattle.zstore.specs.StoreView.{StoreView, path_of}
 use Rattle.zstore.specs.declared.id.Id.{Id}
 
@@ -27,7 +27,7 @@ place_row r = (r.number, r.path)
 
 -- a session's row as an entry of the map of sessions
 abbrev pub session_row : SessionRow → ℕ × Session
-session_row r = (r.number, r.session)
+session_row r = (r.id, r.session)
 
 -- all rows as entries of the map of nodes
 abbrev pub node_rows : List Row → List (Path × Node)
@@ -71,16 +71,21 @@ pub record IsLaid (nodes : List Row) (alive : List SessionRow) (bound : ℕ) : T
 pub record IsKept (nodes : List Row) (alive : List SessionRow) (time zxid bound : ℕ) : Type 0 where
   pub laid : IsLaid nodes alive bound
   pub lawful : IsLawful (tree_of nodes alive time zxid)
+  pub paths : HasPaths (tree_of nodes alive time zxid).nodes
 
 -- the row at a place has the path
 pub record IsAt (rows : List Row) (path : Path) (at : ℕ) : Type 0 where
   pub within : at < length rows
   pub here : (d : Row) → (slice_index_or rows at d).path ≡ path
 
+-- the row at a place has the number
+abbrev pub IsNumberAt : List Row → ℕ → ℕ → Type 0
+IsNumberAt rows number at = (at < length rows) × ((d : Row) → (slice_index_or rows at d).number ≡ number)
+
 -- the row at a place is the session's
 pub record IsSessionAt (rows : List SessionRow) (id : ℕ) (at : ℕ) : Type 0 where
   pub within : at < length rows
-  pub here : (d : SessionRow) → (slice_index_or rows at d).number ≡ id
+  pub here : (d : SessionRow) → (slice_index_or rows at d).id ≡ id
 
 -- the path has no row, and would go there
 pub record IsGapFor (rows : List Row) (path : Path) (at : ℕ) : Type 0 where
@@ -91,8 +96,8 @@ pub record IsGapFor (rows : List Row) (path : Path) (at : ℕ) : Type 0 where
 -- the session has no row, and would go there
 pub record IsSessionGap (rows : List SessionRow) (id : ℕ) (at : ℕ) : Type 0 where
   pub within : at ≤ length rows
-  pub before : (k : ℕ) (d : SessionRow) → k < at → nat_cmp (slice_index_or rows k d).number id ≡ Less
-  pub behind : (k : ℕ) (d : SessionRow) → at ≤ k → k < length rows → nat_cmp (slice_index_or rows k d).number id ≡ Greater
+  pub before : (k : ℕ) (d : SessionRow) → k < at → nat_cmp (slice_index_or rows k d).id id ≡ Less
+  pub behind : (k : ℕ) (d : SessionRow) → at ≤ k → k < length rows → nat_cmp (slice_index_or rows k d).id id ≡ Greater
 
 -- a path is p, or p with more names
 abbrev pub is_beneath : Path → Path → Bool
@@ -115,6 +120,11 @@ id_if_due tick e = if nat_le e.1.deadline tick then Some e.0 else None
 -- the ids of the rows' sessions whose deadline a tick reaches, in the rows' order
 abbrev pub due_among : List SessionRow → ℕ → List ℕ
 due_among rows tick = filter_map (id_if_due tick) (session_rows rows)
+
+-- the first row whose node a session owns stands at a place
+abbrev pub IsFirstOwnedAt : List Row → ℕ → ℕ → Type 0
+IsFirstOwnedAt rows session at =
+    (at < length rows) × ((d : Row) → owned_by session rows ≡ (slice_index_or rows at d).path ∷ owned_by session (drop (suc at) rows))
 
 -- the Id names the first of the nodes that a session owns
 abbrev pub IsFirstOwned : StoreView → ℕ → Id → Type 0
