@@ -1,5 +1,5 @@
 -- What is told of a node: its stat after its data was written, and how many children it has.
-use Rattle.std.proofs.Common.{◌≡◌, ◌+◌, ℕ, List, length, cond, false, Option, Some, None, Ok, sym, ap, ◌∙◌}
+use Rattle.std.proofs.Common.{◌≡◌, ◌+◌, length, cond, false, Option, Some, None, Ok, sym, ap, ◌∙◌}
 use Rattle.std.specs.FinMap as finite
 use Rattle.std.specs.FinMap.{get-insert}
 use Rattle.std.specs.Option.{option_map, option_map_or}

@@ -1,6 +1,7 @@
 -- When a store is ready for a call, and what a call leaves of it.
 use Rattle.std.specs.Prelude.{◌≡◌, ℕ, ◌+◌, ◌*◌, ◌^◌, ◌<◌, ◌≤◌, Result, Ok, Err}
-use Rattle.ztree.specs.Tree.{Tree, HasRoom}
+use Rattle.ztree.specs.Tree.{Tree}
+use Rattle.ztree.specs.Room.{HasRoom}
 use Rattle.ztree.specs.Lawful.{AllNodes}
 use Rattle.zstore.specs.StoreView.{StoreView}
 use Rattle.zcalls.specs.Bounds.{IsBounded, IsWithin, ChangesNodesAlone}
