@@ -5,6 +5,7 @@
 //! both are defined in `specs/Step.antt`, without a word of how the machine keeps its tree.
 #![tactic(auto)]
 
+mod change;
 mod machine;
 mod owner;
 mod part;
@@ -13,6 +14,7 @@ mod run;
 mod session_calls;
 #[cfg(test)]
 mod session_tests;
+mod stop;
 #[cfg(test)]
 mod testing;
 #[cfg(test)]
@@ -21,7 +23,7 @@ mod update;
 
 pub use machine::{MAX_APPLIED, Machine};
 pub use zcalls::{
-    Call, CallNumber, Check, Create, Delete, Entry, Expected, Kind, MAX_PARTS, Multi, Names, Part,
-    PartReply, Query, Refusal, Replies, Reply, SetData, Update,
+    Call, CallNumber, Change, ChangeReply, Check, Create, Delete, Entry, Expected, Kind, MAX_PARTS,
+    Multi, Names, Part, PartReply, Query, Refusal, Replies, Reply, SetData, Update,
 };
 pub use zstore::{ClientId, Data, Stat};

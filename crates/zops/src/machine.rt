@@ -30,7 +30,7 @@ impl Model for Machine {
 
     ghost coded = { coded_machine_view };
 
-    ghost use Rattle.zops.specs.Sound.{IsSound};
+    ghost use Rattle.zops.specs.support.Ready.{IsSound};
 
     ghost view = { λ m. record { state = record { tree = m.store.tree; applied = m.applied }; is_broken = m.is_broken } };
 

@@ -30,7 +30,7 @@ fn get_data(alloc: Global, store: &Store, path: &Path) -> Result<Reply, Memory>
         return Ok(Reply::Refused(Refusal::NoNode));
     };
     let (Some(node), Some(stat)) = (store.node(id), store.stat(id)) else {
-        return Ok(Reply::Refused(Refusal::NoNode));
+        unreachable!();
     };
     Ok(Reply::Data(node.bytes.copied(alloc)?, stat))
 }
@@ -45,7 +45,7 @@ fn exists(store: &Store, path: &Path) -> Reply
     };
     match store.stat(id) {
         Some(stat) => Reply::Exists(stat),
-        None => Reply::Refused(Refusal::NoNode),
+        None => unreachable!(),
     }
 }
 

@@ -8,7 +8,7 @@ use Rattle.zops.proofs.session_calls.close.Goals as goal
 pub end_session-requires-clause-counters : goal.end_session-requires-clause-counters
 end_session-requires-clause-counters c path n e =
     let t = c.args.store.now.tree in
-    let here = (c.requires.bounded.counters path n e).cversion in
+    let here = (c.requires.steady.bounded.counters path n e).cversion in
     let owned = few_ephemerals t.nodes c.args.session in
     let few = c.keeps_lawful.ensures.few_nodes in
     let room = c.requires.zxid in
@@ -17,7 +17,9 @@ end_session-requires-clause-counters c path n e =
 pub raise-requires : goal.raise-requires
 raise-requires c = rw (c.end_session.ensures.tree, (ended-ends c.args.store.now.tree c.args.session).zxid) c.requires.zxid
 
-pub returns-clause-bounded : goal.returns-clause-bounded
-returns-clause-bounded c =
-    subst IsBounded (sym (c.raise.ensures.tree ∙ ap with_next_zxid c.end_session.ensures.tree))
-    (ended_bounded c.args.store.now.tree c.args.session c.requires.bounded c.keeps_lawful.ensures c.requires.zxid)
+pub returns-clause-left : goal.returns-clause-left
+returns-clause-left c = record {
+  bounded = subst IsBounded (sym (c.raise.ensures.tree ∙ ap with_next_zxid c.end_session.ensures.tree))
+      (ended_bounded c.args.store.now.tree c.args.session c.requires.steady.bounded c.keeps_lawful.ensures c.requires.zxid);
+  given = let same = c.raise.ensures.same.1 in let none = c.end_session.ensures.given in omega (arith, same, none);
+}

@@ -10,7 +10,7 @@ loop-id-init c =
     let all = c.into_iter-id-iterator.ensures.into_iter_gives.0 in
     record {
       did = ap (without_sessions t) (sym all);
-      room = room_before (4096 * t.zxid) t.nodes c.requires.bounded.counters c.keeps_lawful.ensures.few_nodes;
+      room = room_before (4096 * t.zxid) t.nodes c.requires.ready.steady.bounded.counters c.keeps_lawful.ensures.few_nodes;
       zxid = refl;
       live = subst (AreLive t.sessions) (sym (all ∙ c.requires.due)) (due_live t.sessions (t.time + 1));
       given = refl;
@@ -20,7 +20,7 @@ pub end_session-requires-clause-counters : goal.end_session-requires-clause-coun
 end_session-requires-clause-counters c path n e =
     let room = (c.loop-id.invariant.room path n e).cversion in
     let owned = few_ephemerals c.loop-id.store.tree.nodes c.in-Some.id in
-    let few = c.requires.zxid in
+    let few = c.requires.ready.zxid in
     omega (arith, room, owned, few)
 
 pub loop-id-preserved : goal.loop-id-preserved
