@@ -5,8 +5,8 @@ use Rattle.std.specs.Prelude.{ℕ, ◌≤◌, List, [], ◌∷◌}
 use Rattle.zworld.specs.declared.history.CallEvent.TheVariants.{Begin, Answer}
 use Rattle.zworld.specs.History.{History, Operation}
 use Rattle.zworld.specs.LegalOrder.{IsLegalOrder}
-use Rattle.zworld.specs.Counter.{counter, create, exists, made, counted}
-use Rattle.zworld.specs.RunRows.{seen, two_updates}
+use Rattle.zworld.specs.support.Counter.{counter, create, exists, name_reply, count_reply}
+use Rattle.zworld.specs.support.RunRows.{seen, two_updates}
 
 -- the four calls
 abbrev pub first_create : Operation
@@ -26,19 +26,19 @@ abbrev pub strange_create : Operation
 strange_create = record { client = 5; number = 1; call = create }
 
 -- the history, with the count that client 2 is told
-abbrev pub told : ℕ → History
-told count =
+abbrev pub history_with : ℕ → History
+history_with count =
     Begin 1 1 create
     ∷ Begin 3 1 create
     ∷ Begin 4 1 exists
-    ∷ Answer 1 1 (made 0)
+    ∷ Answer 1 1 (name_reply 0)
     ∷ Begin 2 1 exists
-    ∷ Answer 2 1 (counted count)
+    ∷ Answer 2 1 (count_reply count)
     ∷ []
 
 -- the order explains the history in which client 2 is told this count, and no state of its replay is above the bound
 abbrev pub Explains : ℕ → ℕ → List Operation → Type 0
-Explains bound count order = IsLegalOrder (λ state. state ≤ bound) counter (told count) order
+Explains bound count order = IsLegalOrder (λ state. state ≤ bound) counter (history_with count) order
 
 -- the order that explains it
 abbrev pub true_order : List Operation

@@ -1,13 +1,13 @@
--- What holds of settling, in every world: each statement is a contract in `src/settle_laws.rt`.
+-- What holds of settling, in every world: each statement is a contract in `src/laws.rt`.
 use Rattle.std.specs.Prelude.{◌≡◌, ℕ, ◌+◌, false, List, length}
 use Rattle.std.specs.List.{list_any}
 use Rattle.ztree.specs.Tree.{Tree}
 use Rattle.zcalls.specs.Kept.{KeptState}
 use Rattle.zserver.specs.Machine.{kept_tree}
+use Rattle.zworld.specs.declared.outcome.Outcome.{Outcome}
 use Rattle.zworld.specs.declared.settled.Settled.TheVariants.{Quiet}
 use Rattle.zworld.specs.World.{World}
 use Rattle.zworld.specs.Events.{is_enabled, run}
-use Rattle.zworld.specs.Reading.{Outcome}
 use Rattle.zworld.specs.Settle.{Settling, settle, settled, deliveries}
 
 -- settling the world of the service
@@ -31,4 +31,4 @@ abbrev pub QuietHasNothingToTake : Type 0
 QuietHasNothingToTake =
     (w : World (KeptState Tree)) (limit : ℕ) (outcomes : List Outcome)
     → settled (settling_of w limit outcomes) ≡ Quiet
-    → list_any (is_enabled (settling_of w limit outcomes).world) (deliveries w.client_count) ≡ false
+    → list_any (is_enabled (settling_of w limit outcomes).world) (deliveries w.master.clients) ≡ false

@@ -2,8 +2,8 @@
 use Rattle.std.specs.Prelude.{List, [], ◌∷◌}
 use Rattle.zworld.specs.declared.event.Event.{Event}
 use Rattle.zworld.specs.declared.event.Event.TheVariants.{Begin, Take, Fail}
-use Rattle.zworld.specs.Counter.{create}
-use Rattle.zworld.specs.RunRows.{m, s1, s2, s3, c1}
+use Rattle.zworld.specs.support.Counter.{create}
+use Rattle.zworld.specs.support.RunRows.{m, s1, s2, s3, c1}
 
 -- the head fails after it forwarded client 1's update: s2 is the head, and the update goes on
 abbrev pub head_fails : List Event

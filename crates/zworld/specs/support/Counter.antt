@@ -14,18 +14,18 @@ use Rattle.zserver.specs.Machine.{Does}
 use Rattle.zworld.specs.LegalOrder.{Service}
 
 -- the answer to the update behind so many
-abbrev pub made : ℕ → Reply
-made count = Created ((count ∷ []) ∷ [])
+abbrev pub name_reply : ℕ → Reply
+name_reply count = Created ((count ∷ []) ∷ [])
 
 -- the answer to a query behind so many updates
-abbrev pub counted : ℕ → Reply
-counted count =
+abbrev pub count_reply : ℕ → Reply
+count_reply count =
     Exists (record { czxid = 0; mzxid = 0; pzxid = 0; ctime = 0; mtime = 0; version = 0; cversion = 0; owner = 0; length = 0; children = count })
 
 -- an update counts, and a query doesn't
 abbrev pub count_step : ℕ → ℕ → Call → ℕ × Reply
-count_step count client (Update update) = (count + 1, made count)
-count_step count client (Query query) = (count, counted count)
+count_step count client (Update update) = (count + 1, name_reply count)
+count_step count client (Query query) = (count, count_reply count)
 
 -- the service
 abbrev pub counter : Service ℕ
@@ -58,21 +58,21 @@ latest client [] = None
 latest client (call ∷ calls) = if call.client == client then Some call else latest client calls
 
 -- an entry that acts: it counts, and its reply is kept
-abbrev pub counts : Counting → Entry → Counting × Option Reply
-counts m entry =
-    (record { count = m.count + 1; calls = record { client = entry.client; number = entry.number; reply = made m.count } ∷ m.calls }, Some (made m.count))
+abbrev pub with_update : Counting → Entry → Counting × Option Reply
+with_update m entry =
+    (record { count = m.count + 1; calls = record { client = entry.client; number = entry.number; reply = name_reply m.count } ∷ m.calls }, Some (name_reply m.count))
 
 -- an entry after the latest call of its client: a greater number acts, the same is given the kept reply, a lesser nothing
-abbrev pub counts_after : Counting → Entry → Option Counted → Counting × Option Reply
-counts_after m entry None = counts m entry
-counts_after m entry (Some call) =
-    if nat_lt call.number entry.number then counts m entry else (m, if call.number == entry.number then Some call.reply else None)
+abbrev pub with_update_after : Counting → Entry → Option Counted → Counting × Option Reply
+with_update_after m entry None = with_update m entry
+with_update_after m entry (Some call) =
+    if nat_lt call.number entry.number then with_update m entry else (m, if call.number == entry.number then Some call.reply else None)
 
 -- the machine
-abbrev pub counting : Does Counting
-counting =
+abbrev pub counting_machine : Does Counting
+counting_machine =
     record {
       start = record { count = 0; calls = [] };
-      apply = λ m entry. counts_after m entry (latest entry.client m.calls);
-      ask = λ m query. counted m.count;
+      apply = λ m entry. with_update_after m entry (latest entry.client m.calls);
+      ask = λ m query. count_reply m.count;
     }

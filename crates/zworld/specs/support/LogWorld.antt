@@ -5,9 +5,9 @@
 use Rattle.std.specs.Prelude.{◌≡◌, ℕ, List, map}
 use Rattle.zcalls.specs.declared.call.Entry.{Entry}
 use Rattle.zserver.specs.Machine.{kept_tree, log_of, replay}
-use Rattle.zserver.specs.Homomorphism.{message_with, view_with}
+use Rattle.zserver.specs.support.Homomorphism.{message_with, view_with}
 use Rattle.zworld.specs.declared.event.Event.{Event}
-use Rattle.zworld.specs.World.{World, opening}
+use Rattle.zworld.specs.World.{World, opening_world}
 use Rattle.zworld.specs.Events.{is_enabled, run}
 
 -- a world whose machines are mapped, in views and in snapshots under way
@@ -19,15 +19,14 @@ world_with h w = record {
   failed = w.failed;
   links = λ from to. map (message_with h) (w.links from to);
   history = w.history;
-  client_count = w.client_count;
 }
 
 -- the world over trees is the one over logs, each log replayed, after every list of events; so they have one history
 abbrev pub LogWorldStandsForWorld : Type 0
 LogWorldStandsForWorld =
     (servers clients : ℕ) (events : List Event)
-    → run kept_tree (opening kept_tree servers clients) events
-    ≡ world_with (replay kept_tree) (run (log_of kept_tree) (opening (log_of kept_tree) servers clients) events)
+    → run kept_tree (opening_world kept_tree servers clients) events
+    ≡ world_with (replay kept_tree) (run (log_of kept_tree) (opening_world (log_of kept_tree) servers clients) events)
 
 -- and the same events are enabled in both
 abbrev pub LogWorldHasTheSameEnabled : Type 0

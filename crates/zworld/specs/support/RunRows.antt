@@ -7,9 +7,9 @@ use Rattle.zserver.specs.View.{ServerView, MessageOf}
 use Rattle.zworld.specs.declared.event.Event.{Event}
 use Rattle.zworld.specs.declared.event.Event.TheVariants.{Begin, Retry, Take}
 use Rattle.zworld.specs.History.{History}
-use Rattle.zworld.specs.World.{World, opening}
+use Rattle.zworld.specs.World.{World, opening_world}
 use Rattle.zworld.specs.Events.{run}
-use Rattle.zworld.specs.Counter.{Counting, counting, create_update, create}
+use Rattle.zworld.specs.support.Counter.{Counting, counting_machine, create_update, create}
 
 -- the processes: the master, servers and clients
 abbrev pub m : Process
@@ -35,7 +35,7 @@ c1 = Client 1
 
 -- the world after events, from the opening with so many servers
 abbrev pub after : ℕ → List Event → World Counting
-after servers events = run counting (opening counting servers 2) events
+after servers events = run counting_machine (opening_world counting_machine servers 2) events
 
 -- what callers saw of them
 abbrev pub seen : ℕ → List Event → History

@@ -2,19 +2,20 @@
 use Rattle.std.specs.Prelude.{ℕ, List, [], ◌∷◌}
 use Rattle.zworld.specs.declared.event.Event.{Event}
 use Rattle.zworld.specs.declared.event.Event.TheVariants.{Begin, Take, Ignore}
-use Rattle.zworld.specs.World.{opening}
-use Rattle.zworld.specs.Reading.{Outcome, read_all}
+use Rattle.zworld.specs.World.{opening_world}
+use Rattle.zworld.specs.declared.outcome.Outcome.{Outcome}
+use Rattle.zworld.specs.Reading.{read_all}
 use Rattle.zworld.specs.Settle.{Settling, settle}
-use Rattle.zworld.specs.Counter.{Counting, counting, create}
-use Rattle.zworld.specs.RunRows.{after, s1, s2, s3, c0, c1}
+use Rattle.zworld.specs.support.Counter.{Counting, counting_machine, create}
+use Rattle.zworld.specs.support.RunRows.{after, s1, s2, s3, c0, c1}
 
 -- settling after events, with a limit, and what becomes of its events
 abbrev pub settled_after : ℕ → List Event → ℕ → List Outcome → Settling Counting
-settled_after servers events limit outcomes = settle counting (after servers events) limit outcomes
+settled_after servers events limit outcomes = settle counting_machine (after servers events) limit outcomes
 
 -- the events from the opening as they are read, after what became of them
 abbrev pub read_after : ℕ → List Event → List Outcome → List Event
-read_after servers events outcomes = read_all counting (opening counting servers 2) events outcomes
+read_after servers events outcomes = read_all counting_machine (opening_world counting_machine servers 2) events outcomes
 
 -- two clients begin an update each
 abbrev pub two_begin : List Event

@@ -8,7 +8,7 @@ use Rattle.zserver.specs.declared.message.Message.TheVariants as message
 use Rattle.zserver.specs.declared.process.Process.{Process}
 use Rattle.zserver.specs.Machine.{Does, replay, log_of}
 use Rattle.zserver.specs.View.{ServerView, MessageOf, Post}
-use Rattle.zserver.specs.Table.{Taken, takes}
+use Rattle.zserver.specs.Table.{ServerResult, server_step}
 
 -- the map keeps what machines do: where they start, and their replies
 pub record IsHomomorphism {M N : Type 0} (from : Does M) (to : Does N) (h : M → N) : Type 0 where
@@ -42,8 +42,8 @@ abbrev pub view_with : {M N : Type 0} → (M → N) → ServerView M → ServerV
 view_with h v = record { machine = option_map h v.machine; last = v.last; sent = v.sent; pred = v.pred; succ = v.succ }
 
 -- both
-abbrev pub taken_with : {M N : Type 0} → (M → N) → Taken M → Taken N
-taken_with h taken = (view_with h taken.0, posts_with h taken.1)
+abbrev pub server_result_with : {M N : Type 0} → (M → N) → ServerResult M → ServerResult N
+server_result_with h taken = (view_with h taken.0, posts_with h taken.1)
 
 -- a log answers as the machine after it
 abbrev pub LogStandsForMachine : {M : Type 0} → Does M → Type 0
@@ -53,4 +53,4 @@ LogStandsForMachine does = IsHomomorphism (log_of does) does (replay does)
 abbrev pub TableKeepsLogs : {M : Type 0} → Does M → Type 0
 TableKeepsLogs does =
     (v : ServerView (List Entry)) (from : Process) (m : MessageOf (List Entry))
-    → takes does (view_with (replay does) v) from (message_with (replay does) m) ≡ taken_with (replay does) (takes (log_of does) v from m)
+    → server_step does (view_with (replay does) v) from (message_with (replay does) m) ≡ server_result_with (replay does) (server_step (log_of does) v from m)

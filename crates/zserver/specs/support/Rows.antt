@@ -13,17 +13,17 @@ use Rattle.zserver.specs.Machine.{Does}
 use Rattle.zserver.specs.View.{ServerView, Transfer, Neighbour}
 
 -- a reply that tells a number
-abbrev pub told : ℕ → Reply
-told n = MultiRefused n NoNode
+abbrev pub number_reply : ℕ → Reply
+number_reply n = MultiRefused n NoNode
 
 -- a machine that counts entries: each is answered with its place among them, but a call of number 0 has no reply; a
 -- query is told how many there are
-abbrev pub counting : Does ℕ
-counting =
+abbrev pub counting_machine : Does ℕ
+counting_machine =
     record {
       start = 0;
-      apply = λ n entry. (n + 1, if entry.number == 0 then None else Some (told (n + 1)));
-      ask = λ n query. told n;
+      apply = λ n entry. (n + 1, if entry.number == 0 then None else Some (number_reply (n + 1)));
+      ask = λ n query. number_reply n;
     }
 
 -- an update, and a query
@@ -38,40 +38,40 @@ abbrev pub call : ℕ → Entry
 call number = record { client = 5; number = number; update = update }
 
 -- a server with the state after seven entries, of which the tail may not have processed the last two
-abbrev pub initialised : Option Neighbour → Option Neighbour → ServerView ℕ
-initialised pred succ = record { machine = Some 7; last = 7; sent = (6, call 16) ∷ (7, call 17) ∷ []; pred = pred; succ = succ }
+abbrev pub initialised_server : Option Neighbour → Option Neighbour → ServerView ℕ
+initialised_server pred succ = record { machine = Some 7; last = 7; sent = (6, call 16) ∷ (7, call 17) ∷ []; pred = pred; succ = succ }
 
 -- between server 1, as a pair of epoch 4, and server 3, as a pair of epoch 5
 abbrev pub middle : ServerView ℕ
-middle = initialised (Some (1, 4)) (Some (3, 5))
+middle = initialised_server (Some (1, 4)) (Some (3, 5))
 
 -- before server 3
 abbrev pub head : ServerView ℕ
-head = initialised None (Some (3, 5))
+head = initialised_server None (Some (3, 5))
 
 -- behind server 1
 abbrev pub tail : ServerView ℕ
-tail = initialised (Some (1, 4)) None
+tail = initialised_server (Some (1, 4)) None
 
 -- head and tail in one
-abbrev pub alone : ServerView ℕ
-alone = initialised None None
+abbrev pub single : ServerView ℕ
+single = initialised_server None None
 
 -- the same, with this last number
 abbrev pub with_last : ℕ → ServerView ℕ
-with_last n = record alone { last = n }
+with_last n = record single { last = n }
 
 -- a server after the entry of call 18, which it keeps in Sent
-abbrev pub forwarding : ServerView ℕ → ServerView ℕ
-forwarding v = record v { machine = Some 8; last = 8; sent = (6, call 16) ∷ (7, call 17) ∷ (8, call 18) ∷ [] }
+abbrev pub with_entry_kept : ServerView ℕ → ServerView ℕ
+with_entry_kept v = record v { machine = Some 8; last = 8; sent = (6, call 16) ∷ (7, call 17) ∷ (8, call 18) ∷ [] }
 
 -- a server after one more entry, which it doesn't keep
-abbrev pub processing : ServerView ℕ → ServerView ℕ
-processing v = record v { machine = Some 8; last = 8 }
+abbrev pub with_entry : ServerView ℕ → ServerView ℕ
+with_entry v = record v { machine = Some 8; last = 8 }
 
 -- a server without state, behind server 1 as a pair of epoch 4
-abbrev pub joining : ServerView ℕ
-joining = record { machine = None; last = 0; sent = []; pred = Some (1, 4); succ = None }
+abbrev pub joining_server : ServerView ℕ
+joining_server = record { machine = None; last = 0; sent = []; pred = Some (1, 4); succ = None }
 
 -- the state after nine entries
 abbrev pub nine : Transfer ℕ

@@ -4,11 +4,11 @@ use Rattle.std.specs.Prelude.{ℕ, List, [], ◌∷◌}
 use Rattle.zcalls.specs.declared.call.Call.{Call}
 use Rattle.zworld.specs.declared.event.Event.{Event}
 use Rattle.zworld.specs.declared.event.Event.TheVariants.{Begin, Take, Fail, Join}
-use Rattle.zworld.specs.World.{World, opening}
+use Rattle.zworld.specs.World.{World, opening_world}
 use Rattle.zworld.specs.Events.{happens, run}
 use Rattle.zworld.specs.Settle.{settle}
-use Rattle.zworld.specs.Counter.{Counting, counting, create, exists}
-use Rattle.zworld.specs.RunRows.{m, s1, s2, s3, s4, c1}
+use Rattle.zworld.specs.support.Counter.{Counting, counting_machine, create, exists}
+use Rattle.zworld.specs.support.RunRows.{m, s1, s2, s3, s4, c1}
 
 -- a part of a scenario: events happen, the world settles, or client 1 begins a call and the world settles
 pub data Scene : Type 0 where
@@ -18,9 +18,9 @@ pub data Scene : Type 0 where
 
 -- the world after it
 abbrev pub after_scene : World Counting → Scene → World Counting
-after_scene w (Happen events) = run counting w events
-after_scene w Settles = (settle counting w 100 []).world
-after_scene w (Calls call) = (settle counting (happens counting w (Begin 1 call)) 100 []).world
+after_scene w (Happen events) = run counting_machine w events
+after_scene w Settles = (settle counting_machine w 100 []).world
+after_scene w (Calls call) = (settle counting_machine (happens counting_machine w (Begin 1 call)) 100 []).world
 
 -- and after all parts
 abbrev pub after_scenes : World Counting → List Scene → World Counting
@@ -29,7 +29,7 @@ after_scenes w (scene ∷ scenes) = after_scenes (after_scene w scene) scenes
 
 -- a scenario with so many servers
 abbrev pub played : ℕ → List Scene → World Counting
-played servers scenes = after_scenes (opening counting servers 2) scenes
+played servers scenes = after_scenes (opening_world counting_machine servers 2) scenes
 
 -- two of three servers fail at once, between two calls
 abbrev pub two_fail : List Scene

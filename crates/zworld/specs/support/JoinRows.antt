@@ -2,8 +2,8 @@
 use Rattle.std.specs.Prelude.{List, [], ◌∷◌}
 use Rattle.zworld.specs.declared.event.Event.{Event}
 use Rattle.zworld.specs.declared.event.Event.TheVariants.{Begin, Take, Fail, Join}
-use Rattle.zworld.specs.Counter.{create, exists}
-use Rattle.zworld.specs.RunRows.{m, s1, s2, s3, c1}
+use Rattle.zworld.specs.support.Counter.{create, exists}
+use Rattle.zworld.specs.support.RunRows.{m, s1, s2, s3, c1}
 
 -- one server has an update; s2 joins behind it; client 1 asks s1 when that has handed the state over, and is told to ask s2
 abbrev pub state_is_handed_over : List Event
