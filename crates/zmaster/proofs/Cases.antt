@@ -9,21 +9,8 @@ use Rattle.zserver.specs.declared.process.Process.TheVariants.{Server}
 use Rattle.zserver.specs.View.{Neighbour, MessageOf}
 use Rattle.zmaster.specs.View.{MasterView, is_among, members, is_joining}
 use Rattle.zmaster.specs.Table.{MasterResult, before, MendedChain, mended_chain, mended_chain_behind, without_next, without_first, have_row, joined_row, gone_row, master_step}
+use Rattle.zmaster.proofs.Numbers.{test, numbers_of, later}
 use Rattle.zmaster.specs.support.Cases.{IsMended, Only, First, Last, Between, IsMasterRow, Ignores, Reports, Joins, LeavesOutside, Leaves}
-
--- a test comes out one way or the other
-pub test : (b : Bool) → (b ≡ true) ⊎ (b ≡ false)
-test true = inl refl
-test false = inr refl
-
--- the numbers of a chain
-abbrev numbers : List Neighbour → List ℕ
-numbers chain = map (λ member. member.0) chain
-
--- where the first isn't the one, a later one is
-later : (b c : Bool) → b ≡ false → (b || c) ≡ true → c ≡ true
-later false c first any = any
-later true c first any = absurd (true≢false first)
 
 module _ {M : Type 0} (epoch s : ℕ) where
   -- what is left behind p, and what is told
@@ -44,7 +31,7 @@ module _ {M : Type 0} (epoch s : ℕ) where
   next_case front p k (t ∷ rest) = Between front p k t rest
 
   -- the chain behind p, where s is in it
-  behind_case : (p : Neighbour) (chain : List Neighbour) → is_among s (numbers chain) ≡ true → (front : List Neighbour)
+  behind_case : (p : Neighbour) (chain : List Neighbour) → is_among s (numbers_of chain) ≡ true → (front : List Neighbour)
       → IsMended epoch s (front ++ p ∷ chain) (front ++ p ∷ (behind p.0 chain).0, (behind p.0 chain).1)
   behind_case p [] among front = absurd (true≢false (sym among))
   behind_case p (t ∷ rest) among front = elim (test (t.0 == s)) [
@@ -62,7 +49,7 @@ module _ {M : Type 0} (epoch s : ℕ) where
   ]
 
   -- a chain with s in it
-  mended_case : (chain : List Neighbour) → is_among s (numbers chain) ≡ true → IsMended {M = M} epoch s chain (mended_chain epoch s chain)
+  mended_case : (chain : List Neighbour) → is_among s (numbers_of chain) ≡ true → IsMended {M = M} epoch s chain (mended_chain epoch s chain)
   mended_case [] among = absurd (true≢false (sym among))
   mended_case (t ∷ rest) among = elim (test (t.0 == s)) [
     | inl here ↦
