@@ -1,0 +1,5 @@
+pub mod Everywhere
+pub mod Lasts
+pub mod OtherPosts
+pub mod RowViews
+pub mod Rows

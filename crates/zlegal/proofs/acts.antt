@@ -1,0 +1,3 @@
+pub mod ActedLogs
+pub mod Acting
+pub mod NewItems

@@ -1,0 +1,48 @@
+-- A processed list explains its history, and so every history is explained where every run is sound.
+use Rattle.std.proofs.Common.{◌≡◌, List, [], ◌∷◌, refl, sym, subst}
+use Rattle.std.specs.List.{AllByRecursion}
+use Rattle.ztree.specs.Tree.{Tree}
+use Rattle.ztree.specs.Lawful.{IsLawful}
+use Rattle.ztree.proofs.Lawful.{lawful_opening}
+use Rattle.zcalls.specs.declared.call.Call.{Call}
+use Rattle.zcalls.specs.declared.call.Call.TheVariants.{Update, Query}
+use Rattle.zcalls.proofs.LawfulParts.{IsGood}
+use Rattle.zcalls.proofs.LawfulCalls.{step-good}
+use Rattle.zcalls.proofs.Bounds.{no_sessions}
+use Rattle.zworld.specs.History.{History, Operation}
+use Rattle.zworld.specs.LegalOrder.{does, IsLegalOrder, states_from}
+use Rattle.zworld.specs.PlainTree.{plain_tree}
+use Rattle.zlegal.specs.Plain.{tree, service_of}
+use Rattle.zlegal.specs.Laws.{ItemsExplain}
+use Rattle.zlegal.proofs.order.LegalOrders.{AreOneUpdate, legal_order}
+use Rattle.zlegal.proofs.acts.ActedLogs.{acted_entries_once}
+use Rattle.zworld.specs.Lists.{NoTwo}
+
+-- a call keeps a tree good
+call_good : (t : Tree) (o : Operation) → IsGood t → IsGood (does (service_of tree) t o).0
+call_good t o good = by o.call refl
+  where
+    by : (call : Call) → o.call ≡ call → IsGood (does (service_of tree) t o).0
+    by (Update u) e = rw e (step-good t o.client u good)
+    by (Query q) e = rw e good
+
+-- good trees are lawful
+weaker : (ts : List Tree) → AllByRecursion IsGood ts → AllByRecursion IsLawful ts
+weaker [] h = tt
+weaker (t ∷ ts) h = (h.0.0, weaker ts h.1)
+
+lawful_order : (history : History) (order : List Operation) → IsLegalOrder IsGood plain_tree history order → IsLegalOrder IsLawful plain_tree history order
+lawful_order history order legal = record {
+  begun = legal.begun;
+  once = legal.once;
+  answered = legal.answered;
+  unanswered = legal.unanswered;
+  in_time = legal.in_time;
+  lawful = weaker (states_from plain_tree plain_tree.opening order) legal.lawful;
+}
+
+pub items_explain : ItemsExplain
+items_explain history committed items acted replays rising in_time answered once =
+    let found = legal_order IsGood tree history items (lawful_opening, no_sessions) call_good
+    (subst (NoTwo AreOneUpdate) (sym acted) (acted_entries_once tree committed)) replays rising in_time answered once in
+    (found.0, lawful_order history found.0 found.1)
