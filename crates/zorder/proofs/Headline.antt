@@ -1,5 +1,5 @@
 -- Every history has a legal order, also where failed servers lose what they held.
-use Rattle.std.proofs.Common.{◌≡◌, ℕ, false, List, [], ◌∷◌, refl, sym, ap, ◌∙◌, subst}
+use Rattle.std.proofs.Common.{◌≡◌, List, [], ◌∷◌, refl, sym, ap, ◌∙◌, subst}
 use Rattle.ztree.specs.Tree.{Tree}
 use Rattle.zcalls.specs.Kept.{KeptState}
 use Rattle.zserver.specs.declared.process.Process.{Process}
@@ -16,7 +16,7 @@ use Rattle.zworld.proofs.LogWorlds.{runs_with}
 use Rattle.zlegal.specs.Plain.{tree}
 use Rattle.zlegal.proofs.order.PlainTree.{items_explain}
 use Rattle.zchain.specs.Flow.{LogWorld}
-use Rattle.zchain.specs.Account.{account_after, opening_account}
+use Rattle.zchain.specs.Account.{opening_account}
 use Rattle.zorder.specs.Headline.{EveryHistoryIsExplained, LeadWithLosses, EveryHistoryWithLossesIsExplained}
 use Rattle.zorder.specs.Facts.{account_of}
 use Rattle.zorder.proofs.Runs.{account_world, every_run_is_sound}

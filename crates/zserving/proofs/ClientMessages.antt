@@ -8,7 +8,7 @@ use Rattle.zserver.specs.declared.process.Process.TheVariants.{Server, Client}
 use Rattle.zserver.specs.View.{ServerView, Neighbour}
 use Rattle.zserver.specs.Table.{Taken}
 use Rattle.zserver.specs.Table as server
-use Rattle.zmaster.specs.View.{members, is_among}
+use Rattle.zmaster.specs.View.{members}
 use Rattle.zworld.specs.declared.event.Event.TheVariants.{Take}
 use Rattle.zworld.specs.Lists.{Among, ComesBefore}
 use Rattle.zworld.specs.Links.{without_front}
@@ -18,13 +18,14 @@ use Rattle.zlegal.specs.Prefix.{IsPrefix}
 use Rattle.zlegal.specs.Items.{Item, new_items}
 use Rattle.zchain.specs.Flow.{LogWorld, LogMessage, Log, or_else, log_at, final_log_by, final_log, first_snapshot_by, first_log, length_of}
 use Rattle.zchain.specs.Last.{HasExactLast}
-use Rattle.zchain.specs.Chain.{IsMember, IsAhead}
+use Rattle.zchain.specs.Chain.{IsAhead}
 use Rattle.zchain.specs.Messages.{IsJustified}
 use Rattle.zchain.specs.Account.{Account, tail_log, committed_after, query_items_by, query_items_of_front, query_items, account_by}
 use Rattle.zchain.specs.Sound.{IsSound, IsSoundAfter}
-use Rattle.zlegal.proofs.lists.Tests.{test, left_of}
+use Rattle.zlegal.proofs.lists.Tests.{left_of}
 use Rattle.zlegal.proofs.lists.Prefixes.{prefix_same, prefix_append}
 use Rattle.zchain.proofs.links.Links.{at_same}
+use Rattle.zchain.proofs.places.Pairs.{log_member}
 use Rattle.zchain.proofs.rows.Rows.{IsAccepted, IsRow, takes_row}
 use Rattle.zchain.proofs.rows.Rows.IsAccepted.{Processes, Forwards}
 use Rattle.zchain.proofs.rows.Rows.IsRow.{Ignores, Submits, Updates, Asks, Acknowledges, Shows, Turns, Follows, Leads, Ends}
@@ -95,15 +96,6 @@ module _ {P : Type 0} (plain : Plain P) (t : Account) (s : IsSound plain t) (c y
   pub justified : IsJustified w t.items (Client c) (Server y) m
   justified = s.justified (Client c) (Server y) m (subst (Among m) (sym link) (inl refl))
 
-  -- who has a log is a member
-  pub member_of : (log : List Entry) → old.machine ≡ Some log → IsMember w y
-  member_of log has = elim (test (is_among y w.master.used)) [
-    | inl used ↦ s.live y used alive
-    | inr f ↦
-        let blank = (s.blank y (λ h. cc (f, h))).0 in
-        let none : ◌≡◌ {A = Log} None (Some log) = sym (ap (λ (u : ServerView (List Entry)). u.machine) blank) ∙ has in absurd (cc none)
-  ]
-
   same_upper : (log : Log) (pred : Option Neighbour) → final_log_by w1 y log pred ≡ final_log_by w y log pred
   same_upper log None = refl
   same_upper log (Some pred) = refl
@@ -117,7 +109,7 @@ module _ {P : Type 0} (plain : Plain P) (t : Account) (s : IsSound plain t) (c y
     | inl same ↦ s.ordered x y before log
         (sym (same_upper old.machine old.pred) ∙ (λ i. final_log_by w1 y (sym same i) (sym stay.0 i))
         ∙ sym (ap (λ (u : ServerView (List Entry)). final_log_by w1 y u.machine u.pred) (at_same y taken.0 w.servers)) ∙ is)
-    | inr new ↦ absurd (head_is_first w s.line s.distinct y (member_of new.log new.has) new.log new.has new.head x before)
+    | inr new ↦ absurd (head_is_first w s.line s.distinct y (log_member w s.blank s.live y alive new.log new.has) new.log new.has new.head x before)
   ]
 
   grows : (log : List Entry) → log_at w y ≡ Some log → (new : List Entry) × (taken.0.machine ≡ Some new) × IsPrefix log new
@@ -166,7 +158,7 @@ module _ {P : Type 0} (plain : Plain P) (t : Account) (s : IsSound plain t) (c y
     row_puts from m' r (Ignores from' m'') is is_m f sound = sound
     row_puts from m' r (Submits d number update mine r' has head room did) is is_m f sound =
         accepted_puts plain t (Client c) y mine (old.last + 1) (record { client = d; number = number; update = update }) r did
-        (ap (λ l. l + 1) (exact ∙ ap length_of has)) (member_of mine has) f (λ x k succ. s.successors y x k succ) sound
+        (ap (λ l. l + 1) (exact ∙ ap length_of has)) (log_member w s.blank s.live y alive mine has) f (λ x k succ. s.successors y x k succ) sound
     row_puts from m' r (Updates q epoch n e mine r' has pred next room did) is is_m f sound = cc
     row_puts from m' r (Asks d number query mine has tail) is is_m f sound =
         let tail_is : tail_log old ≡ Some mine = ap (λ x. if is_none x then old.machine else None) tail ∙ has in

@@ -35,11 +35,12 @@ use Rattle.zchain.proofs.links.Links.{at_same, at_cases}
 use Rattle.zlegal.proofs.order.LegalOrders.{in_time_more}
 use Rattle.zlegal.proofs.acts.ActedLogs.{after_items, after_calls, acted_leads, items_lead, replays_more}
 use Rattle.zlegal.proofs.acts.NewItems.{updates_more}
+use Rattle.zchain.proofs.places.Pairs.{log_member}
 use Rattle.zchain.proofs.steps.Puts.{account_with_put, put_unread, unread_foreign}
 use Rattle.zchain.proofs.steps.Takes.{with_view, committed_view}
 use Rattle.zchain.proofs.steps.Views.{IsGoodView, view_sound}
 use Rattle.zchain.proofs.steps.ServerSteps.{tail_log_is}
-use Rattle.zserving.proofs.ClientMessages.{good_view, shows, justified, member_of}
+use Rattle.zserving.proofs.ClientMessages.{good_view, shows, justified}
 
 -- what a tail does with a query
 query_by : (does : Does (List Entry)) (machine : Log) (last : ℕ) (sent : List (ℕ × Entry)) (pred succ : Option Neighbour) (c number : ℕ) (query : Query) (log : List Entry)
@@ -85,7 +86,7 @@ module _ {P : Type 0} (plain : Plain P) (t : Account) (s : IsSound plain t) (c y
 
   -- the tail holds what is committed
   is_committed : log ≡ t.committed
-  is_committed = s.tail y log (member_of plain t s c y m rest link exact alive log tail.0) tail.0 tail.1
+  is_committed = s.tail y log (log_member w s.blank s.live y alive log tail.0) tail.0 tail.1
 
   good : IsGoodView w (Client c) y old
   good = subst (IsGoodView w (Client c) y) (ap (λ (r : Taken (List Entry)). r.0) does) (good_view plain t s c y m rest link exact alive)

@@ -9,7 +9,6 @@ use Rattle.zserver.specs.declared.process.Process.TheVariants.{Master, Server}
 use Rattle.zserver.specs.View.{ServerView, Post}
 use Rattle.zserver.specs.Table.{Taken, acks, answers}
 use Rattle.zserver.specs.Table as server
-use Rattle.zmaster.specs.View.{is_among}
 use Rattle.zworld.specs.declared.event.Event.TheVariants.{Take}
 use Rattle.zworld.specs.Lists.{Among}
 use Rattle.zworld.specs.History.{HasBegun}
@@ -18,16 +17,16 @@ use Rattle.zworld.specs.Events.{takes}
 use Rattle.zlegal.specs.Plain.{Plain, log_machine, operation_of}
 use Rattle.zlegal.specs.Items.{Item, IsGiven, new_items}
 use Rattle.zlegal.specs.Acted.{acted_entries}
-use Rattle.zchain.specs.Flow.{LogWorld, LogMessage, Log, log_at, length_of}
+use Rattle.zchain.specs.Flow.{LogWorld, LogMessage, length_of}
 use Rattle.zchain.specs.Last.{HasExactLast}
 use Rattle.zchain.specs.Chain.{IsMember, IsOpened}
 use Rattle.zchain.specs.Messages.{IsJustified}
 use Rattle.zchain.specs.Account.{Account, tail_log, committed_after, account_by}
 use Rattle.zchain.specs.Sound.{IsSound, IsSoundAfter}
-use Rattle.zlegal.proofs.lists.Tests.{test}
 use Rattle.zlegal.proofs.lists.Members.{among_cases}
 use Rattle.zchain.proofs.links.Links.{at_same}
 use Rattle.zlegal.proofs.acts.ActedLogs.{reply_is_acted}
+use Rattle.zchain.proofs.places.Pairs.{log_member}
 use Rattle.zchain.proofs.rows.Rows.{IsAccepted, IsRow, takes_row}
 use Rattle.zchain.proofs.rows.Rows.IsAccepted.{Processes, Forwards}
 use Rattle.zchain.proofs.rows.Rows.IsRow.{Ignores, Submits, Updates, Asks, Acknowledges, Shows, Turns, Follows, Leads, Ends}
@@ -74,22 +73,13 @@ module _ {P : Type 0} (plain : Plain P) (t : Account) (s : IsSound plain t) (p y
   abbrev taken : Taken (List Entry)
   taken = server.takes (log_machine plain) (t.world.servers y) (Server p) m
 
-  -- who has a log is a member
-  pub has_log_member : (log : List Entry) → log_at w y ≡ Some log → IsMember w y
-  has_log_member log has = elim (test (is_among y w.master.used)) [
-    | inl used ↦ s.live y used alive
-    | inr f ↦
-        let blank = (s.blank y (λ h. cc (f, h))).0 in
-        let none : ◌≡◌ {A = Log} None (Some log) = sym (ap (λ (u : ServerView (List Entry)). u.machine) blank) ∙ has in absurd (cc none)
-  ]
-
   row_puts : (from : Process) (m' : LogMessage) (r : Taken (List Entry)) → IsRow (log_machine plain) (w.servers y) from m' r → from ≡ Server p
       → IsJustified w t.items from (Server y) m'
       → IsSound plain (account_with_view plain t (Server p) y r.0) → IsSound plain (account_with_puts (account_with_view plain t (Server p) y r.0) y r.1)
   row_puts from m' r (Ignores from' m'') is justified sound = sound
   row_puts from m' r (Submits c number update mine r' has head room did) is justified sound = cc
   row_puts from m' r (Updates q epoch n e mine r' has pred next room did) is justified sound =
-      accepted_puts plain t (Server p) y mine n e r did (next ∙ ap (λ l. l + 1) (exact ∙ ap length_of has)) (has_log_member mine has) justified.1
+      accepted_puts plain t (Server p) y mine n e r did (next ∙ ap (λ l. l + 1) (exact ∙ ap length_of has)) (log_member w s.blank s.live y alive mine has) justified.1
       (λ x k succ. s.successors y x k succ) sound
   row_puts from m' r (Asks c number query mine has tail) is justified sound = cc
   row_puts from m' r (Acknowledges q epoch n succ) is justified sound =

@@ -1,15 +1,25 @@
 -- Members and their predecessors: a member whose predecessor is a member has it in the master's mind too.
 use Rattle.std.proofs.Common.{◌≡◌, ◌⊎◌, ℕ, false, ◌==◌, List, [], ◌∷◌, ◌++◌, map, Option, Some, None, refl, sym, ap, ◌∙◌, subst, inl, inr, eq-eqb}
 use Rattle.std.specs.Prelude.{◌&&◌, is_none}
-use Rattle.zserver.specs.View.{Neighbour}
-use Rattle.zmaster.specs.View.{members}
+use Rattle.zcalls.specs.declared.call.Entry.{Entry}
+use Rattle.zserver.specs.View.{ServerView, Neighbour}
+use Rattle.zmaster.specs.View.{members, is_among}
 use Rattle.zworld.specs.Lists.{Among, ComesBefore, NoTwo}
-use Rattle.zchain.specs.Flow.{LogWorld, log_at}
+use Rattle.zchain.specs.Flow.{LogWorld, Log, log_at}
 use Rattle.zchain.specs.Chain.{Place, place_behind, place_from, queue, IsPair, IsPast, IsMember, LeadsTo, is_fresh}
-use Rattle.zchain.specs.Sound.{OrdersLead, AreDistinct}
+use Rattle.zchain.specs.Sound.{OrdersLead, AreDistinct, UnusedAreBlank, LiveAreMembers}
 use Rattle.zlegal.proofs.lists.Tests.{test}
 use Rattle.zlegal.proofs.lists.Places.{stands_before, before_next}
 use Rattle.zchain.proofs.places.Orders.{settled, place_splits_chain}
+
+-- a server that lives and has a log is a member
+pub log_member : (w : LogWorld) → UnusedAreBlank w → LiveAreMembers w → (s : ℕ) → w.failed s ≡ false → (log : List Entry) → log_at w s ≡ Some log → IsMember w s
+log_member w blank live s alive log has = elim (test (is_among s w.master.used)) [
+  | inl used ↦ live s used alive
+  | inr f ↦
+      let view = (blank s (λ h. cc (f, h))).0 in
+      let none : ◌≡◌ {A = Log} None (Some log) = sym (ap (λ (u : ServerView (List Entry)). u.machine) view) ∙ has in absurd (cc none)
+]
 
 -- a member has a place
 pub has_place : (before : Option ℕ) (chain : List Neighbour) (s : ℕ) → Among s (map (λ (m : Neighbour). m.0) chain) → (place : Place) × (place_from before chain s ≡ Some place)

@@ -21,7 +21,7 @@ abbrev pub AreOneCall : Item → Item → Type 0
 AreOneCall i j = IsSameCall i.operation j.operation
 
 -- the call of a number that began is one call
-one_call : (h : History) → EventsDiffer h → (a b : Operation) → HasBegun h a → HasBegun h b → IsSameCall a b → a.call ≡ b.call
+pub one_call : (h : History) → EventsDiffer h → (a b : Operation) → HasBegun h a → HasBegun h b → IsSameCall a b → a.call ≡ b.call
 one_call h once a b x y same =
     let is = only_one IsSameEvent h once (Begin a.client a.number a.call) (Begin b.client b.number b.call) x y same (sym same.0, sym same.1) in cc
 
