@@ -1,10 +1,14 @@
+pub mod Change
 pub mod Part
 pub mod Multi
 pub mod Step
 pub mod Kept
 pub mod PlainTree
+pub mod Lists
+pub mod Operation
+pub mod Acts
 pub mod KeptLaws
-pub mod KeptRows
+pub mod Rows
 pub mod Bounds
 pub mod Laws
 pub mod CallRuns

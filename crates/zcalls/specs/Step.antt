@@ -13,11 +13,11 @@ use Rattle.zcalls.specs.declared.call.Query.{Query}
 use Rattle.zcalls.specs.declared.call.Query.TheVariants as query
 use Rattle.zcalls.specs.declared.refusal.Refusal.{Refusal}
 use Rattle.zcalls.specs.declared.refusal.Refusal.TheVariants.{NoNode, NodeExists, NotEmpty, BadVersion, NoChildrenForEphemerals, SessionGone, SequenceFull, PathLimit, RootFixed, Full, TooManySessions, Exhausted}
-use Rattle.zcalls.specs.declared.reply.PartReply.{PartReply}
-use Rattle.zcalls.specs.declared.reply.PartReply.TheVariants as part_reply
+use Rattle.zcalls.specs.declared.change.ChangeReply.{ChangeReply}
 use Rattle.zcalls.specs.declared.reply.Reply.{Reply}
 use Rattle.zcalls.specs.declared.reply.Reply.TheVariants as reply
-use Rattle.zcalls.specs.Part.{create_part, delete_part, set_part, is_gone}
+use Rattle.zcalls.specs.Change.{reply_of}
+use Rattle.zcalls.specs.Part.{create_step, delete_step, set_step, is_gone}
 use Rattle.zcalls.specs.Multi.{Run, run}
 
 -- the word for a refusal
@@ -41,17 +41,10 @@ is_exhausted t (Ping session) = false
 is_exhausted t Tick = nat_le (2 ^ 40 - 1) t.zxid || nat_le (2 ^ 40 - 1) t.time
 is_exhausted t update = nat_le (2 ^ 40 - 1) t.zxid
 
--- the reply to a call of one part; no call is a check alone
-abbrev pub reply_of : PartReply → Reply
-reply_of (part_reply.Created path) = reply.Created path
-reply_of part_reply.Deleted = reply.Deleted
-reply_of (part_reply.Set stat) = reply.Set stat
-reply_of part_reply.Checked = reply.Multi []
-
--- a change of one part: refused, it leaves the tree; done, it takes the next number
-abbrev pub part_result : Tree → Result (Tree × PartReply) Refusal → Tree × Reply
-part_result t (Err refusal) = (t, reply.Refused refusal)
-part_result t (Ok (u, done)) = (with_next_zxid u, reply_of done)
+-- a change of one node: refused, it leaves the tree; done, it takes the next number
+abbrev pub change_result : Tree → Result (Tree × ChangeReply) Refusal → Tree × Reply
+change_result t (Err refusal) = (t, reply.Refused refusal)
+change_result t (Ok (u, did)) = (with_next_zxid u, reply_of did)
 
 -- a multi: refused in one part, it leaves the very same tree; done, it takes one number for all
 abbrev pub multi_result : Tree → Run → Tree × Reply
@@ -79,10 +72,10 @@ tick_result t (id ∷ ids) = (with_next_zxid (with_next_tick (without_sessions t
 
 -- an update of a client, while there is a next number
 abbrev pub update_result : Tree → ℕ → Update → Tree × Reply
-update_result t client (Create create) = part_result t (create_part t client create)
-update_result t client (Delete delete) = part_result t (delete_part t delete)
-update_result t client (SetData set) = part_result t (set_part t set)
-update_result t client (Multi parts) = multi_result t (run t client [] parts)
+update_result t client (Create create) = change_result t (create_step t client create)
+update_result t client (Delete delete) = change_result t (delete_step t delete)
+update_result t client (SetData set) = change_result t (set_step t set)
+update_result t client (Multi parts) = multi_result t (run t client parts)
 update_result t client (Open ticks) = open_result t client (granted_timeout ticks)
 update_result t client (Ping session) = session_result t client session (with_renewed_session t session, reply.Pinged)
 update_result t client (Close session) = session_result t client session (with_next_zxid (without_session t session), reply.Closed)

@@ -1,5 +1,6 @@
 //! Calls.
 
+use crate::call_number::CallNumber;
 use crate::multi::Multi;
 use zpath::Path;
 use ztree::{ClientId, Data};
@@ -153,8 +154,8 @@ pub enum Call {
 pub struct Entry {
     /// Who asks.
     pub client: ClientId,
-    /// The client's number of the call, from 1 on.
-    pub number: u64,
+    /// The client's number of the call.
+    pub number: CallNumber,
     /// What is asked for.
     pub update: Update,
 }

@@ -2,7 +2,6 @@
 
 use crate::listed::{Names, Replies};
 use crate::refusal::Refusal;
-use std::alloc::Global;
 use zpath::Path;
 use ztree::{Data, Stat};
 
@@ -48,21 +47,4 @@ pub enum Reply {
     Refused(Refusal),
     /// The multi was refused, since this part of it, counted from 1, was.
     MultiRefused(usize, Refusal),
-}
-
-impl PartReply {
-    ghost use Rattle.std.specs.Prelude.{◌≡◌};
-    ghost use Rattle.zcalls.specs.Step.{reply_of};
-
-    /// The reply to a call of this one part. No call is a check alone.
-    pub fn into_reply(self, alloc: Global) -> Reply
-        ensures { result ≡ reply_of self }
-    {
-        match self {
-            PartReply::Created(path) => Reply::Created(path),
-            PartReply::Deleted => Reply::Deleted,
-            PartReply::Set(stat) => Reply::Set(stat),
-            PartReply::Checked => Reply::Multi(Replies::new(Vec::new(alloc))),
-        }
-    }
 }

@@ -1,1 +1,4 @@
 pub mod Projection
+pub mod Numbers
+pub mod Cases
+pub mod Bounds

@@ -9,5 +9,5 @@ mod laws;
 mod rows;
 
 pub use join_fault::JoinFault;
-pub use laws::master_looks_at_no_machine;
+pub use laws::{epochs_are_few, master_looks_at_no_machine};
 pub use rows::{chain_is_mended, opening_and_ends, reports_are_passed_on, servers_join};

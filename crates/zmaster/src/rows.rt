@@ -6,43 +6,43 @@ ghost use Rattle.zserver.specs.declared.message.Message.TheVariants as message;
 ghost use Rattle.zserver.specs.declared.process.Process.TheVariants.{Master, Server, Client};
 ghost use Rattle.zmaster.specs.declared.join_fault.JoinFault.TheVariants.{Used, Joining, NoChain, Lost};
 ghost use Rattle.zmaster.specs.View.{opening_master, head_of, tail_of};
-ghost use Rattle.zmaster.specs.Table.{takes, joins, join_fault};
-ghost use Rattle.zmaster.specs.Rows.{master, three, four, growing, one, lost, empty, tells};
+ghost use Rattle.zmaster.specs.Table.{master_step, join_step, join_fault};
+ghost use Rattle.zmaster.specs.support.Rows.{master, three, four, growing, one, lost, empty, tells};
 
 /// What the master does with a server's report of its log, and when a new server has the state.
-#[tactic(auto, unfolding(crate::specs::Table::takes, crate::specs::Table::takes_have, crate::specs::Table::takes_joined))]
+#[tactic(auto, unfolding(crate::specs::Table::master_step, crate::specs::Table::have_row, crate::specs::Table::joined_row))]
 pub fn reports_are_passed_on()
-    ensures have { takes {M = ℕ} three (Server 4) (message.Have 5 (Some 9)) ≡ (three, (Server 2, message.NewSucc 5 4 (Some 9)) ∷ []) }
-    ensures have_no_state { takes {M = ℕ} growing (Server 4) (message.Have 5 None) ≡ (growing, (Server 2, message.NewSucc 5 4 None) ∷ []) }
-    ensures have_of_old_epoch { takes {M = ℕ} three (Server 4) (message.Have 3 (Some 9)) ≡ (three, []) }
-    ensures have_of_the_head { takes {M = ℕ} three (Server 1) (message.Have 0 (Some 9)) ≡ (three, []) }
-    ensures have_of_a_stranger { takes {M = ℕ} three (Server 3) (message.Have 5 (Some 9)) ≡ (three, []) }
-    ensures have_of_a_client { takes {M = ℕ} three (Client 4) (message.Have 5 (Some 9)) ≡ (three, []) }
-    ensures joined { takes {M = ℕ} growing (Server 4) (message.Joined 5) ≡ (record growing { joining = None; epoch = 7 }, tells (Some 1) (Some 4)) }
-    ensures joined_of_another { takes {M = ℕ} growing (Server 2) (message.Joined 5) ≡ (growing, []) }
-    ensures joined_again { takes {M = ℕ} three (Server 4) (message.Joined 5) ≡ (three, []) }
-    ensures order_of_a_server { takes {M = ℕ} three (Server 1) (message.BecomeTail 7) ≡ (three, []) }
+    ensures have { master_step {M = ℕ} three (Server 4) (message.Have 5 (Some 9)) ≡ (three, (Server 2, message.NewSucc 5 4 (Some 9)) ∷ []) }
+    ensures have_no_state { master_step {M = ℕ} growing (Server 4) (message.Have 5 None) ≡ (growing, (Server 2, message.NewSucc 5 4 None) ∷ []) }
+    ensures have_of_old_epoch { master_step {M = ℕ} three (Server 4) (message.Have 3 (Some 9)) ≡ (three, []) }
+    ensures have_of_the_head { master_step {M = ℕ} three (Server 1) (message.Have 0 (Some 9)) ≡ (three, []) }
+    ensures have_of_a_stranger { master_step {M = ℕ} three (Server 3) (message.Have 5 (Some 9)) ≡ (three, []) }
+    ensures have_of_a_client { master_step {M = ℕ} three (Client 4) (message.Have 5 (Some 9)) ≡ (three, []) }
+    ensures joined { master_step {M = ℕ} growing (Server 4) (message.Joined 5) ≡ (record growing { joining = None; epoch = 7 }, tells (Some 1) (Some 4)) }
+    ensures joined_of_another { master_step {M = ℕ} growing (Server 2) (message.Joined 5) ≡ (growing, []) }
+    ensures joined_again { master_step {M = ℕ} three (Server 4) (message.Joined 5) ≡ (three, []) }
+    ensures order_of_a_server { master_step {M = ℕ} three (Server 1) (message.BecomeTail 7) ≡ (three, []) }
 {}
 
 /// How the master mends the chain when a server has failed, and whom it tells.
-#[tactic(auto, unfolding(crate::specs::Table::takes, crate::specs::Table::takes_gone))]
+#[tactic(auto, unfolding(crate::specs::Table::master_step, crate::specs::Table::gone_row))]
 pub fn chain_is_mended()
-    ensures first { takes {M = ℕ} three (Server 1) message.Gone ≡ (record three { chain = (2, 3) ∷ (4, 5) ∷ []; epoch = 7 }, (Server 2, message.BecomeHead 7) ∷ tells (Some 2) (Some 4)) }
-    ensures last { takes {M = ℕ} three (Server 4) message.Gone ≡ (record three { chain = (1, 0) ∷ (2, 3) ∷ []; epoch = 7 }, (Server 2, message.BecomeTail 7) ∷ tells (Some 1) (Some 2)) }
-    ensures middle { takes {M = ℕ} three (Server 2) message.Gone ≡ (record three { chain = (1, 0) ∷ (4, 7) ∷ []; epoch = 7 }, (Server 4, message.NewPred 7 1) ∷ tells (Some 1) (Some 4)) }
-    ensures middle_of_four { takes {M = ℕ} four (Server 3) message.Gone ≡ (record four { chain = (1, 0) ∷ (2, 3) ∷ (4, 7) ∷ []; epoch = 7 }, (Server 4, message.NewPred 7 2) ∷ tells (Some 1) (Some 4)) }
-    ensures second_of_four { takes {M = ℕ} four (Server 2) message.Gone ≡ (record four { chain = (1, 0) ∷ (3, 7) ∷ (4, 5) ∷ []; epoch = 7 }, (Server 3, message.NewPred 7 1) ∷ tells (Some 1) (Some 4)) }
-    ensures joining { takes {M = ℕ} growing (Server 4) message.Gone ≡ (record growing { chain = (1, 0) ∷ (2, 3) ∷ []; joining = None; epoch = 7 }, (Server 2, message.BecomeTail 7) ∷ tells (Some 1) (Some 2)) }
-    ensures beneath_one_that_joins { takes {M = ℕ} growing (Server 2) message.Gone ≡ (record growing { chain = (1, 0) ∷ (4, 7) ∷ []; epoch = 7 }, (Server 4, message.NewPred 7 1) ∷ tells (Some 1) (Some 1)) }
-    ensures only { takes {M = ℕ} one (Server 2) message.Gone ≡ (record one { chain = []; epoch = 7 }, tells None None) }
-    ensures outside { takes {M = ℕ} three (Server 3) message.Gone ≡ (three, []) }
-    ensures spare { takes {M = ℕ} three (Server 5) message.Gone ≡ (record three { used = 1 ∷ 2 ∷ 3 ∷ 4 ∷ 5 ∷ [] }, []) }
+    ensures first { master_step {M = ℕ} three (Server 1) message.Gone ≡ (record three { chain = (2, 3) ∷ (4, 5) ∷ []; epoch = 7 }, (Server 2, message.BecomeHead 7) ∷ tells (Some 2) (Some 4)) }
+    ensures last { master_step {M = ℕ} three (Server 4) message.Gone ≡ (record three { chain = (1, 0) ∷ (2, 3) ∷ []; epoch = 7 }, (Server 2, message.BecomeTail 7) ∷ tells (Some 1) (Some 2)) }
+    ensures middle { master_step {M = ℕ} three (Server 2) message.Gone ≡ (record three { chain = (1, 0) ∷ (4, 7) ∷ []; epoch = 7 }, (Server 4, message.NewPred 7 1) ∷ tells (Some 1) (Some 4)) }
+    ensures middle_of_four { master_step {M = ℕ} four (Server 3) message.Gone ≡ (record four { chain = (1, 0) ∷ (2, 3) ∷ (4, 7) ∷ []; epoch = 7 }, (Server 4, message.NewPred 7 2) ∷ tells (Some 1) (Some 4)) }
+    ensures second_of_four { master_step {M = ℕ} four (Server 2) message.Gone ≡ (record four { chain = (1, 0) ∷ (3, 7) ∷ (4, 5) ∷ []; epoch = 7 }, (Server 3, message.NewPred 7 1) ∷ tells (Some 1) (Some 4)) }
+    ensures joining { master_step {M = ℕ} growing (Server 4) message.Gone ≡ (record growing { chain = (1, 0) ∷ (2, 3) ∷ []; joining = None; epoch = 7 }, (Server 2, message.BecomeTail 7) ∷ tells (Some 1) (Some 2)) }
+    ensures beneath_one_that_joins { master_step {M = ℕ} growing (Server 2) message.Gone ≡ (record growing { chain = (1, 0) ∷ (4, 7) ∷ []; epoch = 7 }, (Server 4, message.NewPred 7 1) ∷ tells (Some 1) (Some 1)) }
+    ensures only { master_step {M = ℕ} one (Server 2) message.Gone ≡ (record one { chain = []; epoch = 7 }, tells None None) }
+    ensures outside { master_step {M = ℕ} three (Server 3) message.Gone ≡ (three, []) }
+    ensures spare { master_step {M = ℕ} three (Server 5) message.Gone ≡ (record three { used = 1 ∷ 2 ∷ 3 ∷ 4 ∷ 5 ∷ [] }, []) }
 {}
 
 /// How a server joins, and why it can't.
-#[tactic(auto, unfolding(crate::specs::Table::joins, crate::specs::Table::join_fault))]
+#[tactic(auto, unfolding(crate::specs::Table::join_step, crate::specs::Table::join_fault))]
 pub fn servers_join()
-    ensures joins { joins {M = ℕ} three 5 ≡ (record three { chain = (1, 0) ∷ (2, 3) ∷ (4, 5) ∷ (5, 7) ∷ []; joining = Some 5; used = 1 ∷ 2 ∷ 3 ∷ 4 ∷ 5 ∷ []; epoch = 7 }, (Server 5, message.NewPred 7 4) ∷ []) }
+    ensures joins { join_step {M = ℕ} three 5 ≡ (record three { chain = (1, 0) ∷ (2, 3) ∷ (4, 5) ∷ (5, 7) ∷ []; joining = Some 5; used = 1 ∷ 2 ∷ 3 ∷ 4 ∷ 5 ∷ []; epoch = 7 }, (Server 5, message.NewPred 7 4) ∷ []) }
     ensures allowed { join_fault three 5 ≡ None }
     ensures used { join_fault three 3 ≡ Some Used }
     ensures used_before_all { join_fault growing 4 ≡ Some Used }

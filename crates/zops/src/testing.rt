@@ -1,8 +1,8 @@
 //! What the tests share: calls made of words, and answers in words.
 
 use crate::{
-    ClientId, Create, Data, Entry, Kind, MAX_APPLIED, Machine, Multi, Part, PartReply, Query,
-    Reply, Stat, Update,
+    CallNumber, ClientId, Create, Data, Entry, Kind, MAX_APPLIED, Machine, Multi, Part, PartReply,
+    Query, Reply, Stat, Update,
 };
 use std::alloc::Global;
 use std::process::Abort;
@@ -98,9 +98,10 @@ pub(crate) fn apply(
 ) -> Result<(), Fail> {
     let client = ClientId::new(client).ok_or("there is such a client")?;
     assert!(rt; machine.applied() < MAX_APPLIED);
+    let number = CallNumber::new(1).ok_or("there is such a number")?;
     let reply = machine.apply(Entry {
         client,
-        number: 1,
+        number,
         update,
     })?;
     let reply = reply.ok_or("an update has a reply")?;

@@ -1,3 +1,4 @@
 pub mod Fields
 pub mod Projection
 pub mod Answering
+pub mod Cases

@@ -1,7 +1,7 @@
 //! What holds of the definitions themselves: each function's contract is a law, and its body does nothing.
 
 ghost use Rattle.zserver.specs.Machine.{kept_tree};
-ghost use Rattle.zserver.specs.Homomorphism.{LogStandsForMachine, TableKeepsLogs};
+ghost use Rattle.zserver.specs.support.Homomorphism.{LogStandsForMachine, TableKeepsLogs};
 ghost use Rattle.zserver.specs.Laws.{OnlyTailsAnswer};
 
 /// A log of entries stands for the tree with kept replies that it leads to: the log replies as that tree

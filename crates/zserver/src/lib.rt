@@ -6,6 +6,7 @@
 
 mod epoch;
 mod laws;
+mod limits;
 mod log_number;
 mod message;
 mod process;
@@ -15,12 +16,13 @@ mod view_rows;
 
 pub use epoch::Epoch;
 pub use laws::{logs_stand_for_trees, only_tails_answer};
+pub use limits::{MAX_EPOCH, MAX_LOG_NUMBER, MAX_SERVERS};
 pub use log_number::LogNumber;
 pub use message::Message;
 pub use process::Process;
 pub use rows::{
     middle_ignores, neighbours_change, state_is_handed_over, tail_answers, updates_go_down,
 };
-pub use server_id::{MAX_SERVERS, ServerId};
+pub use server_id::ServerId;
 pub use view_rows::{log_replies_as_its_machine, opening_views, roles_of_servers};
 pub use zcalls::{CallNumber, ClientId};

@@ -1,28 +1,28 @@
 -- What the worked runs open: every row of the three tables. A proof that opens one of these opens the rows on its line.
 use Rattle.std.specs.Prelude.{ℕ}
-use Rattle.zserver.specs.Table.{takes, takes_submit, takes_query, takes_update, takes_ack, takes_snapshot}
-use Rattle.zserver.specs.Table.{takes_new_pred, takes_new_succ, becomes_head, becomes_tail, accept}
+use Rattle.zserver.specs.Table.{server_step, submit_row, query_row, update_row, ack_row, snapshot_row}
+use Rattle.zserver.specs.Table.{new_pred_row, new_succ_row, become_head_row, become_tail_row, accept_result}
 use Rattle.zmaster.specs.Table as master
 use Rattle.zclient.specs.Table as client
 
 -- the server table: what comes from clients and servers
 unfoldable pub chain_rows : ℕ
-unfolding takes accept takes_submit takes_query takes_update takes_ack takes_snapshot
+unfolding server_step accept_result submit_row query_row update_row ack_row snapshot_row
 chain_rows = 0
 
 -- the server table: what comes from the master
 unfoldable pub repair_rows : ℕ
-unfolding takes_new_pred takes_new_succ becomes_head becomes_tail
+unfolding new_pred_row new_succ_row become_head_row become_tail_row
 repair_rows = 0
 
 -- the master table
 unfoldable pub master_rows : ℕ
-unfolding master.takes master.takes_have master.takes_joined master.takes_gone master.joins master.join_fault
+unfolding master.master_step master.have_row master.joined_row master.gone_row master.join_step master.join_fault
 master_rows = 0
 
 -- the client table
 unfoldable pub client_rows : ℕ
-unfolding client.takes client.takes_answer client.takes_config client.begins client.begin_fault client.retries
+unfolding client.client_step client.answer_row client.config_row client.begin_step client.begin_fault client.retry_posts
 client_rows = 0
 
 -- all tables

@@ -15,18 +15,18 @@ pub record Service (P : Type 0) : Type 0 where
   pub step : P → ℕ → Call → P × Reply
 
 -- what the service does at an operation, and answers
-abbrev pub does : {P : Type 0} → Service P → P → Operation → P × Reply
-does service p o = service.step p o.client o.call
+abbrev pub operation_step : {P : Type 0} → Service P → P → Operation → P × Reply
+operation_step service p o = service.step p o.client o.call
 
 -- the operations one after the other from a state, each with the reply that it gets
 abbrev pub replies_from : {P : Type 0} → Service P → P → List Operation → List (Operation × Reply)
 replies_from service p [] = []
-replies_from service p (o ∷ os) = (o, (does service p o).1) ∷ replies_from service (does service p o).0 os
+replies_from service p (o ∷ os) = (o, (operation_step service p o).1) ∷ replies_from service (operation_step service p o).0 os
 
 -- the states on the way, the first and the last among them
 abbrev pub states_from : {P : Type 0} → Service P → P → List Operation → List P
 states_from service p [] = p ∷ []
-states_from service p (o ∷ os) = p ∷ states_from service (does service p o).0 os
+states_from service p (o ∷ os) = p ∷ states_from service (operation_step service p o).0 os
 
 -- the two are one call: the same client has one number for them
 abbrev pub IsSameCall : Operation → Operation → Type 0

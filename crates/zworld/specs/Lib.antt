@@ -7,13 +7,6 @@ pub mod World
 pub mod Events
 pub mod Reading
 pub mod Settle
-pub mod SettleLaws
-pub mod LogWorld
 pub mod Alike
-pub mod Counter
-pub mod OrderRows
-pub mod RunRows
-pub mod RepairRows
-pub mod JoinRows
-pub mod SettleRows
-pub mod ScenarioRows
+pub mod Laws
+pub mod support

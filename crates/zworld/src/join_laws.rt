@@ -6,10 +6,10 @@ ghost use Rattle.zmaster.specs.declared.join_fault.JoinFault.TheVariants.{Joinin
 ghost use Rattle.zmaster.specs.Table.{join_fault};
 ghost use Rattle.zworld.specs.declared.event.Event.TheVariants.{Join};
 ghost use Rattle.zworld.specs.declared.history.CallEvent.TheVariants as saw;
-ghost use Rattle.zworld.specs.Counter.{create, exists, made, counted};
+ghost use Rattle.zworld.specs.support.Counter.{create, exists, name_reply, count_reply};
 ghost use Rattle.zworld.specs.Events.{is_enabled};
-ghost use Rattle.zworld.specs.RunRows.{after, seen, link, view, m, s1, s2, s3, c1};
-ghost use Rattle.zworld.specs.JoinRows.{state_is_handed_over, snapshot_is_stale, state_is_lost};
+ghost use Rattle.zworld.specs.support.RunRows.{after, seen, link, view, m, s1, s2, s3, c1};
+ghost use Rattle.zworld.specs.support.JoinRows.{state_is_handed_over, snapshot_is_stale, state_is_lost};
 
 /// A server joins behind the tail: from the event on in which the old tail puts its snapshot, it answers nobody; the new
 /// tail does once it has the state.
@@ -18,7 +18,7 @@ pub fn joining_server_is_handed_the_state()
     ensures silent { link 1 (take 9 state_is_handed_over) s1 c1 ≡ [] }
     ensures told { link 1 (take 11 state_is_handed_over) m c1 ≡ message.Config 2 (Some 1) (Some 2) ∷ [] }
     ensures handed_over { (view 1 (take 10 state_is_handed_over) 2).last ≡ 1 }
-    ensures seen { seen 1 state_is_handed_over ≡ saw.Begin 1 1 create ∷ saw.Answer 1 1 (made 0) ∷ saw.Begin 1 2 exists ∷ saw.Answer 1 2 (counted 1) ∷ [] }
+    ensures seen { seen 1 state_is_handed_over ≡ saw.Begin 1 1 create ∷ saw.Answer 1 1 (name_reply 0) ∷ saw.Begin 1 2 exists ∷ saw.Answer 1 2 (count_reply 1) ∷ [] }
 {}
 
 /// The snapshot of a predecessor that failed is ignored: it lacks what the new one has taken.

@@ -14,6 +14,7 @@ mod history;
 mod join_laws;
 mod log_laws;
 mod order_laws;
+mod outcome;
 mod repair_laws;
 mod run_laws;
 mod scenario_laws;
@@ -32,6 +33,7 @@ pub use log_laws::log_world_stands_for_the_world;
 pub use order_laws::{
     legal_order_is_taken, other_orders_are_refused, query_leaves_the_tree, run_has_one_order,
 };
+pub use outcome::Outcome;
 pub use repair_laws::{
     head_fails_after_it_forwarded, messages_outlive_their_sender, middle_fails_before_it_forwarded,
     new_head_is_asked_again, tail_fails_before_it_answered,

@@ -1,6 +1,6 @@
 //! The log world stands for the world of the service.
 
-ghost use Rattle.zworld.specs.LogWorld.{LogWorldHasTheSameEnabled, LogWorldStandsForWorld};
+ghost use Rattle.zworld.specs.support.LogWorld.{LogWorldHasTheSameEnabled, LogWorldStandsForWorld};
 
 /// After every list of events the world over trees is the world over logs, each log replayed; the same events are
 /// enabled in both, and they have one history.

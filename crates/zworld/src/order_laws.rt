@@ -2,10 +2,11 @@
 
 ghost use Rattle.std.specs.Prelude.{◌≡◌, ℕ, [], ◌∷◌};
 ghost use Rattle.ztree.specs.Tree.{Tree};
+ghost use Rattle.zcalls.specs.PlainTree.{plain_tree};
 ghost use Rattle.zcalls.specs.declared.call.Query.{Query};
 ghost use Rattle.zcalls.specs.declared.call.Call.TheVariants as call;
 ghost use Rattle.zworld.specs.PlainTree.{call_step};
-ghost use Rattle.zworld.specs.OrderRows.{ExplainsTheRun, first_down, second_down, Explains, true_order, first_create, lost_create, lost_exists, last_exists, strange_create};
+ghost use Rattle.zworld.specs.support.OrderRows.{ExplainsTheRun, first_down, second_down, Explains, true_order, first_create, lost_create, lost_exists, last_exists, strange_create};
 
 /// A worked row of the legal order: an unanswered update stands in it, and an unanswered query doesn't.
 pub fn legal_order_is_taken()
@@ -32,5 +33,5 @@ pub fn run_has_one_order()
 
 /// A query leaves the plain tree as it is.
 pub fn query_leaves_the_tree()
-    ensures { (t : Tree) (client : ℕ) (query : Query) → (call_step t client (call.Query query)).0 ≡ t }
+    ensures { (t : Tree) (client : ℕ) (query : Query) → (call_step plain_tree t client (call.Query query)).0 ≡ t }
 {}

@@ -6,12 +6,12 @@ ghost use Rattle.zmaster.specs.Table.{join_fault};
 ghost use Rattle.zworld.specs.declared.event.Event.TheVariants.{Begin, Retry, Take, Ignore, Fail, Join};
 ghost use Rattle.zworld.specs.declared.history.CallEvent.TheVariants as saw;
 ghost use Rattle.zworld.specs.declared.settled.Settled.TheVariants.{Quiet, Limit};
-ghost use Rattle.zworld.specs.Counter.{create, exists, made, counted};
-ghost use Rattle.zworld.specs.Reading.Outcome.{Acted, Stopped, Unheard};
+ghost use Rattle.zworld.specs.support.Counter.{create, exists, name_reply, count_reply};
+ghost use Rattle.zworld.specs.declared.outcome.Outcome.TheVariants.{Acted, Stopped, Unheard};
 ghost use Rattle.zworld.specs.Settle.{settled};
-ghost use Rattle.zworld.specs.SettleLaws.{SettlingIsARun, SettlingKeepsItsLimit, QuietHasNothingToTake};
-ghost use Rattle.zworld.specs.RunRows.{m, s1, s2, c0, c1};
-ghost use Rattle.zworld.specs.SettleRows.{settled_after, read_after, two_begin, two_settle, lost_request};
+ghost use Rattle.zworld.specs.Laws.{SettlingIsARun, SettlingKeepsItsLimit, QuietHasNothingToTake};
+ghost use Rattle.zworld.specs.support.RunRows.{m, s1, s2, c0, c1};
+ghost use Rattle.zworld.specs.support.SettleRows.{settled_after, read_after, two_begin, two_settle, lost_request};
 
 /// In every world settling is a run, and does no more events than its limit; where it ends quiet, no message can be
 /// taken.
@@ -25,7 +25,7 @@ pub fn settling_is_a_run()
 pub fn settling_goes_link_by_link()
     ensures events { (settled_after 3 two_begin 100 []).events ≡ two_settle }
     ensures quiet { settled (settled_after 3 two_begin 100 []) ≡ Quiet }
-    ensures seen { (settled_after 3 two_begin 100 []).world.history ≡ saw.Begin 0 1 create ∷ saw.Begin 1 1 create ∷ saw.Answer 0 1 (made 0) ∷ saw.Answer 1 1 (made 1) ∷ [] }
+    ensures seen { (settled_after 3 two_begin 100 []).world.history ≡ saw.Begin 0 1 create ∷ saw.Begin 1 1 create ∷ saw.Answer 0 1 (name_reply 0) ∷ saw.Answer 1 1 (name_reply 1) ∷ [] }
 {}
 
 /// The limit: it ends settling as soon as so many events were done, also where nothing would have been left.
@@ -41,7 +41,7 @@ pub fn settling_has_a_limit()
 pub fn settling_retries_once()
     ensures retried { (settled_after 1 lost_request 100 []).events ≡ Retry 1 ∷ Take c1 s1 ∷ Take s1 c1 ∷ [] }
     ensures counted { settled (settled_after 1 lost_request 3 []) ≡ Limit }
-    ensures answered { (settled_after 1 lost_request 100 []).world.history ≡ saw.Begin 1 1 create ∷ saw.Answer 1 1 (made 0) ∷ [] }
+    ensures answered { (settled_after 1 lost_request 100 []).world.history ≡ saw.Begin 1 1 create ∷ saw.Answer 1 1 (name_reply 0) ∷ [] }
 {}
 
 /// Where the state is lost, settling is quiet in the end, the call stays unanswered, and nobody can join.

@@ -1,5 +1,5 @@
 use Rattle.std.proofs.Common.{inl, refl}
-use Rattle.zworld.specs.OrderRows.{last_exists}
+use Rattle.zworld.specs.support.OrderRows.{last_exists}
 use Rattle.zworld.proofs.OrderRows.{left_out, query_unanswered, not_begun, wrong_reply, against_time}
 use Rattle.zworld.proofs.order_laws.other_orders_are_refused.Goals as goal
 
