@@ -4,6 +4,7 @@ use Rattle.std.specs.Prelude.{◌⊎◌}
 use mathlib.Core.Bool.{true≢false}
 use Rattle.zcalls.specs.declared.call.Call.{Call}
 use Rattle.zcalls.specs.declared.reply.Reply.{Reply}
+use Rattle.zcalls.proofs.Among.{test}
 use Rattle.zserver.specs.declared.message.Message.TheVariants as message
 use Rattle.zserver.specs.declared.process.Process.{Process}
 use Rattle.zserver.specs.declared.process.Process.TheVariants.{Master, Server}
@@ -11,11 +12,6 @@ use Rattle.zserver.specs.View.{MessageOf}
 use Rattle.zclient.specs.View.{ClientView}
 use Rattle.zclient.specs.Table.{is_waiting_for, answer_row, config_row, client_step}
 use Rattle.zclient.specs.support.Cases.{IsClientRow, Ignores, Answers, Configures}
-
--- a test comes out one way or the other
-test : (b : Bool) → (b ≡ true) ⊎ (b ≡ false)
-test true = inl refl
-test false = inr refl
 
 -- the call that is waited for
 waits : (v : ClientView) (outstanding : Option (ℕ × Call)) (number : ℕ) → is_waiting_for (record v { outstanding = outstanding }) number ≡ true

@@ -5,6 +5,7 @@ use Rattle.std.proofs.lemmas.List.FromFn.{length-range_with_len, length-map-rang
 use Rattle.std.specs.List.{range_with_len, last_or}
 use Rattle.std.proofs.lemmas.Bool.Decides.{nat_tests}
 use mathlib.Core.Bool.{true≢false}
+use Rattle.zcalls.proofs.Among.{test}
 use Rattle.zserver.specs.declared.message.Message.TheVariants as message
 use Rattle.zserver.specs.declared.process.Process.{Process}
 use Rattle.zserver.specs.declared.process.Process.TheVariants.{Server}
@@ -15,7 +16,7 @@ use Rattle.zmaster.specs.declared.join_fault.JoinFault.TheVariants.{Used}
 use Rattle.zmaster.specs.Table.{MasterResult, no_effect, MendedChain, join_fault, join_step, master_step}
 use Rattle.zmaster.specs.support.Cases.{IsMended, Only, First, Last, Between, IsMasterRow, Ignores, Reports, Joins, LeavesOutside, Leaves, after_gone}
 use Rattle.zmaster.specs.Laws.{IsRisingFrom, joining_count, IsBounded, OpeningIsBounded}
-use Rattle.zmaster.proofs.Numbers.{test, numbers_of, later, among_behind, among_with_number, no_fewer, one_more, still_rising}
+use Rattle.zmaster.proofs.Numbers.{numbers_of, later, among_behind, among_with_number, no_fewer, one_more, still_rising}
 use Rattle.zmaster.proofs.Cases.{master_case}
 
 -- who is joining is Some

@@ -3,14 +3,10 @@ use Rattle.std.proofs.Common.{◌≡◌, ℕ, ◌+◌, ◌<◌, ◌≤◌, Bool,
 use Rattle.std.specs.Prelude.{◌⊎◌, ◌||◌}
 use Rattle.std.proofs.lemmas.Bool.Decides.{nat_tests}
 use mathlib.Core.Bool.{true≢false}
+use Rattle.zcalls.proofs.Among.{test}
 use Rattle.zserver.specs.View.{Neighbour}
 use Rattle.zmaster.specs.View.{is_among, with_number}
 use Rattle.zmaster.specs.Laws.{IsRisingFrom}
-
--- a test comes out one way or the other
-pub test : (b : Bool) → (b ≡ true) ⊎ (b ≡ false)
-test true = inl refl
-test false = inr refl
 
 -- what is tested twice, and what is tested in another order
 or_twice : (b c : Bool) → (b || c) ≡ (b || (b || c))

@@ -4,6 +4,7 @@ use Rattle.std.specs.Prelude.{◌⊎◌}
 use Rattle.zcalls.specs.declared.call.Entry.{Entry}
 use Rattle.zcalls.specs.declared.call.Update.{Update}
 use Rattle.zcalls.specs.declared.call.Query.{Query}
+use Rattle.zcalls.proofs.Among.{test}
 use Rattle.zserver.specs.declared.limits.TheConstants.{MAX_LOG_NUMBER}
 use Rattle.zserver.specs.declared.message.Message.TheVariants as message
 use Rattle.zserver.specs.declared.process.Process.{Process}
@@ -13,11 +14,6 @@ use Rattle.zserver.specs.View.{ServerView, Neighbour, Transfer, MessageOf}
 use Rattle.zserver.specs.Table.{is_neighbour, accept_result, submit_row, query_row, update_row, ack_row, snapshot_row, new_pred_row, new_succ_row, become_head_row, become_tail_row, server_step}
 use Rattle.zserver.specs.support.Cases.{IsAccepted, Processes, Forwards, IsRow, Ignores, Submits, Updates, Asks, Acknowledges, Shows, Turns, Follows, Leads, Ends}
 use Rattle.zserver.proofs.Fields.{view_of}
-
--- a test passes or not
-test : (b : Bool) → (b ≡ true) ⊎ (b ≡ false)
-test true = inl refl
-test false = inr refl
 
 -- a neighbour of that number and epoch
 pub neighbour_is : (pred : Option Neighbour) (p epoch : ℕ) → is_neighbour pred p epoch ≡ true → pred ≡ Some (p, epoch)

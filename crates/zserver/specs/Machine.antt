@@ -7,6 +7,7 @@ use Rattle.ztree.specs.Tree.{Tree}
 use Rattle.zcalls.specs.declared.call.Entry.{Entry}
 use Rattle.zcalls.specs.declared.call.Query.{Query}
 use Rattle.zcalls.specs.declared.reply.Reply.{Reply}
+use Rattle.zcalls.specs.Kept as kept
 use Rattle.zcalls.specs.Kept.{Plain, KeptState, nothing_kept, entry_step}
 use Rattle.zcalls.specs.PlainTree.{plain_tree}
 
@@ -31,8 +32,7 @@ kept_tree = machine_of plain_tree
 
 -- a machine after more entries, one after the other
 abbrev pub after_entries : {M : Type 0} → Does M → M → List Entry → M
-after_entries does m [] = m
-after_entries does m (entry ∷ entries) = after_entries does (does.apply m entry).0 entries
+after_entries does m entries = kept.after_entries does.apply m entries
 
 -- a machine after a log, from its start
 abbrev pub replay : {M : Type 0} → Does M → List Entry → M

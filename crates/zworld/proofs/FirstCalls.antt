@@ -8,9 +8,10 @@ use Rattle.zcalls.specs.declared.call.Call.TheVariants.{Query}
 use Rattle.zcalls.specs.declared.reply.Reply.{Reply}
 use Rattle.zcalls.specs.Step.{query_reply}
 use Rattle.zworld.specs.declared.history.CallEvent.TheVariants.{Begin, Answer}
-use Rattle.zworld.specs.Lists.{Among}
+use Rattle.zcalls.specs.Lists.{Among}
 use Rattle.std.specs.Prelude.{◌⊎◌}
-use Rattle.zworld.specs.History.{History, Operation, IsUpdate, IsAnswered, EndsBefore}
+use Rattle.zcalls.specs.Operation.{Operation}
+use Rattle.zworld.specs.History.{History, IsUpdate, IsAnswered, EndsBefore}
 use Rattle.zworld.specs.LegalOrder.{IsReplayed}
 use Rattle.zcalls.specs.PlainTree.{plain_tree}
 use Rattle.zworld.specs.PlainTree.{service_of, IsExplained}

@@ -7,9 +7,11 @@ use Rattle.zcalls.specs.declared.reply.Reply.{Reply}
 use Rattle.zcalls.specs.declared.reply.Reply.TheVariants.{Exists}
 use Rattle.zworld.specs.declared.history.CallEvent.{CallEvent}
 use Rattle.zworld.specs.declared.history.CallEvent.TheVariants.{Begin, Answer}
-use Rattle.zworld.specs.Lists.{Among, ComesBefore}
-use Rattle.zworld.specs.History.{Operation, IsUpdate, HasBegun, IsAnswered, EndsBefore}
-use Rattle.zworld.specs.LegalOrder.{IsSameCall, IsReplayed}
+use Rattle.zcalls.specs.Lists.{Among, ComesBefore}
+use Rattle.zcalls.specs.Operation.{Operation}
+use Rattle.zworld.specs.History.{IsUpdate, HasBegun, IsAnswered, EndsBefore}
+use Rattle.zcalls.specs.Operation.{IsSameCall}
+use Rattle.zworld.specs.LegalOrder.{IsReplayed}
 use Rattle.zworld.specs.support.Counter.{counter, create, name_reply, count_reply}
 use Rattle.zworld.specs.support.OrderRows.{Explains, history_with, true_order, first_create, lost_create, lost_exists, last_exists, strange_create}
 use Rattle.zworld.proofs.Among.{each_among}

@@ -3,9 +3,11 @@ use Rattle.std.proofs.Common.{◌≡◌, ℕ, List, [], ◌∷◌, inl, inr, ref
 use Rattle.std.specs.Prelude.{◌⊎◌}
 use Rattle.zcalls.specs.declared.reply.Reply.{Reply}
 use Rattle.zworld.specs.declared.history.CallEvent.TheVariants.{Begin, Answer}
-use Rattle.zworld.specs.Lists.{Among}
-use Rattle.zworld.specs.History.{History, Operation, HasBegun, IsUpdate, IsAnswered, EndsBefore}
-use Rattle.zworld.specs.LegalOrder.{IsLegalOrder, IsSameCall, IsReplayed}
+use Rattle.zcalls.specs.Lists.{Among}
+use Rattle.zcalls.specs.Operation.{Operation}
+use Rattle.zworld.specs.History.{History, HasBegun, IsUpdate, IsAnswered, EndsBefore}
+use Rattle.zcalls.specs.Operation.{IsSameCall}
+use Rattle.zworld.specs.LegalOrder.{IsLegalOrder, IsReplayed}
 use Rattle.zworld.specs.support.Counter.{counter, create, name_reply}
 use Rattle.zworld.specs.support.RunRows.{seen, two_updates}
 use Rattle.zworld.specs.support.OrderRows.{ExplainsTheRun, first_down, second_down}

@@ -6,8 +6,9 @@ use Rattle.std.specs.List.{AllByRecursion}
 use Rattle.zcalls.specs.declared.call.Call.{Call}
 use Rattle.zcalls.specs.declared.reply.Reply.{Reply}
 use Rattle.zworld.specs.declared.history.CallEvent.TheVariants.{Answer}
-use Rattle.zworld.specs.Lists.{Among, ComesBefore, NoTwo}
-use Rattle.zworld.specs.History.{History, Operation, IsUpdate, HasBegun, IsAnswered, EndsBefore}
+use Rattle.zcalls.specs.Lists.{Among, ComesBefore, NoTwo}
+use Rattle.zcalls.specs.Operation.{Operation, IsSameCall}
+use Rattle.zworld.specs.History.{History, IsUpdate, HasBegun, IsAnswered, EndsBefore}
 
 -- a service that does one call after the other: its first state, and what a client's call does to it and is answered
 pub record Service (P : Type 0) : Type 0 where
@@ -27,10 +28,6 @@ replies_from service p (o ∷ os) = (o, (operation_step service p o).1) ∷ repl
 abbrev pub states_from : {P : Type 0} → Service P → P → List Operation → List P
 states_from service p [] = p ∷ []
 states_from service p (o ∷ os) = p ∷ states_from service (operation_step service p o).0 os
-
--- the two are one call: the same client has one number for them
-abbrev pub IsSameCall : Operation → Operation → Type 0
-IsSameCall a b = (a.client ≡ b.client) × (a.number ≡ b.number)
 
 -- the order has the answered call of that client and number, and its replay gives this reply
 abbrev pub IsReplayed : {P : Type 0} → Service P → List Operation → ℕ → ℕ → Reply → Type 0

@@ -7,7 +7,8 @@ use Rattle.zcalls.specs.declared.call.Call.TheVariants.{Update, Query}
 use Rattle.zcalls.specs.declared.reply.Reply.{Reply}
 use Rattle.zcalls.specs.Kept.{Plain}
 use Rattle.zcalls.specs.PlainTree.{plain_tree}
-use Rattle.zworld.specs.History.{History, Operation}
+use Rattle.zcalls.specs.Operation.{Operation}
+use Rattle.zworld.specs.History.{History}
 use Rattle.zworld.specs.LegalOrder.{Service, IsLegalOrder}
 
 -- a call: an update by the plain service's step; a query is answered from the state, which stays

@@ -3,7 +3,8 @@
 -- client 4 asks, and neither is answered; client 3's create was done, since client 2's count has it.
 use Rattle.std.specs.Prelude.{ℕ, ◌≤◌, List, [], ◌∷◌}
 use Rattle.zworld.specs.declared.history.CallEvent.TheVariants.{Begin, Answer}
-use Rattle.zworld.specs.History.{History, Operation}
+use Rattle.zcalls.specs.Operation.{Operation}
+use Rattle.zworld.specs.History.{History}
 use Rattle.zworld.specs.LegalOrder.{IsLegalOrder}
 use Rattle.zworld.specs.support.Counter.{counter, create, exists, name_reply, count_reply}
 use Rattle.zworld.specs.support.RunRows.{seen, two_updates}
