@@ -11,16 +11,17 @@ use Rattle.zclient.specs.View.{ClientView}
 use Rattle.zclient.specs.Table as client
 use Rattle.zworld.specs.declared.history.CallEvent.{CallEvent}
 use Rattle.zworld.specs.declared.history.CallEvent.TheVariants.{Begin, Answer}
-use Rattle.zworld.specs.Lists.{Among}
-use Rattle.zworld.specs.History.{History, Operation, HasBegun}
+use Rattle.zcalls.specs.Lists.{Among}
+use Rattle.zworld.specs.History.{History, HasBegun}
+use Rattle.zcalls.specs.Operation.{Operation}
 use Rattle.zworld.specs.Events.{client_took}
-use Rattle.zlegal.specs.Plain.{Plain}
+use Rattle.zcalls.specs.Kept.{Plain}
 use Rattle.zlegal.specs.Items.{IsGiven, IsSameEvent}
 use Rattle.zchain.specs.Flow.{LogMessage}
 use Rattle.zchain.specs.Messages.{IsJustified}
 use Rattle.zchain.specs.Account.{Account}
 use Rattle.zchain.specs.Sound.{IsSound}
-use Rattle.zlegal.proofs.lists.Tests.{test}
+use Rattle.zcalls.proofs.Among.{test}
 use Rattle.zlegal.proofs.lists.Members.{among_left, among_last}
 use Rattle.zlegal.proofs.lists.Distinct.{no_two_last}
 use Rattle.zchain.proofs.links.Links.{at_cases}
@@ -43,9 +44,9 @@ module _ {P : Type 0} (plain : Plain P) (t : Account) (s : IsSound plain t) (c :
         (λ e is'. s.waits d m of (ap (λ x. (t.world.clients x).outstanding) e ∙ sym outstanding ∙ is')) (λ f is'. s.waits d m of is') is;
   }
 
-  pub again_sound : IsSound plain (record t { world = with_client t.world c view (client.send view) t.world.history })
-  again_sound = client_sound plain t s c view (client.send view) t.world.history (again_calls (client.send view))
-      (send_justified (with_client t.world c view (client.send view) t.world.history) t.items c view
+  pub again_sound : IsSound plain (record t { world = with_client t.world c view (client.outstanding_posts view) t.world.history })
+  again_sound = client_sound plain t s c view (client.outstanding_posts view) t.world.history (again_calls (client.outstanding_posts view))
+      (send_justified (with_client t.world c view (client.outstanding_posts view) t.world.history) t.items c view
       (λ n of is. (s.waits c n of (sym outstanding ∙ is)).0))
 
 -- The answer to the outstanding call is taken.
@@ -90,15 +91,15 @@ module _ {P : Type 0} (plain : Plain P) (t : Account) (s : IsSound plain t) (c n
 
 -- what a client does with a message
 module _ {P : Type 0} (plain : Plain P) (t : Account) (s : IsSound plain t) (c : ℕ) where
-  abbrev after : client.Taken (List Entry) → Account
+  abbrev after : client.ClientResult (List Entry) → Account
   after did = record t { world = client_took t.world c did }
 
-  unchanged : IsSound plain (after (client.ignored (t.world.clients c)))
+  unchanged : IsSound plain (after (client.no_effect (t.world.clients c)))
   unchanged = client_sound plain t s c (t.world.clients c) [] t.world.history (again_calls plain t s c (t.world.clients c) refl refl []) (λ post a. absurd a)
 
   answer_by : (number : ℕ) (reply : Reply) → IsGiven t.items c number reply → (o : Option (ℕ × Call)) → (t.world.clients c).outstanding ≡ o
       → IsSound plain (after (if elim o as (λ x. Bool) [ None ↦ false | Some waits ↦ waits.0 == number ]
-      then (record (t.world.clients c) { outstanding = None }, [], Some (number, reply)) else client.ignored (t.world.clients c)))
+      then (record (t.world.clients c) { outstanding = None }, [], Some (number, reply)) else client.no_effect (t.world.clients c)))
   answer_by number reply given None is = unchanged
   answer_by number reply given (Some waits) is = elim (test (waits.0 == number)) [
     | inl e ↦ rw e (let same : waits.0 ≡ number = eqb-true _ _ e in
@@ -106,19 +107,19 @@ module _ {P : Type 0} (plain : Plain P) (t : Account) (s : IsSound plain t) (c :
     | inr f ↦ rw f unchanged
   ]
 
-  answer_taken : (number : ℕ) (reply : Reply) → IsGiven t.items c number reply → IsSound plain (after (client.takes_answer (t.world.clients c) number reply))
-  unfolding client.takes_answer
+  answer_taken : (number : ℕ) (reply : Reply) → IsGiven t.items c number reply → IsSound plain (after (client.answer_row (t.world.clients c) number reply))
+  unfolding client.answer_row
   answer_taken number reply given = answer_by number reply given (t.world.clients c).outstanding refl
 
-  config_taken : (epoch : ℕ) (head tail : Option ℕ) → IsSound plain (after (client.takes_config (t.world.clients c) epoch head tail))
-  unfolding client.takes_config
+  config_taken : (epoch : ℕ) (head tail : Option ℕ) → IsSound plain (after (client.config_row (t.world.clients c) epoch head tail))
+  unfolding client.config_row
   config_taken epoch head tail = elim (test (nat_lt (t.world.clients c).epoch epoch)) [
     | inl e ↦ rw e (again_sound plain t s c (record (t.world.clients c) { epoch = epoch; head = head; tail = tail }) refl refl)
     | inr f ↦ rw f unchanged
   ]
 
-  pub message_taken : (from : Process) (m : LogMessage) → IsJustified t.world t.items from (Client c) m → IsSound plain (after (client.takes (t.world.clients c) from m))
-  unfolding client.takes
+  pub message_taken : (from : Process) (m : LogMessage) → IsJustified t.world t.items from (Client c) m → IsSound plain (after (client.client_step (t.world.clients c) from m))
+  unfolding client.client_step
   message_taken (Server p) (message.Answer number reply) justified = answer_taken number reply justified
   message_taken Master (message.Config epoch head tail) justified = config_taken epoch head tail
   message_taken from m justified = unchanged

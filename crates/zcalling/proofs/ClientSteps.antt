@@ -11,11 +11,12 @@ use Rattle.zclient.specs.View.{ClientView}
 use Rattle.zclient.specs.Table as client
 use Rattle.zworld.specs.declared.history.CallEvent.{CallEvent}
 use Rattle.zworld.specs.declared.history.CallEvent.TheVariants.{Begin, Answer}
-use Rattle.zworld.specs.Lists.{Among}
-use Rattle.zworld.specs.History.{History, Operation, HasBegun}
+use Rattle.zcalls.specs.Lists.{Among}
+use Rattle.zworld.specs.History.{History, HasBegun}
+use Rattle.zcalls.specs.Operation.{Operation}
 use Rattle.zworld.specs.Links.{put}
 use Rattle.zworld.specs.World.{at}
-use Rattle.zlegal.specs.Plain.{Plain}
+use Rattle.zcalls.specs.Kept.{Plain}
 use Rattle.zlegal.specs.Items.{Item, IsAnsweredBy, AreBegunInTime, AreAnsweredInTime, IsSameEvent, EventsDiffer, AreNumbered}
 use Rattle.zchain.specs.Flow.{LogWorld, LogMessage}
 use Rattle.zchain.specs.Chain.{IsAhead}
@@ -173,31 +174,31 @@ module _ (w : LogWorld) (items : List Item) (c : ℕ) where
   to_justified (Some s) m h post (inr a) = absurd a
 
   sent_justified : (head tail : Option ℕ) (number : ℕ) (of : Call) → HasBegun w.history (record { client = c; number = number; call = of })
-      → (post : Post (List Entry)) → Among post (client.sent_to head tail number of) → IsJustified w items (Client c) post.0 post.1
+      → (post : Post (List Entry)) → Among post (client.call_posts head tail number of) → IsJustified w items (Client c) post.0 post.1
   sent_justified head tail number (call.Update update) h post a = to_justified head (message.Submit number update) (λ s. h) post a
   sent_justified head tail number (call.Query query) h post a = to_justified tail (message.Query number query) (λ s. h) post a
 
   pub send_justified : (v : ClientView) → ((n : ℕ) (of : Call) → v.outstanding ≡ Some (n, of) → HasBegun w.history (record { client = c; number = n; call = of }))
-      → (post : Post (List Entry)) → Among post (client.send v) → IsJustified w items (Client c) post.0 post.1
+      → (post : Post (List Entry)) → Among post (client.outstanding_posts v) → IsJustified w items (Client c) post.0 post.1
   send_justified v h post a = by v.outstanding h a
     where
       by : (o : Option (ℕ × Call)) → ((n : ℕ) (of : Call) → o ≡ Some (n, of) → HasBegun w.history (record { client = c; number = n; call = of }))
-          → Among post (elim o as (λ x. List (Post (List Entry))) [ None ↦ [] | Some waits ↦ client.sent_to v.head v.tail waits.0 waits.1 ]) → IsJustified w items (Client c) post.0 post.1
+          → Among post (elim o as (λ x. List (Post (List Entry))) [ None ↦ [] | Some waits ↦ client.call_posts v.head v.tail waits.0 waits.1 ]) → IsJustified w items (Client c) post.0 post.1
       by None h a = absurd a
       by (Some waits) h a = sent_justified v.head v.tail waits.0 waits.1 (h waits.0 waits.1 refl) post a
 
 -- the event Begin
 pub begin_sound : {P : Type 0} (plain : Plain P) (t : Account) → IsSound plain t → (c : ℕ) (new : Call)
     → IsSound plain (record t {
-      world = with_client t.world c (client.begins {M = List Entry} (t.world.clients c) new).0 (client.begins (t.world.clients c) new).1
-          (t.world.history ++ Begin c (client.begins {M = List Entry} (t.world.clients c) new).0.number new ∷ []);
+      world = with_client t.world c (client.begin_step {M = List Entry} (t.world.clients c) new).0 (client.begin_step (t.world.clients c) new).1
+          (t.world.history ++ Begin c (client.begin_step {M = List Entry} (t.world.clients c) new).0.number new ∷ []);
     })
-unfolding client.begins
+unfolding client.begin_step
 begin_sound plain t s c new =
     let v = view plain t s c new in
     let h = begun plain t s c new in
-    let calls = begin_calls plain t s c new (client.send v) in
-    client_sound plain t s c v (client.send v) h calls
-    (send_justified (with_client t.world c v (client.send v) h) t.items c v
+    let calls = begin_calls plain t s c new (client.outstanding_posts v) in
+    client_sound plain t s c v (client.outstanding_posts v) h calls
+    (send_justified (with_client t.world c v (client.outstanding_posts v) h) t.items c v
     (λ n of is. let pair : ◌≡◌ {A = ℕ × Call} ((t.world.clients c).number + 1, new) (n, of) = cc is in
     among_right _ t.world.history _ (inl (λ i. Begin c (pair i).0 (pair i).1))))

@@ -5,12 +5,12 @@ use Rattle.zserver.specs.declared.process.Process.{Process}
 use Rattle.zserver.specs.declared.process.Process.TheVariants.{Master, Server, Client}
 use Rattle.zclient.specs.Table as client
 use Rattle.zworld.specs.declared.event.Event.TheVariants.{Begin, Retry, Take, Fail}
-use Rattle.zworld.specs.Lists.{Among}
+use Rattle.zcalls.specs.Lists.{Among}
 use Rattle.zworld.specs.Links.{without_front}
 use Rattle.zworld.specs.World.{at}
-use Rattle.zworld.specs.Events.{acts, takes_front}
-use Rattle.zlegal.specs.Plain.{tree, log_machine}
-use Rattle.zchain.specs.Flow.{LogMessage}
+use Rattle.zworld.specs.Events.{acts, front_step}
+use Rattle.zcalls.specs.PlainTree.{plain_tree}
+use Rattle.zchain.specs.Flow.{log_machine, LogMessage}
 use Rattle.zchain.specs.Chain.{IsMember}
 use Rattle.zchain.specs.Account.{Account}
 use Rattle.zchain.specs.Sound.{IsSound}
@@ -25,11 +25,11 @@ use Rattle.zchain.proofs.steps.Drops.{kept_not_to, dropped_sound}
 use Rattle.zchain.proofs.Events.{where_enabled, quiet_event, front_there}
 
 -- a client hears
-client_hears : (t : Account) → IsSound tree t → (from : Process) (c : ℕ) (m : LogMessage) (rest : List LogMessage) → t.world.links from (Client c) ≡ m ∷ rest
-    → IsSound tree (record t { world = takes_front (log_machine tree) t.world from (Client c) (m ∷ rest) })
+client_hears : (t : Account) → IsSound plain_tree t → (from : Process) (c : ℕ) (m : LogMessage) (rest : List LogMessage) → t.world.links from (Client c) ≡ m ∷ rest
+    → IsSound plain_tree (record t { world = front_step (log_machine plain_tree) t.world from (Client c) (m ∷ rest) })
 client_hears t s from c m rest link =
     let popped : Account = record t { world = record t.world { links = without_front t.world.links from (Client c) } } in
-    message_taken tree popped (dropped_sound tree t s from (Client c) (kept_not_to t.world from (Client c) (λ z. refl))) c from m
+    message_taken plain_tree popped (dropped_sound plain_tree t s from (Client c) (kept_not_to t.world from (Client c) (λ z. refl))) c from m
     (justified_later t.world popped.world t.items t.items
     (record { begun = λ o h. h; given = λ i h. h; opened = λ z k h. (h.0, λ p a. h.1 p (front_among t.world.links from (Client c) Master (Server z) (message.NewPred k p) a)); failed = λ z h. h })
     from (Client c) m (s.justified from (Client c) m (subst (Among m) (sym link) (inl refl))))
@@ -43,17 +43,17 @@ clients_hear (Client d) c t lasts s = where_enabled t (Take (Client d) (Client c
     (λ m rest link alive. quiet_event t _ (client_hears t s (Client d) c m rest link)))
 
 pub calls_begin : CallsBegin
-calls_begin c call t lasts s = where_enabled t (Begin c call) s (λ e. quiet_event t _ (begin_sound tree t s c call))
+calls_begin c call t lasts s = where_enabled t (Begin c call) s (λ e. quiet_event t _ (begin_sound plain_tree t s c call))
 
-again_account : (t : Account) → IsSound tree t → (c : ℕ) → IsSound tree (record t { world = acts (log_machine tree) t.world (Retry c) })
-unfolding client.retries
-again_account t s c = again_sound tree t s c (t.world.clients c) refl refl
+again_account : (t : Account) → IsSound plain_tree t → (c : ℕ) → IsSound plain_tree (record t { world = acts (log_machine plain_tree) t.world (Retry c) })
+unfolding client.retry_posts
+again_account t s c = again_sound plain_tree t s c (t.world.clients c) refl refl
 
 pub calls_are_sent_again : CallsAreSentAgain
 calls_are_sent_again c t lasts s = where_enabled t (Retry c) s (λ e. quiet_event t _ (again_account t s c))
 
 -- a server fails
-fail_sound : (t : Account) → IsSound tree t → (x : ℕ) → IsSound tree (record t { world = record t.world { failed = at x true t.world.failed } })
+fail_sound : (t : Account) → IsSound plain_tree t → (x : ℕ) → IsSound plain_tree (record t { world = record t.world { failed = at x true t.world.failed } })
 fail_sound t s x = record {
   distinct = s.distinct;
   used = s.used;
@@ -84,5 +84,5 @@ fail_sound t s x = record {
 
 pub servers_fail : ServersFail
 servers_fail x t lasts s = where_enabled t (Fail x) s (λ e. quiet_event t _
-    (put_unread tree (record t { world = record t.world { failed = at x true t.world.failed } }) x Master message.Gone (unread_foreign message.Gone tt)
+    (put_unread plain_tree (record t { world = record t.world { failed = at x true t.world.failed } }) x Master message.Gone (unread_foreign message.Gone tt)
     (at_same x true t.world.failed) (fail_sound t s x)))

@@ -2,4 +2,3 @@ pub mod Everywhere
 pub mod Lasts
 pub mod OtherPosts
 pub mod RowViews
-pub mod Rows

@@ -9,11 +9,12 @@ use Rattle.zserver.specs.declared.process.Process.TheVariants.{Server, Client}
 use Rattle.zserver.specs.View.{ServerView}
 use Rattle.zworld.specs.declared.event.Event.{Event}
 use Rattle.zworld.specs.declared.event.Event.TheVariants.{Take}
-use Rattle.zworld.specs.World.{opening}
+use Rattle.zworld.specs.World.{opening_world}
 use Rattle.zworld.specs.Events.{is_enabled, acts}
-use Rattle.zlegal.specs.Plain.{Plain, log_machine, after_log}
+use Rattle.zcalls.specs.Kept.{Plain}
+use Rattle.zchain.specs.Flow.{log_machine, LogWorld, LogMessage, Log}
+use Rattle.zcalls.specs.Acts.{after_log}
 use Rattle.zlegal.specs.Items.{Item, new_items}
-use Rattle.zchain.specs.Flow.{LogWorld, LogMessage, Log}
 
 -- the log of a server without successor
 abbrev pub tail_log : ServerView (List Entry) → Log
@@ -80,4 +81,4 @@ account_after plain t (event ∷ events) = account_after plain (next_account pla
 -- before the first event
 abbrev pub opening_account : {P : Type 0} → Plain P → ℕ → ℕ → Account
 opening_account plain servers clients =
-    record { world = opening (log_machine plain) servers clients; committed = []; items = [] }
+    record { world = opening_world (log_machine plain) servers clients; committed = []; items = [] }

@@ -5,7 +5,7 @@ use Rattle.zserver.specs.declared.message.Message.TheVariants as message
 use Rattle.zserver.specs.declared.process.Process.TheVariants.{Master, Server}
 use Rattle.zserver.specs.View.{Neighbour}
 use Rattle.zmaster.specs.View.{members, is_among}
-use Rattle.zworld.specs.Lists.{Among}
+use Rattle.zcalls.specs.Lists.{Among}
 use Rattle.zchain.specs.Flow.{LogWorld, LogMessage, log_at, final_log}
 use Rattle.zlegal.specs.Prefix.{IsPrefix}
 

@@ -1,9 +1,12 @@
 -- What is under way to a server from its predecessor: the log that it would have after taking all of it, and the first
 -- log that it would show.
-use Rattle.std.specs.Prelude.{ℕ, ◌+◌, ◌-◌, ◌^◌, ◌==◌, nat_lt, if◌then◌else◌, Option, None, Some, List, [], ◌∷◌, ◌++◌, length}
+use Rattle.std.specs.Prelude.{ℕ, ◌+◌, ◌==◌, nat_lt, if◌then◌else◌, Option, None, Some, List, [], ◌∷◌, ◌++◌, length}
 use Rattle.zcalls.specs.declared.call.Entry.{Entry}
+use Rattle.zcalls.specs.Kept.{Plain}
+use Rattle.zserver.specs.declared.limits.TheConstants.{MAX_LOG_NUMBER}
 use Rattle.zserver.specs.declared.message.Message.TheVariants as message
 use Rattle.zserver.specs.declared.process.Process.TheVariants.{Server}
+use Rattle.zserver.specs.Machine.{Does, log_of, machine_of}
 use Rattle.zserver.specs.View.{MessageOf, Neighbour}
 use Rattle.zworld.specs.World.{World}
 
@@ -18,10 +21,14 @@ LogMessage = MessageOf (List Entry)
 abbrev pub LogWorld : Type 0
 LogWorld = World (List Entry)
 
+-- its machine: the log of entries, over that of a plain service
+abbrev pub log_machine : {P : Type 0} → Plain P → Does (List Entry)
+log_machine plain = log_of (machine_of plain)
+
 -- a log after an entry of this number, where it is the next one and there is room
 abbrev pub with_entry : List Entry → ℕ → Entry → List Entry
 with_entry log n entry =
-    if n == length log + 1 then if nat_lt (length log) (2 ^ 62 - 1) then log ++ entry ∷ [] else log else log
+    if n == length log + 1 then if nat_lt (length log) MAX_LOG_NUMBER then log ++ entry ∷ [] else log else log
 
 -- the same of a log that may not be there
 abbrev pub log_with_entry : Log → ℕ → Entry → Log

@@ -4,7 +4,7 @@ use Rattle.zcalls.specs.declared.call.Entry.{Entry}
 use Rattle.zserver.specs.declared.message.Message.TheVariants as message
 use Rattle.zserver.specs.declared.process.Process.{Process}
 use Rattle.zserver.specs.View.{ServerView}
-use Rattle.zworld.specs.Lists.{Among}
+use Rattle.zcalls.specs.Lists.{Among}
 use Rattle.zchain.specs.Flow.{LogWorld, LogMessage, length_of}
 
 -- a view's last number is the length of its log; 0 without one

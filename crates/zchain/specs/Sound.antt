@@ -7,10 +7,11 @@ use Rattle.zserver.specs.declared.process.Process.{Process}
 use Rattle.zserver.specs.View.{spare}
 use Rattle.zmaster.specs.View.{members}
 use Rattle.zworld.specs.declared.history.CallEvent.TheVariants.{Answer}
-use Rattle.zworld.specs.Lists.{Among, ComesBefore, NoTwo}
+use Rattle.zcalls.specs.Lists.{Among, ComesBefore, NoTwo}
 use Rattle.zworld.specs.History.{HasBegun}
 use Rattle.zworld.specs.Links.{Links}
-use Rattle.zlegal.specs.Plain.{Plain, service_of}
+use Rattle.zcalls.specs.Kept.{Plain}
+use Rattle.zworld.specs.PlainTree.{service_of}
 use Rattle.zlegal.specs.Prefix.{IsPrefix, IsEntry}
 use Rattle.zlegal.specs.Items.{Item, Replays, AreCommitted, TimesRise, AreBegunInTime, AreAnsweredInTime, EventsDiffer, AreNumbered, AllBegun}
 use Rattle.zchain.specs.Flow.{LogWorld, log_at, first_log}

@@ -1,3 +1,2 @@
 pub mod ActedLogs
-pub mod Acting
 pub mod NewItems

@@ -7,13 +7,14 @@ use Rattle.zcalls.specs.declared.call.Entry.{Entry}
 use Rattle.zcalls.specs.declared.reply.Reply.{Reply}
 use Rattle.zworld.specs.declared.history.CallEvent.{CallEvent}
 use Rattle.zworld.specs.declared.history.CallEvent.TheVariants.{Begin, Answer}
-use Rattle.zworld.specs.Lists.{Among, NoTwo}
-use Rattle.zworld.specs.History.{History, Operation, HasBegun}
-use Rattle.zworld.specs.LegalOrder.{Service, does}
+use Rattle.zcalls.specs.Lists.{Among, NoTwo}
+use Rattle.zworld.specs.History.{History, HasBegun}
+use Rattle.zcalls.specs.Operation.{Operation, operation_of}
+use Rattle.zworld.specs.LegalOrder.{Service, operation_step}
 use Rattle.zclient.specs.View.{ClientView}
-use Rattle.zlegal.specs.Plain.{Plain, operation_of, after_log}
+use Rattle.zcalls.specs.Kept.{Plain}
+use Rattle.zcalls.specs.Acts.{after_log, acts_of, acts_from}
 use Rattle.zlegal.specs.Prefix.{Pairwise}
-use Rattle.zlegal.specs.Acted.{acted_entries, acted_from}
 
 -- a call that took effect
 pub record Item : Type 0 where
@@ -42,7 +43,7 @@ updates_of (i ∷ is) = if is_update i.operation.call then (i.operation, i.reply
 -- the service, call after call from a state, gives each item its reply
 abbrev pub Replays : {P : Type 0} → Service P → P → List Item → Type 0
 Replays service p [] = Unit {0}
-Replays service p (i ∷ is) = ((does service p i.operation).1 ≡ i.reply) × Replays service (does service p i.operation).0 is
+Replays service p (i ∷ is) = ((operation_step service p i.operation).1 ≡ i.reply) × Replays service (operation_step service p i.operation).0 is
 
 -- an item of this call with this reply
 abbrev pub IsItemOf : ℕ → ℕ → Reply → Item → Type 0
@@ -75,7 +76,7 @@ IsSameEvent event other = ⊥
 
 -- the updates of the list are the entries of the committed log that acted, in order
 abbrev pub AreCommitted : {P : Type 0} → Plain P → List Entry → List Item → Type 0
-AreCommitted plain committed items = updates_of items ≡ acted_entries plain committed
+AreCommitted plain committed items = updates_of items ≡ acts_of plain committed
 
 -- along the list times don't fall
 abbrev pub TimesRise : List Item → Type 0
@@ -100,4 +101,4 @@ AllBegun history log = (e : Entry) → Among e log → HasBegun history (operati
 
 -- the entries that acted, where a committed log grew to another
 abbrev pub new_items : {P : Type 0} → Plain P → ℕ → List Entry → List Entry → List Item
-new_items plain time old new = all_at_time time (acted_from plain.update (after_log plain old) (drop (length old) new))
+new_items plain time old new = all_at_time time (acts_from plain.update (after_log plain old) (drop (length old) new))

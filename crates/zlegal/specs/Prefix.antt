@@ -1,7 +1,7 @@
 -- Beginnings of lists, the entry of a number in a log, and what holds of each two members of a list.
 use Rattle.std.specs.Prelude.{◌≡◌, ℕ, ◌+◌, List, [], ◌∷◌, ◌++◌, length}
 use Rattle.zcalls.specs.declared.call.Entry.{Entry}
-use Rattle.zworld.specs.Lists.{Among}
+use Rattle.zcalls.specs.Lists.{Among}
 
 -- xs begins ys
 abbrev pub IsPrefix : {A : Type 0} → List A → List A → Type 0

@@ -8,12 +8,12 @@ use Rattle.zserver.specs.Machine.{kept_tree, replay}
 use Rattle.zserver.proofs.Projection.{log_stands_for_machine}
 use Rattle.zworld.specs.declared.event.Event.{Event}
 use Rattle.zworld.specs.PlainTree.{IsExplained}
-use Rattle.zworld.specs.World.{World, opening}
+use Rattle.zworld.specs.World.{World, opening_world}
 use Rattle.zworld.specs.Events.{has_failed, happens, run}
 use Rattle.zworld.specs.Alike.{IsAlike}
 use Rattle.zworld.proofs.Alike.{stay_alike}
 use Rattle.zworld.proofs.LogWorlds.{runs_with}
-use Rattle.zlegal.specs.Plain.{tree}
+use Rattle.zcalls.specs.PlainTree.{plain_tree}
 use Rattle.zlegal.proofs.order.PlainTree.{items_explain}
 use Rattle.zchain.specs.Flow.{LogWorld}
 use Rattle.zchain.specs.Account.{opening_account}
@@ -26,8 +26,8 @@ pub every_history_is_explained : EveryHistoryIsExplained
 every_history_is_explained servers clients events =
     let s = every_run_is_sound servers clients events in
     let explained = items_explain _ _ _ s.acted s.replays s.rising s.in_time s.answered s.once in
-    let same : (account_of servers clients events).world.history ≡ (run kept_tree (opening kept_tree servers clients) events).history =
-    ap (λ (w : LogWorld). w.history) (account_world tree (opening_account tree servers clients) events)
+    let same : (account_of servers clients events).world.history ≡ (run kept_tree (opening_world kept_tree servers clients) events).history =
+    ap (λ (w : LogWorld). w.history) (account_world plain_tree (opening_account plain_tree servers clients) events)
     ∙ sym (ap (λ (w : World _). w.history) (runs_with (replay kept_tree) (log_stands_for_machine kept_tree) servers clients events)) in
     subst IsExplained same explained
 
@@ -52,5 +52,5 @@ losses_alike v (event ∷ events) w (u, first, rest) =
 
 pub every_history_with_losses_is_explained : EveryHistoryWithLossesIsExplained
 every_history_with_losses_is_explained servers clients events w leads =
-    let alike = losses_alike (opening kept_tree servers clients) events w leads in
+    let alike = losses_alike (opening_world kept_tree servers clients) events w leads in
     subst IsExplained (sym (ap (λ (x : World _). x.history) alike.rest)) (every_history_is_explained servers clients events)

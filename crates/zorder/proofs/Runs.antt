@@ -4,7 +4,9 @@ use Rattle.zserver.specs.declared.process.Process.TheVariants.{Master, Server, C
 use Rattle.zworld.specs.declared.event.Event.{Event}
 use Rattle.zworld.specs.declared.event.Event.TheVariants.{Begin, Retry, Take, Ignore, Fail, Join}
 use Rattle.zworld.specs.Events.{is_enabled, acts, run}
-use Rattle.zlegal.specs.Plain.{Plain, tree, log_machine}
+use Rattle.zcalls.specs.Kept.{Plain}
+use Rattle.zcalls.specs.PlainTree.{plain_tree}
+use Rattle.zchain.specs.Flow.{log_machine}
 use Rattle.zlegal.specs.Prefix.{IsPrefix}
 use Rattle.zlegal.proofs.lists.Prefixes.{prefix_same, prefix_of}
 use Rattle.zchain.specs.Last.{LastsAreLengths}
@@ -46,31 +48,31 @@ each_event (Ignore from to) = requests_are_lost from to
 each_event (Fail x) = servers_fail x
 each_event (Join x) = servers_join x
 
-lasts_next : (t : Account) (event : Event) → LastsAreLengths t.world → LastsAreLengths (next_account tree t event).world
+lasts_next : (t : Account) (event : Event) → LastsAreLengths t.world → LastsAreLengths (next_account plain_tree t event).world
 lasts_next t event exact =
-    subst LastsAreLengths (sym (account_world_if (is_enabled t.world event) (account_by tree t event (acts (log_machine tree) t.world event)) t))
-    (lasts_happen tree t.world event exact)
+    subst LastsAreLengths (sym (account_world_if (is_enabled t.world event) (account_by plain_tree t event (acts (log_machine plain_tree) t.world event)) t))
+    (lasts_happen plain_tree t.world event exact)
 
 -- each list of events
-runs_sound : (t : Account) → LastsAreLengths t.world → IsSound tree t → (events : List Event) → IsSoundAfter tree t (account_after tree t events)
+runs_sound : (t : Account) → LastsAreLengths t.world → IsSound plain_tree t → (events : List Event) → IsSoundAfter plain_tree t (account_after plain_tree t events)
 runs_sound t exact s [] = (s, prefix_same t.committed)
 runs_sound t exact s (event ∷ events) =
     let next = each_event event t exact s in
-    let later = runs_sound (next_account tree t event) (lasts_next t event exact) next.0 events in
-    (later.0, prefix_of t.committed (next_account tree t event).committed (account_after tree (next_account tree t event) events).committed next.1 later.1)
+    let later = runs_sound (next_account plain_tree t event) (lasts_next t event exact) next.0 events in
+    (later.0, prefix_of t.committed (next_account plain_tree t event).committed (account_after plain_tree (next_account plain_tree t event) events).committed next.1 later.1)
 
 pub every_run_is_sound : EveryRunIsSound
 every_run_is_sound servers clients events =
-    (runs_sound (opening_account tree servers clients) (lasts tree servers clients []) (opening_sound tree servers clients) events).0
+    (runs_sound (opening_account plain_tree servers clients) (lasts plain_tree servers clients []) (opening_sound plain_tree servers clients) events).0
 
 -- more events
-account_more : (t : Account) (events more : List Event) → account_after tree t (events ++ more) ≡ account_after tree (account_after tree t events) more
+account_more : (t : Account) (events more : List Event) → account_after plain_tree t (events ++ more) ≡ account_after plain_tree (account_after plain_tree t events) more
 account_more t [] more = refl
-account_more t (event ∷ events) more = account_more (next_account tree t event) events more
+account_more t (event ∷ events) more = account_more (next_account plain_tree t event) events more
 
 pub committed_stays : CommittedStays
 committed_stays servers clients events more =
     let t = account_of servers clients events in
-    let exact = subst LastsAreLengths (sym (account_world tree (opening_account tree servers clients) events)) (lasts tree servers clients events) in
-    subst (λ (u : Account). IsPrefix t.committed u.committed) (sym (account_more (opening_account tree servers clients) events more))
+    let exact = subst LastsAreLengths (sym (account_world plain_tree (opening_account plain_tree servers clients) events)) (lasts plain_tree servers clients events) in
+    subst (λ (u : Account). IsPrefix t.committed u.committed) (sym (account_more (opening_account plain_tree servers clients) events more))
     (runs_sound t exact (every_run_is_sound servers clients events) more).1

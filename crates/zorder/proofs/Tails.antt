@@ -6,20 +6,20 @@ use Rattle.std.specs.Option.{option_map}
 use Rattle.zcalls.specs.declared.call.Entry.{Entry}
 use Rattle.zserver.specs.Machine.{kept_tree, replay}
 use Rattle.zserver.specs.View.{ServerView, is_tail}
-use Rattle.zserver.specs.Homomorphism.{view_with}
+use Rattle.zserver.specs.support.Homomorphism.{view_with}
 use Rattle.zserver.proofs.Projection.{log_stands_for_machine}
 use Rattle.zmaster.specs.View.{members}
-use Rattle.zworld.specs.Lists.{ComesBefore}
-use Rattle.zworld.specs.World.{World, opening}
+use Rattle.zcalls.specs.Lists.{ComesBefore}
+use Rattle.zworld.specs.World.{World, opening_world}
 use Rattle.zworld.specs.Events.{run}
-use Rattle.zworld.specs.LogWorld.{world_with}
+use Rattle.zworld.specs.support.LogWorld.{world_with}
 use Rattle.zworld.proofs.LogWorlds.{runs_with}
-use Rattle.zlegal.specs.Plain.{tree}
+use Rattle.zcalls.specs.PlainTree.{plain_tree}
 use Rattle.zlegal.specs.Prefix.{IsPrefix}
 use Rattle.zlegal.proofs.lists.Tests.{left_of, right_of}
 use Rattle.zlegal.proofs.lists.Places.{two_places}
 use Rattle.zlegal.proofs.lists.Prefixes.{prefix_of}
-use Rattle.zlegal.proofs.acts.ActedLogs.{acted_entries_once}
+use Rattle.zcalls.proofs.ActedLogs.{acted_entries_once}
 use Rattle.zchain.specs.Flow.{LogWorld, Log, log_at}
 use Rattle.zchain.specs.Account.{Account, opening_account}
 use Rattle.zchain.specs.Sound.{IsSound}
@@ -35,7 +35,7 @@ record IsLonger (w : LogWorld) (x : ℕ) (log : List Entry) : Type 0 where
   pub begins : IsPrefix log own
   pub has_successor : is_none (w.servers x).succ ≡ false
 
-longer : (t : Account) → IsSound tree t → (x y : ℕ) (log : List Entry) → ComesBefore x y (members t.world.master) → log_at t.world y ≡ Some log
+longer : (t : Account) → IsSound plain_tree t → (x y : ℕ) (log : List Entry) → ComesBefore x y (members t.world.master) → log_at t.world y ≡ Some log
     → IsLonger t.world x log
 longer t s x y log before has =
     let more = upper_of_log t.world y log has in
@@ -58,7 +58,7 @@ log_of_tail v is = by v.machine refl
 no_successor : (v : ServerView (List Entry)) → is_tail v ≡ true → is_none v.succ ≡ true
 no_successor v is = right_of (is_some v.machine) (is_none v.succ) is
 
-one_tail : (t : Account) → IsSound tree t → (x y : ℕ) → t.world.failed x ≡ false → t.world.failed y ≡ false
+one_tail : (t : Account) → IsSound plain_tree t → (x y : ℕ) → t.world.failed x ≡ false → t.world.failed y ≡ false
     → is_tail (t.world.servers x) ≡ true → is_tail (t.world.servers y) ≡ true → x ≡ y
 one_tail t s x y x_lives y_lives x_tail y_tail =
     let x_log = log_of_tail (t.world.servers x) x_tail in
@@ -82,16 +82,16 @@ tail_with h v = ap (λ b. b && is_none v.succ) (by v.machine)
 -- the world over trees
 pub one_tail_answers : OneTailAnswers
 one_tail_answers servers clients events s t =
-    let world : run kept_tree (opening kept_tree servers clients) events ≡ world_with (replay kept_tree) (account_of servers clients events).world =
+    let world : run kept_tree (opening_world kept_tree servers clients) events ≡ world_with (replay kept_tree) (account_of servers clients events).world =
     runs_with (replay kept_tree) (log_stands_for_machine kept_tree) servers clients events
-    ∙ ap (world_with (replay kept_tree)) (sym (account_world tree (opening_account tree servers clients) events)) in
+    ∙ ap (world_with (replay kept_tree)) (sym (account_world plain_tree (opening_account plain_tree servers clients) events)) in
     subst (λ (w : World _). w.failed s ≡ false → w.failed t ≡ false → is_tail (w.servers s) ≡ true → is_tail (w.servers t) ≡ true → s ≡ t) (sym world)
     (λ s_lives t_lives s_tail t_tail. one_tail (account_of servers clients events) (every_run_is_sound servers clients events) s t s_lives t_lives
     (sym (tail_with (replay kept_tree) ((account_of servers clients events).world.servers s)) ∙ s_tail)
     (sym (tail_with (replay kept_tree) ((account_of servers clients events).world.servers t)) ∙ t_tail))
 
 -- a live tail holds the committed log
-holds_committed : (t : Account) → IsSound tree t → (x : ℕ) (log : List Entry) → t.world.failed x ≡ false → is_tail (t.world.servers x) ≡ true
+holds_committed : (t : Account) → IsSound plain_tree t → (x : ℕ) (log : List Entry) → t.world.failed x ≡ false → is_tail (t.world.servers x) ≡ true
     → log_at t.world x ≡ Some log → log ≡ t.committed
 holds_committed t s x log lives tail has =
     s.tail x log (log_member t.world s.blank s.live x lives log has) has (no_successor (t.world.servers x) tail)
@@ -105,4 +105,4 @@ tails_hold_what_tails_held servers clients events more s t old log s_lives s_tai
     subst (λ a. IsPrefix a log) (sym was) (subst (IsPrefix v.committed) (sym is) (committed_stays servers clients events more))
 
 pub updates_act_once : UpdatesActOnce
-updates_act_once servers clients events = acted_entries_once tree (account_of servers clients events).committed
+updates_act_once servers clients events = acted_entries_once plain_tree (account_of servers clients events).committed

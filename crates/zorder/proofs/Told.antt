@@ -7,17 +7,19 @@ use Rattle.zcalls.specs.declared.call.Entry.{Entry}
 use Rattle.zcalls.specs.declared.reply.Reply.{Reply}
 use Rattle.zcalls.specs.Kept.{KeptState, nothing_kept, entry_step}
 use Rattle.zworld.specs.declared.history.CallEvent.TheVariants.{Answer}
-use Rattle.zworld.specs.Lists.{Among}
-use Rattle.zworld.specs.History.{Operation, IsUpdate, HasBegun}
-use Rattle.zworld.specs.LegalOrder.{does}
-use Rattle.zlegal.specs.Plain.{tree, service_of, after_log, operation_of}
-use Rattle.zlegal.specs.Acted.{acted_from}
+use Rattle.zcalls.specs.Lists.{Among}
+use Rattle.zcalls.specs.Operation.{Operation, operation_of}
+use Rattle.zworld.specs.History.{IsUpdate, HasBegun}
+use Rattle.zworld.specs.LegalOrder.{operation_step}
+use Rattle.zcalls.specs.PlainTree.{plain_tree}
+use Rattle.zworld.specs.PlainTree.{service_of}
+use Rattle.zcalls.specs.Acts.{after_log, acts_from}
 use Rattle.zlegal.specs.Items.{Item, is_update, updates_of, Replays}
-use Rattle.zlegal.proofs.lists.Tests.{test}
+use Rattle.zcalls.proofs.Among.{test}
 use Rattle.zlegal.proofs.lists.Members.{among_take}
 use Rattle.zlegal.proofs.order.LegalOrders.{one_call, given}
-use Rattle.zlegal.proofs.acts.Acting.{Outcome, outcome}
-use Rattle.zlegal.proofs.acts.Acting.Outcome.{Acts, Stays}
+use Rattle.zcalls.proofs.Acting.{Outcome, outcome}
+use Rattle.zcalls.proofs.Acting.Outcome.{Acts, Stays}
 use Rattle.zlegal.proofs.acts.ActedLogs.{after_items, after_calls, acted_leads, items_lead}
 use Rattle.zlegal.proofs.acts.NewItems.{updates_more}
 use Rattle.zchain.specs.Account.{Account}
@@ -32,7 +34,7 @@ record IsItemOfCall (t : Account) (o : Operation) (reply : Reply) : Type 0 where
   pub operation : item.operation ≡ o
   pub told : item.reply ≡ reply
 
-item_of : (t : Account) → IsSound tree t → (o : Operation) (reply : Reply) → HasBegun t.world.history o
+item_of : (t : Account) → IsSound plain_tree t → (o : Operation) (reply : Reply) → HasBegun t.world.history o
     → Among (Answer o.client o.number reply) t.world.history → IsItemOfCall t o reply
 item_of t s o reply begun answered =
     let m = given t.items 0 t.world.history s.answered o.client o.number reply answered in
@@ -71,23 +73,23 @@ answered_updates_are_committed servers clients events o reply update begun answe
     (subst (λ (x : Operation × Reply). Among x (updates_of t.items)) (λ i. (found.operation i, found.told i)) (update_listed t.items found.item found.among is))
 
 -- what acted of a log, cut in two, is what acted of a beginning of it
-split_now : (s : KeptState Tree) (e : Entry) (now : List (Operation × Reply)) (r : KeptState Tree × Option Reply) → Outcome tree.update s e now r
+split_now : (s : KeptState Tree) (e : Entry) (now : List (Operation × Reply)) (r : KeptState Tree × Option Reply) → Outcome plain_tree.update s e now r
     → (es : List Entry)
-    → ((front rest : List (Operation × Reply)) → acted_from tree.update r.0 es ≡ front ++ rest
-    → (begin : List Entry) × (more : List Entry) × (es ≡ begin ++ more) × (acted_from tree.update r.0 begin ≡ front))
-    → (x : Operation × Reply) (front rest : List (Operation × Reply)) → now ++ acted_from tree.update r.0 es ≡ (x ∷ front) ++ rest
-    → (begin : List Entry) × (more : List Entry) × (es ≡ begin ++ more) × (now ++ acted_from tree.update r.0 begin ≡ x ∷ front)
+    → ((front rest : List (Operation × Reply)) → acts_from plain_tree.update r.0 es ≡ front ++ rest
+    → (begin : List Entry) × (more : List Entry) × (es ≡ begin ++ more) × (acts_from plain_tree.update r.0 begin ≡ front))
+    → (x : Operation × Reply) (front rest : List (Operation × Reply)) → now ++ acts_from plain_tree.update r.0 es ≡ (x ∷ front) ++ rest
+    → (begin : List Entry) × (more : List Entry) × (es ≡ begin ++ more) × (now ++ acts_from plain_tree.update r.0 begin ≡ x ∷ front)
 split_now s e now r (Acts low) es later x front rest is =
     let m = later front rest (cc is) in
-    (m.0, m.1, m.2, (let head : (operation_of e, (tree.update s.plain e.client e.update).1) ≡ x = cc is in λ i. head i ∷ m.3 i))
+    (m.0, m.1, m.2, (let head : (operation_of e, (plain_tree.update s.plain e.client e.update).1) ≡ x = cc is in λ i. head i ∷ m.3 i))
 split_now s e now r (Stays high) es later x front rest is = later (x ∷ front) rest is
 
-acted_split : (s : KeptState Tree) (es : List Entry) (front rest : List (Operation × Reply)) → acted_from tree.update s es ≡ front ++ rest
-    → (begin : List Entry) × (more : List Entry) × (es ≡ begin ++ more) × (acted_from tree.update s begin ≡ front)
+acted_split : (s : KeptState Tree) (es : List Entry) (front rest : List (Operation × Reply)) → acts_from plain_tree.update s es ≡ front ++ rest
+    → (begin : List Entry) × (more : List Entry) × (es ≡ begin ++ more) × (acts_from plain_tree.update s begin ≡ front)
 acted_split s es [] rest is = ([], es, refl, refl)
 acted_split s [] (x ∷ front) rest is = absurd (cc is)
 acted_split s (e ∷ es) (x ∷ front) rest is =
-    let m = split_now s e _ _ (outcome tree.update s e) es (λ f r. acted_split (entry_step tree.update s e).0 es f r) x front rest is in
+    let m = split_now s e _ _ (outcome plain_tree.update s e) es (λ f r. acted_split (entry_step plain_tree.update s e).0 es f r) x front rest is in
     (e ∷ m.0, m.1, ap (λ l. e ∷ l) m.2, m.3)
 
 -- what a list of items gives to one of them
@@ -101,10 +103,10 @@ stands [] i a = absurd a
 stands (k ∷ is) i (inl e) = record { before = []; after = is; split = ap (λ j. j ∷ is) e }
 stands (k ∷ is) i (inr a) = let m = stands is i a in record { before = k ∷ m.before; after = m.after; split = ap (λ l. k ∷ l) m.split }
 
-replays_at : (p : Tree) (xs : List Item) (i : Item) (ys : List Item) → Replays (service_of tree) p (xs ++ i ∷ ys)
-    → (does (service_of tree) (after_items tree p xs) i.operation).1 ≡ i.reply
+replays_at : (p : Tree) (xs : List Item) (i : Item) (ys : List Item) → Replays (service_of plain_tree) p (xs ++ i ∷ ys)
+    → (operation_step (service_of plain_tree) (after_items plain_tree p xs) i.operation).1 ≡ i.reply
 replays_at p [] i ys h = h.0
-replays_at p (x ∷ xs) i ys h = replays_at (does (service_of tree) p x.operation).0 xs i ys h.1
+replays_at p (x ∷ xs) i ys h = replays_at (operation_step (service_of plain_tree) p x.operation).0 xs i ys h.1
 
 pub answered_queries_saw_committed : AnsweredQueriesSawCommitted
 answered_queries_saw_committed servers clients events client number query reply begun answered =
@@ -113,16 +115,16 @@ answered_queries_saw_committed servers clients events client number query reply 
     let o : Operation = record { client = client; number = number; call = Query query } in
     let found = item_of t s o reply begun answered in
     let place = stands t.items found.item found.among in
-    let split = acted_split (nothing_kept tree.opening) t.committed (updates_of place.before) (updates_of (found.item ∷ place.after))
+    let split = acted_split (nothing_kept plain_tree.opening) t.committed (updates_of place.before) (updates_of (found.item ∷ place.after))
     (sym s.acted ∙ ap updates_of place.split ∙ updates_more place.before (found.item ∷ place.after)) in
-    let leads : after_items tree tree.opening place.before ≡ (after_log tree split.0).plain =
-    items_lead tree tree.opening place.before ∙ ap (after_calls tree tree.opening) (sym split.3) ∙ acted_leads tree (nothing_kept tree.opening) split.0 in
-    let told : (does (service_of tree) (after_items tree tree.opening place.before) found.item.operation).1 ≡ found.item.reply =
-    replays_at tree.opening place.before found.item place.after (subst (Replays (service_of tree) tree.opening) place.split s.replays) in
+    let leads : after_items plain_tree plain_tree.opening place.before ≡ (after_log plain_tree split.0).plain =
+    items_lead plain_tree plain_tree.opening place.before ∙ ap (after_calls plain_tree plain_tree.opening) (sym split.3) ∙ acted_leads plain_tree (nothing_kept plain_tree.opening) split.0 in
+    let told : (operation_step (service_of plain_tree) (after_items plain_tree plain_tree.opening place.before) found.item.operation).1 ≡ found.item.reply =
+    replays_at plain_tree.opening place.before found.item place.after (subst (Replays (service_of plain_tree) plain_tree.opening) place.split s.replays) in
     (
       split.0,
       (split.1, split.2),
-      ap (λ p. tree.ask p query) (sym leads)
-      ∙ ap (λ (p : Operation). (does (service_of tree) (after_items tree tree.opening place.before) p).1) (sym found.operation)
+      ap (λ p. plain_tree.ask p query) (sym leads)
+      ∙ ap (λ (p : Operation). (operation_step (service_of plain_tree) (after_items plain_tree plain_tree.opening place.before) p).1) (sym found.operation)
       ∙ told ∙ found.told,
     )

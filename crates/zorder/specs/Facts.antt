@@ -9,30 +9,30 @@ use Rattle.zserver.specs.View.{is_tail}
 use Rattle.zmaster.specs.View.{members}
 use Rattle.zworld.specs.declared.event.Event.{Event}
 use Rattle.zworld.specs.declared.history.CallEvent.TheVariants.{Answer}
-use Rattle.zworld.specs.Lists.{Among, ComesBefore, NoTwo}
-use Rattle.zworld.specs.History.{Operation, IsUpdate, HasBegun}
-use Rattle.zworld.specs.LegalOrder.{IsSameCall}
-use Rattle.zworld.specs.World.{opening}
+use Rattle.zcalls.specs.Lists.{Among, ComesBefore, NoTwo}
+use Rattle.zcalls.specs.Operation.{Operation, IsSameCall}
+use Rattle.zworld.specs.History.{IsUpdate, HasBegun}
+use Rattle.zworld.specs.World.{opening_world}
 use Rattle.zworld.specs.Events.{run}
-use Rattle.zlegal.specs.Plain.{tree, after_log}
+use Rattle.zcalls.specs.PlainTree.{plain_tree}
+use Rattle.zcalls.specs.Acts.{after_log, acts_of}
 use Rattle.zlegal.specs.Prefix.{IsPrefix}
-use Rattle.zlegal.specs.Acted.{acted_entries}
 use Rattle.zchain.specs.Flow.{log_at}
 use Rattle.zchain.specs.Account.{Account, account_after, opening_account}
 use Rattle.zchain.specs.Sound.{IsSound}
 
 -- the log world after a list of events, with its committed log and its items
 abbrev pub account_of : ℕ → ℕ → List Event → Account
-account_of servers clients events = account_after tree (opening_account tree servers clients) events
+account_of servers clients events = account_after plain_tree (opening_account plain_tree servers clients) events
 
 -- every run of the log world is sound
 abbrev pub EveryRunIsSound : Type 0
-EveryRunIsSound = (servers clients : ℕ) (events : List Event) → IsSound tree (account_of servers clients events)
+EveryRunIsSound = (servers clients : ℕ) (events : List Event) → IsSound plain_tree (account_of servers clients events)
 
 -- of the servers that live at most one is a tail that answers
 abbrev pub OneTailAnswers : Type 0
 OneTailAnswers =
-    (servers clients : ℕ) (events : List Event) (s t : ℕ) → let w = run kept_tree (opening kept_tree servers clients) events in
+    (servers clients : ℕ) (events : List Event) (s t : ℕ) → let w = run kept_tree (opening_world kept_tree servers clients) events in
     w.failed s ≡ false → w.failed t ≡ false → is_tail (w.servers s) ≡ true → is_tail (w.servers t) ≡ true → s ≡ t
 
 -- the log of each member begins that of each member before it
@@ -46,7 +46,7 @@ abbrev pub AnsweredUpdatesAreCommitted : Type 0
 AnsweredUpdatesAreCommitted =
     (servers clients : ℕ) (events : List Event) (o : Operation) (reply : Reply) → let t = account_of servers clients events in
     IsUpdate o.call → HasBegun t.world.history o → Among (Answer o.client o.number reply) t.world.history
-    → Among (o, reply) (acted_entries tree t.committed)
+    → Among (o, reply) (acts_of plain_tree t.committed)
 
 -- a query that was answered was told what the tree answers after a log that was committed by then
 abbrev pub AnsweredQueriesSawCommitted : Type 0
@@ -55,7 +55,7 @@ AnsweredQueriesSawCommitted =
     let t = account_of servers clients events in
     HasBegun t.world.history (record { client = client; number = number; call = Query query })
     → Among (Answer client number reply) t.world.history
-    → (log : List Entry) × IsPrefix log t.committed × (tree.ask (after_log tree log).plain query ≡ reply)
+    → (log : List Entry) × IsPrefix log t.committed × (plain_tree.ask (after_log plain_tree log).plain query ≡ reply)
 
 -- what is committed stays committed
 abbrev pub CommittedStays : Type 0
@@ -75,4 +75,4 @@ TailsHoldWhatTailsHeld =
 abbrev pub UpdatesActOnce : Type 0
 UpdatesActOnce =
     (servers clients : ℕ) (events : List Event)
-    → NoTwo (λ (a b : Operation × Reply). IsSameCall a.0 b.0) (acted_entries tree (account_of servers clients events).committed)
+    → NoTwo (λ (a b : Operation × Reply). IsSameCall a.0 b.0) (acts_of plain_tree (account_of servers clients events).committed)

@@ -6,17 +6,17 @@ use Rattle.zserver.specs.declared.message.Message.TheVariants as message
 use Rattle.zserver.specs.declared.process.Process.{Process}
 use Rattle.zserver.specs.declared.process.Process.TheVariants.{Server, Client}
 use Rattle.zserver.specs.View.{ServerView, Neighbour}
-use Rattle.zserver.specs.Table.{Taken}
+use Rattle.zserver.specs.Table.{ServerResult}
 use Rattle.zserver.specs.Table as server
 use Rattle.zmaster.specs.View.{members}
 use Rattle.zworld.specs.declared.event.Event.TheVariants.{Take}
-use Rattle.zworld.specs.Lists.{Among, ComesBefore}
+use Rattle.zcalls.specs.Lists.{Among, ComesBefore}
 use Rattle.zworld.specs.Links.{without_front}
-use Rattle.zworld.specs.Events.{takes}
-use Rattle.zlegal.specs.Plain.{Plain, log_machine}
+use Rattle.zworld.specs.Events.{process_step}
+use Rattle.zcalls.specs.Kept.{Plain}
+use Rattle.zchain.specs.Flow.{log_machine, LogWorld, LogMessage, Log, or_else, log_at, final_log_by, final_log, first_snapshot_by, first_log, length_of}
 use Rattle.zlegal.specs.Prefix.{IsPrefix}
 use Rattle.zlegal.specs.Items.{Item, new_items}
-use Rattle.zchain.specs.Flow.{LogWorld, LogMessage, Log, or_else, log_at, final_log_by, final_log, first_snapshot_by, first_log, length_of}
 use Rattle.zchain.specs.Last.{HasExactLast}
 use Rattle.zchain.specs.Chain.{IsAhead}
 use Rattle.zchain.specs.Messages.{IsJustified}
@@ -26,9 +26,8 @@ use Rattle.zlegal.proofs.lists.Tests.{left_of}
 use Rattle.zlegal.proofs.lists.Prefixes.{prefix_same, prefix_append}
 use Rattle.zchain.proofs.links.Links.{at_same}
 use Rattle.zchain.proofs.places.Pairs.{log_member}
-use Rattle.zchain.proofs.rows.Rows.{IsAccepted, IsRow, takes_row}
-use Rattle.zchain.proofs.rows.Rows.IsAccepted.{Processes, Forwards}
-use Rattle.zchain.proofs.rows.Rows.IsRow.{Ignores, Submits, Updates, Asks, Acknowledges, Shows, Turns, Follows, Leads, Ends}
+use Rattle.zserver.specs.support.Cases.{IsAccepted, IsRow, Processes, Forwards, Ignores, Submits, Updates, Asks, Acknowledges, Shows, Turns, Follows, Leads, Ends}
+use Rattle.zserver.proofs.Cases.{server_case}
 use Rattle.zchain.proofs.rows.RowViews.{row_sent, row_begun, row_blank}
 use Rattle.zchain.proofs.places.Heads.{head_is_first}
 use Rattle.zchain.proofs.steps.Takes.{with_view, neighbours_stay}
@@ -45,12 +44,12 @@ pub record IsSubmitted (v : ServerView (List Entry)) (machine : Log) : Type 0 wh
   pub new : machine ≡ Some (log ++ entry ∷ [])
 
 module _ {P : Type 0} (plain : Plain P) where
-  accepted_machine : (v : ServerView (List Entry)) (mine : List Entry) (n : ℕ) (e : Entry) (r : Taken (List Entry)) → IsAccepted (log_machine plain) v mine n e r → r.0.machine ≡ Some (mine ++ e ∷ [])
+  accepted_machine : (v : ServerView (List Entry)) (mine : List Entry) (n : ℕ) (e : Entry) (r : ServerResult (List Entry)) → IsAccepted (log_machine plain) v mine n e r → r.0.machine ≡ Some (mine ++ e ∷ [])
   accepted_machine v mine n e r (Processes ends) = refl
   accepted_machine v mine n e r (Forwards succ is) = refl
 
   -- what a client's message makes of the log
-  client_machine : (v : ServerView (List Entry)) (from : Process) (m : LogMessage) (r : Taken (List Entry)) → IsRow (log_machine plain) v from m r → (c : ℕ) → from ≡ Client c
+  client_machine : (v : ServerView (List Entry)) (from : Process) (m : LogMessage) (r : ServerResult (List Entry)) → IsRow (log_machine plain) v from m r → (c : ℕ) → from ≡ Client c
       → (r.0.machine ≡ v.machine) ⊎ IsSubmitted v r.0.machine
   client_machine v from m r (Ignores from' m') c is = inl refl
   client_machine v from m r (Submits d number update mine r' has head room did) c is =
@@ -78,14 +77,14 @@ module _ {P : Type 0} (plain : Plain P) (t : Account) (s : IsSound plain t) (c y
   abbrev old : ServerView (List Entry)
   old = t.world.servers y
 
-  abbrev taken : Taken (List Entry)
-  taken = server.takes (log_machine plain) (t.world.servers y) (Client c) m
+  abbrev taken : ServerResult (List Entry)
+  taken = server.server_step (log_machine plain) (t.world.servers y) (Client c) m
 
   abbrev w1 : LogWorld
-  w1 = with_view t.world (Client c) y (server.takes (log_machine plain) (t.world.servers y) (Client c) m).0
+  w1 = with_view t.world (Client c) y (server.server_step (log_machine plain) (t.world.servers y) (Client c) m).0
 
   row : IsRow (log_machine plain) old (Client c) m taken
-  row = takes_row (log_machine plain) old (Client c) m
+  row = server_case (log_machine plain) old (Client c) m
 
   stay : (taken.0.pred ≡ old.pred) × (taken.0.succ ≡ old.succ)
   stay = neighbours_stay plain old (Client c) m taken row refl
@@ -152,7 +151,7 @@ module _ {P : Type 0} (plain : Plain P) (t : Account) (s : IsSound plain t) (c y
 
   -- where no query is answered
   module _ (silent : query_items_by plain w (Take (Client c) (Server y)) ≡ []) where
-    row_puts : (from : Process) (m' : LogMessage) (r : Taken (List Entry)) → IsRow (log_machine plain) old from m' r → from ≡ Client c → m' ≡ m
+    row_puts : (from : Process) (m' : LogMessage) (r : ServerResult (List Entry)) → IsRow (log_machine plain) old from m' r → from ≡ Client c → m' ≡ m
         → IsJustified w t.items from (Server y) m'
         → IsSound plain (account_with_view plain t (Client c) y r.0) → IsSound plain (account_with_puts (account_with_view plain t (Client c) y r.0) y r.1)
     row_puts from m' r (Ignores from' m'') is is_m f sound = sound
@@ -178,18 +177,18 @@ module _ {P : Type 0} (plain : Plain P) (t : Account) (s : IsSound plain t) (c y
     abbrev popped : LogWorld
     popped = record w { links = without_front w.links (Client c) (Server y) }
 
-    is_account : account_with_puts (account_with_view plain t (Client c) y taken.0) y taken.1 ≡ account_by plain t (Take (Client c) (Server y)) (takes (log_machine plain) popped (Client c) (Server y) m)
+    is_account : account_with_puts (account_with_view plain t (Client c) y taken.0) y taken.1 ≡ account_by plain t (Take (Client c) (Server y)) (process_step (log_machine plain) popped (Client c) (Server y) m)
     is_account =
         puts_at_once (account_with_view plain t (Client c) y taken.0) y taken.1
         ∙ (λ i.
         let committed : List Entry = committed_after (tail_log (sym (at_same y taken.0 w.servers) i)) t.committed in
         record {
-          world = takes (log_machine plain) popped (Client c) (Server y) m;
+          world = process_step (log_machine plain) popped (Client c) (Server y) m;
           committed = committed;
           items = t.items ++ (sym silent i ++ new_items plain (length w.history) t.committed committed);
         })
 
-    pub take_from_client : IsSoundAfter plain t (account_by plain t (Take (Client c) (Server y)) (takes (log_machine plain) popped (Client c) (Server y) m))
+    pub take_from_client : IsSoundAfter plain t (account_by plain t (Take (Client c) (Server y)) (process_step (log_machine plain) popped (Client c) (Server y) m))
     take_from_client = after_puts plain t (account_with_view plain t (Client c) y taken.0) _ y taken.1 is_account
         (row_puts (Client c) m taken row refl refl justified (view_step_sound plain t s (Client c) refl y taken.0 good_view shows alive))
         (view_step_begins plain t s (Client c) refl y taken.0 good_view shows alive)

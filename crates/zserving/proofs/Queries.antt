@@ -6,24 +6,24 @@ use Rattle.zcalls.specs.declared.call.Call.TheVariants as call
 use Rattle.zcalls.specs.declared.call.Entry.{Entry}
 use Rattle.zcalls.specs.declared.call.Query.{Query}
 use Rattle.zcalls.specs.declared.reply.Reply.{Reply}
-use Rattle.zcalls.specs.Kept.{nothing_kept}
+use Rattle.zcalls.specs.Kept.{nothing_kept, Plain}
 use Rattle.zserver.specs.declared.message.Message.TheVariants as message
 use Rattle.zserver.specs.declared.process.Process.TheVariants.{Server, Client}
 use Rattle.zserver.specs.Machine.{Does}
 use Rattle.zserver.specs.View.{ServerView, Neighbour}
-use Rattle.zserver.specs.Table.{Taken, takes_query}
+use Rattle.zserver.specs.Table.{ServerResult, query_row}
 use Rattle.zserver.specs.Table as server
 use Rattle.zserver.proofs.Fields.{view_of}
 use Rattle.zworld.specs.declared.event.Event.TheVariants.{Take}
 use Rattle.zworld.specs.History.{HasBegun}
 use Rattle.zworld.specs.Links.{without_front}
 use Rattle.zworld.specs.World.{at}
-use Rattle.zworld.specs.Events.{takes, server_does}
-use Rattle.zlegal.specs.Plain.{Plain, service_of, log_machine, after_log}
+use Rattle.zworld.specs.Events.{process_step, server_does}
+use Rattle.zworld.specs.PlainTree.{service_of}
+use Rattle.zchain.specs.Flow.{log_machine, LogWorld, LogMessage, Log, first_log}
+use Rattle.zcalls.specs.Acts.{after_log, acts_from}
 use Rattle.zlegal.specs.Items.{Item, updates_of, Replays, AreBegunInTime, all_at_time, new_items}
-use Rattle.zlegal.specs.Acted.{acted_from}
 use Rattle.zlegal.specs.Prefix.{IsPrefix}
-use Rattle.zchain.specs.Flow.{LogWorld, LogMessage, Log, first_log}
 use Rattle.zchain.specs.Last.{HasExactLast}
 use Rattle.zchain.specs.Chain.{IsMember}
 use Rattle.zchain.specs.Account.{Account, tail_log, committed_after, query_items_by, query_items_of_front, query_items, account_by}
@@ -45,16 +45,16 @@ use Rattle.zserving.proofs.ClientMessages.{good_view, shows, justified}
 -- what a tail does with a query
 query_by : (does : Does (List Entry)) (machine : Log) (last : ℕ) (sent : List (ℕ × Entry)) (pred succ : Option Neighbour) (c number : ℕ) (query : Query) (log : List Entry)
     → machine ≡ Some log → is_none succ ≡ true
-    → takes_query does (view_of machine last sent pred succ) c number query ≡ (view_of machine last sent pred succ, (Client c, message.Answer number (does.ask log query)) ∷ [])
-unfolding takes_query
+    → query_row does (view_of machine last sent pred succ) c number query ≡ (view_of machine last sent pred succ, (Client c, message.Answer number (does.ask log query)) ∷ [])
+unfolding query_row
 query_by does None last sent pred succ c number query log has ends = absurd (cc has)
 query_by does (Some mine) last sent pred (Some succ) c number query log has ends = absurd (cc ends)
 query_by does (Some mine) last sent pred None c number query log has ends =
     let same : mine ≡ log = cc has in λ i. (view_of (Some mine) last sent pred None, (Client c, message.Answer number (does.ask (same i) query)) ∷ [])
 
 query_taken : (does : Does (List Entry)) (v : ServerView (List Entry)) (c number : ℕ) (query : Query) (log : List Entry) → v.machine ≡ Some log → is_none v.succ ≡ true
-    → server.takes does v (Client c) (message.Query number query) ≡ (v, (Client c, message.Answer number (does.ask log query)) ∷ [])
-unfolding server.takes
+    → server.server_step does v (Client c) (message.Query number query) ≡ (v, (Client c, message.Answer number (does.ask log query)) ∷ [])
+unfolding server.server_step
 query_taken does v c number query log has ends = query_by does v.machine v.last v.sent v.pred v.succ c number query log has ends
 
 module _ {P : Type 0} (plain : Plain P) (t : Account) (s : IsSound plain t) (c y number : ℕ) (query : Query) (rest : List LogMessage)
@@ -75,13 +75,13 @@ module _ {P : Type 0} (plain : Plain P) (t : Account) (s : IsSound plain t) (c y
   abbrev item : Item
   item = record { operation = record { client = c; number = number; call = call.Query query }; reply = plain.ask (after_log plain log).plain query; time = length t.world.history }
 
-  abbrev taken : Taken (List Entry)
-  taken = server.takes (log_machine plain) (t.world.servers y) (Client c) (message.Query number query)
+  abbrev taken : ServerResult (List Entry)
+  taken = server.server_step (log_machine plain) (t.world.servers y) (Client c) (message.Query number query)
 
   tail : (old.machine ≡ Some log) × (is_none old.succ ≡ true)
   tail = tail_log_is old log is_tail
 
-  does : ◌≡◌ {A = Taken (List Entry)} taken (old, (Client c, message.Answer number reply) ∷ [])
+  does : ◌≡◌ {A = ServerResult (List Entry)} taken (old, (Client c, message.Answer number reply) ∷ [])
   does = query_taken (log_machine plain) old c number query log tail.0 tail.1
 
   -- the tail holds what is committed
@@ -89,7 +89,7 @@ module _ {P : Type 0} (plain : Plain P) (t : Account) (s : IsSound plain t) (c y
   is_committed = s.tail y log (log_member w s.blank s.live y alive log tail.0) tail.0 tail.1
 
   good : IsGoodView w (Client c) y old
-  good = subst (IsGoodView w (Client c) y) (ap (λ (r : Taken (List Entry)). r.0) does) (good_view plain t s c y m rest link exact alive)
+  good = subst (IsGoodView w (Client c) y) (ap (λ (r : ServerResult (List Entry)). r.0) does) (good_view plain t s c y m rest link exact alive)
 
   tail_holds : TailHoldsCommitted (with_view w (Client c) y old) t.committed
   tail_holds z l member is ends =
@@ -119,7 +119,7 @@ module _ {P : Type 0} (plain : Plain P) (t : Account) (s : IsSound plain t) (c y
   asked_sound = view_sound plain t s (Client c) refl y old good t.committed (t.items ++ item ∷ []) (λ i a. among_left i t.items (item ∷ []) a) (record {
     shown = committed_view w (Client c) y old t.committed
         (subst (λ v. (l : List Entry) → first_log (with_view w (Client c) y v) y ≡ Some l → (shown : List Entry) × (first_log w y ≡ Some shown) × IsPrefix shown l)
-        (ap (λ (r : Taken (List Entry)). r.0) does) (shows plain t s c y m rest link exact alive)) s.committed;
+        (ap (λ (r : ServerResult (List Entry)). r.0) does) (shows plain t s c y m rest link exact alive)) s.committed;
     tail = tail_holds;
     committed_begun = s.committed_begun;
     acted = updates_more t.items (item ∷ []) ∙ append-nil (updates_of t.items) ∙ s.acted;
@@ -140,7 +140,7 @@ module _ {P : Type 0} (plain : Plain P) (t : Account) (s : IsSound plain t) (c y
 
   same_committed : committed_after (tail_log (at y taken.0 w.servers y)) t.committed ≡ t.committed
   same_committed =
-      ap (λ v. committed_after (tail_log v) t.committed) (at_same y taken.0 w.servers ∙ ap (λ (r : Taken (List Entry)). r.0) does)
+      ap (λ v. committed_after (tail_log v) t.committed) (at_same y taken.0 w.servers ∙ ap (λ (r : ServerResult (List Entry)). r.0) does)
       ∙ ap (λ l. committed_after l t.committed) is_tail ∙ is_committed
 
   is_asked : query_items_by plain w (Take (Client c) (Server y)) ≡ item ∷ []
@@ -149,14 +149,14 @@ module _ {P : Type 0} (plain : Plain P) (t : Account) (s : IsSound plain t) (c y
   nothing_new : new_items plain (length w.history) t.committed (committed_after (tail_log (at y taken.0 w.servers y)) t.committed) ≡ []
   nothing_new =
       ap (new_items plain (length w.history) t.committed) same_committed
-      ∙ ap (λ es. all_at_time (length w.history) (acted_from plain.update (after_log plain t.committed) es)) (drop-length t.committed)
+      ∙ ap (λ es. all_at_time (length w.history) (acts_from plain.update (after_log plain t.committed) es)) (drop-length t.committed)
 
-  is_account : account_with_put asked_account y (Client c) (message.Answer number reply) ≡ account_by plain t (Take (Client c) (Server y)) (takes (log_machine plain) popped (Client c) (Server y) m)
+  is_account : account_with_put asked_account y (Client c) (message.Answer number reply) ≡ account_by plain t (Take (Client c) (Server y)) (process_step (log_machine plain) popped (Client c) (Server y) m)
   is_account = λ i. record {
     world = server_does popped y (sym does i);
     committed = sym same_committed i;
     items = t.items ++ (sym is_asked i ++ sym nothing_new i);
   }
 
-  pub take_query : IsSoundAfter plain t (account_by plain t (Take (Client c) (Server y)) (takes (log_machine plain) popped (Client c) (Server y) m))
+  pub take_query : IsSoundAfter plain t (account_by plain t (Take (Client c) (Server y)) (process_step (log_machine plain) popped (Client c) (Server y) m))
   take_query = (subst (IsSound plain) is_account answered_sound, subst (IsPrefix t.committed) (sym same_committed) (prefix_same t.committed))

@@ -4,17 +4,17 @@ use Rattle.std.specs.Prelude.{is_none}
 use Rattle.zcalls.specs.declared.call.Entry.{Entry}
 use Rattle.zserver.specs.declared.process.Process.TheVariants.{Server}
 use Rattle.zserver.specs.View.{Neighbour}
-use Rattle.zserver.specs.Table.{Taken, takes}
-use Rattle.zworld.specs.Lists.{Among}
-use Rattle.zlegal.specs.Plain.{Plain, log_machine}
+use Rattle.zserver.specs.Table.{ServerResult, server_step}
+use Rattle.zcalls.specs.Lists.{Among}
+use Rattle.zcalls.specs.Kept.{Plain}
+use Rattle.zchain.specs.Flow.{log_machine, LogWorld, LogMessage, first_log}
 use Rattle.zlegal.specs.Prefix.{IsPrefix}
-use Rattle.zchain.specs.Flow.{LogWorld, LogMessage, first_log}
 use Rattle.zchain.specs.Last.{HasExactLast}
 use Rattle.zchain.specs.Messages.{IsJustified}
 use Rattle.zchain.specs.Account.{Account}
 use Rattle.zchain.specs.Sound.{IsSound}
 use Rattle.zlegal.proofs.lists.Tests.{left_of, right_of}
-use Rattle.zchain.proofs.rows.Rows.{takes_row}
+use Rattle.zserver.proofs.Cases.{server_case}
 use Rattle.zchain.proofs.rows.RowViews.{row_sent, row_begun, row_blank}
 use Rattle.zchain.proofs.steps.Takes.{takes_stays, neighbours_stay, with_view}
 use Rattle.zserving.proofs.TakerLogs.{taker_grows, upper_taker, base_taker}
@@ -29,8 +29,8 @@ module _ {P : Type 0} (plain : Plain P) (t : Account) (s : IsSound plain t) (p y
   abbrev w : LogWorld
   w = t.world
 
-  abbrev taken : Taken (List Entry)
-  taken = takes (log_machine plain) (t.world.servers y) (Server p) m
+  abbrev taken : ServerResult (List Entry)
+  taken = server_step (log_machine plain) (t.world.servers y) (Server p) m
 
   justified : IsJustified w t.items (Server p) (Server y) m
   justified = s.justified (Server p) (Server y) m (subst (Among m) (sym link) (inl refl))
@@ -38,7 +38,7 @@ module _ {P : Type 0} (plain : Plain P) (t : Account) (s : IsSound plain t) (p y
   pub good_view : IsGoodView w (Server p) y taken.0
   good_view =
       let v = w.servers y in
-      let row = takes_row (log_machine plain) v (Server p) m in
+      let row = server_case (log_machine plain) v (Server p) m in
       let stay = neighbours_stay plain v (Server p) m taken row refl in
       record {
         pred = stay.0;

@@ -3,16 +3,16 @@ use Rattle.std.proofs.Common.{◌≡◌, ◌⊎◌, ℕ, ◌==◌, List, ◌∷�
 use Rattle.zcalls.specs.declared.call.Entry.{Entry}
 use Rattle.zserver.specs.declared.process.Process.TheVariants.{Server}
 use Rattle.zserver.specs.View.{ServerView, Neighbour}
-use Rattle.zserver.specs.Table.{takes}
-use Rattle.zlegal.specs.Plain.{Plain, log_machine}
+use Rattle.zserver.specs.Table.{server_step}
+use Rattle.zcalls.specs.Kept.{Plain}
+use Rattle.zchain.specs.Flow.{log_machine, LogWorld, LogMessage, Log, log_with_message, flow, snapshot_of, first_snapshot, or_else, log_at, final_log_by, final_log, first_snapshot_by, first_log}
 use Rattle.zlegal.specs.Prefix.{IsPrefix}
-use Rattle.zchain.specs.Flow.{LogWorld, LogMessage, Log, log_with_message, flow, snapshot_of, first_snapshot, or_else, log_at, final_log_by, final_log, first_snapshot_by, first_log}
 use Rattle.zchain.specs.Last.{HasExactLast}
-use Rattle.zlegal.proofs.lists.Tests.{test}
+use Rattle.zcalls.proofs.Among.{test}
 use Rattle.zlegal.proofs.lists.Prefixes.{prefix_same}
 use Rattle.zchain.proofs.flow.Flow.{Grows, flowed_grows, flowed_first}
 use Rattle.zchain.proofs.links.Links.{at_same}
-use Rattle.zchain.proofs.rows.Rows.{takes_row}
+use Rattle.zserver.proofs.Cases.{server_case}
 use Rattle.zchain.proofs.steps.Takes.{takes_flows, takes_stays, neighbours_stay, front_here, front_not_from, with_view}
 
 -- a predecessor is this server, or isn't
@@ -29,13 +29,13 @@ module _ {P : Type 0} (plain : Plain P) (w : LogWorld) (p y : ℕ) (m : LogMessa
   old = w.servers y
 
   abbrev new : ServerView (List Entry)
-  new = (takes (log_machine plain) (w.servers y) (Server p) m).0
+  new = (server_step (log_machine plain) (w.servers y) (Server p) m).0
 
   abbrev w1 : LogWorld
-  w1 = with_view w (Server p) y (takes (log_machine plain) (w.servers y) (Server p) m).0
+  w1 = with_view w (Server p) y (server_step (log_machine plain) (w.servers y) (Server p) m).0
 
   same_pred : new.pred ≡ old.pred
-  same_pred = (neighbours_stay plain old (Server p) m (takes (log_machine plain) old (Server p) m) (takes_row (log_machine plain) old (Server p) m) refl).0
+  same_pred = (neighbours_stay plain old (Server p) m (server_step (log_machine plain) old (Server p) m) (server_case (log_machine plain) old (Server p) m) refl).0
 
   view_here : w1.servers y ≡ new
   view_here = at_same y new w.servers

@@ -1,10 +1,11 @@
 -- What is under way to a server: more of it, what of it doesn't count, and that logs only grow by it.
-use Rattle.std.proofs.Common.{◌≡◌, ℕ, ◌+◌, ◌-◌, ◌^◌, nat_lt, ◌==◌, List, [], ◌∷◌, ◌++◌, length, Some, None, refl, sym, ap, ◌∙◌, subst, inl, inr, append_assoc, arith, eqb-true}
+use Rattle.std.proofs.Common.{◌≡◌, ℕ, ◌+◌, nat_lt, ◌==◌, List, [], ◌∷◌, ◌++◌, length, Some, None, refl, sym, ap, ◌∙◌, subst, inl, inr, append_assoc, arith, eqb-true}
 use Rattle.zcalls.specs.declared.call.Entry.{Entry}
+use Rattle.zserver.specs.declared.limits.TheConstants.{MAX_LOG_NUMBER}
 use Rattle.zserver.specs.declared.message.Message.TheVariants as message
 use Rattle.zlegal.specs.Prefix.{IsPrefix, IsEntry}
 use Rattle.zchain.specs.Flow.{Log, LogMessage, with_entry, log_with_message, flow, snapshot_of, or_else, first_snapshot}
-use Rattle.zlegal.proofs.lists.Tests.{test}
+use Rattle.zcalls.proofs.Among.{test}
 use Rattle.zlegal.proofs.lists.Prefixes.{prefix_same, prefix_of, prefix_append, same_fronts}
 
 -- more messages
@@ -45,7 +46,7 @@ IsBelow old new = ⊥
 -- an entry makes a log longer, if anything
 pub grown_begins : (log : List Entry) (n : ℕ) (e : Entry) → IsPrefix log (with_entry log n e)
 grown_begins log n e = elim (test (n == length log + 1)) [
-  | inl t ↦ rw t (elim (test (nat_lt (length log) (2 ^ 62 - 1))) [ inl r ↦ rw r (prefix_append log (e ∷ [])) | inr f ↦ rw f (prefix_same log) ])
+  | inl t ↦ rw t (elim (test (nat_lt (length log) MAX_LOG_NUMBER)) [ inl r ↦ rw r (prefix_append log (e ∷ [])) | inr f ↦ rw f (prefix_same log) ])
   | inr f ↦ rw f (prefix_same log)
 ]
 
@@ -96,7 +97,7 @@ pub good_update : (k epoch : ℕ) (log more : List Entry) (n : ℕ) (e : Entry) 
     → (new : List Entry) × (log_with_message k (Some log) (message.Update epoch n e) ≡ Some new) × IsPrefix new more
 good_update k epoch log more n e p entry = elim (test (k == epoch)) [
   | inl t ↦ rw t (elim (test (n == length log + 1)) [
-    | inl s ↦ rw s (elim (test (nat_lt (length log) (2 ^ 62 - 1))) [
+    | inl s ↦ rw s (elim (test (nat_lt (length log) MAX_LOG_NUMBER)) [
       | inl r ↦ rw r (log ++ e ∷ [], refl, entry_goes_on log more n e p entry (eqb-true _ _ s))
       | inr f ↦ rw f (log, refl, p)
     ])

@@ -4,11 +4,10 @@ use Rattle.std.specs.Prelude.{◌&&◌}
 use Rattle.zserver.specs.declared.process.Process.{Process}
 use Rattle.zserver.specs.declared.process.Process.TheVariants.{Master, Server, Client}
 use Rattle.zserver.specs.View.{MessageOf, Post}
-use Rattle.zworld.specs.Lists.{Among}
+use Rattle.zcalls.specs.Lists.{Among}
 use Rattle.zworld.specs.Links.{Links, is_same, addressed, put, without_front}
 use Rattle.zworld.specs.World.{at}
-use Rattle.zlegal.proofs.lists.Tests.{test}
-use Rattle.zlegal.proofs.lists.Members.{among_cases}
+use Rattle.zcalls.proofs.Among.{test, among_cases}
 
 -- one process
 pub same_process : (p q : Process) → is_same p q ≡ true → p ≡ q

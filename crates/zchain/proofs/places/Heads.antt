@@ -4,11 +4,11 @@ use Rattle.std.specs.Prelude.{◌&&◌, is_none}
 use Rattle.zcalls.specs.declared.call.Entry.{Entry}
 use Rattle.zserver.specs.View.{Neighbour}
 use Rattle.zmaster.specs.View.{members}
-use Rattle.zworld.specs.Lists.{ComesBefore, NoTwo}
+use Rattle.zcalls.specs.Lists.{ComesBefore, NoTwo}
 use Rattle.zchain.specs.Flow.{LogWorld, log_at}
 use Rattle.zchain.specs.Chain.{Place, place_from, queue, IsPast, IsMember, LeadsTo, is_fresh}
 use Rattle.zchain.specs.Sound.{OrdersLead, AreDistinct}
-use Rattle.zlegal.proofs.lists.Tests.{test}
+use Rattle.zcalls.proofs.Among.{test}
 use Rattle.zlegal.proofs.lists.Places.{before_second}
 use Rattle.zchain.proofs.places.Orders.{settled}
 use Rattle.zchain.proofs.places.Pairs.{has_place}

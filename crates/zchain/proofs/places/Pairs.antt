@@ -4,11 +4,11 @@ use Rattle.std.specs.Prelude.{◌&&◌, is_none}
 use Rattle.zcalls.specs.declared.call.Entry.{Entry}
 use Rattle.zserver.specs.View.{ServerView, Neighbour}
 use Rattle.zmaster.specs.View.{members, is_among}
-use Rattle.zworld.specs.Lists.{Among, ComesBefore, NoTwo}
+use Rattle.zcalls.specs.Lists.{Among, ComesBefore, NoTwo}
 use Rattle.zchain.specs.Flow.{LogWorld, Log, log_at}
 use Rattle.zchain.specs.Chain.{Place, place_behind, place_from, queue, IsPair, IsPast, IsMember, LeadsTo, is_fresh}
 use Rattle.zchain.specs.Sound.{OrdersLead, AreDistinct, UnusedAreBlank, LiveAreMembers}
-use Rattle.zlegal.proofs.lists.Tests.{test}
+use Rattle.zcalls.proofs.Among.{test}
 use Rattle.zlegal.proofs.lists.Places.{stands_before, before_next}
 use Rattle.zchain.proofs.places.Orders.{settled, place_splits_chain}
 

@@ -6,27 +6,26 @@ use Rattle.zserver.specs.declared.message.Message.TheVariants as message
 use Rattle.zserver.specs.declared.process.Process.{Process}
 use Rattle.zserver.specs.declared.process.Process.TheVariants.{Master, Server, Client}
 use Rattle.zserver.specs.View.{ServerView, Neighbour, Post, opening_server}
-use Rattle.zserver.specs.Table.{Taken, acks, answers, forwards, above, lacks, takes, last_number}
+use Rattle.zserver.specs.Table.{ServerResult, ack_posts, answer_posts, forward_post, entries_above, missing_posts, server_step, last_number}
 use Rattle.zworld.specs.declared.event.Event.{Event}
-use Rattle.zworld.specs.World.{opening}
+use Rattle.zworld.specs.World.{opening_world}
 use Rattle.zworld.specs.Events.{happens, run}
-use Rattle.zlegal.specs.Plain.{Plain, log_machine}
-use Rattle.zchain.specs.Flow.{LogWorld, LogMessage, Log, length_of}
+use Rattle.zcalls.specs.Kept.{Plain}
+use Rattle.zchain.specs.Flow.{log_machine, LogWorld, LogMessage, Log, length_of}
 use Rattle.zchain.specs.Last.{HasExactLast, IsExact, LastsAreLengths}
-use Rattle.zlegal.proofs.lists.Tests.{test}
+use Rattle.zcalls.proofs.Among.{test}
 use Rattle.zchain.proofs.links.Links.{AllPosts, all_none, all_and, all_append, all_map}
 use Rattle.zchain.proofs.rows.OtherPosts.{IsOrder, IsRequest}
-use Rattle.zchain.proofs.rows.Rows.{IsAccepted, IsRow, takes_row}
-use Rattle.zchain.proofs.rows.Rows.IsAccepted.{Processes, Forwards}
-use Rattle.zchain.proofs.rows.Rows.IsRow.{Ignores, Submits, Updates, Asks, Acknowledges, Shows, Turns, Follows, Leads, Ends}
+use Rattle.zserver.specs.support.Cases.{IsAccepted, IsRow, Processes, Forwards, Ignores, Submits, Updates, Asks, Acknowledges, Shows, Turns, Follows, Leads, Ends}
+use Rattle.zserver.proofs.Cases.{server_case}
 use Rattle.zchain.proofs.rows.Everywhere.{happens_all, run_all}
 
 -- what is put
-acks_exact : (pred : Option Neighbour) (n : ℕ) → AllPosts IsExact (acks pred n)
+acks_exact : (pred : Option Neighbour) (n : ℕ) → AllPosts IsExact (ack_posts pred n)
 acks_exact None n = all_none IsExact
 acks_exact (Some pred) n = all_and IsExact (Server pred.0, message.Ack pred.1 n) [] tt (all_none IsExact)
 
-answers_exact : (e : Entry) (reply : Option Reply) → AllPosts IsExact (answers e reply)
+answers_exact : (e : Entry) (reply : Option Reply) → AllPosts IsExact (answer_posts e reply)
 answers_exact e None = all_none IsExact
 answers_exact e (Some reply) = all_and IsExact (Client e.client, message.Answer e.number reply) [] tt (all_none IsExact)
 
@@ -35,24 +34,24 @@ module _ {P : Type 0} (plain : Plain P) where
   longer : (log : List Entry) (e : Entry) (n last : ℕ) → n ≡ last + 1 → last ≡ length log → n ≡ length (log ++ e ∷ [])
   longer log e n last next is = let l : length (log ++ e ∷ []) ≡ length log + length (e ∷ []) = length-append log (e ∷ []) in omega arith
 
-  accepted_exact : (v : ServerView (List Entry)) (log : List Entry) (n : ℕ) (e : Entry) (r : Taken (List Entry)) → IsAccepted (log_machine plain) v log n e r
+  accepted_exact : (v : ServerView (List Entry)) (log : List Entry) (n : ℕ) (e : Entry) (r : ServerResult (List Entry)) → IsAccepted (log_machine plain) v log n e r
       → v.machine ≡ Some log → n ≡ v.last + 1 → HasExactLast v → HasExactLast r.0 × AllPosts IsExact r.1
   accepted_exact v log n e r (Processes ends) has next exact = (
     longer log e n v.last next (exact ∙ ap length_of has),
-    all_append IsExact (answers e _) (acks v.pred n) (answers_exact e _) (acks_exact v.pred n),
+    all_append IsExact (answer_posts e _) (ack_posts v.pred n) (answers_exact e _) (acks_exact v.pred n),
   )
   accepted_exact v log n e r (Forwards succ is) has next exact =
-      (longer log e n v.last next (exact ∙ ap length_of has), all_and IsExact (forwards succ (n, e)) [] tt (all_none IsExact))
+      (longer log e n v.last next (exact ∙ ap length_of has), all_and IsExact (forward_post succ (n, e)) [] tt (all_none IsExact))
 
-  lacks_exact : (v : ServerView (List Entry)) (log : List Entry) (succ : Neighbour) (last : Option ℕ) → v.last ≡ length log → AllPosts IsExact (lacks v log succ last)
+  lacks_exact : (v : ServerView (List Entry)) (log : List Entry) (succ : Neighbour) (last : Option ℕ) → v.last ≡ length log → AllPosts IsExact (missing_posts v log succ last)
   lacks_exact v log succ None is = all_and IsExact (Server succ.0, message.Snapshot succ.1 (record { last = v.last; machine = log })) [] is (all_none IsExact)
-  lacks_exact v log succ (Some n) is = all_map IsExact (forwards succ) (above n v.sent) (λ x. tt)
+  lacks_exact v log succ (Some n) is = all_map IsExact (forward_post succ) (entries_above n v.sent) (λ x. tt)
 
-  ends_exact : (v : ServerView (List Entry)) (machine : Log) → AllPosts IsExact (elim machine as (λ x. List (Post (List Entry))) [ None ↦ [] | Some m ↦ acks v.pred v.last ])
+  ends_exact : (v : ServerView (List Entry)) (machine : Log) → AllPosts IsExact (elim machine as (λ x. List (Post (List Entry))) [ None ↦ [] | Some m ↦ ack_posts v.pred v.last ])
   ends_exact v None = all_none IsExact
   ends_exact v (Some m) = acks_exact v.pred v.last
 
-  row_exact : (v : ServerView (List Entry)) (from : Process) (m : LogMessage) (r : Taken (List Entry)) → IsRow (log_machine plain) v from m r
+  row_exact : (v : ServerView (List Entry)) (from : Process) (m : LogMessage) (r : ServerResult (List Entry)) → IsRow (log_machine plain) v from m r
       → HasExactLast v → IsExact m → HasExactLast r.0 × AllPosts IsExact r.1
   row_exact v from m r (Ignores from' m') exact is = (exact, all_none IsExact)
   row_exact v from m r (Submits c number update log r' has head room did) exact is = accepted_exact v log (v.last + 1) _ r did has refl exact
@@ -84,14 +83,14 @@ module _ {P : Type 0} (plain : Plain P) where
   pub lasts_happen : (w : LogWorld) (event : Event) → LastsAreLengths w → LastsAreLengths (happens (log_machine plain) w event)
   lasts_happen w event h =
       let all = happens_all (log_machine plain) HasExactLast IsExact
-      (λ v from m exact is. row_exact v from m (takes (log_machine plain) v from m) (takes_row (log_machine plain) v from m) exact is)
+      (λ v from m exact is. row_exact v from m (server_step (log_machine plain) v from m) (server_case (log_machine plain) v from m) exact is)
       orders_exact requests_exact tt w event (record { views = h.views; under_way = h.under_way }) in
       record { views = all.views; under_way = all.under_way }
 
-  pub lasts : (servers clients : ℕ) (events : List Event) → LastsAreLengths (run (log_machine plain) (opening (log_machine plain) servers clients) events)
+  pub lasts : (servers clients : ℕ) (events : List Event) → LastsAreLengths (run (log_machine plain) (opening_world (log_machine plain) servers clients) events)
   lasts servers clients events =
       let all = run_all (log_machine plain) HasExactLast IsExact
-      (λ v from m exact is. row_exact v from m (takes (log_machine plain) v from m) (takes_row (log_machine plain) v from m) exact is)
-      orders_exact requests_exact tt (opening (log_machine plain) servers clients) events
+      (λ v from m exact is. row_exact v from m (server_step (log_machine plain) v from m) (server_case (log_machine plain) v from m) exact is)
+      orders_exact requests_exact tt (opening_world (log_machine plain) servers clients) events
       (record { views = opening_exact servers; under_way = λ from to m a. absurd a }) in
       record { views = all.views; under_way = all.under_way }

@@ -4,21 +4,20 @@ use Rattle.zcalls.specs.declared.call.Entry.{Entry}
 use Rattle.zserver.specs.declared.process.Process.{Process}
 use Rattle.zserver.specs.declared.process.Process.TheVariants.{Master, Server}
 use Rattle.zserver.specs.View.{ServerView, Neighbour, spare}
-use Rattle.zserver.specs.Table.{Taken, above}
-use Rattle.zworld.specs.Lists.{Among}
+use Rattle.zserver.specs.Table.{ServerResult, entries_above}
+use Rattle.zcalls.specs.Lists.{Among}
 use Rattle.zworld.specs.History.{HasBegun}
 use Rattle.zworld.specs.Links.{is_same}
-use Rattle.zlegal.specs.Plain.{Plain, log_machine, operation_of}
+use Rattle.zcalls.specs.Kept.{Plain}
+use Rattle.zchain.specs.Flow.{log_machine, LogWorld, LogMessage, Log, length_of}
+use Rattle.zcalls.specs.Operation.{operation_of}
 use Rattle.zlegal.specs.Prefix.{IsEntry}
 use Rattle.zlegal.specs.Items.{Item, AllBegun}
-use Rattle.zchain.specs.Flow.{LogWorld, LogMessage, Log, length_of}
 use Rattle.zchain.specs.Last.{HasExactLast}
 use Rattle.zchain.specs.Messages.{IsJustified}
-use Rattle.zlegal.proofs.lists.Tests.{test}
+use Rattle.zcalls.proofs.Among.{test}
 use Rattle.zlegal.proofs.lists.Members.{among_last}
-use Rattle.zchain.proofs.rows.Rows.{IsAccepted, IsRow}
-use Rattle.zchain.proofs.rows.Rows.IsAccepted.{Processes, Forwards}
-use Rattle.zchain.proofs.rows.Rows.IsRow.{Ignores, Submits, Updates, Asks, Acknowledges, Shows, Turns, Follows, Leads, Ends}
+use Rattle.zserver.specs.support.Cases.{IsAccepted, IsRow, Processes, Forwards, Ignores, Submits, Updates, Asks, Acknowledges, Shows, Turns, Follows, Leads, Ends}
 
 -- Sent is of the log
 abbrev pub IsLogged : ServerView (List Entry) → Type 0
@@ -33,19 +32,19 @@ entry_stays : (log : List Entry) (n : ℕ) (e last : Entry) → IsEntry log n e 
 entry_stays log n e last h = (h.0, h.1 ++ last ∷ [], ap (λ l. l ++ last ∷ []) h.2 ∙ append_assoc h.0 (e ∷ h.1) (last ∷ []), h.3)
 
 -- what is above a number was there
-pub above_among : (n : ℕ) (sent : List (ℕ × Entry)) (x : ℕ × Entry) → Among x (above n sent) → Among x sent
+pub above_among : (n : ℕ) (sent : List (ℕ × Entry)) (x : ℕ × Entry) → Among x (entries_above n sent) → Among x sent
 above_among n [] x a = absurd a
 above_among n (s ∷ sent) x a = elim (test (nat_lt n s.0)) [
   | inl t ↦ first (above_among n sent x) (rw t at a)
   | inr f ↦ inr (above_among n sent x (rw f at a))
 ]
   where
-    first : (Among x (above n sent) → Among x sent) → Among x (s ∷ above n sent) → Among x (s ∷ sent)
+    first : (Among x (entries_above n sent) → Among x sent) → Among x (s ∷ entries_above n sent) → Among x (s ∷ sent)
     first more (inl e) = inl e
     first more (inr b) = inr (more b)
 
 module _ {P : Type 0} (plain : Plain P) where
-  accepted_sent : (v : ServerView (List Entry)) (mine : List Entry) (n : ℕ) (e : Entry) (r : Taken (List Entry)) → IsAccepted (log_machine plain) v mine n e r
+  accepted_sent : (v : ServerView (List Entry)) (mine : List Entry) (n : ℕ) (e : Entry) (r : ServerResult (List Entry)) → IsAccepted (log_machine plain) v mine n e r
       → v.machine ≡ Some mine → n ≡ length mine + 1 → IsLogged v → IsLogged r.0
   accepted_sent v mine n e r (Processes ends) has next h log k d is a =
       subst (λ l. IsEntry l k d) (cc is) (entry_stays mine k d e (h mine k d has a))
@@ -59,7 +58,7 @@ module _ {P : Type 0} (plain : Plain P) where
   next_of : (v : ServerView (List Entry)) (mine : List Entry) → v.machine ≡ Some mine → HasExactLast v → v.last + 1 ≡ length mine + 1
   next_of v mine has exact = ap (λ l. l + 1) (exact ∙ ap length_of has)
 
-  pub row_sent : (v : ServerView (List Entry)) (from : Process) (m : LogMessage) (r : Taken (List Entry)) → IsRow (log_machine plain) v from m r
+  pub row_sent : (v : ServerView (List Entry)) (from : Process) (m : LogMessage) (r : ServerResult (List Entry)) → IsRow (log_machine plain) v from m r
       → HasExactLast v → IsLogged v → IsLogged r.0
   row_sent v from m r (Ignores from' m') exact h = h
   row_sent v from m r (Submits c number update mine r' has head room did) exact h =
@@ -76,12 +75,12 @@ module _ {P : Type 0} (plain : Plain P) where
   longer_begun : (w : LogWorld) (mine : List Entry) (e : Entry) → HasBegun w.history (operation_of e) → AllBegun w.history mine → AllBegun w.history (mine ++ e ∷ [])
   longer_begun w mine e begun h d a = elim (among_last d mine e a) [ inl old ↦ h d old | inr same ↦ subst (λ x. HasBegun w.history (operation_of x)) same begun ]
 
-  accepted_begun : (w : LogWorld) (v : ServerView (List Entry)) (mine : List Entry) (n : ℕ) (e : Entry) (r : Taken (List Entry)) → IsAccepted (log_machine plain) v mine n e r
+  accepted_begun : (w : LogWorld) (v : ServerView (List Entry)) (mine : List Entry) (n : ℕ) (e : Entry) (r : ServerResult (List Entry)) → IsAccepted (log_machine plain) v mine n e r
       → v.machine ≡ Some mine → HasBegun w.history (operation_of e) → HasBegunLog w v → HasBegunLog w r.0
   accepted_begun w v mine n e r (Processes ends) has begun h log is = subst (AllBegun w.history) (cc is) (longer_begun w mine e begun (h mine has))
   accepted_begun w v mine n e r (Forwards succ has_succ) has begun h log is = subst (AllBegun w.history) (cc is) (longer_begun w mine e begun (h mine has))
 
-  pub row_begun : (w : LogWorld) (items : List Item) (y : ℕ) (v : ServerView (List Entry)) (from : Process) (m : LogMessage) (r : Taken (List Entry))
+  pub row_begun : (w : LogWorld) (items : List Item) (y : ℕ) (v : ServerView (List Entry)) (from : Process) (m : LogMessage) (r : ServerResult (List Entry))
       → IsRow (log_machine plain) v from m r → IsJustified w items from (Server y) m → HasBegunLog w v → HasBegunLog w r.0
   row_begun w items y v from m r (Ignores from' m') justified h = h
   row_begun w items y v from m r (Submits c number update mine r' has head room did) justified h =
@@ -98,7 +97,7 @@ module _ {P : Type 0} (plain : Plain P) where
   no_log : (v : ServerView (List Entry)) → v ≡ spare → (log : List Entry) → v.machine ≡ Some log → ⊥
   no_log v blank log has = let is : ◌≡◌ {A = Log} None (Some log) = sym (ap (λ (u : ServerView (List Entry)). u.machine) blank) ∙ has in cc
 
-  pub row_blank : (v : ServerView (List Entry)) (from : Process) (m : LogMessage) (r : Taken (List Entry)) → IsRow (log_machine plain) v from m r
+  pub row_blank : (v : ServerView (List Entry)) (from : Process) (m : LogMessage) (r : ServerResult (List Entry)) → IsRow (log_machine plain) v from m r
       → is_same Master from ≡ false → v ≡ spare → r.0 ≡ spare
   row_blank v from m r (Ignores from' m') f blank = blank
   row_blank v from m r (Submits c number update mine r' has head room did) f blank = absurd (no_log v blank mine has)

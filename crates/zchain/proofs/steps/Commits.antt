@@ -6,15 +6,15 @@ use Rattle.zserver.specs.declared.process.Process.{Process}
 use Rattle.zserver.specs.declared.process.Process.TheVariants.{Server}
 use Rattle.zserver.specs.View.{ServerView, Neighbour}
 use Rattle.zmaster.specs.View.{members}
-use Rattle.zworld.specs.Lists.{Among, ComesBefore}
-use Rattle.zlegal.specs.Plain.{Plain}
+use Rattle.zcalls.specs.Lists.{Among, ComesBefore}
+use Rattle.zcalls.specs.Kept.{Plain}
 use Rattle.zlegal.specs.Prefix.{IsPrefix}
 use Rattle.zlegal.specs.Items.{Item, AllBegun, new_items}
 use Rattle.zchain.specs.Flow.{LogWorld, Log, or_else, log_at, final_log_by, final_log, first_snapshot_by, first_log}
 use Rattle.zchain.specs.Chain.{IsAhead, IsMember}
 use Rattle.zchain.specs.Account.{Account}
 use Rattle.zchain.specs.Sound.{IsSound, AllShowCommitted, TailHoldsCommitted}
-use Rattle.zlegal.proofs.lists.Tests.{test}
+use Rattle.zcalls.proofs.Among.{test}
 use Rattle.zlegal.proofs.lists.Members.{among_left}
 use Rattle.zlegal.proofs.lists.Prefixes.{prefix_same, prefix_of}
 use Rattle.zchain.proofs.flow.Flow.{flow_below, IsBelow}

@@ -9,13 +9,15 @@ use Rattle.zserver.specs.View.{Neighbour}
 use Rattle.zworld.specs.declared.event.Event.TheVariants.{Ignore}
 use Rattle.zworld.specs.Links.{is_same, without_front}
 use Rattle.zworld.specs.Events.{front_is, is_request, has_failed}
-use Rattle.zlegal.specs.Plain.{Plain, tree}
+use Rattle.zcalls.specs.Kept.{Plain}
+use Rattle.zcalls.specs.PlainTree.{plain_tree}
 use Rattle.zchain.specs.Flow.{LogWorld, LogMessage, Log, flow, first_snapshot, or_else, log_at, final_log_by, first_snapshot_by}
 use Rattle.zchain.specs.Chain.{IsAhead, IsOpened, Place, IsPast, LeadsTo, is_fresh, HasDistinctEpochs, HasNoTailOrderBehind}
 use Rattle.zchain.specs.Account.{Account}
 use Rattle.zchain.specs.Sound.{IsSound}
 use Rattle.zchain.specs.Laws.{RequestsAreLost}
-use Rattle.zlegal.proofs.lists.Tests.{test, left_of, right_of}
+use Rattle.zcalls.proofs.Among.{test}
+use Rattle.zlegal.proofs.lists.Tests.{left_of, right_of}
 use Rattle.zchain.proofs.links.Links.{front_among, same_process}
 use Rattle.zchain.proofs.links.LaterWorlds.{justified_later}
 use Rattle.zchain.proofs.steps.Takes.{front_not_to}
@@ -121,4 +123,4 @@ kept_request w from to is Q drops p z h = elim (test (is_same p from && is_same 
 
 pub requests_are_lost : RequestsAreLost
 requests_are_lost from to t lasts s = where_enabled t (Ignore from to) s (λ e. quiet_event t _
-    (dropped_sound tree t s from to (kept_request t.world from to (left_of (front_is is_request (t.world.links from to)) (not (has_failed t.world to)) e))))
+    (dropped_sound plain_tree t s from to (kept_request t.world from to (left_of (front_is is_request (t.world.links from to)) (not (has_failed t.world to)) e))))

@@ -6,15 +6,15 @@ use Rattle.std.specs.List.{range_with_len}
 use Rattle.zcalls.specs.declared.call.Entry.{Entry}
 use Rattle.zserver.specs.View.{ServerView, Neighbour, spare, member}
 use Rattle.zmaster.specs.View.{is_among, members}
-use Rattle.zworld.specs.Lists.{Among, NoTwo}
-use Rattle.zworld.specs.World.{opening}
-use Rattle.zlegal.specs.Plain.{Plain, log_machine}
+use Rattle.zcalls.specs.Lists.{Among, NoTwo}
+use Rattle.zworld.specs.World.{opening_world}
+use Rattle.zcalls.specs.Kept.{Plain}
+use Rattle.zchain.specs.Flow.{log_machine, LogWorld, Log, log_at, final_log_by, final_log}
 use Rattle.zlegal.specs.Prefix.{Pairwise}
-use Rattle.zchain.specs.Flow.{LogWorld, Log, log_at, final_log_by, final_log}
 use Rattle.zchain.specs.Chain.{Place, place_behind, place_from, IsBehind, IsMember, IsOpened}
 use Rattle.zchain.specs.Account.{opening_account}
 use Rattle.zchain.specs.Sound.{IsSound}
-use Rattle.zlegal.proofs.lists.Tests.{test}
+use Rattle.zcalls.proofs.Among.{test}
 use Rattle.zlegal.proofs.lists.Prefixes.{prefix_nil}
 use Rattle.zlegal.proofs.lists.Places.{of_pairwise}
 
@@ -85,7 +85,7 @@ places before a (suc n) s place h = elim (test (a == s)) [
 
 module _ {P : Type 0} (plain : Plain P) (servers clients : ℕ) where
   abbrev w : LogWorld
-  w = opening (log_machine plain) servers clients
+  w = opening_world (log_machine plain) servers clients
 
   -- the neighbours of a member
   abbrev pred_of : ℕ → Option Neighbour

@@ -7,20 +7,20 @@ use Rattle.zcalls.specs.declared.reply.Reply.{Reply}
 use Rattle.zserver.specs.declared.process.Process.{Process}
 use Rattle.zserver.specs.declared.process.Process.TheVariants.{Master, Server}
 use Rattle.zserver.specs.View.{ServerView, Neighbour, Post}
-use Rattle.zserver.specs.Table.{acks, answers}
+use Rattle.zserver.specs.Table.{ack_posts, answer_posts}
 use Rattle.zmaster.specs.View.{is_among}
-use Rattle.zworld.specs.Lists.{Among}
+use Rattle.zcalls.specs.Lists.{Among}
 use Rattle.zworld.specs.Links.{Links, is_same, addressed, put}
-use Rattle.zlegal.specs.Plain.{Plain, after_log}
+use Rattle.zcalls.specs.Kept.{Plain}
+use Rattle.zcalls.specs.Acts.{after_log, acts_from}
 use Rattle.zlegal.specs.Prefix.{IsPrefix}
 use Rattle.zlegal.specs.Items.{Item, IsGiven, all_at_time, new_items}
-use Rattle.zlegal.specs.Acted.{acted_from}
 use Rattle.zchain.specs.Flow.{LogWorld, Log, or_else, first_snapshot_by, first_log}
 use Rattle.zchain.specs.Chain.{IsMember}
 use Rattle.zchain.specs.Messages.{IsJustified}
 use Rattle.zchain.specs.Account.{Account, tail_log, committed_after}
 use Rattle.zchain.specs.Sound.{IsSound, IsSoundAfter, TailHoldsCommitted}
-use Rattle.zlegal.proofs.lists.Tests.{test}
+use Rattle.zcalls.proofs.Among.{test}
 use Rattle.zlegal.proofs.lists.Prefixes.{prefix_of, prefix_same}
 use Rattle.zchain.proofs.links.Links.{at_same, at_cases}
 use Rattle.zchain.proofs.steps.Puts.{IsUnread, unread_foreign, account_with_put, put_unread}
@@ -74,7 +74,7 @@ puts_unread plain t y (post ∷ posts) good s =
     (put_unread plain t y post.0 post.1 (unread_foreign post.1 first.0) first.1 s)
 
 -- acknowledgements
-pub acks_unread : (w : LogWorld) (items : List Item) (y : ℕ) (pred : Option Neighbour) (n : ℕ) (post : Post (List Entry)) → Among post (acks pred n)
+pub acks_unread : (w : LogWorld) (items : List Item) (y : ℕ) (pred : Option Neighbour) (n : ℕ) (post : Post (List Entry)) → Among post (ack_posts pred n)
     → IsUnread post.1 × IsJustified w items (Server y) post.0 post.1
 acks_unread w items y None n post a = absurd a
 acks_unread w items y (Some pred) n post (inl e) = subst (λ (q : Post (List Entry)). IsUnread q.1 × IsJustified w items (Server y) q.0 q.1) e (tt, tt)
@@ -82,7 +82,7 @@ acks_unread w items y (Some pred) n post (inr a) = absurd a
 
 -- an answer to an entry
 pub answers_unread : (w : LogWorld) (items : List Item) (y : ℕ) (e : Entry) (reply : Option Reply) → ((r : Reply) → reply ≡ Some r → IsGiven items e.client e.number r)
-    → (post : Post (List Entry)) → Among post (answers e reply) → IsUnread post.1 × IsJustified w items (Server y) post.0 post.1
+    → (post : Post (List Entry)) → Among post (answer_posts e reply) → IsUnread post.1 × IsJustified w items (Server y) post.0 post.1
 answers_unread w items y e None given post a = absurd a
 answers_unread w items y e (Some reply) given post (inl is) =
     subst (λ (q : Post (List Entry)). IsUnread q.1 × IsJustified w items (Server y) q.0 q.1) is (tt, given reply refl)
@@ -173,7 +173,7 @@ module _ {P : Type 0} (plain : Plain P) (t : Account) (s : IsSound plain t) (fro
       let not : is_none (w.servers y).succ ≡ false = ahead.has_successor in cc (ends, not))
 
   nothing_new : (log : List Entry) → new_items plain (length w.history) log log ≡ []
-  nothing_new log = ap (λ es. all_at_time (length w.history) (acted_from plain.update (after_log plain log) es)) (drop-length log)
+  nothing_new log = ap (λ es. all_at_time (length w.history) (acts_from plain.update (after_log plain log) es)) (drop-length log)
 
   -- the view changes
   view_step : (l : Log) → tail_log v ≡ l → IsSound plain (record {

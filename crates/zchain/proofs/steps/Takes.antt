@@ -1,49 +1,49 @@
 -- A server takes a message of another server: what it would hold after all that its predecessor put stays, and what it
 -- shows first only grows.
-use Rattle.std.proofs.Common.{◌≡◌, ℕ, ◌+◌, ◌-◌, ◌^◌, true, false, nat_lt, ◌==◌, List, [], ◌∷◌, ◌++◌, drop, length, Option, Some, None, refl, sym, ap, ◌∙◌, subst, inl, inr, eqb-true, eq-eqb}
+use Rattle.std.proofs.Common.{◌≡◌, ℕ, ◌+◌, true, false, nat_lt, ◌==◌, List, [], ◌∷◌, ◌++◌, drop, length, Option, Some, None, refl, sym, ap, ◌∙◌, subst, inl, inr, eqb-true, eq-eqb}
 use Rattle.std.specs.Prelude.{is_none}
 use Rattle.zcalls.specs.declared.call.Entry.{Entry}
+use Rattle.zserver.specs.declared.limits.TheConstants.{MAX_LOG_NUMBER}
 use Rattle.zserver.specs.declared.message.Message.TheVariants as message
 use Rattle.zserver.specs.declared.process.Process.{Process}
 use Rattle.zserver.specs.declared.process.Process.TheVariants.{Master, Server}
 use Rattle.zserver.specs.View.{ServerView, Neighbour, Transfer}
-use Rattle.zserver.specs.Table.{Taken, is_neighbour, accept, takes_update, takes_ack, takes_snapshot, takes}
+use Rattle.zserver.specs.Table.{ServerResult, is_neighbour, accept_result, update_row, ack_row, snapshot_row, server_step}
 use Rattle.zserver.proofs.Fields.{view_of}
 use Rattle.zmaster.specs.View.{members}
-use Rattle.zworld.specs.Lists.{ComesBefore}
+use Rattle.zcalls.specs.Lists.{ComesBefore}
 use Rattle.zworld.specs.Links.{Links, is_same, without_front}
 use Rattle.zworld.specs.World.{at}
-use Rattle.zlegal.specs.Plain.{Plain, log_machine}
+use Rattle.zcalls.specs.Kept.{Plain}
+use Rattle.zchain.specs.Flow.{log_machine, LogWorld, LogMessage, Log, log_with_message, flow, first_snapshot, or_else, log_at, final_log_by, final_log, first_snapshot_by, first_log, length_of}
 use Rattle.zlegal.specs.Prefix.{IsPrefix}
-use Rattle.zchain.specs.Flow.{LogWorld, LogMessage, Log, log_with_message, flow, first_snapshot, or_else, log_at, final_log_by, final_log, first_snapshot_by, first_log, length_of}
 use Rattle.zchain.specs.Last.{HasExactLast}
 use Rattle.zchain.specs.Chain.{queue, IsAhead, IsMember, HasNoTailOrder}
 use Rattle.zchain.specs.Sound.{ChainIsOrdered, AllShowCommitted}
-use Rattle.zlegal.proofs.lists.Tests.{test}
+use Rattle.zcalls.proofs.Among.{test}
 use Rattle.zlegal.proofs.lists.Prefixes.{prefix_of}
 use Rattle.zchain.proofs.links.Links.{same_itself, at_same, at_other}
-use Rattle.zchain.proofs.rows.Rows.{IsAccepted, IsRow, takes_row}
-use Rattle.zchain.proofs.rows.Rows.IsAccepted.{Processes, Forwards}
-use Rattle.zchain.proofs.rows.Rows.IsRow.{Ignores, Submits, Updates, Asks, Acknowledges, Shows, Turns, Follows, Leads, Ends}
+use Rattle.zserver.specs.support.Cases.{IsAccepted, IsRow, Processes, Forwards, Ignores, Submits, Updates, Asks, Acknowledges, Shows, Turns, Follows, Leads, Ends}
+use Rattle.zserver.proofs.Cases.{server_case}
 
 module _ {P : Type 0} (plain : Plain P) where
   -- an entry is accepted
   accept_machine : (machine : Log) (last : ℕ) (sent : List (ℕ × Entry)) (pred succ : Option Neighbour) (log : List Entry) (n : ℕ) (e : Entry)
-      → (accept (log_machine plain) (view_of machine last sent pred succ) log n e).0.machine ≡ Some (log ++ e ∷ [])
-  unfolding accept
+      → (accept_result (log_machine plain) (view_of machine last sent pred succ) log n e).0.machine ≡ Some (log ++ e ∷ [])
+  unfolding accept_result
   accept_machine machine last sent pred None log n e = refl
   accept_machine machine last sent pred (Some succ) log n e = refl
 
   -- what a message of the predecessor makes of the log is what flows
   update_flows : (machine : Log) (sent : List (ℕ × Entry)) (p k : ℕ) (succ : Option Neighbour) (epoch n : ℕ) (e : Entry)
-      → (takes_update (log_machine plain) (view_of machine (length_of machine) sent (Some (p, k)) succ) p epoch n e).0.machine ≡ log_with_message k machine (message.Update epoch n e)
-  unfolding takes_update
+      → (update_row (log_machine plain) (view_of machine (length_of machine) sent (Some (p, k)) succ) p epoch n e).0.machine ≡ log_with_message k machine (message.Update epoch n e)
+  unfolding update_row
   update_flows None sent p k succ epoch n e = elim (test (k == epoch)) [ inl t ↦ rw t refl | inr f ↦ rw f refl ]
   update_flows (Some log) sent p k succ epoch n e =
       let own : (p == p) ≡ true = eq-eqb p p refl in
       rw own (elim (test (k == epoch)) [
         | inl t ↦ rw t (elim (test (n == length log + 1)) [
-          | inl s ↦ rw s (elim (test (nat_lt (length log) (2 ^ 62 - 1))) [
+          | inl s ↦ rw s (elim (test (nat_lt (length log) MAX_LOG_NUMBER)) [
             | inl r ↦ rw r (accept_machine (Some log) (length log) sent (Some (p, k)) succ log n e)
             | inr f ↦ rw f refl
           ])
@@ -53,35 +53,35 @@ module _ {P : Type 0} (plain : Plain P) where
       ])
 
   snapshot_flows : (machine : Log) (last : ℕ) (sent : List (ℕ × Entry)) (p k : ℕ) (succ : Option Neighbour) (epoch : ℕ) (transfer : Transfer (List Entry))
-      → (takes_snapshot (view_of machine last sent (Some (p, k)) succ) p epoch transfer).0.machine ≡ log_with_message k machine (message.Snapshot epoch transfer)
-  unfolding takes_snapshot
+      → (snapshot_row (view_of machine last sent (Some (p, k)) succ) p epoch transfer).0.machine ≡ log_with_message k machine (message.Snapshot epoch transfer)
+  unfolding snapshot_row
   snapshot_flows (Some log) last sent p k succ epoch transfer = elim (test (k == epoch)) [ inl t ↦ rw t refl | inr f ↦ rw f refl ]
   snapshot_flows None last sent p k succ epoch transfer =
       let own : (p == p) ≡ true = eq-eqb p p refl in
       rw own (elim (test (k == epoch)) [ inl t ↦ rw t refl | inr f ↦ rw f refl ])
 
-  ack_machine : (v : ServerView (List Entry)) (t epoch n : ℕ) → (takes_ack v t epoch n).0.machine ≡ v.machine
-  unfolding takes_ack
+  ack_machine : (v : ServerView (List Entry)) (t epoch n : ℕ) → (ack_row v t epoch n).0.machine ≡ v.machine
+  unfolding ack_row
   ack_machine v t epoch n = elim (test (is_neighbour v.succ t epoch)) [ inl y ↦ rw y refl | inr f ↦ rw f refl ]
 
   flows_by : (machine : Log) (sent : List (ℕ × Entry)) (p k : ℕ) (succ : Option Neighbour) (m : LogMessage)
-      → (takes (log_machine plain) (view_of machine (length_of machine) sent (Some (p, k)) succ) (Server p) m).0.machine ≡ log_with_message k machine m
-  unfolding takes
+      → (server_step (log_machine plain) (view_of machine (length_of machine) sent (Some (p, k)) succ) (Server p) m).0.machine ≡ log_with_message k machine m
+  unfolding server_step
   flows_by machine sent p k succ (message.Update epoch n e) = update_flows machine sent p k succ epoch n e
   flows_by machine sent p k succ (message.Snapshot epoch transfer) = snapshot_flows machine (length_of machine) sent p k succ epoch transfer
   flows_by machine sent p k succ (message.Ack epoch n) = ack_machine (view_of machine (length_of machine) sent (Some (p, k)) succ) p epoch n
   flows_by machine sent p k succ m = refl
 
-  pub takes_flows : (v : ServerView (List Entry)) (p k : ℕ) (m : LogMessage) → HasExactLast v → v.pred ≡ Some (p, k) → (takes (log_machine plain) v (Server p) m).0.machine ≡ log_with_message k v.machine m
+  pub takes_flows : (v : ServerView (List Entry)) (p k : ℕ) (m : LogMessage) → HasExactLast v → v.pred ≡ Some (p, k) → (server_step (log_machine plain) v (Server p) m).0.machine ≡ log_with_message k v.machine m
   takes_flows v p k m exact pred =
-      ap (λ (u : ServerView (List Entry)). (takes (log_machine plain) u (Server p) m).0.machine) (λ i. record v { last = exact i; pred = pred i })
+      ap (λ (u : ServerView (List Entry)). (server_step (log_machine plain) u (Server p) m).0.machine) (λ i. record v { last = exact i; pred = pred i })
       ∙ flows_by v.machine v.sent p k v.succ m
 
   -- a message of another server leaves the log
-  pub takes_stays : (v : ServerView (List Entry)) (p : ℕ) (m : LogMessage) → ((k : ℕ) → v.pred ≡ Some (p, k) → ⊥) → (takes (log_machine plain) v (Server p) m).0.machine ≡ v.machine
-  takes_stays v p m other = by (Server p) m (takes (log_machine plain) v (Server p) m) (takes_row (log_machine plain) v (Server p) m) refl
+  pub takes_stays : (v : ServerView (List Entry)) (p : ℕ) (m : LogMessage) → ((k : ℕ) → v.pred ≡ Some (p, k) → ⊥) → (server_step (log_machine plain) v (Server p) m).0.machine ≡ v.machine
+  takes_stays v p m other = by (Server p) m (server_step (log_machine plain) v (Server p) m) (server_case (log_machine plain) v (Server p) m) refl
     where
-      by : (from : Process) (m : LogMessage) (r : Taken (List Entry)) → IsRow (log_machine plain) v from m r → from ≡ Server p → r.0.machine ≡ v.machine
+      by : (from : Process) (m : LogMessage) (r : ServerResult (List Entry)) → IsRow (log_machine plain) v from m r → from ≡ Server p → r.0.machine ≡ v.machine
       by from m r (Ignores from' m') is = refl
       by from m r (Submits c number update log r' has head room did) is = cc
       by from m r (Updates q epoch n e log r' has pred next room did) is =
@@ -95,12 +95,12 @@ module _ {P : Type 0} (plain : Plain P) where
       by from m r (Leads epoch) is = refl
       by from m r (Ends epoch) is = refl
 
-  accepted_pred : (v : ServerView (List Entry)) (log : List Entry) (n : ℕ) (e : Entry) (r : Taken (List Entry)) → IsAccepted (log_machine plain) v log n e r → (r.0.pred ≡ v.pred) × (r.0.succ ≡ v.succ)
+  accepted_pred : (v : ServerView (List Entry)) (log : List Entry) (n : ℕ) (e : Entry) (r : ServerResult (List Entry)) → IsAccepted (log_machine plain) v log n e r → (r.0.pred ≡ v.pred) × (r.0.succ ≡ v.succ)
   accepted_pred v log n e r (Processes ends) = (refl, refl)
   accepted_pred v log n e r (Forwards succ is) = (refl, refl)
 
   -- only the master changes neighbours
-  pub neighbours_stay : (v : ServerView (List Entry)) (from : Process) (m : LogMessage) (r : Taken (List Entry)) → IsRow (log_machine plain) v from m r
+  pub neighbours_stay : (v : ServerView (List Entry)) (from : Process) (m : LogMessage) (r : ServerResult (List Entry)) → IsRow (log_machine plain) v from m r
       → is_same Master from ≡ false → (r.0.pred ≡ v.pred) × (r.0.succ ≡ v.succ)
   neighbours_stay v from m r (Ignores from' m') f = (refl, refl)
   neighbours_stay v from m r (Submits c number update log r' has head room did) f = accepted_pred v log (v.last + 1) (record { client = c; number = number; update = update }) r did

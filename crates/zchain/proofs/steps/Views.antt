@@ -7,10 +7,11 @@ use Rattle.zserver.specs.declared.process.Process.{Process}
 use Rattle.zserver.specs.declared.process.Process.TheVariants.{Master, Server}
 use Rattle.zserver.specs.View.{ServerView, spare}
 use Rattle.zmaster.specs.View.{members}
-use Rattle.zworld.specs.Lists.{Among, ComesBefore}
+use Rattle.zcalls.specs.Lists.{Among, ComesBefore}
 use Rattle.zworld.specs.Links.{is_same}
 use Rattle.zworld.specs.World.{at}
-use Rattle.zlegal.specs.Plain.{Plain, service_of}
+use Rattle.zcalls.specs.Kept.{Plain}
+use Rattle.zworld.specs.PlainTree.{service_of}
 use Rattle.zlegal.specs.Prefix.{IsPrefix, IsEntry}
 use Rattle.zlegal.specs.Items.{Item, Replays, AreCommitted, TimesRise, AreBegunInTime, AreAnsweredInTime, AllBegun}
 use Rattle.zchain.specs.Flow.{LogWorld, log_at, final_log}

@@ -2,19 +2,20 @@
 use Rattle.std.proofs.Common.{◌≡◌, ℕ, ◌≤◌, List, [], ◌∷◌, ◌++◌, length, take, drop, Option, refl, sym, ap, ◌∙◌, subst, inl, inr, arith}
 use Rattle.zcalls.specs.declared.call.Entry.{Entry}
 use Rattle.zcalls.specs.declared.reply.Reply.{Reply}
-use Rattle.zcalls.specs.Kept.{KeptState, nothing_kept, entry_step}
-use Rattle.zworld.specs.Lists.{Among}
-use Rattle.zworld.specs.History.{History, Operation, HasBegun}
-use Rattle.zlegal.specs.Plain.{Plain, service_of, after_log, operation_of}
+use Rattle.zcalls.specs.Kept.{KeptState, nothing_kept, entry_step, Plain}
+use Rattle.zcalls.specs.Lists.{Among}
+use Rattle.zworld.specs.History.{History, HasBegun}
+use Rattle.zcalls.specs.Operation.{Operation, operation_of}
+use Rattle.zworld.specs.PlainTree.{service_of}
+use Rattle.zcalls.specs.Acts.{after_log, acts_from}
 use Rattle.zlegal.specs.Prefix.{IsPrefix}
-use Rattle.zlegal.specs.Acted.{acted_from}
 use Rattle.zlegal.specs.Items.{Item, at_time, all_at_time, is_update, updates_of, Replays, AreCommitted, TimesRise, AreBegunInTime, AreAnsweredInTime, AllBegun, new_items}
-use Rattle.zlegal.proofs.lists.Tests.{test}
-use Rattle.zlegal.proofs.lists.Members.{among_cases, among_left, among_drop, among_whole}
+use Rattle.zcalls.proofs.Among.{test, among_cases}
+use Rattle.zlegal.proofs.lists.Members.{among_left, among_drop, among_whole}
 use Rattle.zlegal.proofs.lists.Distinct.{pairwise_append}
 use Rattle.zlegal.proofs.order.LegalOrders.{in_time_more}
-use Rattle.zlegal.proofs.acts.Acting.{Outcome, outcome, acted_entry}
-use Rattle.zlegal.proofs.acts.Acting.Outcome.{Acts, Stays}
+use Rattle.zcalls.proofs.Acting.{Outcome, outcome, acted_entry}
+use Rattle.zcalls.proofs.Acting.Outcome.{Acts, Stays}
 use Rattle.zlegal.proofs.acts.ActedLogs.{after_items, after_calls, acted_begins, acted_replays, acted_leads, items_lead, replays_more}
 
 -- the updates of a list that goes on
@@ -56,15 +57,15 @@ module _ {P : Type 0} (plain : Plain P) where
   now_updates s e now r (Acts low) time more is = ap (λ l. (operation_of e, (plain.update s.plain e.client e.update).1) ∷ l) is
   now_updates s e now r (Stays high) time more is = is
 
-  updates_acted : (time : ℕ) (s : KeptState P) (es : List Entry) → updates_of (all_at_time time (acted_from plain.update s es)) ≡ acted_from plain.update s es
+  updates_acted : (time : ℕ) (s : KeptState P) (es : List Entry) → updates_of (all_at_time time (acts_from plain.update s es)) ≡ acts_from plain.update s es
   updates_acted time s [] = refl
   updates_acted time s (e ∷ es) =
       let s' = (entry_step plain.update s e).0 in
-      now_updates s e _ _ (outcome plain.update s e) time (acted_from plain.update s' es) (updates_acted time s' es)
+      now_updates s e _ _ (outcome plain.update s e) time (acts_from plain.update s' es) (updates_acted time s' es)
 
   module _ (history : History) (old new : List Entry) (items : List Item) (longer : IsPrefix old new) (begun : AllBegun history new) where
     abbrev acts : List (Operation × Reply)
-    acts = acted_from plain.update (after_log plain old) (drop (length old) new)
+    acts = acts_from plain.update (after_log plain old) (drop (length old) new)
 
     abbrev more : List Item
     more = new_items plain (length history) old new

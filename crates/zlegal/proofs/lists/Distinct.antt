@@ -1,8 +1,9 @@
 -- Lists no two of whose members are alike, and lists each two of whose members are in a relation.
 use Rattle.std.proofs.Common.{◌≡◌, List, [], ◌∷◌, ◌++◌, map, refl, sym, ap, ◌∙◌, subst, inl, inr}
-use Rattle.zworld.specs.Lists.{Among, NoTwo}
+use Rattle.zcalls.specs.Lists.{Among, NoTwo}
 use Rattle.zlegal.specs.Prefix.{Pairwise}
-use Rattle.zlegal.proofs.lists.Members.{among_cases, among_last, among_inserted, among_insert}
+use Rattle.zcalls.proofs.Among.{among_cases}
+use Rattle.zlegal.proofs.lists.Members.{among_last, among_inserted, among_insert}
 
 -- members that are alike are one, where no two are
 pub only_one : {A : Type 0} (R : A → A → Type 0) (xs : List A) → NoTwo R xs → (x y : A) → Among x xs → Among y xs → R x y → R y x → x ≡ y

@@ -1,6 +1,7 @@
 -- What is among a list: of two lists one after the other, of a beginning, of a rest, and with one more in the middle.
 use Rattle.std.proofs.Common.{◌≡◌, ◌⊎◌, ℕ, zero, suc, List, [], ◌∷◌, ◌++◌, length, take, drop, refl, inl, inr}
-use Rattle.zworld.specs.Lists.{Among}
+use Rattle.zcalls.specs.Lists.{Among}
+use Rattle.zcalls.proofs.Among.{among_cases}
 
 pub among_left : {A : Type 0} (x : A) (xs ys : List A) → Among x xs → Among x (xs ++ ys)
 among_left x [] ys h = absurd h
@@ -10,11 +11,6 @@ among_left x (z ∷ xs) ys (inr h) = inr (among_left x xs ys h)
 pub among_right : {A : Type 0} (x : A) (xs ys : List A) → Among x ys → Among x (xs ++ ys)
 among_right x [] ys h = h
 among_right x (z ∷ xs) ys h = inr (among_right x xs ys h)
-
-pub among_cases : {A : Type 0} (x : A) (xs ys : List A) → Among x (xs ++ ys) → Among x xs ⊎ Among x ys
-among_cases x [] ys h = inr h
-among_cases x (z ∷ xs) ys (inl e) = inl (inl e)
-among_cases x (z ∷ xs) ys (inr h) = elim (among_cases x xs ys h) [ inl a ↦ inl (inr a) | inr b ↦ inr b ]
 
 pub among_last : {A : Type 0} (x : A) (xs : List A) (y : A) → Among x (xs ++ y ∷ []) → Among x xs ⊎ (y ≡ x)
 among_last x xs y h = elim (among_cases x xs (y ∷ []) h) [ inl a ↦ inl a | inr b ↦ elim b [ inl e ↦ inr e | inr f ↦ absurd f ] ]

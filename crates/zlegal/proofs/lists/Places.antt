@@ -1,6 +1,6 @@
 -- What stands before what in a list.
 use Rattle.std.proofs.Common.{◌≡◌, ◌⊎◌, ℕ, List, [], ◌∷◌, ◌++◌, refl, sym, ◌∙◌, subst, inl, inr}
-use Rattle.zworld.specs.Lists.{Among, ComesBefore, NoTwo}
+use Rattle.zcalls.specs.Lists.{Among, ComesBefore, NoTwo}
 use Rattle.zlegal.specs.Prefix.{Pairwise}
 use Rattle.zlegal.proofs.lists.Members.{among_last, among_insert, among_mid}
 

@@ -1,11 +1,6 @@
 -- Tests, which come out one way or the other.
-use Rattle.std.proofs.Common.{◌≡◌, ◌⊎◌, refl, inl, inr, Bool, true, false}
+use Rattle.std.proofs.Common.{◌≡◌, refl, Bool, true, false}
 use Rattle.std.specs.Prelude.{◌&&◌, not}
-
--- a test comes out one way or the other
-pub test : (b : Bool) → (b ≡ true) ⊎ (b ≡ false)
-test true = inl refl
-test false = inr refl
 
 -- both of two tests
 pub left_of : (a b : Bool) → (a && b) ≡ true → a ≡ true

@@ -3,12 +3,13 @@ use Rattle.std.proofs.Common.{◌≡◌, ◌<◌, ◌≤◌, List, [], ◌∷◌
 use Rattle.std.specs.List.{AllByRecursion}
 use Rattle.zcalls.specs.declared.call.Call.{Call}
 use Rattle.zcalls.specs.declared.call.Call.TheVariants.{Update, Query}
-use Rattle.zworld.specs.Lists.{Among, ComesBefore}
-use Rattle.zworld.specs.History.{Operation}
-use Rattle.zworld.specs.LegalOrder.{Service, does, replies_from, states_from}
-use Rattle.zlegal.specs.Plain.{Plain, service_of, call_step}
+use Rattle.zcalls.specs.Lists.{Among, ComesBefore}
+use Rattle.zcalls.specs.Operation.{Operation}
+use Rattle.zworld.specs.LegalOrder.{Service, operation_step, replies_from, states_from}
+use Rattle.zcalls.specs.Kept.{Plain}
+use Rattle.zworld.specs.PlainTree.{service_of, call_step}
 use Rattle.zlegal.specs.Items.{Item, is_update, updates_of, Replays, TimesRise}
-use Rattle.zlegal.proofs.lists.Tests.{test}
+use Rattle.zcalls.proofs.Among.{test}
 
 -- some queries of a list are left out
 pub data Keeps : List Item → List Item → Type 0 where
@@ -85,7 +86,7 @@ module _ {P : Type 0} (plain : Plain P) where
 
   pub kept_replays : (is kept : List Item) → Keeps is kept → (p : P) → Replays (service_of plain) p is → Replays (service_of plain) p kept
   kept_replays is kept None p h = tt
-  kept_replays is kept (Keep i is' kept' more) p h = (h.0, kept_replays is' kept' more (does (service_of plain) p i.operation).0 h.1)
+  kept_replays is kept (Keep i is' kept' more) p h = (h.0, kept_replays is' kept' more (operation_step (service_of plain) p i.operation).0 h.1)
   kept_replays is kept (Skip i is' kept' query more) p h =
       kept_replays is' kept' more p (subst (λ q. Replays (service_of plain) q is') (query_leaves p i.operation i.operation.call query) h.1)
 
@@ -109,14 +110,14 @@ pub replayed : {P : Type 0} (service : Service P) (p : P) (is : List Item) → R
     → Among (i.operation, i.reply) (replies_from service p (map (λ k. k.operation) is))
 replayed service p [] h i a = absurd a
 replayed service p (k ∷ is) h i (inl e) = inl (λ t. ((e t).operation, (h.0 ∙ ap (λ m. m.reply) e) t))
-replayed service p (k ∷ is) h i (inr a) = inr (replayed service (does service p k.operation).0 is h.1 i a)
+replayed service p (k ∷ is) h i (inr a) = inr (replayed service (operation_step service p k.operation).0 is h.1 i a)
 
 -- and its states
 pub states_lawful : {P : Type 0} (Lawful : P → Type 0) (service : Service P)
-    → ((p : P) (o : Operation) → Lawful p → Lawful (does service p o).0)
+    → ((p : P) (o : Operation) → Lawful p → Lawful (operation_step service p o).0)
     → (p : P) (os : List Operation) → Lawful p → AllByRecursion Lawful (states_from service p os)
 states_lawful Lawful service keeps p [] h = (h, tt)
-states_lawful Lawful service keeps p (o ∷ os) h = (h, states_lawful Lawful service keeps (does service p o).0 os (keeps p o h))
+states_lawful Lawful service keeps p (o ∷ os) h = (h, states_lawful Lawful service keeps (operation_step service p o).0 os (keeps p o h))
 
 -- the calls of what is kept
 pub operation_among : (is : List Item) (o : Operation) → Among o (map (λ i. i.operation) is) → (i : Item) × Among i is × (i.operation ≡ o)

@@ -5,10 +5,12 @@ use Rattle.zcalls.specs.declared.call.Call.TheVariants.{Update, Query}
 use Rattle.zcalls.specs.declared.reply.Reply.{Reply}
 use Rattle.zworld.specs.declared.history.CallEvent.{CallEvent}
 use Rattle.zworld.specs.declared.history.CallEvent.TheVariants.{Begin, Answer}
-use Rattle.zworld.specs.Lists.{Among, ComesBefore, NoTwo}
-use Rattle.zworld.specs.History.{History, Operation, IsUpdate, HasBegun, IsAnswered, EndsBefore}
-use Rattle.zworld.specs.LegalOrder.{does, IsSameCall, IsReplayed, IsLegalOrder, replies_from}
-use Rattle.zlegal.specs.Plain.{Plain, service_of}
+use Rattle.zcalls.specs.Lists.{Among, ComesBefore, NoTwo}
+use Rattle.zworld.specs.History.{History, IsUpdate, HasBegun, IsAnswered, EndsBefore}
+use Rattle.zcalls.specs.Operation.{AreOneUpdate, Operation, IsSameCall}
+use Rattle.zworld.specs.LegalOrder.{operation_step, IsReplayed, IsLegalOrder, replies_from}
+use Rattle.zcalls.specs.Kept.{Plain}
+use Rattle.zworld.specs.PlainTree.{service_of}
 use Rattle.zlegal.specs.Items.{Item, is_update, updates_of, Replays, IsItemOf, IsGiven, IsGivenBy, IsAnsweredBy, AreAnsweredInTime, IsSameEvent, TimesRise, AreBegunInTime, EventsDiffer}
 use Rattle.zlegal.proofs.lists.Members.{among_mid, among_insert, among_inserted, among_take}
 use Rattle.zlegal.proofs.lists.Places.{before_second}
@@ -114,10 +116,6 @@ update_of : (call : Call) → is_update call ≡ true → IsUpdate call
 update_of (Update u) e = tt
 update_of (Query q) e = cc
 
--- two updates with their replies are of one call
-abbrev pub AreOneUpdate : Operation × Reply → Operation × Reply → Type 0
-AreOneUpdate a b = IsSameCall a.0 b.0
-
 -- The calls that are kept, in order.
 abbrev order_of : List Item → List Operation
 order_of kept = map (λ i. i.operation) kept
@@ -156,7 +154,7 @@ module _ {P : Type 0} (Lawful : P → Type 0) (plain : Plain P) (history : Histo
       subst (λ p. ComesBefore p b (order_of kept)) i.2 (subst (λ p. ComesBefore i.0.operation p (order_of kept)) j.2 first)
 
   orders : ((i : Item) → Among i kept → (is_update i.operation.call ≡ true) ⊎ IsAnswered history i.operation)
-      → Lawful plain.opening → ((p : P) (o : Operation) → Lawful p → Lawful (does (service_of plain) p o).0)
+      → Lawful plain.opening → ((p : P) (o : Operation) → Lawful p → Lawful (operation_step (service_of plain) p o).0)
       → IsLegalOrder Lawful (service_of plain) history (order_of kept)
   orders either opened keeps = record {
     begun = has_begun;
@@ -171,7 +169,7 @@ module _ {P : Type 0} (Lawful : P → Type 0) (plain : Plain P) (history : Histo
 -- The processed list makes a legal order.
 module _ {P : Type 0} (Lawful : P → Type 0) (plain : Plain P) where
   of_chosen : (history : History) (items : List Item)
-      → Lawful plain.opening → ((p : P) (o : Operation) → Lawful p → Lawful (does (service_of plain) p o).0)
+      → Lawful plain.opening → ((p : P) (o : Operation) → Lawful p → Lawful (operation_step (service_of plain) p o).0)
       → Replays (service_of plain) plain.opening items → TimesRise items → AreBegunInTime history items → EventsDiffer history
       → Chosen items 0 history → (order : List Operation) × IsLegalOrder Lawful (service_of plain) history order
   of_chosen history items opened keeps replays rise begun once chosen =
@@ -183,7 +181,7 @@ module _ {P : Type 0} (Lawful : P → Type 0) (plain : Plain P) where
       )
 
   pub legal_order : (history : History) (items : List Item)
-      → Lawful plain.opening → ((p : P) (o : Operation) → Lawful p → Lawful (does (service_of plain) p o).0)
+      → Lawful plain.opening → ((p : P) (o : Operation) → Lawful p → Lawful (operation_step (service_of plain) p o).0)
       → NoTwo AreOneUpdate (updates_of items)
       → Replays (service_of plain) plain.opening items → TimesRise items → AreBegunInTime history items → AreAnsweredInTime items 0 history → EventsDiffer history
       → (order : List Operation) × IsLegalOrder Lawful (service_of plain) history order

@@ -9,20 +9,21 @@ use Rattle.zcalls.specs.declared.call.Call.TheVariants.{Update, Query}
 use Rattle.zcalls.proofs.LawfulParts.{IsGood}
 use Rattle.zcalls.proofs.LawfulCalls.{step-good}
 use Rattle.zcalls.proofs.Bounds.{no_sessions}
-use Rattle.zworld.specs.History.{History, Operation}
-use Rattle.zworld.specs.LegalOrder.{does, IsLegalOrder, states_from}
-use Rattle.zworld.specs.PlainTree.{plain_tree}
-use Rattle.zlegal.specs.Plain.{tree, service_of}
+use Rattle.zworld.specs.History.{History}
+use Rattle.zcalls.specs.Operation.{Operation, AreOneUpdate}
+use Rattle.zworld.specs.LegalOrder.{operation_step, IsLegalOrder, states_from}
+use Rattle.zworld.specs.PlainTree.{service_of}
+use Rattle.zcalls.specs.PlainTree.{plain_tree}
 use Rattle.zlegal.specs.Laws.{ItemsExplain}
-use Rattle.zlegal.proofs.order.LegalOrders.{AreOneUpdate, legal_order}
-use Rattle.zlegal.proofs.acts.ActedLogs.{acted_entries_once}
-use Rattle.zworld.specs.Lists.{NoTwo}
+use Rattle.zlegal.proofs.order.LegalOrders.{legal_order}
+use Rattle.zcalls.proofs.ActedLogs.{acted_entries_once}
+use Rattle.zcalls.specs.Lists.{NoTwo}
 
 -- a call keeps a tree good
-call_good : (t : Tree) (o : Operation) → IsGood t → IsGood (does (service_of tree) t o).0
+call_good : (t : Tree) (o : Operation) → IsGood t → IsGood (operation_step (service_of plain_tree) t o).0
 call_good t o good = by o.call refl
   where
-    by : (call : Call) → o.call ≡ call → IsGood (does (service_of tree) t o).0
+    by : (call : Call) → o.call ≡ call → IsGood (operation_step (service_of plain_tree) t o).0
     by (Update u) e = rw e (step-good t o.client u good)
     by (Query q) e = rw e good
 
@@ -31,18 +32,18 @@ weaker : (ts : List Tree) → AllByRecursion IsGood ts → AllByRecursion IsLawf
 weaker [] h = tt
 weaker (t ∷ ts) h = (h.0.0, weaker ts h.1)
 
-lawful_order : (history : History) (order : List Operation) → IsLegalOrder IsGood plain_tree history order → IsLegalOrder IsLawful plain_tree history order
+lawful_order : (history : History) (order : List Operation) → IsLegalOrder IsGood (service_of plain_tree) history order → IsLegalOrder IsLawful (service_of plain_tree) history order
 lawful_order history order legal = record {
   begun = legal.begun;
   once = legal.once;
   answered = legal.answered;
   unanswered = legal.unanswered;
   in_time = legal.in_time;
-  lawful = weaker (states_from plain_tree plain_tree.opening order) legal.lawful;
+  lawful = weaker (states_from (service_of plain_tree) plain_tree.opening order) legal.lawful;
 }
 
 pub items_explain : ItemsExplain
 items_explain history committed items acted replays rising in_time answered once =
-    let found = legal_order IsGood tree history items (lawful_opening, no_sessions) call_good
-    (subst (NoTwo AreOneUpdate) (sym acted) (acted_entries_once tree committed)) replays rising in_time answered once in
+    let found = legal_order IsGood plain_tree history items (lawful_opening, no_sessions) call_good
+    (subst (NoTwo AreOneUpdate) (sym acted) (acted_entries_once plain_tree committed)) replays rising in_time answered once in
     (found.0, lawful_order history found.0 found.1)

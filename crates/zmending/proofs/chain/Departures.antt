@@ -1,24 +1,26 @@
 -- The master hears Gone: from outside the chain, or from a member, which is taken out.
 use Rattle.std.proofs.Common.{◌≡◌, ◌⊎◌, ℕ, ◌+◌, ◌≤◌, true, false, if◌then◌else◌, ◌==◌, List, [], ◌∷◌, ◌++◌, Option, Some, None, refl, sym, ap, ◌∙◌, subst, inl, inr, append-nil, arith, eqb-true, eq-eqb}
+use Rattle.std.specs.Prelude.{◌||◌}
 use Rattle.std.specs.List.{last_or}
 use Rattle.zcalls.specs.declared.call.Entry.{Entry}
 use Rattle.zserver.specs.declared.message.Message.TheVariants as message
 use Rattle.zserver.specs.declared.process.Process.TheVariants.{Master, Server}
 use Rattle.zserver.specs.View.{Post, Neighbour}
-use Rattle.zmaster.specs.View.{MasterView, members, is_among, is_joining}
+use Rattle.zmaster.specs.View.{MasterView, members, is_among, is_joining, with_number}
+use Rattle.zmaster.proofs.Numbers.{among_with_number}
 use Rattle.zmaster.specs.Table as master
-use Rattle.zworld.specs.Lists.{Among, ComesBefore, NoTwo}
+use Rattle.zcalls.specs.Lists.{Among, ComesBefore, NoTwo}
 use Rattle.zworld.specs.Links.{addressed}
-use Rattle.zlegal.specs.Plain.{Plain}
+use Rattle.zcalls.specs.Kept.{Plain}
 use Rattle.zchain.specs.Flow.{LogWorld, LogMessage}
 use Rattle.zchain.specs.Chain.{queue, IsPast, Place, place_behind, place_from, LeadsTo, is_fresh, turn_of}
 use Rattle.zchain.specs.Messages.{IsJustified}
 use Rattle.zchain.specs.Account.{Account}
 use Rattle.zchain.specs.Sound.{IsSound}
-use Rattle.zlegal.proofs.lists.Tests.{test}
-use Rattle.zlegal.proofs.lists.Members.{among_left, among_right, among_insert, among_inserted, among_last}
+use Rattle.zcalls.proofs.Among.{test}
+use Rattle.zlegal.proofs.lists.Members.{among_left, among_right, among_insert, among_inserted}
 use Rattle.zchain.proofs.places.Orders.{leads_more, one_more_order, unread_order}
-use Rattle.zchain.proofs.steps.Opening.{among_tested, tested_among}
+use Rattle.zchain.proofs.steps.Opening.{among_tested}
 use Rattle.zmending.proofs.chain.Moves.{moved, IsGoodPost, IsGoodMove, move_sound}
 use Rattle.zmending.proofs.chain.StandingChains.{addressed_told, told_among}
 use Rattle.zmending.proofs.chain.MendedChains.{ids, ids_append, Stands, stands, left, mended_is, mended_ids, place_cases, place_in, apart_of, gone_of, last_in, nobody_behind}
@@ -92,28 +94,24 @@ left_place (Some p) e (r ∷ more) x k z place f h = elim (test (r.0 == z)) [
 ]
 
 -- used numbers with one more
-pub used_is : (x z : ℕ) (used : List ℕ) → is_among z (master.with_used x used) ≡ true → (is_among z used ≡ true) ⊎ (x ≡ z)
-used_is x z used h = elim (test (is_among x used)) [
-  | inl t ↦ inl (rw t at h)
-  | inr f ↦ elim (among_last z used x (among_tested z (used ++ x ∷ []) (rw f at h))) [ inl a ↦ inl (tested_among z used a) | inr e ↦ inr e ]
+pub used_is : (x z : ℕ) (used : List ℕ) → is_among z (with_number x used) ≡ true → (is_among z used ≡ true) ⊎ (x ≡ z)
+used_is x z used h =
+    let either : ((x == z) || is_among z used) ≡ true = sym (among_with_number z x used) ∙ h in
+    elim (test (x == z)) [ inl t ↦ inr (eqb-true _ _ t) | inr f ↦ inl (sym (ap (λ b. b || is_among z used) f) ∙ either) ]
+
+pub used_stays : (x z : ℕ) (used : List ℕ) → is_among z used ≡ true → is_among z (with_number x used) ≡ true
+used_stays x z used h = elim (test (x == z)) [
+  | inl t ↦ among_with_number z x used ∙ ap (λ b. b || is_among z used) t
+  | inr f ↦ among_with_number z x used ∙ ap (λ b. b || is_among z used) f ∙ h
 ]
 
-pub used_stays : (x z : ℕ) (used : List ℕ) → is_among z used ≡ true → is_among z (master.with_used x used) ≡ true
-used_stays x z used h = elim (test (is_among x used)) [
-  | inl t ↦ rw t h
-  | inr f ↦ rw f (tested_among z (used ++ x ∷ []) (among_left z used (x ∷ []) (among_tested z used h)))
-]
-
-pub used_now : (x : ℕ) (used : List ℕ) → is_among x (master.with_used x used) ≡ true
-used_now x used = elim (test (is_among x used)) [
-  | inl t ↦ rw t t
-  | inr f ↦ rw f (tested_among x (used ++ x ∷ []) (among_right x used (x ∷ []) (inl refl)))
-]
+pub used_now : (x : ℕ) (used : List ℕ) → is_among x (with_number x used) ≡ true
+used_now x used = among_with_number x x used ∙ ap (λ b. b || is_among x used) (eq-eqb x x refl)
 
 -- from outside the chain
 module _ {P : Type 0} (plain : Plain P) (t : Account) (s : IsSound plain t) (x : ℕ) (gone : t.world.failed x ≡ true) where
   abbrev noted : MasterView
-  noted = record t.world.master { used = master.with_used x t.world.master.used }
+  noted = record t.world.master { used = with_number x t.world.master.used }
 
   past_noted : (p : Place) → IsPast t.world p → IsPast (moved t.world noted []) p
   past_noted None h = absurd h
@@ -165,7 +163,7 @@ module _ {P : Type 0} (plain : Plain P) (t : Account) (s : IsSound plain t) (x :
   v = record t.world.master { chain = front ++ (left before e rest).0; joining = joining; epoch = e }
 
   abbrev posts : List (Post (List Entry))
-  posts = (left before e rest).1 ++ master.tell v
+  posts = (left before e rest).1 ++ master.config_posts v
 
   abbrev w1 : LogWorld
   w1 = moved w v posts
@@ -304,26 +302,26 @@ module _ {P : Type 0} (plain : Plain P) (t : Account) (s : IsSound plain t) (x :
     ];
   }
 
-  mended_here : master.mended {M = List Entry} e x w.master.chain ≡ (front ++ (left before e rest).0, (left before e rest).1)
-  mended_here = ap (master.mended e x) split.is ∙ mended_is e x split.epoch front rest split.first
+  mended_here : master.mended_chain {M = List Entry} e x w.master.chain ≡ (front ++ (left before e rest).0, (left before e rest).1)
+  mended_here = ap (master.mended_chain e x) split.is ∙ mended_is e x split.epoch front rest split.first
 
   pub inside_sound : IsSound plain (record t {
     world = moved t.world
-        (record t.world.master { chain = (master.mended {M = List Entry} (t.world.master.epoch + 1) x t.world.master.chain).0; joining = joining; epoch = t.world.master.epoch + 1 })
-        ((master.mended {M = List Entry} (t.world.master.epoch + 1) x t.world.master.chain).1
-        ++ master.tell (record t.world.master { chain = (master.mended {M = List Entry} (t.world.master.epoch + 1) x t.world.master.chain).0; joining = joining; epoch = t.world.master.epoch + 1 }));
+        (record t.world.master { chain = (master.mended_chain {M = List Entry} (t.world.master.epoch + 1) x t.world.master.chain).0; joining = joining; epoch = t.world.master.epoch + 1 })
+        ((master.mended_chain {M = List Entry} (t.world.master.epoch + 1) x t.world.master.chain).1
+        ++ master.config_posts (record t.world.master { chain = (master.mended_chain {M = List Entry} (t.world.master.epoch + 1) x t.world.master.chain).0; joining = joining; epoch = t.world.master.epoch + 1 }));
   })
   inside_sound = subst (λ (c : List Neighbour × List (Post (List Entry))). IsSound plain (record t {
     world = moved t.world
         (record t.world.master { chain = c.0; joining = joining; epoch = t.world.master.epoch + 1 })
-        (c.1 ++ master.tell (record t.world.master { chain = c.0; joining = joining; epoch = t.world.master.epoch + 1 }));
+        (c.1 ++ master.config_posts (record t.world.master { chain = c.0; joining = joining; epoch = t.world.master.epoch + 1 }));
   }))
       (sym mended_here) (move_sound plain t s v posts good_inside)
 
 module _ {P : Type 0} (plain : Plain P) (t : Account) (s : IsSound plain t) where
   pub gone_heard : (x : ℕ) → t.world.failed x ≡ true
-      → IsSound plain (record t { world = moved t.world (master.takes_gone {M = List Entry} t.world.master x).0 (master.takes_gone t.world.master x).1 })
-  unfolding master.takes_gone
+      → IsSound plain (record t { world = moved t.world (master.gone_row {M = List Entry} t.world.master x).0 (master.gone_row t.world.master x).1 })
+  unfolding master.gone_row
   gone_heard x gone = elim (test (is_among x (members t.world.master))) [
     | inl member ↦ rw member (inside_sound plain t s x gone (among_tested x (members t.world.master) member) (if is_joining t.world.master x then None else t.world.master.joining))
     | inr f ↦ rw f (outside_sound plain t s x gone)

@@ -6,17 +6,17 @@ use Rattle.zcalls.specs.declared.call.Entry.{Entry}
 use Rattle.zserver.specs.declared.message.Message.TheVariants as message
 use Rattle.zserver.specs.declared.process.Process.TheVariants.{Master, Server}
 use Rattle.zserver.specs.View.{ServerView, Post, Neighbour, spare}
-use Rattle.zmaster.specs.View.{MasterView, members, is_among}
+use Rattle.zmaster.specs.View.{MasterView, members, is_among, with_number}
 use Rattle.zmaster.specs.Table as master
-use Rattle.zworld.specs.Lists.{Among, ComesBefore, NoTwo}
+use Rattle.zcalls.specs.Lists.{Among, ComesBefore, NoTwo}
 use Rattle.zworld.specs.Links.{addressed}
-use Rattle.zlegal.specs.Plain.{Plain}
+use Rattle.zcalls.specs.Kept.{Plain}
 use Rattle.zchain.specs.Flow.{LogWorld, LogMessage, or_else, final_log_by, final_log, first_snapshot_by, first_log}
 use Rattle.zchain.specs.Chain.{queue, IsPast, IsUsed, Place, place_behind, place_from, LeadsTo, is_fresh}
 use Rattle.zchain.specs.Messages.{IsJustified}
 use Rattle.zchain.specs.Account.{Account}
 use Rattle.zchain.specs.Sound.{IsSound}
-use Rattle.zlegal.proofs.lists.Tests.{test}
+use Rattle.zcalls.proofs.Among.{test}
 use Rattle.zlegal.proofs.lists.Members.{among_left, among_right, among_last}
 use Rattle.zlegal.proofs.lists.Distinct.{no_two_last}
 use Rattle.zchain.proofs.places.Orders.{leads_more, first_order}
@@ -42,7 +42,7 @@ module _ {P : Type 0} (plain : Plain P) (t : Account) (s : IsSound plain t) (x :
   e = t.world.master.epoch + 1
 
   abbrev v : MasterView
-  v = record t.world.master { chain = t.world.master.chain ++ (x, e) ∷ []; joining = Some x; used = master.with_used x t.world.master.used; epoch = e }
+  v = record t.world.master { chain = t.world.master.chain ++ (x, e) ∷ []; joining = Some x; used = with_number x t.world.master.used; epoch = e }
 
   abbrev order : LogMessage
   order = message.NewPred e last
@@ -155,7 +155,7 @@ module _ {P : Type 0} (plain : Plain P) (t : Account) (s : IsSound plain t) (x :
       → did ≡ elim last as (λ y. MasterView × List (Post (List Entry))) [
         | None ↦ (t.world.master, [])
         | Some p ↦ (
-          record t.world.master { chain = t.world.master.chain ++ (x, t.world.master.epoch + 1) ∷ []; joining = Some x; used = master.with_used x t.world.master.used; epoch = t.world.master.epoch + 1 },
+          record t.world.master { chain = t.world.master.chain ++ (x, t.world.master.epoch + 1) ∷ []; joining = Some x; used = with_number x t.world.master.used; epoch = t.world.master.epoch + 1 },
           (Server x, message.NewPred (t.world.master.epoch + 1) p) ∷ [],
         )
       ]
@@ -163,6 +163,6 @@ module _ {P : Type 0} (plain : Plain P) (t : Account) (s : IsSound plain t) (x :
   join_by None is did same = subst (λ (d : MasterView × List (Post (List Entry))). IsSound plain (record t { world = moved t.world d.0 d.1 })) (sym same) (unheard plain t s)
   join_by (Some p) is did same = subst (λ (d : MasterView × List (Post (List Entry))). IsSound plain (record t { world = moved t.world d.0 d.1 })) (sym same) (join_sound plain t s x unused p is)
 
-  pub joins_sound : IsSound plain (record t { world = moved t.world (master.joins {M = List Entry} t.world.master x).0 (master.joins t.world.master x).1 })
-  unfolding master.joins
-  joins_sound = join_by (last_or None (members t.world.master)) refl (master.joins t.world.master x) refl
+  pub joins_sound : IsSound plain (record t { world = moved t.world (master.join_step {M = List Entry} t.world.master x).0 (master.join_step t.world.master x).1 })
+  unfolding master.join_step
+  joins_sound = join_by (last_or None (members t.world.master)) refl (master.join_step t.world.master x) refl

@@ -4,9 +4,9 @@ use Rattle.std.specs.List.{last_or}
 use Rattle.zcalls.specs.declared.call.Entry.{Entry}
 use Rattle.zserver.specs.View.{Post, Neighbour}
 use Rattle.zmaster.specs.Table as master
-use Rattle.zworld.specs.Lists.{Among, ComesBefore, NoTwo}
+use Rattle.zcalls.specs.Lists.{Among, ComesBefore, NoTwo}
 use Rattle.zchain.specs.Chain.{Place, place_behind, place_from}
-use Rattle.zlegal.proofs.lists.Tests.{test}
+use Rattle.zcalls.proofs.Among.{test}
 use Rattle.zlegal.proofs.lists.Members.{among_right}
 
 -- the members of a chain
@@ -48,7 +48,7 @@ left (Some p) epoch rest = master.without_next epoch p rest
 
 -- the table, by who stands before the member that is taken out
 mended_behind_is : (epoch x p k : ℕ) (front rest : List Neighbour) → (Among x (ids front) → ⊥)
-    → master.mended_behind {M = List Entry} epoch x p (front ++ (x, k) ∷ rest)
+    → master.mended_chain_behind {M = List Entry} epoch x p (front ++ (x, k) ∷ rest)
     ≡ (front ++ (left (last_or (Some p) (ids front)) epoch rest).0, (left (last_or (Some p) (ids front)) epoch rest).1)
 mended_behind_is epoch x p k [] rest apart = let own : (x == x) ≡ true = eq-eqb x x refl in rw own refl
 mended_behind_is epoch x p k (a ∷ front) rest apart = elim (test (a.0 == x)) [
@@ -57,7 +57,7 @@ mended_behind_is epoch x p k (a ∷ front) rest apart = elim (test (a.0 == x)) [
 ]
 
 pub mended_is : (epoch x k : ℕ) (front rest : List Neighbour) → (Among x (ids front) → ⊥)
-    → master.mended {M = List Entry} epoch x (front ++ (x, k) ∷ rest)
+    → master.mended_chain {M = List Entry} epoch x (front ++ (x, k) ∷ rest)
     ≡ (front ++ (left (last_or None (ids front)) epoch rest).0, (left (last_or None (ids front)) epoch rest).1)
 mended_is epoch x k [] rest apart = let own : (x == x) ≡ true = eq-eqb x x refl in rw own refl
 mended_is epoch x k (a ∷ front) rest apart = elim (test (a.0 == x)) [

@@ -6,16 +6,16 @@ use Rattle.zserver.specs.declared.process.Process.{Process}
 use Rattle.zserver.specs.declared.process.Process.TheVariants.{Master, Server}
 use Rattle.zserver.specs.View.{Post, Neighbour}
 use Rattle.zmaster.specs.View.{MasterView, members, is_among}
-use Rattle.zworld.specs.Lists.{Among, ComesBefore, NoTwo}
+use Rattle.zcalls.specs.Lists.{Among, ComesBefore, NoTwo}
 use Rattle.zworld.specs.Links.{addressed, put}
-use Rattle.zlegal.specs.Plain.{Plain}
+use Rattle.zcalls.specs.Kept.{Plain}
 use Rattle.zlegal.specs.Items.{Item}
 use Rattle.zchain.specs.Flow.{LogWorld, LogMessage, Log, or_else, log_at, final_log_by, final_log, first_snapshot_by, first_log}
 use Rattle.zchain.specs.Chain.{queue, IsAhead, IsOpened, IsMember, IsUsed, IsPair, place_from, HasNoTailOrder, HoldsBehind, HasNoTailOrderBehind, IsNewEpoch, HasDistinctEpochs}
 use Rattle.zchain.specs.Messages.{IsJustified}
 use Rattle.zchain.specs.Account.{Account}
 use Rattle.zchain.specs.Sound.{IsSound, OrdersLead}
-use Rattle.zlegal.proofs.lists.Members.{among_cases}
+use Rattle.zcalls.proofs.Among.{among_cases}
 use Rattle.zchain.proofs.links.Links.{put_among}
 use Rattle.zchain.proofs.places.Pairs.{pair_next}
 use Rattle.zchain.proofs.links.LaterWorlds.{justified_later}

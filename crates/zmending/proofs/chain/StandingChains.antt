@@ -9,16 +9,15 @@ use Rattle.zserver.specs.declared.process.Process.TheVariants.{Master, Server, C
 use Rattle.zserver.specs.View.{Post, Neighbour}
 use Rattle.zmaster.specs.View.{MasterView, is_among, is_joining, head_of, tail_of}
 use Rattle.zmaster.specs.Table as master
-use Rattle.zworld.specs.Lists.{Among}
+use Rattle.zcalls.specs.Lists.{Among}
 use Rattle.zworld.specs.Links.{is_same, addressed}
-use Rattle.zlegal.specs.Plain.{Plain}
+use Rattle.zcalls.specs.Kept.{Plain}
 use Rattle.zchain.specs.Flow.{LogWorld, LogMessage}
 use Rattle.zchain.specs.Chain.{queue, IsOpened, IsPast, LeadsTo, is_fresh, turn_of}
 use Rattle.zchain.specs.Messages.{IsJustified}
 use Rattle.zchain.specs.Account.{Account}
 use Rattle.zchain.specs.Sound.{IsSound}
-use Rattle.zlegal.proofs.lists.Tests.{test}
-use Rattle.zlegal.proofs.lists.Members.{among_cases}
+use Rattle.zcalls.proofs.Among.{test, among_cases}
 use Rattle.zchain.proofs.places.Orders.{unread_order}
 use Rattle.zmending.proofs.chain.Moves.{moved, IsGoodPost, IsGoodMove, move_sound}
 
@@ -44,7 +43,7 @@ pub addressed_clients : (z : ℕ) (m : LogMessage) (cs : List ℕ) → addressed
 addressed_clients z m [] = refl
 addressed_clients z m (c ∷ cs) = addressed_clients z m cs
 
-pub addressed_told : (z : ℕ) (v : MasterView) (first : List (Post (List Entry))) → addressed (Server z) (first ++ master.tell v) ≡ addressed (Server z) first
+pub addressed_told : (z : ℕ) (v : MasterView) (first : List (Post (List Entry))) → addressed (Server z) (first ++ master.config_posts v) ≡ addressed (Server z) first
 addressed_told z v [] = addressed_clients z (message.Config v.epoch (head_of v) (tail_of v)) (range_with_len 0 v.clients)
 addressed_told z v (post ∷ first) = elim (test (is_same (Server z) post.0)) [
   | inl t ↦ rw t (ap (λ l. post.1 ∷ l) (addressed_told z v first))
@@ -52,9 +51,9 @@ addressed_told z v (post ∷ first) = elim (test (is_same (Server z) post.0)) [
 ]
 
 -- each is a configuration
-pub told_among : (v : MasterView) (first : List (Post (List Entry))) (post : Post (List Entry)) → Among post (first ++ master.tell v)
+pub told_among : (v : MasterView) (first : List (Post (List Entry))) (post : Post (List Entry)) → Among post (first ++ master.config_posts v)
     → Among post first ⊎ (post.1 ≡ message.Config v.epoch (head_of v) (tail_of v))
-told_among v first post a = elim (among_cases post first (master.tell v) a) [
+told_among v first post a = elim (among_cases post first (master.config_posts v) a) [
   | inl b ↦ inl b
   | inr c ↦ inr (each (range_with_len 0 v.clients) c)
 ]
@@ -149,17 +148,17 @@ module _ {P : Type 0} (plain : Plain P) (t : Account) (s : IsSound plain t) wher
       one post (inl e) = subst (λ (q : Post (List Entry)). IsStanding t.world q.1) e opened
       one post (inr b) = absurd b
 
-  pub have_heard : (x epoch : ℕ) (last : Option ℕ) → IsOpened t.world x epoch → IsSound plain (after (master.takes_have t.world.master x epoch last))
-  unfolding master.takes_have
+  pub have_heard : (x epoch : ℕ) (last : Option ℕ) → IsOpened t.world x epoch → IsSound plain (after (master.have_row t.world.master x epoch last))
+  unfolding master.have_row
   have_heard x epoch last opened = have_by x epoch last opened (master.before x epoch t.world.master.chain) refl
 
   abbrev settled : MasterView
   settled = record t.world.master { joining = None; epoch = t.world.master.epoch + 1 }
 
-  pub joined_heard : (x : ℕ) → IsSound plain (after (master.takes_joined t.world.master x))
-  unfolding master.takes_joined
+  pub joined_heard : (x : ℕ) → IsSound plain (after (master.joined_row t.world.master x))
+  unfolding master.joined_row
   joined_heard x = elim (test (is_joining t.world.master x)) [
-    | inl joins ↦ rw joins (standing_sound plain t s None (t.world.master.epoch + 1) (omega arith) (master.tell settled)
+    | inl joins ↦ rw joins (standing_sound plain t s None (t.world.master.epoch + 1) (omega arith) (master.config_posts settled)
         (λ post a. elim (told_among settled [] post a) [ inl b ↦ absurd b | inr c ↦ subst (IsStanding t.world) (sym c) tt ])
         (λ z. inl (addressed_told z settled [])))
     | inr f ↦ rw f unheard

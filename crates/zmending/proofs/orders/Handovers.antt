@@ -6,20 +6,20 @@ use Rattle.zserver.specs.declared.message.Message.TheVariants as message
 use Rattle.zserver.specs.declared.process.Process.TheVariants.{Master, Server}
 use Rattle.zserver.specs.View.{ServerView, Neighbour, Transfer}
 use Rattle.zserver.specs.Table as server
-use Rattle.zserver.specs.Table.{takes_new_succ}
+use Rattle.zserver.specs.Table.{new_succ_row}
 use Rattle.zserver.proofs.Fields.{view_of}
 use Rattle.zmaster.specs.View.{members}
 use Rattle.zworld.specs.declared.event.Event.TheVariants.{Take}
-use Rattle.zworld.specs.Lists.{Among, ComesBefore}
+use Rattle.zcalls.specs.Lists.{Among, ComesBefore}
 use Rattle.zworld.specs.Links.{without_front}
-use Rattle.zworld.specs.Events.{takes}
-use Rattle.zlegal.specs.Plain.{Plain, log_machine}
+use Rattle.zworld.specs.Events.{process_step}
+use Rattle.zcalls.specs.Kept.{Plain}
+use Rattle.zchain.specs.Flow.{log_machine, LogWorld, LogMessage, Log, log_with_message, flow, snapshot_of, first_snapshot, or_else, log_at, final_log_by, final_log, first_snapshot_by}
 use Rattle.zlegal.specs.Prefix.{IsPrefix}
-use Rattle.zchain.specs.Flow.{LogWorld, LogMessage, Log, log_with_message, flow, snapshot_of, first_snapshot, or_else, log_at, final_log_by, final_log, first_snapshot_by}
 use Rattle.zchain.specs.Chain.{queue, IsAhead, IsOpened, IsMember, IsPair, IsPast, LeadsTo, is_fresh, HasNoTailOrder, HasNoTailOrderBehind}
 use Rattle.zchain.specs.Account.{Account, account_by}
 use Rattle.zchain.specs.Sound.{IsSound, IsSoundAfter, ChainIsOrdered, AllShowCommitted}
-use Rattle.zlegal.proofs.lists.Tests.{test}
+use Rattle.zcalls.proofs.Among.{test}
 use Rattle.zlegal.proofs.lists.Places.{before_second}
 use Rattle.zlegal.proofs.lists.Prefixes.{prefix_same}
 use Rattle.zchain.proofs.links.Links.{at_same, front_among}
@@ -162,9 +162,9 @@ module _ {P : Type 0} (plain : Plain P) (told : Account) (s : IsSound plain told
 
 -- what an initialised server does
 hand_by : (machine : Log) (last : ℕ) (sent : List (ℕ × Entry)) (pred succ : Option Neighbour) (epoch z : ℕ) (own : List Entry) → machine ≡ Some own
-    → takes_new_succ (view_of machine last sent pred succ) epoch z None
+    → new_succ_row (view_of machine last sent pred succ) epoch z None
     ≡ (view_of machine last sent pred (Some (z, epoch)), (Server z, message.Snapshot epoch (record { last = last; machine = own })) ∷ [])
-unfolding takes_new_succ
+unfolding new_succ_row
 hand_by None last sent pred succ epoch z own has = absurd (cc has)
 hand_by (Some log) last sent pred succ epoch z own has =
     let same : log ≡ own = cc has in
@@ -193,9 +193,9 @@ module _ {P : Type 0} (plain : Plain P) (t : Account) (s : IsSound plain t) (y e
     sent = s.sent y;
   }
 
-  handed : server.takes (log_machine plain) (t.world.servers y) Master order
+  handed : server.server_step (log_machine plain) (t.world.servers y) Master order
       ≡ (led, (Server z, message.Snapshot epoch (record { last = (t.world.servers y).last; machine = own })) ∷ [])
-  unfolding server.takes
+  unfolding server.server_step
   handed = hand_by (t.world.servers y).machine (t.world.servers y).last (t.world.servers y).sent (t.world.servers y).pred (t.world.servers y).succ epoch z own has
 
   abbrev led_account : Account
@@ -205,7 +205,7 @@ module _ {P : Type 0} (plain : Plain P) (t : Account) (s : IsSound plain t) (y e
   queue_left = front_here t.world.links Master (Server y) ∙ ap (drop 1) link
 
   pub take_whole_order : IsSoundAfter plain t (account_by plain t (Take Master (Server y))
-      (takes (log_machine plain) (record t.world { links = without_front t.world.links Master (Server y) }) Master (Server y) order))
+      (process_step (log_machine plain) (record t.world { links = without_front t.world.links Master (Server y) }) Master (Server y) order))
   take_whole_order = after_turn plain t s y order rest link alive
       (led, (Server z, message.Snapshot epoch (record { last = (t.world.servers y).last; machine = own })) ∷ []) handed good_hand
       (put_whole plain led_account (turn_sound plain t s y order rest link alive led good_hand) y (member plain t s y order rest link alive led good_hand) own

@@ -5,25 +5,25 @@ use Rattle.zcalls.specs.declared.call.Entry.{Entry}
 use Rattle.zserver.specs.declared.message.Message.TheVariants as message
 use Rattle.zserver.specs.declared.process.Process.TheVariants.{Master, Server}
 use Rattle.zserver.specs.View.{ServerView, Neighbour, Post}
-use Rattle.zserver.specs.Table.{Taken, acks, last_number, becomes_tail, becomes_head, takes_new_pred}
+use Rattle.zserver.specs.Table.{ServerResult, ack_posts, last_number, become_tail_row, become_head_row, new_pred_row}
 use Rattle.zserver.specs.Table as server
 use Rattle.zworld.specs.declared.event.Event.TheVariants.{Take}
-use Rattle.zworld.specs.Lists.{Among}
+use Rattle.zcalls.specs.Lists.{Among}
 use Rattle.zworld.specs.Links.{without_front}
-use Rattle.zworld.specs.Events.{takes}
-use Rattle.zlegal.specs.Plain.{Plain, log_machine}
+use Rattle.zworld.specs.Events.{process_step}
+use Rattle.zcalls.specs.Kept.{Plain}
+use Rattle.zchain.specs.Flow.{log_machine, LogWorld, LogMessage, Log, or_else, log_at, final_log_by, final_log, first_snapshot_by, first_log}
 use Rattle.zlegal.specs.Items.{Item, new_items}
-use Rattle.zchain.specs.Flow.{LogWorld, LogMessage, Log, or_else, log_at, final_log_by, final_log, first_snapshot_by, first_log}
 use Rattle.zchain.specs.Chain.{IsOpened, IsPast, LeadsTo, is_fresh, HasDistinctEpochs}
 use Rattle.zchain.specs.Messages.{IsJustified}
 use Rattle.zchain.specs.Account.{Account, tail_log, committed_after, account_by}
 use Rattle.zchain.specs.Sound.{IsSound, IsSoundAfter}
-use Rattle.zlegal.proofs.lists.Tests.{test}
+use Rattle.zcalls.proofs.Among.{test}
 use Rattle.zlegal.proofs.lists.Prefixes.{prefix_same}
 use Rattle.zchain.proofs.flow.Flow.{IsForeign, AreForeign, flow_foreign, first_foreign}
 use Rattle.zchain.proofs.places.Orders.{leads_more}
 use Rattle.zchain.proofs.links.Links.{at_same}
-use Rattle.zchain.proofs.rows.Rows.{acks_all}
+use Rattle.zserver.specs.support.Cases.{acks_all}
 use Rattle.zchain.proofs.steps.Sends.{upper_of_log}
 use Rattle.zchain.proofs.steps.Takes.{with_view, front_here}
 use Rattle.zchain.proofs.steps.ServerSteps.{account_with_puts, puts_at_once, puts_unread, acks_unread, account_with_view, IsUnreadAndJustified, after_puts}
@@ -77,24 +77,24 @@ module _ {P : Type 0} (plain : Plain P) (t : Account) (s : IsSound plain t) (y :
   abbrev popped : LogWorld
   popped = record t.world { links = without_front t.world.links Master (Server y) }
 
-  abbrev taken : Taken (List Entry)
-  taken = server.takes (log_machine plain) (t.world.servers y) Master m
+  abbrev taken : ServerResult (List Entry)
+  taken = server.server_step (log_machine plain) (t.world.servers y) Master m
 
-  account_of : (r : Taken (List Entry)) → server.takes (log_machine plain) (t.world.servers y) Master m ≡ r
-      → account_with_puts (account_with_view plain t Master y r.0) y r.1 ≡ account_by plain t (Take Master (Server y)) (takes (log_machine plain) popped Master (Server y) m)
+  account_of : (r : ServerResult (List Entry)) → server.server_step (log_machine plain) (t.world.servers y) Master m ≡ r
+      → account_with_puts (account_with_view plain t Master y r.0) y r.1 ≡ account_by plain t (Take Master (Server y)) (process_step (log_machine plain) popped Master (Server y) m)
   account_of r is =
-      ap (λ (x : Taken (List Entry)). account_with_puts (account_with_view plain t Master y x.0) y x.1) (sym is)
+      ap (λ (x : ServerResult (List Entry)). account_with_puts (account_with_view plain t Master y x.0) y x.1) (sym is)
       ∙ puts_at_once (account_with_view plain t Master y taken.0) y taken.1
       ∙ (λ i.
       let committed : List Entry = committed_after (tail_log (sym (at_same y taken.0 w.servers) i)) t.committed in
       record {
-        world = takes (log_machine plain) popped Master (Server y) m;
+        world = process_step (log_machine plain) popped Master (Server y) m;
         committed = committed;
         items = t.items ++ new_items plain (length w.history) t.committed committed;
       })
 
-  pub after_turn : (r : Taken (List Entry)) → server.takes (log_machine plain) (t.world.servers y) Master m ≡ r → IsGoodTurn t.world y r.0 rest
-      → IsSound plain (account_with_puts (account_with_view plain t Master y r.0) y r.1) → IsSoundAfter plain t (account_by plain t (Take Master (Server y)) (takes (log_machine plain) popped Master (Server y) m))
+  pub after_turn : (r : ServerResult (List Entry)) → server.server_step (log_machine plain) (t.world.servers y) Master m ≡ r → IsGoodTurn t.world y r.0 rest
+      → IsSound plain (account_with_puts (account_with_view plain t Master y r.0) y r.1) → IsSoundAfter plain t (account_by plain t (Take Master (Server y)) (process_step (log_machine plain) popped Master (Server y) m))
   after_turn r is good sound =
       after_puts plain t (account_with_view plain t Master y r.0) _ y r.1 (account_of r is) sound (turn_begins plain t s y m rest link alive r.0 good)
 
@@ -125,17 +125,17 @@ module _ {P : Type 0} (plain : Plain P) (t : Account) (s : IsSound plain t) (y e
     sent = λ log n e is a. absurd a;
   }
 
-  end_taken : server.takes (log_machine plain) (t.world.servers y) Master (message.BecomeTail epoch) ≡ (ended, acks_all (t.world.servers y))
-  unfolding server.takes becomes_tail
+  end_taken : server.server_step (log_machine plain) (t.world.servers y) Master (message.BecomeTail epoch) ≡ (ended, acks_all (t.world.servers y))
+  unfolding server.server_step become_tail_row
   end_taken = refl
 
-  acks_by : (machine : Log) (post : Post (List Entry)) → Among post (elim machine as (λ x. List (Post (List Entry))) [ None ↦ [] | Some log ↦ acks (t.world.servers y).pred (t.world.servers y).last ])
+  acks_by : (machine : Log) (post : Post (List Entry)) → Among post (elim machine as (λ x. List (Post (List Entry))) [ None ↦ [] | Some log ↦ ack_posts (t.world.servers y).pred (t.world.servers y).last ])
       → IsUnreadAndJustified (account_with_view plain t Master y ended).world (account_with_view plain t Master y ended).items y post
   acks_by None post a = absurd a
   acks_by (Some log) post a = acks_unread (account_with_view plain t Master y ended).world (account_with_view plain t Master y ended).items y (t.world.servers y).pred (t.world.servers y).last post a
 
   pub take_tail_order : IsSoundAfter plain t (account_by plain t (Take Master (Server y))
-      (takes (log_machine plain) (record t.world { links = without_front t.world.links Master (Server y) }) Master (Server y) (message.BecomeTail epoch)))
+      (process_step (log_machine plain) (record t.world { links = without_front t.world.links Master (Server y) }) Master (Server y) (message.BecomeTail epoch)))
   take_tail_order = after_turn plain t s y (message.BecomeTail epoch) rest link alive (ended, acks_all (t.world.servers y)) end_taken good_end
       (puts_unread plain (account_with_view plain t Master y ended) y (acks_all (t.world.servers y)) (acks_by (t.world.servers y).machine)
       (turn_sound plain t s y (message.BecomeTail epoch) rest link alive ended good_end))
@@ -161,12 +161,12 @@ module _ {P : Type 0} (plain : Plain P) (t : Account) (s : IsSound plain t) (y e
     sent = s.sent y;
   }
 
-  head_taken : server.takes (log_machine plain) (t.world.servers y) Master (message.BecomeHead epoch) ≡ (led, [])
-  unfolding server.takes becomes_head
+  head_taken : server.server_step (log_machine plain) (t.world.servers y) Master (message.BecomeHead epoch) ≡ (led, [])
+  unfolding server.server_step become_head_row
   head_taken = refl
 
   pub take_head_order : IsSoundAfter plain t (account_by plain t (Take Master (Server y))
-      (takes (log_machine plain) (record t.world { links = without_front t.world.links Master (Server y) }) Master (Server y) (message.BecomeHead epoch)))
+      (process_step (log_machine plain) (record t.world { links = without_front t.world.links Master (Server y) }) Master (Server y) (message.BecomeHead epoch)))
   take_head_order = after_turn plain t s y (message.BecomeHead epoch) rest link alive (led, []) head_taken good_head
       (turn_sound plain t s y (message.BecomeHead epoch) rest link alive led good_head)
 
@@ -200,8 +200,8 @@ module _ {P : Type 0} (plain : Plain P) (t : Account) (s : IsSound plain t) (y e
     sent = s.sent y;
   }
 
-  pred_taken : server.takes (log_machine plain) (t.world.servers y) Master (message.NewPred epoch p) ≡ (turned, (Master, message.Have epoch (last_number (t.world.servers y))) ∷ [])
-  unfolding server.takes takes_new_pred
+  pred_taken : server.server_step (log_machine plain) (t.world.servers y) Master (message.NewPred epoch p) ≡ (turned, (Master, message.Have epoch (last_number (t.world.servers y))) ∷ [])
+  unfolding server.server_step new_pred_row
   pred_taken = refl
 
   -- the epoch is opened now
@@ -216,7 +216,7 @@ module _ {P : Type 0} (plain : Plain P) (t : Account) (s : IsSound plain t) (y e
   have_justified post (inr a) = absurd a
 
   pub take_pred_order : IsSoundAfter plain t (account_by plain t (Take Master (Server y))
-      (takes (log_machine plain) (record t.world { links = without_front t.world.links Master (Server y) }) Master (Server y) (message.NewPred epoch p)))
+      (process_step (log_machine plain) (record t.world { links = without_front t.world.links Master (Server y) }) Master (Server y) (message.NewPred epoch p)))
   take_pred_order = after_turn plain t s y (message.NewPred epoch p) rest link alive
       (turned, (Master, message.Have epoch (last_number (t.world.servers y))) ∷ []) pred_taken good_turn
       (puts_unread plain (account_with_view plain t Master y turned) y ((Master, message.Have epoch (last_number (t.world.servers y))) ∷ []) have_justified

@@ -7,16 +7,16 @@ use Rattle.zserver.specs.declared.message.Message.TheVariants as message
 use Rattle.zserver.specs.declared.process.Process.TheVariants.{Master, Server}
 use Rattle.zserver.specs.View.{ServerView}
 use Rattle.zmaster.specs.View.{members, is_among}
-use Rattle.zworld.specs.Lists.{Among, ComesBefore}
-use Rattle.zlegal.specs.Plain.{Plain, after_log}
+use Rattle.zcalls.specs.Lists.{Among, ComesBefore}
+use Rattle.zcalls.specs.Kept.{Plain}
+use Rattle.zcalls.specs.Acts.{after_log, acts_from}
 use Rattle.zlegal.specs.Prefix.{IsPrefix, IsEntry}
 use Rattle.zlegal.specs.Items.{Item, all_at_time, AllBegun, new_items}
-use Rattle.zlegal.specs.Acted.{acted_from}
 use Rattle.zchain.specs.Flow.{LogWorld, LogMessage, Log, or_else, log_at, first_snapshot_by, final_log, first_log}
 use Rattle.zchain.specs.Chain.{queue, IsAhead, IsOpened, IsMember, IsPast, Place, place_of, LeadsTo, HasNoTailOrder}
 use Rattle.zchain.specs.Account.{Account, tail_log, committed_after}
 use Rattle.zchain.specs.Sound.{IsSound, ChainIsOrdered, TailHoldsCommitted}
-use Rattle.zlegal.proofs.lists.Tests.{test}
+use Rattle.zcalls.proofs.Among.{test}
 use Rattle.zlegal.proofs.lists.Prefixes.{prefix_same}
 use Rattle.zchain.proofs.links.Links.{at_cases, at_same, at_other, front_among}
 use Rattle.zchain.proofs.steps.Sends.{ahead_less}
@@ -109,7 +109,7 @@ module _ {P : Type 0} (plain : Plain P) (t : Account) (s : IsSound plain t) (y :
       (λ e a b. absurd (no_tail_log v log none a b)) (λ f. s.tail z log in_chain) is ends
 
   nothing_new : new_items plain (length w.history) t.committed t.committed ≡ []
-  nothing_new = ap (λ es. all_at_time (length w.history) (acted_from plain.update (after_log plain t.committed) es)) (drop-length t.committed)
+  nothing_new = ap (λ es. all_at_time (length w.history) (acts_from plain.update (after_log plain t.committed) es)) (drop-length t.committed)
 
   -- a tail holds what was committed
   tail_begins : (log : List Entry) → tail_log v ≡ Some log → IsPrefix t.committed log

@@ -5,13 +5,14 @@ use Rattle.zserver.specs.declared.message.Message.TheVariants as message
 use Rattle.zserver.specs.declared.process.Process.TheVariants.{Master, Server}
 use Rattle.zserver.specs.View.{ServerView, Neighbour}
 use Rattle.zserver.specs.Table as server
-use Rattle.zserver.specs.Table.{takes_new_succ}
+use Rattle.zserver.specs.Table.{new_succ_row}
 use Rattle.zserver.proofs.Fields.{view_of}
 use Rattle.zworld.specs.declared.event.Event.TheVariants.{Take}
 use Rattle.zworld.specs.Links.{without_front}
-use Rattle.zworld.specs.Events.{takes, takes_front}
-use Rattle.zlegal.specs.Plain.{Plain, tree, log_machine}
-use Rattle.zchain.specs.Flow.{LogMessage, Log, or_else, log_at}
+use Rattle.zworld.specs.Events.{process_step, front_step}
+use Rattle.zcalls.specs.Kept.{Plain}
+use Rattle.zcalls.specs.PlainTree.{plain_tree}
+use Rattle.zchain.specs.Flow.{log_machine, LogMessage, Log, or_else, log_at}
 use Rattle.zchain.specs.Chain.{Place, IsPast, LeadsTo, is_fresh, turn_of}
 use Rattle.zchain.specs.Account.{Account, account_by}
 use Rattle.zchain.specs.Sound.{IsSound, IsSoundAfter}
@@ -50,47 +51,47 @@ module _ {P : Type 0} (plain : Plain P) (t : Account) (s : IsSound plain t) (y :
     sent = s.sent y;
   }
 
-  pub take_ignored : turn_of m ≡ None → server.takes (log_machine plain) (t.world.servers y) Master m ≡ (t.world.servers y, [])
+  pub take_ignored : turn_of m ≡ None → server.server_step (log_machine plain) (t.world.servers y) Master m ≡ (t.world.servers y, [])
       → IsSoundAfter plain t (account_by plain t (Take Master (Server y))
-      (takes (log_machine plain) (record t.world { links = without_front t.world.links Master (Server y) }) Master (Server y) m))
+      (process_step (log_machine plain) (record t.world { links = without_front t.world.links Master (Server y) }) Master (Server y) m))
   take_ignored turn is = after_turn plain t s y m rest link alive (old, []) is (good_same turn)
       (turn_sound plain t s y m rest link alive old (good_same turn))
 
 -- a server without a log ignores a successor
 without_log : {P : Type 0} (plain : Plain P) (machine : Log) (last : ℕ) (sent : List (ℕ × Entry)) (pred succ : Option Neighbour) (epoch z : ℕ) (n : Option ℕ) → machine ≡ None
-    → server.takes (log_machine plain) (view_of machine last sent pred succ) Master (message.NewSucc epoch z n) ≡ (view_of machine last sent pred succ, [])
-unfolding server.takes takes_new_succ
+    → server.server_step (log_machine plain) (view_of machine last sent pred succ) Master (message.NewSucc epoch z n) ≡ (view_of machine last sent pred succ, [])
+unfolding server.server_step new_succ_row
 without_log plain None last sent pred succ epoch z n none = refl
 without_log plain (Some log) last sent pred succ epoch z n none = absurd (cc none)
 
 -- what a server ignores from the master
-module _ (t : Account) (s : IsSound tree t) (y : ℕ) where
+module _ (t : Account) (s : IsSound plain_tree t) (y : ℕ) where
   abbrev IsHeard : LogMessage → Type 0
   IsHeard m = (rest : List LogMessage) → t.world.links Master (Server y) ≡ m ∷ rest → t.world.failed y ≡ false
-      → IsSoundAfter tree t (account_by tree t (Take Master (Server y)) (takes_front (log_machine tree) t.world Master (Server y) (m ∷ rest)))
+      → IsSoundAfter plain_tree t (account_by plain_tree t (Take Master (Server y)) (front_step (log_machine plain_tree) t.world Master (Server y) (m ∷ rest)))
 
   succ_by : (epoch z : ℕ) (n : Option ℕ) (log : Log) → log_at t.world y ≡ log → IsHeard (message.NewSucc epoch z n)
-  succ_by epoch z n None is rest link alive = take_ignored tree t s y (message.NewSucc epoch z n) rest link alive refl
-      (without_log tree (t.world.servers y).machine (t.world.servers y).last (t.world.servers y).sent (t.world.servers y).pred (t.world.servers y).succ epoch z n is)
-  succ_by epoch z None (Some log) is rest link alive = take_whole_order tree t s y epoch z rest link alive log is
-  succ_by epoch z (Some n) (Some log) is rest link alive = take_succ_order tree t s y epoch z n rest link alive log is
+  succ_by epoch z n None is rest link alive = take_ignored plain_tree t s y (message.NewSucc epoch z n) rest link alive refl
+      (without_log plain_tree (t.world.servers y).machine (t.world.servers y).last (t.world.servers y).sent (t.world.servers y).pred (t.world.servers y).succ epoch z n is)
+  succ_by epoch z None (Some log) is rest link alive = take_whole_order plain_tree t s y epoch z rest link alive log is
+  succ_by epoch z (Some n) (Some log) is rest link alive = take_succ_order plain_tree t s y epoch z n rest link alive log is
 
   heard : (m : LogMessage) → IsHeard m
-  unfolding server.takes
-  heard (message.NewPred epoch p) rest link alive = take_pred_order tree t s y epoch p rest link alive
-  heard (message.BecomeHead epoch) rest link alive = take_head_order tree t s y epoch rest link alive
-  heard (message.BecomeTail epoch) rest link alive = take_tail_order tree t s y epoch rest link alive
+  unfolding server.server_step
+  heard (message.NewPred epoch p) rest link alive = take_pred_order plain_tree t s y epoch p rest link alive
+  heard (message.BecomeHead epoch) rest link alive = take_head_order plain_tree t s y epoch rest link alive
+  heard (message.BecomeTail epoch) rest link alive = take_tail_order plain_tree t s y epoch rest link alive
   heard (message.NewSucc epoch z n) rest link alive = succ_by epoch z n (log_at t.world y) refl rest link alive
-  heard (message.Submit number update) rest link alive = take_ignored tree t s y (message.Submit number update) rest link alive refl refl
-  heard (message.Query number query) rest link alive = take_ignored tree t s y (message.Query number query) rest link alive refl refl
-  heard (message.Answer number reply) rest link alive = take_ignored tree t s y (message.Answer number reply) rest link alive refl refl
-  heard (message.Update epoch n e) rest link alive = take_ignored tree t s y (message.Update epoch n e) rest link alive refl refl
-  heard (message.Ack epoch n) rest link alive = take_ignored tree t s y (message.Ack epoch n) rest link alive refl refl
-  heard (message.Snapshot epoch transfer) rest link alive = take_ignored tree t s y (message.Snapshot epoch transfer) rest link alive refl refl
-  heard (message.Have epoch last) rest link alive = take_ignored tree t s y (message.Have epoch last) rest link alive refl refl
-  heard (message.Joined epoch) rest link alive = take_ignored tree t s y (message.Joined epoch) rest link alive refl refl
-  heard message.Gone rest link alive = take_ignored tree t s y message.Gone rest link alive refl refl
-  heard (message.Config epoch head tail) rest link alive = take_ignored tree t s y (message.Config epoch head tail) rest link alive refl refl
+  heard (message.Submit number update) rest link alive = take_ignored plain_tree t s y (message.Submit number update) rest link alive refl refl
+  heard (message.Query number query) rest link alive = take_ignored plain_tree t s y (message.Query number query) rest link alive refl refl
+  heard (message.Answer number reply) rest link alive = take_ignored plain_tree t s y (message.Answer number reply) rest link alive refl refl
+  heard (message.Update epoch n e) rest link alive = take_ignored plain_tree t s y (message.Update epoch n e) rest link alive refl refl
+  heard (message.Ack epoch n) rest link alive = take_ignored plain_tree t s y (message.Ack epoch n) rest link alive refl refl
+  heard (message.Snapshot epoch transfer) rest link alive = take_ignored plain_tree t s y (message.Snapshot epoch transfer) rest link alive refl refl
+  heard (message.Have epoch last) rest link alive = take_ignored plain_tree t s y (message.Have epoch last) rest link alive refl refl
+  heard (message.Joined epoch) rest link alive = take_ignored plain_tree t s y (message.Joined epoch) rest link alive refl refl
+  heard message.Gone rest link alive = take_ignored plain_tree t s y message.Gone rest link alive refl refl
+  heard (message.Config epoch head tail) rest link alive = take_ignored plain_tree t s y (message.Config epoch head tail) rest link alive refl refl
 
 pub servers_hear_master : ServersHearMaster
 servers_hear_master y t lasts s = where_enabled t (Take Master (Server y)) s (λ e. front_there t Master (Server y) e (heard t s y))

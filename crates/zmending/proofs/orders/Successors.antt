@@ -4,16 +4,16 @@ use Rattle.zcalls.specs.declared.call.Entry.{Entry}
 use Rattle.zserver.specs.declared.message.Message.TheVariants as message
 use Rattle.zserver.specs.declared.process.Process.TheVariants.{Master, Server}
 use Rattle.zserver.specs.View.{ServerView, Neighbour}
-use Rattle.zserver.specs.Table.{forwards, above, takes_new_succ}
+use Rattle.zserver.specs.Table.{forward_post, entries_above, new_succ_row}
 use Rattle.zserver.specs.Table as server
 use Rattle.zserver.proofs.Fields.{view_of}
 use Rattle.zworld.specs.declared.event.Event.TheVariants.{Take}
-use Rattle.zworld.specs.Lists.{Among}
+use Rattle.zcalls.specs.Lists.{Among}
 use Rattle.zworld.specs.Links.{without_front}
-use Rattle.zworld.specs.Events.{takes}
-use Rattle.zlegal.specs.Plain.{Plain, log_machine}
+use Rattle.zworld.specs.Events.{process_step}
+use Rattle.zcalls.specs.Kept.{Plain}
+use Rattle.zchain.specs.Flow.{log_machine, LogMessage, Log, or_else, log_at}
 use Rattle.zlegal.specs.Prefix.{IsEntry}
-use Rattle.zchain.specs.Flow.{LogMessage, Log, or_else, log_at}
 use Rattle.zchain.specs.Chain.{IsOpened, IsMember, IsPast, LeadsTo, is_fresh}
 use Rattle.zlegal.specs.Items.{AllBegun}
 use Rattle.zchain.specs.Account.{Account, account_by}
@@ -31,7 +31,7 @@ use Rattle.zmending.proofs.orders.Neighbours.{upper_of, base_of, same_upper, sam
 -- entries of the sender's log, one after the other
 sends : {P : Type 0} (plain : Plain P) (t : Account) (y : ℕ) → IsMember t.world y → (own : List Entry) → log_at t.world y ≡ Some own → AllBegun t.world.history own
     → (succ : Neighbour) → IsOpened t.world succ.0 succ.1 → (es : List (ℕ × Entry)) → ((x : ℕ × Entry) → Among x es → IsEntry own x.0 x.1)
-    → IsSound plain t → IsSound plain (account_with_puts t y (map (forwards succ) es))
+    → IsSound plain t → IsSound plain (account_with_puts t y (map (forward_post succ) es))
 sends plain t y y_in own holds begun succ opened [] entries s = s
 sends plain t y y_in own holds begun succ opened (x ∷ es) entries s =
     let entry = entries x (inl refl) in
@@ -41,9 +41,9 @@ sends plain t y y_in own holds begun succ opened (x ∷ es) entries s =
 
 -- what an initialised server does
 follow_by : (machine : Log) (last : ℕ) (sent : List (ℕ × Entry)) (pred succ : Option Neighbour) (epoch z n : ℕ) (own : List Entry) → machine ≡ Some own
-    → takes_new_succ (view_of machine last sent pred succ) epoch z (Some n)
-    ≡ (view_of machine last sent pred (Some (z, epoch)), map (forwards (z, epoch)) (above n sent))
-unfolding takes_new_succ
+    → new_succ_row (view_of machine last sent pred succ) epoch z (Some n)
+    ≡ (view_of machine last sent pred (Some (z, epoch)), map (forward_post (z, epoch)) (entries_above n sent))
+unfolding new_succ_row
 follow_by None last sent pred succ epoch z n own has = absurd (cc has)
 follow_by (Some log) last sent pred succ epoch z n own has = refl
 
@@ -70,15 +70,15 @@ module _ {P : Type 0} (plain : Plain P) (t : Account) (s : IsSound plain t) (y e
     sent = s.sent y;
   }
 
-  followed : server.takes (log_machine plain) (t.world.servers y) Master m ≡ (led, map (forwards (z, epoch)) (above n (t.world.servers y).sent))
-  unfolding server.takes
+  followed : server.server_step (log_machine plain) (t.world.servers y) Master m ≡ (led, map (forward_post (z, epoch)) (entries_above n (t.world.servers y).sent))
+  unfolding server.server_step
   followed = follow_by (t.world.servers y).machine (t.world.servers y).last (t.world.servers y).sent (t.world.servers y).pred (t.world.servers y).succ epoch z n own has
 
   pub take_succ_order : IsSoundAfter plain t (account_by plain t (Take Master (Server y))
-      (takes (log_machine plain) (record t.world { links = without_front t.world.links Master (Server y) }) Master (Server y) m))
-  take_succ_order = after_turn plain t s y m rest link alive (led, map (forwards (z, epoch)) (above n (t.world.servers y).sent)) followed good_follow
+      (process_step (log_machine plain) (record t.world { links = without_front t.world.links Master (Server y) }) Master (Server y) m))
+  take_succ_order = after_turn plain t s y m rest link alive (led, map (forward_post (z, epoch)) (entries_above n (t.world.servers y).sent)) followed good_follow
       (sends plain (account_with_view plain t Master y led) y (member plain t s y m rest link alive led good_follow) own
       (ap (λ (u : ServerView (List Entry)). u.machine) (at_same y led t.world.servers) ∙ has) (s.begun y own has) (z, epoch)
       (opened.0, λ p a. opened.1 p (front_among t.world.links Master (Server y) Master (Server z) (message.NewPred epoch p) a))
-      (above n (t.world.servers y).sent) (λ x a. s.sent y own x.0 x.1 has (above_among n (t.world.servers y).sent x a))
+      (entries_above n (t.world.servers y).sent) (λ x a. s.sent y own x.0 x.1 has (above_among n (t.world.servers y).sent x a))
       (turn_sound plain t s y m rest link alive led good_follow))
