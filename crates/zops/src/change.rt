@@ -15,12 +15,12 @@ ghost use Rattle.zops.specs.support.Names.{name_refusals};
 use crate::owner::has_no_owner;
 use crate::stop::Stop;
 use std::alloc::Global;
+use zcalls::limits::MAX_COUNTER;
 use zcalls::{Change, ChangeReply, Create, Delete, Expected, Kind, Refusal, SetData};
 use zpath::{Path, PathFault};
-use zstore::{ClientId, Id, MAX_NODES, Store};
-
-/// The last number that a node's counter gives. The limit is ZooKeeper's.
-const MAX_COUNTER: u64 = 2147483647;
+use zstore::{Id, Store};
+use ztree::ClientId;
+use ztree::limits::MAX_NODES;
 
 /// Does one change for a client. Where it did nothing, the store is as it was.
 pub(crate) fn change(

@@ -10,7 +10,8 @@ use crate::change::{change, has_other_version};
 use crate::stop::Stop;
 use std::alloc::Global;
 use zcalls::{Change, Check, Part, PartReply, Refusal};
-use zstore::{ClientId, Store};
+use zstore::Store;
+use ztree::ClientId;
 
 /// Does one part for a client. Where it did nothing, the store is as it was.
 pub(crate) fn part(
