@@ -14,7 +14,7 @@ use Rattle.zworld.specs.declared.event.Event.{Event}
 use Rattle.zworld.specs.declared.event.Event.TheVariants.{Begin, Retry, Take, Ignore, Fail, Join}
 use Rattle.zworld.specs.Links.{Links, put, without_front, is_same, addressed}
 use Rattle.zworld.specs.World.{World, at}
-use Rattle.zworld.specs.Events.{front_is, is_request, has_failed, is_enabled, answered, server_does, client_does, takes, takes_front, acts, happens, run}
+use Rattle.zworld.specs.Events.{front_is, is_request, has_failed, is_enabled, with_answer, server_does, client_does, process_step, front_step, acts, happens, run}
 use Rattle.zworld.specs.Alike.{IsAlike}
 
 -- the links agree where it matters in the world
@@ -32,10 +32,10 @@ front_agrees : {M : Type 0} (v : World M) (links others : Links M) (sender taker
 front_agrees v links others sender taker agree from to alive = ap (λ link. if is_same from sender && is_same to taker then drop 1 link else link) (agree from to alive)
 
 -- an answer that is told keeps worlds alike
-answered_alike : {M : Type 0} (v w : World M) (c : ℕ) (reply : Option (ℕ × Reply)) → IsAlike v w → IsAlike (answered v c reply) (answered w c reply)
+answered_alike : {M : Type 0} (v w : World M) (c : ℕ) (reply : Option (ℕ × Reply)) → IsAlike v w → IsAlike (with_answer v c reply) (with_answer w c reply)
 answered_alike v w c None alike = alike
 answered_alike v w c (Some reply) alike = record {
-  rest = ap (λ u. answered u c (Some reply)) alike.rest;
+  rest = ap (λ u. with_answer u c (Some reply)) alike.rest;
   servers = alike.servers;
   links = alike.links;
 }
@@ -79,18 +79,18 @@ module _ {M : Type 0} (machine : Does M) (v : World M) (others : ℕ → ServerV
 
   -- what a taker that has not failed does
   takes_alike : (from to : Process) (message : MessageOf M) → has_failed v to ≡ false
-      → IsAlike (takes machine (popped from to) from to message) (takes machine (other_popped from to) from to message)
+      → IsAlike (process_step machine (popped from to) from to message) (process_step machine (other_popped from to) from to message)
   takes_alike from Master message alive = record {
     rest = refl;
     servers = same_views;
     links = put_agrees v _ _ Master _ (front_agrees v _ _ from Master agree);
   }
   takes_alike from (Server s) message alive =
-      let did : ServerView M → ServerView M × List (Post M) = λ view. server.takes machine view from message in
+      let did : ServerView M → ServerView M × List (Post M) = λ view. server.server_step machine view from message in
       subst (λ view. IsAlike (server_does (popped from (Server s)) s (did (v.servers s))) (server_does (other_popped from (Server s)) s (did view)))
       (same_views s alive) (server_does_alike from s (did (v.servers s)))
   takes_alike from (Client c) message alive =
-      let took : client.Taken M = client.takes (v.clients c) from message in
+      let took : client.ClientResult M = client.client_step (v.clients c) from message in
       answered_alike (client_does (popped from (Client c)) c took.0 took.1) (client_does (other_popped from (Client c)) c took.0 took.1) c took.2
       (record { rest = refl; servers = same_views; links = put_agrees v _ _ (Client c) _ (front_agrees v _ _ from (Client c) agree) })
 
@@ -100,7 +100,7 @@ module _ {M : Type 0} (machine : Does M) (v : World M) (others : ℕ → ServerV
 
   -- a front that is taken, by what the link has in both
   takes_front_alike : (from to : Process) (link : List (MessageOf M)) → has_failed v to ≡ false
-      → IsAlike (takes_front machine v from to link) (takes_front machine other from to link)
+      → IsAlike (front_step machine v from to link) (front_step machine other from to link)
   takes_front_alike from to [] alive = as_they_are
   takes_front_alike from to (message ∷ more) alive = takes_alike from to message alive
 
@@ -121,7 +121,7 @@ module _ {M : Type 0} (machine : Does M) (v : World M) (others : ℕ → ServerV
   acts_alike (Retry c) enabled = record { rest = refl; servers = same_views; links = put_agrees v _ _ (Client c) _ agree }
   acts_alike (Take from to) enabled =
       let alive = not_failed _ (has_failed v to) enabled in
-      subst (λ link. IsAlike (takes_front machine v from to (v.links from to)) (takes_front machine other from to link)) (agree from to alive)
+      subst (λ link. IsAlike (front_step machine v from to (v.links from to)) (front_step machine other from to link)) (agree from to alive)
       (takes_front_alike from to (v.links from to) alive)
   acts_alike (Ignore from to) enabled = record { rest = refl; servers = same_views; links = front_agrees v _ _ from to agree }
   acts_alike (Fail s) enabled = record {

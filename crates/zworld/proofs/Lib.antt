@@ -6,3 +6,4 @@ pub mod Tables
 pub mod Alike
 pub mod Settling
 pub mod LogWorlds
+pub mod FirstUpdate

@@ -1,0 +1,34 @@
+-- What holds of settling, in every world: each statement is a contract in `src/laws.rt`.
+use Rattle.std.specs.Prelude.{◌≡◌, ℕ, ◌+◌, false, List, length}
+use Rattle.std.specs.List.{list_any}
+use Rattle.ztree.specs.Tree.{Tree}
+use Rattle.zcalls.specs.Kept.{KeptState}
+use Rattle.zserver.specs.Machine.{kept_tree}
+use Rattle.zworld.specs.declared.outcome.Outcome.{Outcome}
+use Rattle.zworld.specs.declared.settled.Settled.TheVariants.{Quiet}
+use Rattle.zworld.specs.World.{World}
+use Rattle.zworld.specs.Events.{is_enabled, run}
+use Rattle.zworld.specs.Settle.{Settling, settle, settled, deliveries}
+
+-- settling the world of the service
+abbrev pub settling_of : World (KeptState Tree) → ℕ → List Outcome → Settling (KeptState Tree)
+settling_of w limit outcomes = settle kept_tree w limit outcomes
+
+-- settling is a run: its events lead to its world
+abbrev pub SettlingIsARun : Type 0
+SettlingIsARun =
+    (w : World (KeptState Tree)) (limit : ℕ) (outcomes : List Outcome)
+    → (settling_of w limit outcomes).world ≡ run kept_tree w (settling_of w limit outcomes).events
+
+-- its events, and those that might still be done, are as many as the limit
+abbrev pub SettlingKeepsItsLimit : Type 0
+SettlingKeepsItsLimit =
+    (w : World (KeptState Tree)) (limit : ℕ) (outcomes : List Outcome)
+    → (settling_of w limit outcomes).left + length (settling_of w limit outcomes).events ≡ limit
+
+-- where it ends quiet, no message can be taken
+abbrev pub QuietHasNothingToTake : Type 0
+QuietHasNothingToTake =
+    (w : World (KeptState Tree)) (limit : ℕ) (outcomes : List Outcome)
+    → settled (settling_of w limit outcomes) ≡ Quiet
+    → list_any (is_enabled (settling_of w limit outcomes).world) (deliveries w.master.clients) ≡ false
