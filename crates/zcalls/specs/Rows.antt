@@ -8,15 +8,15 @@ use Rattle.zcalls.specs.declared.call.Update.TheVariants.{Create, Delete}
 use Rattle.zcalls.specs.declared.refusal.Refusal.TheVariants.{NoNode}
 use Rattle.zcalls.specs.declared.reply.Reply.{Reply}
 use Rattle.zcalls.specs.declared.reply.Reply.TheVariants as reply
-use Rattle.zcalls.specs.Kept.{KeptState, PlainStep, entry_step}
+use Rattle.zcalls.specs.Kept.{KeptState, PlainStep, nothing_kept, entry_step}
 
 -- a reply that tells a number
-abbrev pub told : ℕ → Reply
-told n = reply.MultiRefused n NoNode
+abbrev pub number_reply : ℕ → Reply
+number_reply n = reply.MultiRefused n NoNode
 
 -- a plain step that counts: a create is answered with how many there were, itself among them; all else is refused
 abbrev pub counting : PlainStep ℕ
-counting n client (Create create) = (n + 1, told (n + 1))
+counting n client (Create create) = (n + 1, number_reply (n + 1))
 counting n client other = (n, reply.Refused NoNode)
 
 -- a client's create of this number
@@ -30,6 +30,14 @@ deletes client number = record { client = client; number = number; update = Dele
 -- the state of that many creates where this reply is kept for a client's call too
 abbrev pub keeping : KeptState ℕ → ℕ → ℕ → ℕ → Reply → KeptState ℕ
 keeping s creates client number reply = record { plain = creates; kept = insert s.kept client (record { number = number; reply = reply }) }
+
+-- what one entry does
+abbrev pub counted : KeptState ℕ → Entry → KeptState ℕ × Option Reply
+counted s e = entry_step counting s e
+
+-- a client's call 3 acted last, as the seventh create
+abbrev pub third_kept : KeptState ℕ
+third_kept = keeping (nothing_kept 7) 7 1 3 (number_reply 7)
 
 -- what entries are answered, one after the other
 abbrev pub answers : KeptState ℕ → List Entry → List (Option Reply)

@@ -23,7 +23,8 @@ pub(crate) fn run(
 ) -> Result<Vec<PartReply>, Halt>
     requires ready { IsReady store.old }
     requires few { length parts.items ≤ MAX_PARTS }
-    ensures done { IfOk result (λ replies. run store.old.tree client parts.items ≡ Ok (store.new.tree, replies.items)) }
+    ensures done { IfOk result (λ replies. run store.old.tree client parts.items
+        ≡ Ok (store.new.tree, replies.items)) }
     ensures stopped { IfErr result (IsHalt (run store.old.tree client parts.items)) }
     ensures stays { OnOk result (IsRun store.old store.new) }
 {

@@ -5,7 +5,8 @@ ghost use Rattle.ztree.specs.Sessions.{with_renewed_session, without_session, wi
 ghost use Rattle.ztree.specs.Tree.{with_next_zxid};
 ghost use Rattle.ztree.specs.declared.limits.TheConstants.{TICK_BOUND};
 ghost use Rattle.zops.specs.support.Ready.{IsSteady, IsReady, StaysBounded, Leaves};
-ghost use Rattle.zcalls.specs.Step.{granted_timeout, open_result, session_result, tick_result};
+ghost use Rattle.zcalls.specs.Step.{granted_timeout, due_next, tick_result, update_result};
+ghost use Rattle.zcalls.specs.declared.call.Update.TheVariants.{Open, Ping, Close};
 ghost use Rattle.zcalls.specs.declared.reply.Reply.TheVariants as reply;
 
 use crate::owner::is_gone;
@@ -32,7 +33,8 @@ fn granted(ticks: u64) -> u64
 /// Opens a session of a client, who asks for a timeout of so many ticks.
 pub(crate) fn open(store: &mut Store, client: ClientId, ticks: u64) -> Result<Reply, Memory>
     requires { IsReady store.old }
-    ensures done { IfOk result (λ reply. (store.new.tree, reply) ≡ open_result store.old.tree client (granted_timeout ticks)) }
+    ensures done { IfOk result (λ reply. (store.new.tree, reply)
+        ≡ update_result store.old.tree client (Open ticks)) }
     ensures left { Leaves result store.old store.new }
 {
     if store.sessions() >= MAX_SESSIONS {
@@ -47,7 +49,7 @@ pub(crate) fn open(store: &mut Store, client: ClientId, ticks: u64) -> Result<Re
 /// Keeps a client's session alive.
 pub(crate) fn ping(store: &mut Store, client: ClientId, session: SessionId) -> Reply
     requires { IsSteady store.old }
-    ensures done { (store.new.tree, result) ≡ session_result store.old.tree client session (with_renewed_session store.old.tree session, reply.Pinged) }
+    ensures done { (store.new.tree, result) ≡ update_result store.old.tree client (Ping session) }
     ensures left { StaysBounded store.old store.new }
 {
     if is_gone(store, client, session) {
@@ -60,7 +62,7 @@ pub(crate) fn ping(store: &mut Store, client: ClientId, session: SessionId) -> R
 /// Ends a client's session.
 pub(crate) fn close(store: &mut Store, client: ClientId, session: SessionId) -> Reply
     requires { IsReady store.old }
-    ensures done { (store.new.tree, result) ≡ session_result store.old.tree client session (with_next_zxid (without_session store.old.tree session), reply.Closed) }
+    ensures done { (store.new.tree, result) ≡ update_result store.old.tree client (Close session) }
     ensures left { StaysBounded store.old store.new }
 {
     if is_gone(store, client, session) {
@@ -74,7 +76,7 @@ pub(crate) fn close(store: &mut Store, client: ClientId, session: SessionId) -> 
 
 // Ends the sessions that the next tick reaches, by the next change.
 fn end_all(store: &mut Store, ids: Vec<SessionId>)
-    requires due { ids.items ≡ due_sessions store.old.tree.sessions (store.old.tree.time + 1) }
+    requires due { ids.items ≡ due_next store.old.tree }
     requires ready { IsReady store.old }
     ensures tree { store.new.tree ≡ without_sessions store.old.tree ids.items }
     ensures given { store.new.given ≡ store.old.given }
@@ -90,7 +92,8 @@ fn end_all(store: &mut Store, ids: Vec<SessionId>)
 pub(crate) fn tick(store: &mut Store) -> Result<Reply, Memory>
     requires ready { IsReady store.old }
     requires time { store.old.tree.time + 1 < TICK_BOUND }
-    ensures done { IfOk result (λ reply. (store.new.tree, reply) ≡ tick_result store.old.tree (due_sessions store.old.tree.sessions (store.old.tree.time + 1))) }
+    ensures done { IfOk result (λ reply. (store.new.tree, reply)
+        ≡ tick_result store.old.tree (due_next store.old.tree)) }
     ensures left { Leaves result store.old store.new }
 {
     store.keeps_lawful();

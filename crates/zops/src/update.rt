@@ -2,9 +2,9 @@
 
 ghost use Rattle.std.specs.Prelude.{◌≡◌, ◌-◌, nat_le, IfOk};
 ghost use Rattle.ztree.specs.declared.limits.TheConstants.{ZXID_BOUND};
-ghost use Rattle.zcalls.specs.Multi.{run};
+ghost use Rattle.zcalls.specs.declared.call.Update.TheVariants as update;
 ghost use Rattle.zcalls.specs.Part.{change_step};
-ghost use Rattle.zcalls.specs.Step.{step, change_result, multi_result, is_exhausted};
+ghost use Rattle.zcalls.specs.Step.{step, change_result, update_result, is_exhausted};
 ghost use Rattle.zops.specs.support.Ready.{IsSteady, IsReady, Leaves};
 
 use crate::change::change;
@@ -27,7 +27,8 @@ pub(crate) fn update(
     update: Update,
 ) -> Result<Reply, Memory>
     requires { IsSteady store.old }
-    ensures done { IfOk result (λ reply. (store.new.tree, reply) ≡ step store.old.tree client update) }
+    ensures done { IfOk result (λ reply. (store.new.tree, reply)
+        ≡ step store.old.tree client update) }
     ensures left { Leaves result store.old store.new }
 {
     if is_exhausted(store, &update) {
@@ -78,7 +79,8 @@ fn single(
     wanted: Change,
 ) -> Result<Reply, Memory>
     requires { IsReady store.old }
-    ensures done { IfOk result (λ reply. (store.new.tree, reply) ≡ change_result store.old.tree (change_step store.old.tree client wanted)) }
+    ensures done { IfOk result (λ reply. (store.new.tree, reply)
+        ≡ change_result store.old.tree (change_step store.old.tree client wanted)) }
     ensures left { Leaves result store.old store.new }
 {
     match change(alloc, store, client, wanted) {
@@ -94,7 +96,8 @@ fn single(
 // Does the parts of a multi on a copy of the store, which takes its place where none is refused.
 fn multi(alloc: Global, store: &mut Store, client: ClientId, parts: Multi) -> Result<Reply, Memory>
     requires { IsReady store.old }
-    ensures done { IfOk result (λ reply. (store.new.tree, reply) ≡ multi_result store.old.tree (run store.old.tree client parts)) }
+    ensures done { IfOk result (λ reply. (store.new.tree, reply)
+        ≡ update_result store.old.tree client (update.Multi parts)) }
     ensures left { Leaves result store.old store.new }
 {
     let mut copy = store.copy()?;
