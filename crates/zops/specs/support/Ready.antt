@@ -8,7 +8,8 @@ use Rattle.zstore.specs.declared.limits.TheConstants.{ID_BOUND}
 use Rattle.zstore.specs.StoreView.{StoreView}
 use Rattle.zcalls.specs.declared.limits.TheConstants.{MAX_PARTS, MAX_RAISES}
 use Rattle.zops.specs.declared.limits.TheConstants.{MAX_APPLIED}
-use Rattle.zcalls.specs.Bounds.{IsBounded, IsWithin, ChangesNodesAlone}
+use Rattle.zcalls.specs.Bounds.{IsBounded, IsWithin}
+use Rattle.zcalls.specs.support.Alone.{ChangesNodesAlone}
 
 -- a part can be done: each counter has room for one more, the next change has a number, and an Id is left
 pub record IsReadyForPart (store : StoreView) : Type 0 where

@@ -3,7 +3,7 @@ use Rattle.zcalls.specs.declared.refusal.Refusal.TheVariants.{NoNode}
 use Rattle.zcalls.specs.declared.reply.Reply.TheVariants.{Refused}
 use Rattle.zcalls.specs.declared.call.Entry.{Entry}
 use Rattle.zcalls.specs.Kept.{KeptState, nothing_kept}
-use Rattle.zcalls.specs.Rows.{number_reply, creates, deletes, keeping}
+use Rattle.zcalls.specs.support.Rows.{number_reply, creates, deletes, keeping}
 use Rattle.zcalls.proofs.KeptReplies.{entered_first, entered_again, answers_on}
 use Rattle.zcalls.proofs.rows.refusals_are_kept.Goals as goal
 

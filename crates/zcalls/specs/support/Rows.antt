@@ -1,10 +1,11 @@
--- What the worked rows of the entry step speak of: a plain step that counts, and some entries.
-use Rattle.std.specs.Prelude.{ℕ, ◌+◌, Option, List, [], ◌∷◌}
+-- What the worked rows speak of: a plain step that counts, some entries, and the refusals of a table.
+use Rattle.std.specs.Prelude.{ℕ, ◌+◌, Bool, Option, List, [], ◌∷◌, map}
 use Rattle.std.specs.FinMap.{insert}
 use Rattle.zcalls.specs.declared.call.Entry.{Entry}
 use Rattle.zcalls.specs.declared.call.Expected.TheVariants.{Any}
 use Rattle.zcalls.specs.declared.call.Kind.TheVariants.{PersistentSequential}
 use Rattle.zcalls.specs.declared.call.Update.TheVariants.{Create, Delete}
+use Rattle.zcalls.specs.declared.refusal.Refusal.{Refusal}
 use Rattle.zcalls.specs.declared.refusal.Refusal.TheVariants.{NoNode}
 use Rattle.zcalls.specs.declared.reply.Reply.{Reply}
 use Rattle.zcalls.specs.declared.reply.Reply.TheVariants as reply
@@ -43,3 +44,7 @@ third_kept = keeping (nothing_kept 7) 7 1 3 (number_reply 7)
 abbrev pub answers : KeptState ℕ → List Entry → List (Option Reply)
 answers s [] = []
 answers s (e ∷ es) = (entry_step counting s e).1 ∷ answers (entry_step counting s e).0 es
+
+-- the refusals of a table, in its order
+abbrev pub refusals : List (Bool × Refusal) → List Refusal
+refusals rows = map (λ row. row.1) rows
