@@ -1,5 +1,5 @@
 -- What the plain step leaves of the bounds on a tree's numbers.
-use Rattle.std.proofs.Common.{◌≡◌, ℕ, ◌+◌, ◌*◌, ◌^◌, ◌<◌, ◌≤◌, Bool, true, false, cond, if◌then◌else◌, Option, Some, None, Result, Ok, Err, List, [], lit<, refl, sym, ap, subst, ◌∙◌, arith}
+use Rattle.std.proofs.Common.{◌≡◌, ℕ, ◌+◌, ◌*◌, ◌^◌, ◌<◌, ◌≤◌, Bool, true, false, cond, Option, Some, None, List, [], lit<, refl, sym, ap, subst, ◌∙◌, arith}
 use Rattle.std.specs.Prelude.{◌&&◌}
 use Rattle.std.specs.FinMap as finite
 use Rattle.std.specs.FinMap.{get-insert, get-empty, get-remove}
@@ -10,7 +10,8 @@ use Rattle.zpath.specs.Grammar.{path_cmp}
 use Rattle.zpath.proofs.First.{no_test_holds}
 use Rattle.ztree.specs.declared.node.Node.{Node}
 use Rattle.ztree.specs.declared.session.Session.{Session}
-use Rattle.ztree.specs.Tree.{opening_tree, Tree, Nodes, Path, new_node, parent_of, with_change_at, with_child, without_child, with_data, stat_of, with_node, without_node, with_data_at, with_next_zxid, HasRoom}
+use Rattle.ztree.specs.Tree.{opening_tree, Tree, Nodes, Path, new_node, parent_of, with_change_at, with_child, without_child, with_data, with_node, without_node, with_data_at, with_next_zxid}
+use Rattle.ztree.specs.Room.{HasRoom}
 use Rattle.ztree.proofs.Sorted.{paths_total}
 use Rattle.zcalls.specs.declared.call.Part.{Part}
 use Rattle.zcalls.specs.declared.change.Change.{Change}

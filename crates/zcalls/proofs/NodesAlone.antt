@@ -1,5 +1,5 @@
 -- Parts of calls change the nodes alone.
-use Rattle.std.proofs.Common.{ℕ, List, Result, refl, ◌∙◌}
+use Rattle.std.proofs.Common.{ℕ, List, refl, ◌∙◌}
 use Rattle.ztree.specs.Tree.{Tree}
 use Rattle.zcalls.specs.declared.call.Part.{Part}
 use Rattle.zcalls.specs.declared.change.Change.{Change}

@@ -2,11 +2,13 @@
 -- specification: the service as it would be if one machine did one call after the other.
 -- ZooKeeper Programmer's Guide, "ZooKeeper Sessions" (a timeout is at least 2 ticks and at most 20) and "Ephemeral
 -- Nodes"; whose a session is, and the limits, are this project's profile.
-use Rattle.std.specs.Prelude.{ℕ, ◌+◌, ◌-◌, ◌^◌, Bool, Option, None, Some, Result, Ok, Err, if◌then◌else◌, nat_le, nat_lt, ◌||◌, false, List, [], ◌∷◌, length, codes}
+use Rattle.std.specs.Prelude.{ℕ, ◌+◌, ◌-◌, Bool, Option, None, Some, Result, Ok, Err, if◌then◌else◌, nat_le, nat_lt, ◌||◌, false, List, [], ◌∷◌, length, codes}
 use Rattle.std.specs.FinMap as finite
-use Rattle.ztree.specs.Tree.{Tree, Path, children, stat_of, with_next_zxid}
+use Rattle.ztree.specs.Tree.{Tree, children, stat_of, with_next_zxid}
 use Rattle.ztree.specs.Sessions.{with_session, with_renewed_session, without_session, without_sessions, due_sessions, with_next_tick}
 use Rattle.ztree.specs.declared.node.Node.{Node}
+use Rattle.ztree.specs.declared.limits.TheConstants.{MAX_SESSIONS, ZXID_BOUND, TICK_BOUND}
+use Rattle.zcalls.specs.declared.limits.TheConstants.{MIN_TIMEOUT, MAX_TIMEOUT}
 use Rattle.zcalls.specs.declared.call.Update.{Update}
 use Rattle.zcalls.specs.declared.call.Update.TheVariants.{Create, Delete, SetData, Multi, Open, Ping, Close, Tick}
 use Rattle.zcalls.specs.declared.call.Query.{Query}
@@ -38,8 +40,8 @@ refusal_name Exhausted = codes "Exhausted"
 -- no further change has a number, or no further tick; a ping takes neither
 abbrev pub is_exhausted : Tree → Update → Bool
 is_exhausted t (Ping session) = false
-is_exhausted t Tick = nat_le (2 ^ 40 - 1) t.zxid || nat_le (2 ^ 40 - 1) t.time
-is_exhausted t update = nat_le (2 ^ 40 - 1) t.zxid
+is_exhausted t Tick = nat_le (ZXID_BOUND - 1) t.zxid || nat_le (TICK_BOUND - 1) t.time
+is_exhausted t update = nat_le (ZXID_BOUND - 1) t.zxid
 
 -- a change of one node: refused, it leaves the tree; done, it takes the next number
 abbrev pub change_result : Tree → Result (Tree × ChangeReply) Refusal → Tree × Reply
@@ -53,12 +55,15 @@ multi_result t (Ok (u, replies)) = (with_next_zxid u, reply.Multi replies)
 
 -- the timeout that is given to a session that asks for so many ticks: the nearer of 2 and 20 where it is outside
 abbrev pub granted_timeout : ℕ → ℕ
-granted_timeout ticks = if nat_lt ticks 2 then 2 else if nat_lt 20 ticks then 20 else ticks
+granted_timeout ticks =
+    if nat_lt ticks MIN_TIMEOUT then MIN_TIMEOUT else
+    if nat_lt MAX_TIMEOUT ticks then MAX_TIMEOUT else
+    ticks
 
 -- a client opens a session; its id is the number of this change
 abbrev pub open_result : Tree → ℕ → ℕ → Tree × Reply
 open_result t client timeout =
-    if nat_le 1024 (finite.len t.sessions) then (t, reply.Refused TooManySessions) else
+    if nat_le MAX_SESSIONS (finite.len t.sessions) then (t, reply.Refused TooManySessions) else
     (with_next_zxid (with_session t client timeout), reply.Opened (t.zxid + 1) timeout)
 
 -- what a client does to a session of its own; to every other client the session is gone

@@ -1,6 +1,7 @@
 //! The machine.
 
-ghost use Rattle.std.specs.Prelude.{◌≡◌, ◌<◌, ◌-◌, ◌^◌, IfOk, OnOk, OnErr, IsErr, true, false};
+ghost use Rattle.zops.specs.declared.limits.TheConstants.{MAX_APPLIED};
+ghost use Rattle.std.specs.Prelude.{◌≡◌, ◌<◌, ◌≤◌, IfOk, OnOk, OnErr, IsErr, true, false};
 
 use crate::query::answer;
 use crate::update::update;
@@ -9,9 +10,6 @@ use std::marker::Model;
 use zcalls::{Entry, Query, Reply};
 use zpath::Memory;
 use zstore::Store;
-
-/// The most entries that a machine applies. The limit is this project's profile.
-pub const MAX_APPLIED: u64 = (1 << 62) - 1;
 
 /// One machine: the tree, and the calls on it. After it met want of memory in `apply`, it answers
 /// `Memory` for good, and its tree is never shown again.
@@ -30,7 +28,7 @@ impl Model for Machine {
 
     ghost coded = { coded_machine_view };
 
-    ghost use Rattle.zops.specs.Sound.{IsSound};
+    ghost use Rattle.zops.specs.support.Ready.{IsSound};
 
     ghost view = { λ m. record { state = record { tree = m.store.tree; applied = m.applied }; is_broken = m.is_broken } };
 
@@ -60,7 +58,7 @@ impl Machine {
     /// How many entries were applied, the refused ones among them.
     pub fn applied(&self) -> u64
         ensures applied { result ≡ self.now.state.applied }
-        ensures few { result < 2 ^ 62 }
+        ensures few { result ≤ MAX_APPLIED }
         ensures lawful { IsLawful self.now.state.tree }
     {
         self.store.keeps_lawful();
@@ -71,7 +69,7 @@ impl Machine {
     /// answers `Memory` for good.
     #[tactic(auto, unfolding(crate::specs::Machine::entry_result))]
     pub fn apply(&mut self, entry: Entry) -> Result<Option<Reply>, Memory>
-        requires { self.old.state.applied < 2 ^ 62 - 1 }
+        requires { self.old.state.applied < MAX_APPLIED }
         ensures ok { IfOk result (λ reply. (self.new.state, reply) ≡ entry_result self.old.state entry) }
         ensures sound { OnOk result ((self.old.is_broken ≡ false) × (self.new.is_broken ≡ false)) }
         ensures broken { OnErr result (self.new.is_broken ≡ true) }

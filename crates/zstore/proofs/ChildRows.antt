@@ -6,7 +6,7 @@ use Rattle.std.specs.List.{count_by, cons_option, starts_with}
 use Rattle.std.specs.Str.{bytes_eq}
 use Rattle.zstore.specs.declared.row.Row.{Row}
 use Rattle.ztree.specs.Tree.{Path, Name, child_name}
-use Rattle.zstore.specs.Rows.{is_beneath, names_of_children}
+use Rattle.zstore.specs.support.Rows.{is_beneath, names_of_children}
 
 -- as many names as rows whose path has one beneath p
 pub length-children : (p : Path) (rows : List Row) → length (names_of_children p rows) ≡ count_by (λ (r : Row). is_some (child_name p r.path)) rows

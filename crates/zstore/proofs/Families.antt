@@ -18,7 +18,7 @@ use Rattle.std.proofs.lemmas.Slice.Eq.{bytes_eq-Decides}
 use Rattle.zpath.specs.Grammar.{name_cmp, path_cmp}
 use Rattle.zstore.specs.declared.row.Row.{Row}
 use Rattle.ztree.specs.Tree.{Path, Name, child_name}
-use Rattle.zstore.specs.Rows.{node_rows, is_beneath, names_of_children}
+use Rattle.zstore.specs.support.Rows.{node_rows, is_beneath, names_of_children}
 use Rattle.ztree.proofs.Sorted.{paths_total, both_parts}
 use Rattle.zstore.proofs.Search.{below_at, tail_sorted}
 use Rattle.zstore.proofs.Shown.{none_of}

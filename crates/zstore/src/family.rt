@@ -7,7 +7,7 @@ ghost use Rattle.std.specs.Option.{option_copied};
 ghost use Rattle.std.specs.FinMap.{is_sorted};
 ghost use Rattle.zpath.specs.Grammar.{path_cmp};
 ghost use Rattle.zstore.specs.declared.row.Row.{Row};
-ghost use Rattle.zstore.specs.Rows.{node_rows, names_of_children, is_beneath};
+ghost use Rattle.zstore.specs.support.Rows.{node_rows, names_of_children, is_beneath};
 ghost use Rattle.ztree.specs.Tree.{child_name};
 
 use crate::row::Row;

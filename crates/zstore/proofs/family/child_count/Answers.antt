@@ -3,7 +3,7 @@ use Rattle.std.specs.Prelude.{is_some}
 use Rattle.std.specs.List.{count_by}
 use Rattle.zstore.specs.declared.row.Row.{Row}
 use Rattle.ztree.specs.Tree.{Path, child_name}
-use Rattle.zstore.specs.Rows.{names_of_children}
+use Rattle.zstore.specs.support.Rows.{names_of_children}
 use Rattle.zstore.proofs.ChildRows.{length-children}
 use Rattle.zstore.proofs.Shown.{at_itself}
 use Rattle.zstore.proofs.family.child_count.Goals as goal

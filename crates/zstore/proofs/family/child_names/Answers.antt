@@ -3,7 +3,7 @@ use Rattle.std.proofs.lemmas.List.{take_more}
 use Rattle.std.specs.List.{cons_option}
 use Rattle.zstore.specs.declared.row.Row.{Row}
 use Rattle.ztree.specs.Tree.{Name, child_name}
-use Rattle.zstore.specs.Rows.{names_of_children}
+use Rattle.zstore.specs.support.Rows.{names_of_children}
 use Rattle.zstore.proofs.ChildRows.{names_of_children-push}
 use Rattle.zstore.proofs.family.child_names.Goals as goal
 

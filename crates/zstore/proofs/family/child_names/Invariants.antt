@@ -1,5 +1,5 @@
 use Rattle.std.proofs.Common.{◌≡◌, take}
-use Rattle.zstore.specs.Rows.{names_of_children}
+use Rattle.zstore.specs.support.Rows.{names_of_children}
 use Rattle.zstore.proofs.family.child_names.Given as goal
 
 abbrev pub invariant-loop-row : goal.invariant-loop-row

@@ -1,0 +1,2 @@
+pub mod LaterWorlds
+pub mod Links

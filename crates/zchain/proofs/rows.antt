@@ -1,0 +1,4 @@
+pub mod Everywhere
+pub mod Lasts
+pub mod OtherPosts
+pub mod RowViews

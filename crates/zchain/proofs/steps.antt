@@ -1,0 +1,8 @@
+pub mod Commits
+pub mod Drops
+pub mod Opening
+pub mod Puts
+pub mod Sends
+pub mod ServerSteps
+pub mod Takes
+pub mod Views

@@ -1,0 +1,2 @@
+pub mod ActedLogs
+pub mod NewItems

@@ -1,0 +1,5 @@
+pub mod Distinct
+pub mod Members
+pub mod Places
+pub mod Prefixes
+pub mod Tests

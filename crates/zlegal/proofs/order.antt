@@ -1,0 +1,3 @@
+pub mod KeptItems
+pub mod LegalOrders
+pub mod PlainTree

@@ -1,0 +1,6 @@
+use Rattle.zslots.proofs.ListMoves.{list-without}
+use Rattle.zslots.proofs.list.List.unlink.Goals as goal
+
+pub returns-clause-list : goal.returns-clause-list
+returns-clause-list g c =
+    λ front back is. rw (c.first_if-self.ensures, c.set_prev.ensures, c.set_next.ensures, c.links_at-links.ensures) (list-without {L = g.row.L} g.T.Linked.links g.T.Linked.with_links g.met.T.Linked.reads c.args.slots.now.items c.args.self.now c.args.id front back is)
