@@ -15,10 +15,10 @@ use Rattle.zchain.specs.Flow.{log_machine, LogWorld, LogMessage, Log, length_of}
 use Rattle.zchain.specs.Last.{HasExactLast, IsExact, LastsAreLengths}
 use Rattle.zcalls.proofs.Among.{test}
 use Rattle.zchain.proofs.links.Links.{AllPosts, all_none, all_and, all_append, all_map}
-use Rattle.zchain.proofs.rows.OtherPosts.{IsOrder, IsRequest}
+use Rattle.zchain.proofs.tables.OtherPosts.{IsOrder, IsRequest}
 use Rattle.zserver.specs.support.Cases.{IsAccepted, IsRow, Processes, Forwards, Ignores, Submits, Updates, Asks, Acknowledges, Shows, Turns, Follows, Leads, Ends}
 use Rattle.zserver.proofs.Cases.{server_case}
-use Rattle.zchain.proofs.rows.Everywhere.{happens_all, run_all}
+use Rattle.zchain.proofs.tables.Everywhere.{happens_all, run_all}
 
 -- what is put
 acks_exact : (pred : Option Neighbour) (n : ℕ) → AllPosts IsExact (ack_posts pred n)

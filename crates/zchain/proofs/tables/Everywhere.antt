@@ -19,7 +19,7 @@ use Rattle.zworld.specs.World.{World}
 use Rattle.zworld.specs.Events.{is_enabled, client_does, with_answer, process_step, front_step, acts, happens, run}
 use Rattle.zcalls.proofs.Among.{test}
 use Rattle.zchain.proofs.links.Links.{put_among, front_among, at_cases, AllPosts, all_none, all_and}
-use Rattle.zchain.proofs.rows.OtherPosts.{IsOrder, IsRequest, master_orders, join_orders, begin_requests, retry_requests, client_requests}
+use Rattle.zchain.proofs.tables.OtherPosts.{IsOrder, IsRequest, master_orders, join_orders, begin_requests, retry_requests, client_requests}
 
 -- each view has the one, and each message under way the other
 pub record Everywhere {M : Type 0} (V : ServerView M → Type 0) (Q : MessageOf M → Type 0) (w : World M) : Type 0 where
