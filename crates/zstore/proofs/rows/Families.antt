@@ -20,8 +20,8 @@ use Rattle.zstore.specs.declared.row.Row.{Row}
 use Rattle.ztree.specs.Tree.{Path, Name, child_name}
 use Rattle.zstore.specs.support.Rows.{node_rows, is_beneath, names_beneath}
 use Rattle.ztree.proofs.Sorted.{paths_total, both_parts}
-use Rattle.zstore.proofs.Search.{below_at, tail_sorted}
-use Rattle.zstore.proofs.Shown.{none_of}
+use Rattle.zstore.proofs.rows.Search.{below_at, tail_sorted}
+use Rattle.zstore.proofs.rows.Shown.{none_of}
 
 both_true : (a b : Bool) → (a && b) ≡ true → (a ≡ true) × (b ≡ true)
 both_true true b e = (refl, e)

@@ -22,10 +22,10 @@ use Rattle.zstore.specs.support.Rows.{node_rows, place_row, place_rows, tree_of,
 use Rattle.ztree.proofs.Sorted.{paths_total, same_path}
 use Rattle.ztree.proofs.Maps.{get-remove-here}
 use Rattle.ztree.proofs.Nodes.{changed_at-some, no_entries, one_entry}
-use Rattle.zstore.proofs.Laid.{find_place, find_less}
+use Rattle.zstore.proofs.rows.Laid.{find_place, find_less}
 use Rattle.ztree.proofs.Lawful.{lawful_opening, lawful_changed, lawful_inserted, lawful_removed}
-use Rattle.zstore.proofs.Alive.{sessions_of}
-use Rattle.zstore.proofs.Shown.{nodes_of, get-at, get-gap, get_or-map, remove-map, set_is_laid, nodes_of-set, insert_is_laid, nodes_of-insert, remove_is_laid, nodes_of-remove}
+use Rattle.zstore.proofs.rows.Alive.{sessions_of}
+use Rattle.zstore.proofs.rows.Shown.{nodes_of, get-at, get-gap, get_or-map, remove-map, set_is_laid, nodes_of-set, insert_is_laid, nodes_of-insert, remove_is_laid, nodes_of-remove}
 
 -- a number with a row names a path with a node
 pub named_is_there : (rows : List Row) (n : ℕ) (q : Path) → find nat_cmp n (place_rows rows) ≡ Some q → is_some (find path_cmp q (node_rows rows)) ≡ true

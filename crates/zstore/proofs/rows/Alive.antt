@@ -14,7 +14,7 @@ use Rattle.zstore.specs.declared.row.SessionRow.{SessionRow}
 use Rattle.ztree.specs.Tree.{Tree, Sessions}
 use Rattle.ztree.specs.Sessions.{due_sessions, renewed_session, with_renewed_session}
 use Rattle.zstore.specs.support.Rows.{IsSessionAt, IsSessionGap, session_row, session_rows, id_if_due, due_among}
-use Rattle.zstore.proofs.Keyed.{Has, Goes, at_key, search_ends, get_key, no_key, set_inserts, insert_inserts, remove_removes}
+use Rattle.zstore.proofs.rows.Keyed.{Has, Goes, at_key, search_ends, get_key, no_key, set_inserts, insert_inserts, remove_removes}
 use Rattle.std.specs.Prelude.{nat_le}
 use Rattle.ztree.proofs.Ending.{keys_where}
 use Rattle.ztree.proofs.Sorted.{found_at}
