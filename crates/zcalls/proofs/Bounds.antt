@@ -18,7 +18,8 @@ use Rattle.zcalls.specs.declared.change.Change.{Change}
 use Rattle.zcalls.specs.declared.change.Change.TheVariants.{Create, Delete, SetData}
 use Rattle.zcalls.specs.Part.{change_step, part_step, create_refusals, made_path, is_sequential, owner_of, is_spent, node_has}
 use Rattle.ztree.specs.Lawful.{AllNodes, AllSessions}
-use Rattle.zcalls.specs.Bounds.{IsWithin, IsBounded, IsGranted, ChangesNodesAlone}
+use Rattle.zcalls.specs.Bounds.{IsWithin, IsBounded, IsGranted}
+use Rattle.zcalls.specs.support.Alone.{ChangesNodesAlone}
 use Rattle.zcalls.proofs.Leaving.{Leaves, create_step-leaves, delete_step-leaves, set_step-leaves, part_step-leaves}
 use Rattle.zcalls.proofs.Paths.{parent_of-made}
 

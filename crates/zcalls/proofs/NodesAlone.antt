@@ -6,7 +6,7 @@ use Rattle.zcalls.specs.declared.change.Change.{Change}
 use Rattle.zcalls.specs.declared.change.Change.TheVariants.{Create, Delete, SetData}
 use Rattle.zcalls.specs.Part.{change_step, part_step}
 use Rattle.zcalls.specs.Multi.{run}
-use Rattle.zcalls.specs.Bounds.{ChangesNodesAlone}
+use Rattle.zcalls.specs.support.Alone.{ChangesNodesAlone}
 use Rattle.zcalls.proofs.Leaving.{Leaves, create_step-leaves, delete_step-leaves, set_step-leaves, part_step-leaves, run-leaves}
 
 pub alone_itself : (t : Tree) → ChangesNodesAlone t t

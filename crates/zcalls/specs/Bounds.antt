@@ -1,5 +1,5 @@
 -- The bounds on the numbers of a tree, so that none of them can grow too large.
-use Rattle.std.specs.Prelude.{◌≡◌, ℕ, ◌+◌, ◌*◌, ◌<◌, ◌≤◌}
+use Rattle.std.specs.Prelude.{ℕ, ◌+◌, ◌*◌, ◌<◌, ◌≤◌}
 use Rattle.ztree.specs.Tree.{Tree}
 use Rattle.ztree.specs.declared.limits.TheConstants.{ZXID_BOUND, TICK_BOUND}
 use Rattle.zcalls.specs.declared.limits.TheConstants.{MAX_COUNTER, MIN_TIMEOUT, MAX_TIMEOUT, MAX_RAISES}
@@ -25,9 +25,3 @@ pub record IsBounded (t : Tree) : Type 0 where
   pub time : t.time < TICK_BOUND
   pub counters : AllNodes (IsWithin (MAX_RAISES * t.zxid)) t.nodes
   pub sessions : AllSessions (IsGranted t.zxid) t.sessions
-
--- of two trees only the nodes differ: the number of the last change, the clock and the sessions are the same
-pub record ChangesNodesAlone (t u : Tree) : Type 0 where
-  pub zxid : u.zxid ≡ t.zxid
-  pub time : u.time ≡ t.time
-  pub sessions : u.sessions ≡ t.sessions

@@ -5,7 +5,7 @@ use Rattle.std.specs.Prelude.{ℕ, ◌+◌, Bool, true, false, not, ◌&&◌, Li
 use Rattle.std.specs.Option.{option_map_or}
 use Rattle.std.specs.FinMap as finite
 use Rattle.zpath.specs.First.{first_that_holds}
-use Rattle.zpath.specs.Numbered.{numbered, is_over}
+use Rattle.zpath.specs.Numbered.{numbered_path, is_over}
 use Rattle.ztree.specs.Tree.{Tree, Nodes, Sessions, Path, parent_of, has_node, children, stat_of, with_node, without_node, with_data}
 use Rattle.ztree.specs.declared.node.Node.{Node}
 use Rattle.ztree.specs.declared.session.Session.{Session}
@@ -84,7 +84,7 @@ counter_at nodes path = option_map_or (λ n. n.seq) (finite.get nodes path) 0
 
 -- the path of the node that a create makes
 abbrev pub made_path : Nodes → Kind → Path → Path
-made_path nodes kind path = if is_sequential kind then numbered path (counter_at nodes (parent_of path)) else path
+made_path nodes kind path = if is_sequential kind then numbered_path path (counter_at nodes (parent_of path)) else path
 
 -- when a client's create is refused, in the order of the tests
 abbrev pub create_refusals : Tree → ℕ → Create → List (Bool × Refusal)

@@ -75,6 +75,10 @@ abbrev pub tick_result : Tree → List ℕ → Tree × Reply
 tick_result t [] = (with_next_tick t, reply.Ticked (t.time + 1) 0)
 tick_result t (id ∷ ids) = (with_next_zxid (with_next_tick (without_sessions t (id ∷ ids))), reply.Ticked (t.time + 1) (length (id ∷ ids)))
 
+-- the sessions whose deadline the next tick reaches
+abbrev pub due_next : Tree → List ℕ
+due_next t = due_sessions t.sessions (t.time + 1)
+
 -- an update of a client, while there is a next number
 abbrev pub update_result : Tree → ℕ → Update → Tree × Reply
 update_result t client (Create create) = change_result t (create_step t client create)
@@ -84,7 +88,7 @@ update_result t client (Multi parts) = multi_result t (run t client parts)
 update_result t client (Open ticks) = open_result t client (granted_timeout ticks)
 update_result t client (Ping session) = session_result t client session (with_renewed_session t session, reply.Pinged)
 update_result t client (Close session) = session_result t client session (with_next_zxid (without_session t session), reply.Closed)
-update_result t client Tick = tick_result t (due_sessions t.sessions (t.time + 1))
+update_result t client Tick = tick_result t (due_next t)
 
 -- an update of a client: the tree after it, and the reply
 unfoldable pub step : Tree → ℕ → Update → Tree × Reply

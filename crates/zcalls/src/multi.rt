@@ -19,7 +19,8 @@ impl Model for Multi {
 
     ghost view = { λ multi. multi.parts.items };
 
-    ghost invariant = { λ multi. (0 < length multi.parts.items) × (length multi.parts.items ≤ MAX_PARTS) };
+    ghost invariant = { λ multi. (0 < length multi.parts.items)
+        × (length multi.parts.items ≤ MAX_PARTS) };
 }
 
 impl Multi {
@@ -29,7 +30,8 @@ impl Multi {
     pub fn new(parts: Vec<Part>) -> Result<Multi, Vec<Part>>
         ensures multi { IfOk result (λ multi. multi ≡ parts.items) }
         ensures back { IfErr result (λ back. back ≡ parts) }
-        ensures limits { IfErr result (λ _. (length parts.items ≡ 0) ⊎ (MAX_PARTS < length parts.items)) }
+        ensures limits { IfErr result
+            (λ _. (length parts.items ≡ 0) ⊎ (MAX_PARTS < length parts.items)) }
     {
         if parts.is_empty() || parts.len() > MAX_PARTS {
             Err(parts)

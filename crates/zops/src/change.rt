@@ -5,7 +5,7 @@ ghost use Rattle.std.specs.FinMap.{get};
 ghost use Rattle.zpath.specs.First.{first_that_holds};
 ghost use Rattle.zpath.specs.Numbered.{is_over};
 ghost use Rattle.ztree.specs.Tree.{Path, parent_of, children};
-ghost use Rattle.zstore.specs.StoreView.{path_of};
+ghost use Rattle.zstore.specs.StoreView.{path_of, AtPath};
 ghost use Rattle.zcalls.specs.Part.{create_step, delete_step, set_step, change_step};
 ghost use Rattle.zcalls.specs.Part.{is_owned, has_other_version, node_has, made_path};
 ghost use Rattle.zops.specs.support.Ready.{IsReadyForPart};
@@ -15,12 +15,12 @@ ghost use Rattle.zops.specs.support.Names.{name_refusals};
 use crate::owner::has_no_owner;
 use crate::stop::Stop;
 use std::alloc::Global;
+use zcalls::limits::MAX_COUNTER;
 use zcalls::{Change, ChangeReply, Create, Delete, Expected, Kind, Refusal, SetData};
 use zpath::{Path, PathFault};
-use zstore::{ClientId, Id, MAX_NODES, Store};
-
-/// The last number that a node's counter gives. The limit is ZooKeeper's.
-const MAX_COUNTER: u64 = 2147483647;
+use zstore::{Id, Store};
+use ztree::ClientId;
+use ztree::limits::MAX_NODES;
 
 /// Does one change for a client. Where it did nothing, the store is as it was.
 pub(crate) fn change(
@@ -30,8 +30,10 @@ pub(crate) fn change(
     change: Change,
 ) -> Result<ChangeReply, Stop>
     requires ready { IsReadyForPart store.old }
-    ensures done { IfOk result (IsDone (change_step store.old.tree client change) store.old store.new) }
-    ensures stopped { IfErr result (IsStopped (change_step store.old.tree client change) store.old store.new) }
+    ensures done { IfOk result
+        (IsDone (change_step store.old.tree client change) store.old store.new) }
+    ensures stopped { IfErr result
+        (IsStopped (change_step store.old.tree client change) store.old store.new) }
 {
     match change {
         Change::Create(wanted) => create(alloc, store, client, wanted),
@@ -42,7 +44,7 @@ pub(crate) fn change(
 
 // Whether a session owns the node.
 fn is_ephemeral(store: &Store, id: Id) -> bool
-    ensures { (path : Path) → path_of store.now id ≡ Some path → result ≡ node_has is_owned store.now.tree.nodes path }
+    ensures { AtPath store.now id (λ path. result ≡ node_has is_owned store.now.tree.nodes path) }
 {
     match store.node(id) {
         Some(node) => node.owner != 0,
@@ -52,7 +54,8 @@ fn is_ephemeral(store: &Store, id: Id) -> bool
 
 // Whether the node has another version than the one that is expected.
 pub(crate) fn has_other_version(store: &Store, id: Id, expected: Expected) -> bool
-    ensures { (path : Path) → path_of store.now id ≡ Some path → result ≡ node_has (has_other_version expected) store.now.tree.nodes path }
+    ensures { AtPath store.now id (λ path. result
+        ≡ node_has (has_other_version expected) store.now.tree.nodes path) }
 {
     match (store.node(id), expected) {
         (Some(node), Expected::Exactly(version)) => node.version != version,
@@ -66,8 +69,10 @@ fn made_path(alloc: Global, store: &Store, parent: Id, kind: Kind, path: Path) -
     requires short { is_over path ≡ false }
     requires live { path_of store.now parent ≡ Some (parent_of path) }
     ensures made { IfOk result (λ made. made ≡ made_path store.now.tree.nodes kind path) }
-    ensures allowed { OnOk result (first_that_holds (name_refusals store.now.tree kind path) ≡ None) }
-    ensures stopped { IfErr result (IsFirst (first_that_holds (name_refusals store.now.tree kind path))) }
+    ensures allowed { OnOk result (first_that_holds (name_refusals store.now.tree kind path)
+        ≡ None) }
+    ensures stopped { IfErr result
+        (IsFirst (first_that_holds (name_refusals store.now.tree kind path))) }
 {
     if !kind.is_sequential() {
         return Ok(path);
@@ -93,8 +98,10 @@ fn create(
     create: Create,
 ) -> Result<ChangeReply, Stop>
     requires ready { IsReadyForPart store.old }
-    ensures done { IfOk result (IsDone (create_step store.old.tree client create) store.old store.new) }
-    ensures stopped { IfErr result (IsStopped (create_step store.old.tree client create) store.old store.new) }
+    ensures done { IfOk result
+        (IsDone (create_step store.old.tree client create) store.old store.new) }
+    ensures stopped { IfErr result
+        (IsStopped (create_step store.old.tree client create) store.old store.new) }
 {
     if has_no_owner(store, client, create.kind) {
         return Err(Stop::Refused(Refusal::SessionGone));
@@ -125,8 +132,10 @@ fn create(
 // Takes a node away.
 fn delete(store: &mut Store, delete: &Delete) -> Result<ChangeReply, Stop>
     requires ready { IsReadyForPart store.old }
-    ensures done { IfOk result (IsDone (delete_step store.old.tree delete.now) store.old store.new) }
-    ensures stopped { IfErr result (IsStopped (delete_step store.old.tree delete.now) store.old store.new) }
+    ensures done { IfOk result
+        (IsDone (delete_step store.old.tree delete.now) store.old store.new) }
+    ensures stopped { IfErr result
+        (IsStopped (delete_step store.old.tree delete.now) store.old store.new) }
 {
     if delete.path.names().is_empty() {
         return Err(Stop::Refused(Refusal::RootFixed));
@@ -165,7 +174,8 @@ fn set(store: &mut Store, set: SetData) -> Result<ChangeReply, Stop>
 
 // Whether the node has children.
 fn has_children(store: &Store, id: Id) -> bool
-    ensures { (path : Path) → path_of store.now id ≡ Some path → result ≡ nat_lt 0 (length (children store.now.tree.nodes path)) }
+    ensures { AtPath store.now id (λ path. result
+        ≡ nat_lt 0 (length (children store.now.tree.nodes path))) }
 {
     match store.stat(id) {
         Some(stat) => stat.children > 0,

@@ -6,6 +6,7 @@
 #![tactic(auto)]
 
 mod change;
+pub mod limits;
 mod machine;
 mod owner;
 mod part;
@@ -21,9 +22,10 @@ mod testing;
 mod tests;
 mod update;
 
-pub use machine::{MAX_APPLIED, Machine};
+pub use limits::MAX_APPLIED;
+pub use machine::Machine;
 pub use zcalls::{
     Call, CallNumber, Change, ChangeReply, Check, Create, Delete, Entry, Expected, Kind, MAX_PARTS,
     Multi, Names, Part, PartReply, Query, Refusal, Replies, Reply, SetData, Update,
 };
-pub use zstore::{ClientId, Data, Stat};
+pub use ztree::{ClientId, Data, SessionId, Stat, Zxid};

@@ -10,7 +10,8 @@ use crate::change::{change, has_other_version};
 use crate::stop::Stop;
 use std::alloc::Global;
 use zcalls::{Change, Check, Part, PartReply, Refusal};
-use zstore::{ClientId, Store};
+use zstore::Store;
+use ztree::ClientId;
 
 /// Does one part for a client. Where it did nothing, the store is as it was.
 pub(crate) fn part(
@@ -21,7 +22,8 @@ pub(crate) fn part(
 ) -> Result<PartReply, Stop>
     requires ready { IsReadyForPart store.old }
     ensures done { IfOk result (IsDone (part_step store.old.tree client part) store.old store.new) }
-    ensures stopped { IfErr result (IsStopped (part_step store.old.tree client part) store.old store.new) }
+    ensures stopped { IfErr result
+        (IsStopped (part_step store.old.tree client part) store.old store.new) }
 {
     match part {
         Part::Create(wanted) => change_part(alloc, store, client, Change::Create(wanted)),
@@ -39,8 +41,10 @@ fn change_part(
     wanted: Change,
 ) -> Result<PartReply, Stop>
     requires ready { IsReadyForPart store.old }
-    ensures done { IfOk result (IsDone (part_step store.old.tree client (part_of wanted)) store.old store.new) }
-    ensures stopped { IfErr result (IsStopped (part_step store.old.tree client (part_of wanted)) store.old store.new) }
+    ensures done { IfOk result
+        (IsDone (part_step store.old.tree client (part_of wanted)) store.old store.new) }
+    ensures stopped { IfErr result
+        (IsStopped (part_step store.old.tree client (part_of wanted)) store.old store.new) }
 {
     match change(alloc, store, client, wanted) {
         Ok(did) => Ok(PartReply::from(did)),
@@ -50,7 +54,8 @@ fn change_part(
 
 // Looks whether a node is there and has the version.
 fn check(store: &Store, check: &Check) -> Result<PartReply, Stop>
-    ensures done { IfOk result (λ reply. check_step store.now.tree check.now ≡ Ok (store.now.tree, reply)) }
+    ensures done { IfOk result (λ reply. check_step store.now.tree check.now
+        ≡ Ok (store.now.tree, reply)) }
     ensures stopped { IfErr result (IsStop (check_step store.now.tree check.now)) }
 {
     let Some(id) = store.find(&check.path) else {

@@ -2,6 +2,7 @@
 
 ghost use Rattle.std.specs.Prelude.{◌≡◌, ◌≤◌, Ok, length, IfOk, IfErr, OnOk};
 ghost use Rattle.zcalls.specs.Multi.{run};
+ghost use Rattle.zcalls.specs.declared.limits.TheConstants.{MAX_PARTS};
 ghost use Rattle.zops.specs.support.Ready.{IsReady, IsRun};
 ghost use Rattle.zops.specs.support.Stops.{IsHalt};
 
@@ -9,7 +10,8 @@ use crate::part::part;
 use crate::stop::{Halt, Stop};
 use std::alloc::Global;
 use zcalls::{Part, PartReply};
-use zstore::{ClientId, Store};
+use zstore::Store;
+use ztree::ClientId;
 
 /// Does a client's parts one after the other, up to the first that is refused. The store keeps what those
 /// before it did.
@@ -20,8 +22,9 @@ pub(crate) fn run(
     parts: Vec<Part>,
 ) -> Result<Vec<PartReply>, Halt>
     requires ready { IsReady store.old }
-    requires few { length parts.items ≤ 64 }
-    ensures done { IfOk result (λ replies. run store.old.tree client parts.items ≡ Ok (store.new.tree, replies.items)) }
+    requires few { length parts.items ≤ MAX_PARTS }
+    ensures done { IfOk result (λ replies. run store.old.tree client parts.items
+        ≡ Ok (store.new.tree, replies.items)) }
     ensures stopped { IfErr result (IsHalt (run store.old.tree client parts.items)) }
     ensures stays { OnOk result (IsRun store.old store.new) }
 {

@@ -1,9 +1,10 @@
 //! An update, done to a store by the plain step.
 
-ghost use Rattle.std.specs.Prelude.{◌≡◌, IfOk};
-ghost use Rattle.zcalls.specs.Multi.{run};
+ghost use Rattle.std.specs.Prelude.{◌≡◌, ◌-◌, nat_le, IfOk};
+ghost use Rattle.ztree.specs.declared.limits.TheConstants.{ZXID_BOUND};
+ghost use Rattle.zcalls.specs.declared.call.Update.TheVariants as update;
 ghost use Rattle.zcalls.specs.Part.{change_step};
-ghost use Rattle.zcalls.specs.Step.{step, change_result, multi_result, is_exhausted};
+ghost use Rattle.zcalls.specs.Step.{step, change_result, update_result, is_exhausted};
 ghost use Rattle.zops.specs.support.Ready.{IsSteady, IsReady, Leaves};
 
 use crate::change::change;
@@ -13,10 +14,9 @@ use crate::stop::{Halt, Stop};
 use std::alloc::Global;
 use zcalls::{Change, Multi, Refusal, Replies, Reply, Update};
 use zpath::Memory;
-use zstore::{ClientId, Store};
-
-// The greatest number of a change, and the last tick.
-const MAX_ZXID: u64 = (1 << 40) - 1;
+use zstore::Store;
+use ztree::ClientId;
+use ztree::limits::{TICK_BOUND, ZXID_BOUND};
 
 /// Does an update. Where it finds no memory, the store is as it was.
 #[tactic(auto, unfolding(zcalls::specs::Step::step))]
@@ -27,7 +27,8 @@ pub(crate) fn update(
     update: Update,
 ) -> Result<Reply, Memory>
     requires { IsSteady store.old }
-    ensures done { IfOk result (λ reply. (store.new.tree, reply) ≡ step store.old.tree client update) }
+    ensures done { IfOk result (λ reply. (store.new.tree, reply)
+        ≡ step store.old.tree client update) }
     ensures left { Leaves result store.old store.new }
 {
     if is_exhausted(store, &update) {
@@ -41,7 +42,7 @@ pub(crate) fn update(
         Update::Open(ticks) => open(store, client, ticks),
         Update::Ping(session) => Ok(ping(store, client, session)),
         Update::Close(session) => Ok(close(store, client, session)),
-        Update::Tick => tick(alloc, store),
+        Update::Tick => tick(store),
     }
 }
 
@@ -52,14 +53,22 @@ fn is_exhausted(store: &Store, update: &Update) -> bool
 {
     match update {
         Update::Ping(_) => false,
-        Update::Tick => store.zxid() == MAX_ZXID || store.now() == MAX_ZXID,
+        Update::Tick => has_no_next_zxid(store) || store.now() + 1 >= TICK_BOUND,
         Update::Create(_)
         | Update::Delete(_)
         | Update::SetData(_)
         | Update::Multi(_)
         | Update::Open(_)
-        | Update::Close(_) => store.zxid() == MAX_ZXID,
+        | Update::Close(_) => has_no_next_zxid(store),
     }
+}
+
+// Whether there is no number for a next change.
+fn has_no_next_zxid(store: &Store) -> bool
+    requires { IsSteady store.now }
+    ensures { result ≡ nat_le (ZXID_BOUND - 1) store.now.tree.zxid }
+{
+    store.zxid().number() + 1 >= ZXID_BOUND
 }
 
 // Does a change of one node.
@@ -70,7 +79,8 @@ fn single(
     wanted: Change,
 ) -> Result<Reply, Memory>
     requires { IsReady store.old }
-    ensures done { IfOk result (λ reply. (store.new.tree, reply) ≡ change_result store.old.tree (change_step store.old.tree client wanted)) }
+    ensures done { IfOk result (λ reply. (store.new.tree, reply)
+        ≡ change_result store.old.tree (change_step store.old.tree client wanted)) }
     ensures left { Leaves result store.old store.new }
 {
     match change(alloc, store, client, wanted) {
@@ -86,10 +96,11 @@ fn single(
 // Does the parts of a multi on a copy of the store, which takes its place where none is refused.
 fn multi(alloc: Global, store: &mut Store, client: ClientId, parts: Multi) -> Result<Reply, Memory>
     requires { IsReady store.old }
-    ensures done { IfOk result (λ reply. (store.new.tree, reply) ≡ multi_result store.old.tree (run store.old.tree client parts)) }
+    ensures done { IfOk result (λ reply. (store.new.tree, reply)
+        ≡ update_result store.old.tree client (update.Multi parts)) }
     ensures left { Leaves result store.old store.new }
 {
-    let mut copy = store.copy(alloc)?;
+    let mut copy = store.copy()?;
     match run(alloc, &mut copy, client, parts.into_parts()) {
         Ok(replies) => {
             copy.raise();

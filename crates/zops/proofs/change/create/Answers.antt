@@ -117,7 +117,7 @@ returns-clause-done c =
           (all_clear t c.args.client create owner below.root there owned c.in_ok-made.made c.in_ok-made.ensures.made c.in_ok-made.ensures.allowed free few)
           ∙ (λ i. Ok (with_node t (sym c.in_ok-made.ensures.made i) create.bytes (sym c.owner-owner.ensures i) (sym c.is_sequential-is_sequential.ensures i), Created (sym c.in_ok-made.ensures.made i)))
           ∙ (λ i. Ok (sym c.in_ok-add.ensures.added i, Created (sym c.in_ok-path.ensures i)));
-      given = c.in_ok-add.ensures.given;
+      given = c.in_ok-add.ensures.given.1;
     }
 
 pub returns-then-has_no_owner-clause-stopped : goal.returns-then-has_no_owner-clause-stopped

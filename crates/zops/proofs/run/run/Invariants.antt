@@ -1,5 +1,6 @@
 use Rattle.std.proofs.Common.{◌≡◌, ◌+◌, ◌*◌, ◌≤◌, length}
-use Rattle.zcalls.specs.Bounds.{IsWithin, ChangesNodesAlone}
+use Rattle.zcalls.specs.Bounds.{IsWithin}
+use Rattle.zcalls.specs.support.Alone.{ChangesNodesAlone}
 use Rattle.zcalls.specs.Multi.{run}
 use Rattle.zcalls.proofs.Runs.{behind_all}
 use Rattle.ztree.specs.Lawful.{AllNodes}

@@ -1,5 +1,5 @@
 use Rattle.std.proofs.Common.{◌+◌, ◌*◌, refl, ap, sym, subst, ◌∙◌, arith}
-use Rattle.ztree.specs.Tree.{Tree}
+use Rattle.ztree.specs.Tree.{Tree, parent_of}
 use Rattle.ztree.specs.Sessions.{without_sessions}
 use Rattle.zcalls.proofs.Ends.{RoomForEnds, AreLive, room_before, ended-room, few_ephemerals, ended-ends, due_live}
 use Rattle.zops.proofs.session_calls.end_all.Goals as goal
@@ -17,11 +17,11 @@ loop-id-init c =
     }
 
 pub end_session-requires-clause-counters : goal.end_session-requires-clause-counters
-end_session-requires-clause-counters c path n e =
-    let room = (c.loop-id.invariant.room path n e).cversion in
-    let owned = few_ephemerals c.loop-id.store.tree.nodes c.in-Some.id in
+end_session-requires-clause-counters c path n e owned parent found =
+    let room = (c.loop-id.invariant.room (parent_of path) parent found).cversion in
+    let gone = few_ephemerals c.loop-id.store.tree.nodes c.in-Some.id in
     let few = c.requires.ready.zxid in
-    omega (arith, room, owned, few)
+    omega (arith, room, gone, few)
 
 pub loop-id-preserved : goal.loop-id-preserved
 loop-id-preserved c =

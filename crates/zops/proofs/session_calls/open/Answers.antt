@@ -13,5 +13,5 @@ returns-clause-left c =
     let now = c.raise.ensures.tree ∙ ap with_next_zxid c.in_ok-open_session.ensures.tree ∙ ap (λ timeout. with_next_zxid (with_session t c.args.client timeout)) c.granted-timeout.ensures in
     record {
       bounded = subst IsBounded (sym now) (opened_bounded t c.args.client (granted_timeout ticks) c.requires.steady.bounded c.requires.zxid (granted-least ticks) (granted-most ticks));
-      given = let same = c.raise.ensures.same.1 in let more = c.in_ok-open_session.ensures.given in omega (arith, same, more);
+      given = let same = c.raise.ensures.same.1 in let more = c.in_ok-open_session.ensures.same.1 in omega (arith, same, more);
     }

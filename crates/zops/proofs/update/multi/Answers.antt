@@ -1,7 +1,8 @@
 use Rattle.std.proofs.Common.{◌≡◌, ◌+◌, ◌*◌, Ok, subst, sym, ap, ◌∙◌, arith}
 use Rattle.ztree.specs.Lawful.{AllNodes}
 use Rattle.zcalls.specs.declared.reply.Reply.TheVariants.{Multi}
-use Rattle.zcalls.specs.Bounds.{IsBounded, IsWithin, ChangesNodesAlone}
+use Rattle.zcalls.specs.Bounds.{IsBounded, IsWithin}
+use Rattle.zcalls.specs.support.Alone.{ChangesNodesAlone}
 use Rattle.zcalls.specs.Multi.{run}
 use Rattle.zcalls.specs.Step.{multi_result}
 use Rattle.zcalls.proofs.Bounds.{raised_bounded}

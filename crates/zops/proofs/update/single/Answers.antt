@@ -1,6 +1,7 @@
 use Rattle.std.proofs.Common.{◌+◌, ◌*◌, ◌^◌, ◌<◌, subst, sym, ap, ◌∙◌, arith}
 use Rattle.zcalls.specs.Step.{change_result}
-use Rattle.zcalls.specs.Bounds.{IsBounded, ChangesNodesAlone}
+use Rattle.zcalls.specs.Bounds.{IsBounded}
+use Rattle.zcalls.specs.support.Alone.{ChangesNodesAlone}
 use Rattle.zcalls.proofs.Bounds.{IsWithinAll, change_roomy, has_room, raised_bounded}
 use Rattle.zcalls.proofs.Leaving.{Leaves}
 use Rattle.zcalls.proofs.NodesAlone.{change-alone}
