@@ -1,5 +1,5 @@
 -- What acted of a log has every reply that its entries are given.
-use Rattle.std.proofs.Common.{◌≡◌, ◌⊎◌, ℕ, ◌≤◌, ◌==◌, List, [], ◌∷◌, ◌++◌, Option, Some, None, refl, sym, ap, ◌∙◌, subst, inl, inr, append_assoc, eqb-true, arith}
+use Rattle.std.proofs.Common.{◌≡◌, ◌⊎◌, ℕ, ◌≤◌, ◌==◌, List, [], ◌∷◌, ◌++◌, Option, Some, None, refl, sym, ap, ◌∙◌, inl, inr, append_assoc, eqb-true, arith}
 use Rattle.std.specs.FinMap.{get, get-empty}
 use Rattle.std.specs.Ordering.{nat_cmp}
 use Rattle.zcalls.specs.declared.call.Entry.{Entry}
@@ -8,9 +8,8 @@ use Rattle.zcalls.specs.Kept.{Plain, PlainStep, Kept, KeptState, nothing_kept, l
 use Rattle.zcalls.specs.Lists.{Among, NoTwo}
 use Rattle.zcalls.specs.Operation.{Operation, operation_of, AreOneUpdate}
 use Rattle.zcalls.specs.Acts.{act_of, acts_from, acts_of, after_log}
-use Rattle.zcalls.specs.KeptLaws.{last_number, KeptNumbersRise, LowNumbersChangeNothing, NoCallActsTwice, RepliesAreOfActs, RepliesStayUntilTheNext}
+use Rattle.zcalls.specs.KeptLaws.{last_number, KeptNumbersRise, RepliesAreOfActs, RepliesStayUntilTheNext}
 use Rattle.zcalls.proofs.Among.{test}
-use Rattle.zcalls.proofs.KeptReplies.{entered}
 use Rattle.zcalls.proofs.Acting.{kept_of, Outcome, outcome, kept_own, kept_other, rises, replied, acted_once, still_replied}
 use Rattle.zcalls.proofs.Acting.Outcome.{Acts, Stays}
 

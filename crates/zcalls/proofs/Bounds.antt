@@ -1,5 +1,5 @@
 -- What the plain step leaves of the bounds on a tree's numbers.
-use Rattle.std.proofs.Common.{◌≡◌, ℕ, ◌+◌, ◌*◌, ◌^◌, ◌<◌, ◌≤◌, Bool, true, false, cond, if◌then◌else◌, Option, Some, None, Result, Ok, Err, List, [], lit<, refl, sym, ap, subst, ◌∙◌, arith}
+use Rattle.std.proofs.Common.{◌≡◌, ℕ, ◌+◌, ◌*◌, ◌^◌, ◌<◌, ◌≤◌, Bool, true, false, cond, Option, Some, None, List, [], lit<, refl, sym, ap, subst, ◌∙◌, arith}
 use Rattle.std.specs.Prelude.{◌&&◌}
 use Rattle.std.specs.FinMap as finite
 use Rattle.std.specs.FinMap.{get-insert, get-empty, get-remove}
@@ -10,14 +10,16 @@ use Rattle.zpath.specs.Grammar.{path_cmp}
 use Rattle.zpath.proofs.First.{no_test_holds}
 use Rattle.ztree.specs.declared.node.Node.{Node}
 use Rattle.ztree.specs.declared.session.Session.{Session}
-use Rattle.ztree.specs.Tree.{opening_tree, Tree, Nodes, Path, new_node, parent_of, with_change_at, with_child, without_child, with_data, stat_of, with_node, without_node, with_data_at, with_next_zxid, HasRoom}
+use Rattle.ztree.specs.Tree.{opening_tree, Tree, Nodes, Path, new_node, parent_of, with_change_at, with_child, without_child, with_data, with_node, without_node, with_data_at, with_next_zxid}
+use Rattle.ztree.specs.Room.{HasRoom}
 use Rattle.ztree.proofs.Sorted.{paths_total}
 use Rattle.zcalls.specs.declared.call.Part.{Part}
 use Rattle.zcalls.specs.declared.change.Change.{Change}
 use Rattle.zcalls.specs.declared.change.Change.TheVariants.{Create, Delete, SetData}
 use Rattle.zcalls.specs.Part.{change_step, part_step, create_refusals, made_path, is_sequential, owner_of, is_spent, node_has}
 use Rattle.ztree.specs.Lawful.{AllNodes, AllSessions}
-use Rattle.zcalls.specs.Bounds.{IsWithin, IsBounded, IsGranted, ChangesNodesAlone}
+use Rattle.zcalls.specs.Bounds.{IsWithin, IsBounded, IsGranted}
+use Rattle.zcalls.specs.support.Alone.{ChangesNodesAlone}
 use Rattle.zcalls.proofs.Leaving.{Leaves, create_step-leaves, delete_step-leaves, set_step-leaves, part_step-leaves}
 use Rattle.zcalls.proofs.Paths.{parent_of-made}
 

@@ -1,19 +1,16 @@
 -- A part of a call leaves a lawful tree lawful.
-use Rattle.std.proofs.Common.{◌≡◌, ◌<◌, ℕ, ◌+◌, Bool, true, false, if◌then◌else◌, List, [], ◌∷◌, length, Option, Some, None, Result, Ok, Err, refl, sym, subst, arith}
+use Rattle.std.proofs.Common.{◌≡◌, ◌<◌, ℕ, true, false, List, [], ◌∷◌, length, refl, sym, subst, arith}
 use Rattle.std.specs.Prelude.{nat_le, nat_lt}
 use Rattle.std.specs.FinMap as finite
 use Rattle.std.proofs.lemmas.Bool.Decides.{nat_tests}
-use Rattle.zpath.specs.First.{first_that_holds}
 use Rattle.zpath.proofs.First.{no_test_holds}
-use Rattle.ztree.specs.declared.node.Node.{Node}
-use Rattle.ztree.specs.Tree.{Tree, parent_of, has_node, children, with_data, stat_of, with_node, without_node, with_data_at}
+use Rattle.ztree.specs.Tree.{Tree, parent_of, has_node, children}
 use Rattle.ztree.specs.Lawful.{IsLawful, IsPersistent, AllSessions}
 use Rattle.ztree.proofs.Lawful.{lawful_added, lawful_dropped, lawful_written}
 use Rattle.zcalls.specs.declared.call.Part.{Part}
 use Rattle.zcalls.specs.Part.{change_step, part_step, create_refusals, delete_refusals, made_path, is_sequential, owner_of}
 use Rattle.zcalls.specs.declared.change.Change.{Change}
 use Rattle.zcalls.specs.declared.change.Change.TheVariants as change
-use Rattle.zcalls.specs.declared.change.ChangeReply.{ChangeReply}
 use Rattle.zcalls.specs.Bounds.{IsGranted}
 use Rattle.zcalls.proofs.Leaving.{Leaves, create_step-leaves, delete_step-leaves, set_step-leaves, part_step-leaves}
 use Rattle.zcalls.proofs.Paths.{not_root, parent_of-made}

@@ -4,7 +4,7 @@ use Rattle.std.specs.FinMap as finite
 use Rattle.std.specs.Option.{option_map_or}
 use Rattle.zpath.specs.First.{first_that_holds}
 use Rattle.ztree.specs.declared.node.Node.{Node}
-use Rattle.ztree.specs.Tree.{Tree, Path, with_node, without_node, with_data_at, with_data}
+use Rattle.ztree.specs.Tree.{Tree, with_node, without_node, with_data_at, with_data}
 use Rattle.zcalls.specs.declared.call.Create.{Create as ToCreate}
 use Rattle.zcalls.specs.declared.call.Delete.{Delete as ToDelete}
 use Rattle.zcalls.specs.declared.call.SetData.{SetData as ToSet}

@@ -21,7 +21,7 @@ use Rattle.zcalls.specs.declared.reply.Reply.TheVariants as reply
 use Rattle.zcalls.specs.Part.{create_step, delete_step, set_step, is_gone}
 use Rattle.zcalls.specs.Multi.{Run, run}
 use Rattle.zcalls.specs.Step.{step, update_result, change_result, multi_result, granted_timeout, tick_result, is_exhausted}
-use Rattle.zcalls.specs.Bounds.{ChangesNodesAlone}
+use Rattle.zcalls.specs.support.Alone.{ChangesNodesAlone}
 use Rattle.zcalls.specs.CallRuns.{after_calls, is_success}
 use Rattle.zcalls.specs.SessionLaws.{NeverCloses, one_if_tick, ticks_in, if_not_due, LivesItsTimeout}
 use Rattle.zcalls.proofs.NodesAlone.{change-alone, run-alone}

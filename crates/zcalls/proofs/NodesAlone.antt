@@ -1,12 +1,12 @@
 -- Parts of calls change the nodes alone.
-use Rattle.std.proofs.Common.{ℕ, List, Result, refl, ◌∙◌}
+use Rattle.std.proofs.Common.{ℕ, List, refl, ◌∙◌}
 use Rattle.ztree.specs.Tree.{Tree}
 use Rattle.zcalls.specs.declared.call.Part.{Part}
 use Rattle.zcalls.specs.declared.change.Change.{Change}
 use Rattle.zcalls.specs.declared.change.Change.TheVariants.{Create, Delete, SetData}
 use Rattle.zcalls.specs.Part.{change_step, part_step}
 use Rattle.zcalls.specs.Multi.{run}
-use Rattle.zcalls.specs.Bounds.{ChangesNodesAlone}
+use Rattle.zcalls.specs.support.Alone.{ChangesNodesAlone}
 use Rattle.zcalls.proofs.Leaving.{Leaves, create_step-leaves, delete_step-leaves, set_step-leaves, part_step-leaves, run-leaves}
 
 pub alone_itself : (t : Tree) → ChangesNodesAlone t t

@@ -1,24 +1,18 @@
 -- No sequential name is made twice beneath a node while it lives.
-use Rattle.std.proofs.Common.{◌≡◌, ◌≢◌, ℕ, ◌+◌, ◌<◌, ◌≤◌, Bool, true, false, cond, if◌then◌else◌, ◌&&◌, List, [], ◌∷◌, Option, Some, None, Ok, Err, refl, sym, ap, subst, ◌∙◌, arith}
+use Rattle.std.proofs.Common.{◌≡◌, ◌≢◌, ℕ, ◌+◌, ◌<◌, ◌≤◌, Bool, true, false, cond, if◌then◌else◌, ◌&&◌, List, [], ◌∷◌, Some, refl, sym, ap, subst, ◌∙◌, arith}
 use Rattle.std.specs.FinMap as finite
 use Rattle.std.specs.FinMap.{get-insert}
 use Rattle.std.specs.List.{AllByRecursion, IsDistinct}
 use Rattle.std.specs.Option.{option_map_or}
-use Rattle.zpath.specs.First.{first_that_holds}
-use Rattle.zpath.specs.Numbered.{numbered}
+use Rattle.zpath.specs.Numbered.{numbered_path}
 use Rattle.zpath.proofs.First.{no_test_holds}
 use Rattle.zpath.proofs.Sequence.{tells_numbers_apart}
 use Rattle.ztree.specs.declared.node.Node.{Node}
-use Rattle.ztree.specs.Tree.{Tree, Nodes, Path, opening_tree, new_node, parent_of, has_node, with_child, without_child, with_data, stat_of, with_node, without_node, with_data_at}
+use Rattle.ztree.specs.Tree.{Tree, Nodes, Path, opening_tree, new_node, parent_of, has_node, with_child, without_child, with_data, with_node, without_node, with_data_at}
 use Rattle.ztree.proofs.Sorted.{paths_total}
 use Rattle.zcalls.specs.declared.call.Create.{Create as ToCreate}
-use Rattle.zcalls.specs.declared.call.Expected.{Expected}
 use Rattle.zcalls.specs.declared.call.Part.{Part}
 use Rattle.zcalls.specs.declared.call.Part.TheVariants.{Create, Delete, SetData, Check}
-use Rattle.zcalls.specs.declared.refusal.Refusal.{Refusal}
-use Rattle.zcalls.specs.declared.refusal.Refusal.TheVariants.{BadVersion}
-use Rattle.zcalls.specs.declared.reply.PartReply.{PartReply}
-use Rattle.zcalls.specs.declared.reply.PartReply.TheVariants.{Created, Deleted, Set, Checked}
 use Rattle.zcalls.specs.Part.{part_step, create_refusals, made_path, counter_at, is_sequential, owner_of}
 use Rattle.zcalls.specs.CallRuns.{is_same, numbered_since, NumbersDiffer}
 use Rattle.zcalls.proofs.Bounds.{unspent}
@@ -31,7 +25,7 @@ use Rattle.zcalls.proofs.Traced.{traced, remained, same_of, one_path}
 record IsGiven (bound : ℕ) (path : Path) : Type 0 where
   pub asked : Path
   pub number : ℕ
-  pub is : path ≡ numbered asked number
+  pub is : path ≡ numbered_path asked number
   pub below : asked ≢ []
   pub small : number < bound
   pub short : number < 10000000000
@@ -45,15 +39,15 @@ given_more (path ∷ made) low high more all =
     )
 
 -- a number that was not given yet makes another path
-another : (asked : Path) (number : ℕ) (made : List Path) → asked ≢ [] → number < 10000000000 → AllByRecursion (IsGiven number) made → AllByRecursion (λ path. is_same (numbered asked number) path ≡ false) made
+another : (asked : Path) (number : ℕ) (made : List Path) → asked ≢ [] → number < 10000000000 → AllByRecursion (IsGiven number) made → AllByRecursion (λ path. is_same (numbered_path asked number) path ≡ false) made
 another asked number [] below short all = tt
-another asked number (path ∷ made) below short all = (by (is_same (numbered asked number) path) refl, another asked number made below short all.1)
+another asked number (path ∷ made) below short all = (by (is_same (numbered_path asked number) path) refl, another asked number made below short all.1)
   where
-    by : (b : Bool) → is_same (numbered asked number) path ≡ b → b ≡ false
+    by : (b : Bool) → is_same (numbered_path asked number) path ≡ b → b ≡ false
     by false e = refl
     by true e =
         let here = all.0 in
-        let same = tells_numbers_apart asked here.asked number here.number below here.below short here.short (one_path (numbered asked number) path e ∙ here.is) in
+        let same = tells_numbers_apart asked here.asked number here.number below here.below short here.short (one_path (numbered_path asked number) path e ∙ here.is) in
         absurd (omega (arith, same, here.small))
 
 both : (a b : Bool) → (a && b) ≡ true → (a ≡ true) × (b ≡ true)
@@ -126,13 +120,13 @@ module _ (above : Path) where
         let m = node.0 in
         let here : finite.get t.nodes above ≡ Some m = ap (finite.get t.nodes) at ∙ node.1 in
         let few = left m node.1 numbers in
-        let is : path ≡ numbered create.path m.seq =
-        ap (λ b. if b then numbered create.path (counter_at t.nodes (parent_of create.path)) else create.path) numbers
-        ∙ ap (λ o. numbered create.path (option_map_or (λ (n : Node). n.seq) o 0)) node.1 in
+        let is : path ≡ numbered_path create.path m.seq =
+        ap (λ b. if b then numbered_path create.path (counter_at t.nodes (parent_of create.path)) else create.path) numbers
+        ∙ ap (λ o. numbered_path create.path (option_map_or (λ (n : Node). n.seq) o 0)) node.1 in
         let apart = another create.path m.seq made below (omega (arith, few)) (inv.1 m here) in
         ((subst (λ p. AllByRecursion (λ q. is_same p q ≡ false) made) (sym is) apart, inv.0), each m here is few)
       where
-        each : (m : Node) → finite.get t.nodes above ≡ Some m → path ≡ numbered create.path m.seq → m.seq ≤ 2147483647
+        each : (m : Node) → finite.get t.nodes above ≡ Some m → path ≡ numbered_path create.path m.seq → m.seq ≤ 2147483647
             → (n : Node) → finite.get after.nodes above ≡ Some n → AllByRecursion (IsGiven n.seq) (path ∷ made)
         each m here is few n e =
             let from = traced (finite.insert t.nodes path new) (parent_of path) (with_child (t.zxid + 1) sequential) above n e in

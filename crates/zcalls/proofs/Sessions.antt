@@ -23,7 +23,7 @@ use Rattle.zcalls.specs.Part.{create_step, delete_step, set_step, is_gone}
 use Rattle.zcalls.specs.Multi.{Run, run}
 use Rattle.zcalls.specs.Step.{step, update_result, change_result, multi_result, granted_timeout, open_result, tick_result, is_exhausted}
 use Rattle.zcalls.specs.SessionLaws.{IsOwnClose, IsItsTick, EndsOnlySo, if_not_due, TickEndsTheDue, IsFresh, OpenAndPingRenew}
-use Rattle.zcalls.specs.Bounds.{ChangesNodesAlone}
+use Rattle.zcalls.specs.support.Alone.{ChangesNodesAlone}
 use Rattle.zcalls.proofs.NodesAlone.{change-alone, run-alone}
 use Rattle.zcalls.proofs.Leaving.{Leaves}
 use Rattle.zcalls.proofs.Owners.{is_own}

@@ -1,19 +1,13 @@
 -- A node's version counts its sets.
-use Rattle.std.proofs.Common.{◌≡◌, ℕ, ◌+◌, Bool, true, false, cond, if◌then◌else◌, List, [], Option, Some, None, Ok, Err, refl, sym, ap, ◌∙◌}
+use Rattle.std.proofs.Common.{◌≡◌, ℕ, ◌+◌, Bool, true, false, cond, if◌then◌else◌, List, [], Some, None, refl, sym, ap, ◌∙◌}
 use Rattle.std.specs.FinMap as finite
 use Rattle.std.specs.FinMap.{get-insert, get-empty}
-use Rattle.zpath.specs.First.{first_that_holds}
 use Rattle.zpath.specs.Grammar.{path_cmp}
 use Rattle.ztree.specs.declared.node.Node.{Node}
-use Rattle.ztree.specs.Tree.{Tree, Nodes, Path, opening_tree, new_node, parent_of, with_child, without_child, with_data, stat_of, with_node, without_node, with_data_at}
+use Rattle.ztree.specs.Tree.{Tree, Nodes, Path, opening_tree, new_node, parent_of, with_child, without_child, with_data, with_node, without_node, with_data_at}
 use Rattle.ztree.proofs.Sorted.{paths_total}
-use Rattle.zcalls.specs.declared.call.Expected.{Expected}
 use Rattle.zcalls.specs.declared.call.Part.{Part}
 use Rattle.zcalls.specs.declared.call.Part.TheVariants.{Create, Delete, SetData, Check}
-use Rattle.zcalls.specs.declared.refusal.Refusal.{Refusal}
-use Rattle.zcalls.specs.declared.refusal.Refusal.TheVariants.{BadVersion}
-use Rattle.zcalls.specs.declared.reply.PartReply.{PartReply}
-use Rattle.zcalls.specs.declared.reply.PartReply.TheVariants.{Created, Deleted, Set, Checked}
 use Rattle.zcalls.specs.Part.{part_step, made_path, is_sequential, owner_of}
 use Rattle.zcalls.specs.CallRuns.{is_same, sets_since, VersionCountsSets}
 use Rattle.zcalls.proofs.Folds.{LeavesDone, create-leaves, delete-leaves, set-leaves, check-leaves, kept_by_calls}

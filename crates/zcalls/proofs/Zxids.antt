@@ -1,18 +1,15 @@
 -- The zxids of a tree's nodes are those of changes that were made.
-use Rattle.std.proofs.Common.{◌≡◌, ℕ, ◌+◌, Bool, true, false, if◌then◌else◌, List, [], ◌∷◌, ◌++◌, length, Option, Some, None, Result, Ok, Err, refl, sym, ap, subst, ◌∙◌, lit<, arith}
+use Rattle.std.proofs.Common.{◌≡◌, ℕ, ◌+◌, Bool, true, false, if◌then◌else◌, List, [], ◌∷◌, Result, Ok, Err, refl, sym, ap, subst, ◌∙◌, lit<, arith}
 use Rattle.std.specs.Prelude.{nat_le}
 use Rattle.std.specs.FinMap as finite
-use Rattle.zpath.specs.First.{first_that_holds}
-use Rattle.ztree.specs.declared.node.Node.{Node}
 use Rattle.ztree.specs.Lawful.{AllNodes}
 use Rattle.ztree.specs.Sessions.{with_session, with_renewed_session, without_nodes, without_session, without_sessions, due_sessions, with_next_tick}
-use Rattle.ztree.specs.Tree.{Tree, Path, ephemerals, opening_tree, new_node, parent_of, with_child, without_child, with_data, stat_of, with_node, without_node, with_data_at, with_next_zxid}
+use Rattle.ztree.specs.Tree.{Tree, Path, ephemerals, opening_tree, new_node, parent_of, with_child, without_child, with_data, with_node, without_node, with_data_at, with_next_zxid}
 use Rattle.zcalls.specs.declared.call.Part.{Part}
 use Rattle.zcalls.specs.declared.call.Update.{Update}
 use Rattle.zcalls.specs.declared.call.Update.TheVariants.{Create, Delete, SetData, Multi, Open, Ping, Close, Tick}
 use Rattle.zcalls.specs.declared.refusal.Refusal.{Refusal}
 use Rattle.zcalls.specs.declared.refusal.Refusal.TheVariants.{SessionGone, TooManySessions, Exhausted}
-use Rattle.zcalls.specs.declared.reply.PartReply.{PartReply}
 use Rattle.zcalls.specs.declared.reply.Reply.{Reply}
 use Rattle.zcalls.specs.declared.reply.Reply.TheVariants as reply
 use Rattle.zcalls.specs.Part.{change_step, create_step, delete_step, set_step, part_step, made_path, is_sequential, owner_of, is_gone}

@@ -8,8 +8,8 @@ pub mod Lists
 pub mod Operation
 pub mod Acts
 pub mod KeptLaws
-pub mod Rows
 pub mod Bounds
 pub mod Laws
 pub mod CallRuns
 pub mod SessionLaws
+pub mod support

@@ -1,14 +1,16 @@
 -- The change step and the part step: one operation on the plain tree.
 -- ZooKeeper Programmer's Guide, "ZNodes", "Ephemeral Nodes", "Sequence Nodes -- Unique Naming" and "Time in ZooKeeper";
 -- the order of refusals and the limits are this project's profile.
-use Rattle.std.specs.Prelude.{ℕ, ◌+◌, Bool, true, false, not, ◌&&◌, List, [], ◌∷◌, ◌++◌, length, Option, None, Some, Result, Ok, Err, if◌then◌else◌, nat_lt, nat_le, ◌==◌}
+use Rattle.std.specs.Prelude.{ℕ, ◌+◌, Bool, true, false, not, ◌&&◌, List, [], ◌∷◌, length, Option, None, Some, Result, Ok, Err, if◌then◌else◌, nat_lt, nat_le, ◌==◌}
 use Rattle.std.specs.Option.{option_map_or}
 use Rattle.std.specs.FinMap as finite
 use Rattle.zpath.specs.First.{first_that_holds}
-use Rattle.zpath.specs.Numbered.{numbered, is_over}
+use Rattle.zpath.specs.Numbered.{numbered_path, is_over}
 use Rattle.ztree.specs.Tree.{Tree, Nodes, Sessions, Path, parent_of, has_node, children, stat_of, with_node, without_node, with_data}
 use Rattle.ztree.specs.declared.node.Node.{Node}
 use Rattle.ztree.specs.declared.session.Session.{Session}
+use Rattle.ztree.specs.declared.limits.TheConstants.{MAX_NODES}
+use Rattle.zcalls.specs.declared.limits.TheConstants.{MAX_COUNTER}
 use Rattle.zcalls.specs.declared.call.Kind.{Kind}
 use Rattle.zcalls.specs.declared.call.Kind.TheVariants.{Persistent, PersistentSequential, Ephemeral, EphemeralSequential}
 use Rattle.zcalls.specs.declared.call.Expected.{Expected}
@@ -49,7 +51,7 @@ has_other_version (Exactly version) n = not (n.version == version)
 
 -- the last number of a node's counter was given
 abbrev pub is_spent : Node → Bool
-is_spent n = nat_lt 2147483647 n.seq
+is_spent n = nat_lt MAX_COUNTER n.seq
 
 -- the kind takes a number of the parent's counter
 abbrev pub is_sequential : Kind → Bool
@@ -82,7 +84,7 @@ counter_at nodes path = option_map_or (λ n. n.seq) (finite.get nodes path) 0
 
 -- the path of the node that a create makes
 abbrev pub made_path : Nodes → Kind → Path → Path
-made_path nodes kind path = if is_sequential kind then numbered path (counter_at nodes (parent_of path)) else path
+made_path nodes kind path = if is_sequential kind then numbered_path path (counter_at nodes (parent_of path)) else path
 
 -- when a client's create is refused, in the order of the tests
 abbrev pub create_refusals : Tree → ℕ → Create → List (Bool × Refusal)
@@ -94,7 +96,7 @@ create_refusals t client create =
     ∷ (is_sequential create.kind && node_has is_spent t.nodes (parent_of create.path), SequenceFull)
     ∷ (is_over (made_path t.nodes create.kind create.path), PathLimit)
     ∷ (has_node t.nodes (made_path t.nodes create.kind create.path), NodeExists)
-    ∷ (nat_le 4096 (finite.len t.nodes), Full)
+    ∷ (nat_le MAX_NODES (finite.len t.nodes), Full)
     ∷ []
 
 -- when a delete is refused, in the order of the tests

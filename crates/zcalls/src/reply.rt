@@ -3,7 +3,7 @@
 use crate::listed::{Names, Replies};
 use crate::refusal::Refusal;
 use zpath::Path;
-use ztree::{Data, Stat};
+use ztree::{Data, SessionId, Stat};
 
 /// What one part of a change did.
 #[derive(Drop)]
@@ -30,7 +30,7 @@ pub enum Reply {
     /// All parts of a multi were done, and did this.
     Multi(Replies),
     /// A session was opened: its id, and the timeout that it was given, in ticks.
-    Opened(u64, u64),
+    Opened(SessionId, u64),
     /// The session lives for its timeout from now.
     Pinged,
     /// The session was ended.

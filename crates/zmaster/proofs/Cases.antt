@@ -43,9 +43,9 @@ module _ {M : Type 0} (epoch s : ℕ) where
     | inr not ↦
         let did : MendedChain M = behind t.0 rest in
         let there : IsMended epoch s ((front ++ p ∷ []) ++ t ∷ rest) ((front ++ p ∷ []) ++ t ∷ did.0, did.1) =
-            behind_case t rest (later (t.0 == s) _ not among) (front ++ p ∷ []) in
+        behind_case t rest (later (t.0 == s) _ not among) (front ++ p ∷ []) in
         let here : IsMended epoch s (front ++ p ∷ t ∷ rest) ((front ++ p ∷ []) ++ t ∷ did.0, did.1) =
-            subst (λ xs. IsMended epoch s xs ((front ++ p ∷ []) ++ t ∷ did.0, did.1)) (append_assoc front (p ∷ []) (t ∷ rest)) there in
+        subst (λ xs. IsMended epoch s xs ((front ++ p ∷ []) ++ t ∷ did.0, did.1)) (append_assoc front (p ∷ []) (t ∷ rest)) there in
         rw not (subst (λ (xs : List Neighbour). IsMended epoch s (front ++ p ∷ t ∷ rest) (xs, did.1)) (append_assoc front (p ∷ []) (t ∷ did.0)) here)
   ]
 

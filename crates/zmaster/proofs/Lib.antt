@@ -2,3 +2,4 @@ pub mod Projection
 pub mod Numbers
 pub mod Cases
 pub mod Bounds
+pub mod Tables

@@ -22,8 +22,8 @@ fn update(alloc: Global, act: Act) -> Result<Update, Fail> {
     match act {
         Act::Create(path, kind) => alone(alloc, create(alloc, path, kind, "hi")?),
         Act::Open(ticks) => Ok(Update::Open(ticks)),
-        Act::Ping(session) => Ok(Update::Ping(session)),
-        Act::Close(session) => Ok(Update::Close(session)),
+        Act::Ping(session) => Ok(Update::Ping(SessionId::new(session))),
+        Act::Close(session) => Ok(Update::Close(SessionId::new(session))),
         Act::Tick => Ok(Update::Tick),
     }
 }
@@ -50,7 +50,7 @@ fn ends_at_its_deadline(rt: HostRuntime) -> Result<(), Fail> {
     let mut machine = Machine::new(alloc)?;
     let rows = [
         (1, Act::Open(1), "session 1 timeout 2"),
-        (1, Act::Create("/e", Ephemeral(1)), "created /e"),
+        (1, Act::Create("/e", Ephemeral(ONE)), "created /e"),
         (0, Act::Tick, "tick 1 ended 0"),
         (0, Act::Tick, "tick 2 ended 1"),
         (1, Act::Ping(1), "SessionGone"),
@@ -71,13 +71,13 @@ fn belongs_to_its_client(rt: HostRuntime) -> Result<(), Fail> {
     let mut machine = Machine::new(alloc)?;
     let rows = [
         (1, Act::Open(100), "session 1 timeout 20"),
-        (1, Act::Create("/e", Ephemeral(1)), "created /e"),
+        (1, Act::Create("/e", Ephemeral(ONE)), "created /e"),
         (
             1,
             Act::Create("/e/x", Persistent),
             "NoChildrenForEphemerals",
         ),
-        (2, Act::Create("/f", Ephemeral(1)), "SessionGone"),
+        (2, Act::Create("/f", Ephemeral(ONE)), "SessionGone"),
         (2, Act::Ping(1), "SessionGone"),
         (2, Act::Close(1), "SessionGone"),
         (1, Act::Close(1), "closed"),
@@ -116,7 +116,7 @@ fn takes_its_nodes_with_it(rt: HostRuntime) -> Result<(), Fail> {
     let mut machine = Machine::new(alloc)?;
     let before = [
         (1, Act::Open(2), "session 1 timeout 2"),
-        (1, Act::Create("/a", Ephemeral(1)), "created /a"),
+        (1, Act::Create("/a", Ephemeral(ONE)), "created /a"),
         (
             1,
             Act::Create("/b", EphemeralSequential(1)),

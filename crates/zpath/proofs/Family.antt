@@ -3,6 +3,7 @@ use Rattle.std.proofs.Common.{◌≡◌, ℕ, ◌≤◌, ◌+◌, List, [], ◌�
 use Rattle.std.proofs.lemmas.Grind.{flat_map-append}
 use Rattle.std.proofs.lemmas.List.Sums.{sum_by-cons, sum_by_push}
 use Rattle.std.specs.List.{flat_map, AllByRecursion, sum_by}
+use Rattle.zpath.specs.declared.limits.TheConstants.{MAX_TEXT_LEN, MAX_DEPTH}
 use Rattle.zpath.specs.Grammar.{IsName, segment_of, text_of, IsPath}
 use Rattle.zpath.specs.Faults.{child_tests, child_fault}
 use Rattle.zpath.proofs.First.{no_test_holds}
@@ -40,8 +41,8 @@ IsPath-child path name is is_name none =
     let off = no_test_holds (child_tests path name) none in
     record {
       names = all_more path name is.names is_name;
-      short = at_most 1024 _ off.0;
-      shallow = at_most 32 _ off.1.0;
+      short = at_most MAX_TEXT_LEN _ off.0;
+      shallow = at_most MAX_DEPTH _ off.1.0;
       unreserved = off.1.1.0;
     }
 
@@ -52,7 +53,7 @@ length-segments (name ∷ names) =
     omega (arith, length-append name (flat_map segment_of names), length-segments names, sum_by-cons (λ (name : List ℕ). length name + 1) name names)
 
 -- the segments of a path are no longer than its text may be
-pub segments_fit : (path : List (List ℕ)) → IsPath path → sum_by (λ name. length name + 1) path ≤ 1024
+pub segments_fit : (path : List (List ℕ)) → IsPath path → sum_by (λ name. length name + 1) path ≤ MAX_TEXT_LEN
 segments_fit [] is = lit≤ tt
 segments_fit (name ∷ names) is = rw (← length-segments (name ∷ names)) is.short
 

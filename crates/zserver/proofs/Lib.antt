@@ -2,3 +2,4 @@ pub mod Fields
 pub mod Projection
 pub mod Answering
 pub mod Cases
+pub mod Tables

@@ -13,7 +13,7 @@ use Rattle.ztree.specs.declared.session.Session.{Session}
 use Rattle.zstore.specs.declared.row.SessionRow.{SessionRow}
 use Rattle.ztree.specs.Tree.{Tree, Sessions}
 use Rattle.ztree.specs.Sessions.{due_sessions, renewed_session, with_renewed_session}
-use Rattle.zstore.specs.Rows.{IsSessionAt, IsSessionGap, session_row, session_rows, id_if_due, due_among}
+use Rattle.zstore.specs.support.Rows.{IsSessionAt, IsSessionGap, session_row, session_rows, id_if_due, due_among}
 use Rattle.zstore.proofs.Keyed.{Has, Goes, at_key, search_ends, get_key, no_key, set_inserts, insert_inserts, remove_removes}
 use Rattle.std.specs.Prelude.{nat_le}
 use Rattle.ztree.proofs.Ending.{keys_where}
@@ -24,7 +24,7 @@ abbrev pub sessions_of : List SessionRow → Sessions
 sessions_of rows = from_sorted (session_rows rows)
 
 -- a binary search by id ends at the session's row, or where it would go
-pub alive_searched : (id : ℕ) (rows : List SessionRow) → T (is_sorted nat_cmp (session_rows rows)) → (r : Result ℕ ℕ) → IsSearchInRange r (length rows) → IsBinarySearchResult (λ (row : SessionRow). nat_cmp row.number id) rows r → IfOk r (IsSessionAt rows id) × IfErr r (IsSessionGap rows id)
+pub alive_searched : (id : ℕ) (rows : List SessionRow) → T (is_sorted nat_cmp (session_rows rows)) → (r : Result ℕ ℕ) → IsSearchInRange r (length rows) → IsBinarySearchResult (λ (row : SessionRow). nat_cmp row.id id) rows r → IfOk r (IsSessionAt rows id) × IfErr r (IsSessionGap rows id)
 alive_searched id rows s r range found = by r (search_ends nat_cmp_total nat_cmp-IsAntisymmetric session_row id rows s r range found)
   where
     by : (r : Result ℕ ℕ) → IfOk r (Has nat_cmp_total nat_cmp-IsAntisymmetric session_row id rows) × IfErr r (Goes nat_cmp_total nat_cmp-IsAntisymmetric session_row id rows) → IfOk r (IsSessionAt rows id) × IfErr r (IsSessionGap rows id)
@@ -41,7 +41,7 @@ module _ (rows : List SessionRow) (id at : ℕ) (s : T (is_sorted nat_cmp (sessi
   not_alive_twice none = found_at nat_cmp nat_cmp_total id (session_rows rows) at (at_key nat_cmp_total nat_cmp-IsAntisymmetric session_row id rows at s (here.within, here.here)) none
 
   -- a session's row written over
-  pub alive_set : (new : SessionRow) → new.number ≡ id → T (is_sorted nat_cmp (session_rows (set rows at new))) × (sessions_of (set rows at new) ≡ finite.insert (sessions_of rows) id new.session)
+  pub alive_set : (new : SessionRow) → new.id ≡ id → T (is_sorted nat_cmp (session_rows (set rows at new))) × (sessions_of (set rows at new) ≡ finite.insert (sessions_of rows) id new.session)
   alive_set new same =
       let did = set_inserts nat_cmp_total nat_cmp-IsAntisymmetric session_row rows at new s (here.within, λ d. here.here d ∙ sym same) in
       (did.0, did.1 ∙ ap (λ k. finite.insert (sessions_of rows) k new.session) same)
@@ -56,7 +56,7 @@ module _ (rows : List SessionRow) (id at : ℕ) (s : T (is_sorted nat_cmp (sessi
   alive_nowhere = no_key nat_cmp_total nat_cmp-IsAntisymmetric session_row id rows at s (gap.within, gap.before, gap.behind)
 
   -- a new session's row put where it goes
-  pub alive_insert : (new : SessionRow) → new.number ≡ id → T (is_sorted nat_cmp (session_rows (insert rows at new))) × (sessions_of (insert rows at new) ≡ finite.insert (sessions_of rows) id new.session)
+  pub alive_insert : (new : SessionRow) → new.id ≡ id → T (is_sorted nat_cmp (session_rows (insert rows at new))) × (sessions_of (insert rows at new) ≡ finite.insert (sessions_of rows) id new.session)
   alive_insert new same =
       let goes = subst (λ k. Goes nat_cmp_total nat_cmp-IsAntisymmetric session_row k rows at) (sym same) (gap.within, gap.before, gap.behind) in
       let did = insert_inserts nat_cmp_total nat_cmp-IsAntisymmetric session_row rows at new s goes in

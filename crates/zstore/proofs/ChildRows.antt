@@ -6,20 +6,20 @@ use Rattle.std.specs.List.{count_by, cons_option, starts_with}
 use Rattle.std.specs.Str.{bytes_eq}
 use Rattle.zstore.specs.declared.row.Row.{Row}
 use Rattle.ztree.specs.Tree.{Path, Name, child_name}
-use Rattle.zstore.specs.Rows.{is_beneath, names_of_children}
+use Rattle.zstore.specs.support.Rows.{is_beneath, names_beneath}
 
 -- as many names as rows whose path has one beneath p
-pub length-children : (p : Path) (rows : List Row) → length (names_of_children p rows) ≡ count_by (λ (r : Row). is_some (child_name p r.path)) rows
-length-children p rows = is_count_by (λ rows. length (names_of_children p rows)) (λ (r : Row). is_some (child_name p r.path)) refl (λ r rows. one_more (child_name p r.path) _) rows
+pub length-children : (p : Path) (rows : List Row) → length (names_beneath p rows) ≡ count_by (λ (r : Row). is_some (child_name p r.path)) rows
+length-children p rows = is_count_by (λ rows. length (names_beneath p rows)) (λ (r : Row). is_some (child_name p r.path)) refl (λ r rows. one_more (child_name p r.path) _) rows
   where
     one_more : (o : Option Name) (ns : List Name) → length (cons_option o ns) ≡ cond (is_some o) (1 + length ns) (length ns)
     one_more (Some n) ns = omega arith
     one_more None ns = refl
 
 -- one more row, with or without a name
-pub names_of_children-push : (p : Path) (rows : List Row) (r : Row) → names_of_children p (rows ++ r ∷ []) ≡ names_of_children p rows ++ cons_option (child_name p r.path) []
-names_of_children-push p [] r = refl
-names_of_children-push p (x ∷ rows) r = ap (cons_option (child_name p x.path)) (names_of_children-push p rows r) ∙ onto (child_name p x.path) (names_of_children p rows) (cons_option (child_name p r.path) [])
+pub names_beneath-push : (p : Path) (rows : List Row) (r : Row) → names_beneath p (rows ++ r ∷ []) ≡ names_beneath p rows ++ cons_option (child_name p r.path) []
+names_beneath-push p [] r = refl
+names_beneath-push p (x ∷ rows) r = ap (cons_option (child_name p x.path)) (names_beneath-push p rows r) ∙ onto (child_name p x.path) (names_beneath p rows) (cons_option (child_name p r.path) [])
   where
     onto : (o : Option Name) (a b : List Name) → cons_option o (a ++ b) ≡ cons_option o a ++ b
     onto (Some n) a b = refl

@@ -18,7 +18,7 @@ use Rattle.std.proofs.lemmas.Slice.Eq.{bytes_eq-Decides}
 use Rattle.zpath.specs.Grammar.{name_cmp, path_cmp}
 use Rattle.zstore.specs.declared.row.Row.{Row}
 use Rattle.ztree.specs.Tree.{Path, Name, child_name}
-use Rattle.zstore.specs.Rows.{node_rows, is_beneath, names_of_children}
+use Rattle.zstore.specs.support.Rows.{node_rows, is_beneath, names_beneath}
 use Rattle.ztree.proofs.Sorted.{paths_total, both_parts}
 use Rattle.zstore.proofs.Search.{below_at, tail_sorted}
 use Rattle.zstore.proofs.Shown.{none_of}
@@ -134,25 +134,25 @@ behind_sorted p (r ∷ rows) zero s l here =
     (subst (λ q. T (below_all path_cmp q (node_rows rows))) (here r) tail.0, tail.1)
 behind_sorted p (r ∷ rows) (suc at) s l here = behind_sorted p rows at (tail_sorted r rows s).1 (omega arith) here
 
-names-append : (p : Path) (a b : List Row) → names_of_children p (a ++ b) ≡ names_of_children p a ++ names_of_children p b
+names-append : (p : Path) (a b : List Row) → names_beneath p (a ++ b) ≡ names_beneath p a ++ names_beneath p b
 names-append p a b = ap (filter_map (child_name p)) (map-append (λ (r : Row). r.path) a b) ∙ filter_map-append (child_name p) (map (λ (r : Row). r.path) a) (map (λ (r : Row). r.path) b)
 
 -- what stands in front or behind and has no name can go
-names-front : (p : Path) (rows : List Row) (n : ℕ) → names_of_children p (take n rows) ≡ [] → names_of_children p rows ≡ names_of_children p (drop n rows)
-names-front p rows n none = ap (names_of_children p) (sym (take-append-drop n rows)) ∙ names-append p (take n rows) (drop n rows) ∙ ap (λ front. front ++ names_of_children p (drop n rows)) none
+names-front : (p : Path) (rows : List Row) (n : ℕ) → names_beneath p (take n rows) ≡ [] → names_beneath p rows ≡ names_beneath p (drop n rows)
+names-front p rows n none = ap (names_beneath p) (sym (take-append-drop n rows)) ∙ names-append p (take n rows) (drop n rows) ∙ ap (λ front. front ++ names_beneath p (drop n rows)) none
 
-names-back : (p : Path) (rows : List Row) (n : ℕ) → names_of_children p (drop n rows) ≡ [] → names_of_children p rows ≡ names_of_children p (take n rows)
-names-back p rows n none = ap (names_of_children p) (sym (take-append-drop n rows)) ∙ names-append p (take n rows) (drop n rows) ∙ ap (λ back. names_of_children p (take n rows) ++ back) none ∙ append-nil (names_of_children p (take n rows))
+names-back : (p : Path) (rows : List Row) (n : ℕ) → names_beneath p (drop n rows) ≡ [] → names_beneath p rows ≡ names_beneath p (take n rows)
+names-back p rows n none = ap (names_beneath p) (sym (take-append-drop n rows)) ∙ names-append p (take n rows) (drop n rows) ∙ ap (λ back. names_beneath p (take n rows) ++ back) none ∙ append-nil (names_beneath p (take n rows))
 
 -- the children of a row's path are those among the rows behind it that are beneath it
-children-family : (p : Path) (rows : List Row) (at end : ℕ) → T (is_sorted path_cmp (node_rows rows)) → at < length rows → ((d : Row) → (get_or rows at d).path ≡ p) → ((k : ℕ) (d : Row) → end ≤ k → k < length (drop (suc at) rows) → is_beneath p (get_or (drop (suc at) rows) k d).path ≡ false) → names_of_children p rows ≡ names_of_children p (take end (drop (suc at) rows))
+children-family : (p : Path) (rows : List Row) (at end : ℕ) → T (is_sorted path_cmp (node_rows rows)) → at < length rows → ((d : Row) → (get_or rows at d).path ≡ p) → ((k : ℕ) (d : Row) → end ≤ k → k < length (drop (suc at) rows) → is_beneath p (get_or (drop (suc at) rows) k d).path ≡ false) → names_beneath p rows ≡ names_beneath p (take end (drop (suc at) rows))
 children-family p rows at end s l here apart =
     let behind = drop (suc at) rows in
     names-front p rows (suc at) (none_before p rows at s l here)
     ∙ names-back p behind end (none_beneath p (drop end behind) (λ k d m. rw (get_or-drop end behind k d) (apart (end + k) d (omega arith) (omega (arith, length-drop end behind)))))
 
 -- where a search for the last row that is beneath a row's path ends, its children end
-pub children-searched : (p : Path) (rows : List Row) (at n end : ℕ) → n ≡ suc at → T (is_sorted path_cmp (node_rows rows)) → at < length rows → ((d : Row) → (get_or rows at d).path ≡ p) → (IsPartitionedBy (λ (r : Row). is_beneath p r.path) (drop n rows) → IsPartitionPoint (λ (r : Row). is_beneath p r.path ≡ true) (λ (r : Row). is_beneath p r.path ≡ false) (drop n rows) end) → names_of_children p (take end (drop n rows)) ≡ names_of_children p rows
+pub children-searched : (p : Path) (rows : List Row) (at n end : ℕ) → n ≡ suc at → T (is_sorted path_cmp (node_rows rows)) → at < length rows → ((d : Row) → (get_or rows at d).path ≡ p) → (IsPartitionedBy (λ (r : Row). is_beneath p r.path) (drop n rows) → IsPartitionPoint (λ (r : Row). is_beneath p r.path ≡ true) (λ (r : Row). is_beneath p r.path ≡ false) (drop n rows) end) → names_beneath p (take end (drop n rows)) ≡ names_beneath p rows
 children-searched p rows at n end e s l here search =
     let behind = behind_sorted p rows at s l here in
     let parted = (rw e at search) (family_first p (drop (suc at) rows) behind.0 behind.1) in

@@ -9,14 +9,16 @@ use Rattle.std.specs.Cmp.{unsigned_Decides, tied_itself}
 use Rattle.std.specs.FinMap as finite
 use Rattle.std.specs.FinMap.{find, is_sorted, get-from_sorted}
 use Rattle.std.proofs.lemmas.List.{length-map}
-use Rattle.zpath.specs.Grammar.{path_cmp}
+use Rattle.zpath.specs.Grammar.{path_cmp, IsPath}
 use Rattle.ztree.specs.declared.node.Node.{Node}
 use Rattle.zstore.specs.declared.row.Row.{Row}
 use Rattle.zstore.specs.declared.row.SessionRow.{SessionRow}
-use Rattle.ztree.specs.Tree.{Path, Nodes, opening_tree, new_node, parent_of, has_node, children}
-use Rattle.ztree.specs.Lawful.{IsPersistent, IsOwner, IsLawful}
+use Rattle.ztree.specs.Tree.{Tree, Path, Nodes, opening_tree, new_node, parent_of, has_node, children}
+use Rattle.ztree.specs.Lawful.{IsPersistent, IsOwner, IsLawful, HasPaths}
+use Rattle.ztree.specs.declared.limits.TheConstants.{MAX_NODES}
+use Rattle.ztree.proofs.Paths.{paths_opening, paths_changed, paths_inserted, paths_removed}
 use Rattle.zstore.specs.StoreView.{while_there}
-use Rattle.zstore.specs.Rows.{node_rows, place_row, place_rows, tree_of, IsKept, IsGapFor}
+use Rattle.zstore.specs.support.Rows.{node_rows, place_row, place_rows, tree_of, IsKept, IsGapFor}
 use Rattle.ztree.proofs.Sorted.{paths_total, same_path}
 use Rattle.ztree.proofs.Maps.{get-remove-here}
 use Rattle.ztree.proofs.Nodes.{changed_at-some, no_entries, one_entry}
@@ -59,6 +61,7 @@ kept_opening =
     record {
       laid = record { sorted = tt; apart = (refl, tt); numbers = (omega arith, tt); sessions = tt };
       lawful = subst IsLawful (sym opens) lawful_opening;
+      paths = subst (λ (t : Tree). HasPaths t.nodes) (sym opens) paths_opening;
     }
 
 module _ (rows : List Row) (alive : List SessionRow) (time zxid bound : ℕ) (kept : IsKept rows alive time zxid bound) where
@@ -72,15 +75,17 @@ module _ (rows : List Row) (alive : List SessionRow) (time zxid bound : ℕ) (ke
       record {
         laid = set_is_laid rows alive bound kept.laid at d new l same;
         lawful = subst (λ (m : Nodes). IsLawful (record { nodes = m; sessions = sessions_of alive; time = time; zxid = zxid })) (sym nodes) (lawful_changed (tree_of rows alive time zxid) old.path f (λ n. refl) kept.lawful);
+        paths = subst HasPaths (sym nodes) (paths_changed (nodes_of rows) old.path f kept.paths);
       }
 
   -- one more row, beneath a persistent node, of nobody or of a session
-  pub kept_insert : (at : ℕ) (new : Row) → new.number ≡ bound → IsGapFor rows new.path at → IsPersistent (finite.get (nodes_of rows) (parent_of new.path)) → IsOwner (sessions_of alive) new.node.owner → finite.len (nodes_of rows) < 4096 → IsKept (insert rows at new) alive time zxid (bound + 1)
-  kept_insert at new fresh gap parent owner few =
+  pub kept_insert : (at : ℕ) (new : Row) → new.number ≡ bound → IsGapFor rows new.path at → IsPersistent (finite.get (nodes_of rows) (parent_of new.path)) → IsOwner (sessions_of alive) new.node.owner → IsPath new.path → finite.len (nodes_of rows) < MAX_NODES → IsKept (insert rows at new) alive time zxid (bound + 1)
+  kept_insert at new fresh gap parent owner is_path few =
       let free : has_node (nodes_of rows) new.path ≡ false = ap is_some (get-gap rows kept.laid.sorted new.path at gap) in
       record {
         laid = insert_is_laid rows alive bound kept.laid at new fresh gap;
         lawful = subst (λ (m : Nodes). IsLawful (record { nodes = m; sessions = sessions_of alive; time = time; zxid = zxid })) (sym (nodes_of-insert rows alive bound kept.laid at new gap)) (lawful_inserted (tree_of rows alive time zxid) new.path new.node kept.lawful free parent owner few);
+        paths = subst HasPaths (sym (nodes_of-insert rows alive bound kept.laid at new gap)) (paths_inserted (nodes_of rows) new.path new.node kept.paths is_path);
       }
 
   module _ (at : ℕ) (d : Row) (l : at < length rows) where
@@ -90,6 +95,7 @@ module _ (rows : List Row) (alive : List SessionRow) (time zxid bound : ℕ) (ke
         record {
           laid = remove_is_laid rows alive bound kept.laid at d l;
           lawful = subst (λ (m : Nodes). IsLawful (record { nodes = m; sessions = sessions_of alive; time = time; zxid = zxid })) (sym (nodes_of-remove rows alive bound kept.laid at d l)) (lawful_removed (tree_of rows alive time zxid) (get_or rows at d).path kept.lawful below leaf);
+          paths = subst HasPaths (sym (nodes_of-remove rows alive bound kept.laid at d l)) (paths_removed (nodes_of rows) (get_or rows at d).path kept.paths);
         }
 
     -- a number names what it named, while the node is there

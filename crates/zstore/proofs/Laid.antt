@@ -9,7 +9,7 @@ use Rattle.std.specs.FinMap.{nat_cmp-IsAntisymmetric, find, from_entries, same_m
 use Rattle.std.proofs.lemmas.Bool.Decides.{nat_tests}
 use Rattle.ztree.specs.Tree.{Path}
 use Rattle.zstore.specs.declared.row.Row.{Row}
-use Rattle.zstore.specs.Rows.{AllApart, place_rows}
+use Rattle.zstore.specs.support.Rows.{AllApart, place_rows}
 
 abbrev pub Places : Type 0
 Places = List (ℕ × Path)

@@ -9,4 +9,3 @@ pub mod Shown
 pub mod Naming
 pub mod Kept
 pub mod Families
-pub mod Low

@@ -9,7 +9,7 @@ use Rattle.std.specs.FinMap.{is_sorted, from_sorted, entries-from_sorted}
 use Rattle.zpath.specs.Grammar.{path_cmp}
 use Rattle.zstore.specs.declared.row.Row.{Row}
 use Rattle.ztree.specs.Tree.{ephemerals}
-use Rattle.zstore.specs.Rows.{node_rows, owned_by}
+use Rattle.zstore.specs.support.Rows.{node_rows, owned_by}
 use Rattle.ztree.proofs.Ephemerals.{owned_in}
 
 -- the first row from a place on, where the session owns its node

@@ -10,7 +10,7 @@ use Rattle.std.specs.FinMap.Entries.{below_all}
 use Rattle.zpath.specs.Grammar.{path_cmp}
 use Rattle.zstore.specs.declared.row.Row.{Row}
 use Rattle.ztree.specs.Tree.{Path}
-use Rattle.zstore.specs.Rows.{node_rows, IsAt, IsGapFor}
+use Rattle.zstore.specs.support.Rows.{node_rows, IsAt, IsGapFor}
 use Rattle.ztree.proofs.Sorted.{At, Gap, both_parts, is_less, paths_total, same_path}
 
 -- the rows behind one that isn't below q are above q

@@ -18,7 +18,7 @@ use Rattle.zstore.specs.declared.row.SessionRow.{SessionRow}
 use Rattle.zstore.specs.declared.store.Store.TheInside.{Inside}
 use Rattle.ztree.specs.Tree.{Path, Nodes, child_name, stat_with, stat_at}
 use Rattle.zstore.specs.StoreView.{StoreView, path_of, node_of}
-use Rattle.zstore.specs.Rows.{node_row, node_rows, place_row, place_rows, held_by, IsLaid, IsGapFor}
+use Rattle.zstore.specs.support.Rows.{node_row, node_rows, place_row, place_rows, held_by, IsLaid, IsGapFor}
 use Rattle.ztree.proofs.Sorted.{paths_total, same_path, other_than, remove_at, others_sorted, from_sorted-others, find_at, find_gap, set_at, insert_gap, put_sorted, from_sorted-put}
 use Rattle.zstore.proofs.Search.{at_rows, gap_rows}
 use Rattle.zstore.proofs.Laid.{find_place, find_fresh, numbers_insert, apart_insert, places_insert, numbers_remove, apart_remove, places_remove}

@@ -1,13 +1,13 @@
 -- A session's end under way: what holds once some of its nodes are gone, and which Ids still name a node.
-use Rattle.std.proofs.Common.{◌≡◌, ℕ, ◌<◌, ◌+◌, ◌^◌, Bool, true, false, cond, List, ◌∷◌, length, Option, Some, None, refl, sym, ap, ◌∙◌, arith}
+use Rattle.std.proofs.Common.{◌≡◌, ℕ, ◌+◌, Bool, true, false, cond, List, ◌∷◌, length, Option, Some, None, refl, sym, ap, ◌∙◌, arith}
 use Rattle.std.specs.Ordering.{eq_by_cmp}
 use Rattle.std.specs.Option.{option_and_then}
 use Rattle.std.specs.FinMap as finite
 use Rattle.zpath.specs.Grammar.{path_cmp}
 use Rattle.ztree.specs.declared.node.Node.{Node}
-use Rattle.ztree.specs.Tree.{Tree, Path, Nodes, has_node, ephemerals, without_node}
+use Rattle.ztree.specs.Tree.{Tree, Path, Nodes, parent_of, has_node, ephemerals, without_node}
 use Rattle.ztree.specs.Sessions.{without_nodes}
-use Rattle.ztree.specs.Lawful.{AllNodes}
+use Rattle.ztree.specs.Room.{HasRoomForLosses, HasRoomForEnd}
 use Rattle.zstore.specs.StoreView.{StoreView, path_of, while_there, ForgetsGone}
 use Rattle.ztree.proofs.Ephemerals.{ephemerals-dropped}
 use Rattle.ztree.proofs.Ending.{HasLost, found-dropped, has_node-dropped}
@@ -40,7 +40,7 @@ pub record IsUnderWay (old new : StoreView) (id : ℕ) : Type 0 where
   pub rest : without_nodes new.tree (ephemerals new.tree.nodes id) ≡ without_nodes old.tree (ephemerals old.tree.nodes id)
   pub sessions : new.tree.sessions ≡ old.tree.sessions
   pub zxid : new.tree.zxid ≡ old.tree.zxid
-  pub counters : AllNodes (λ n. n.cversion + length (ephemerals new.tree.nodes id) < 2 ^ 62) new.tree.nodes
+  pub counters : HasRoomForEnd new.tree id
   pub forgotten : ForgetsGone old new
   pub given : new.given ≡ old.given
 
@@ -53,16 +53,20 @@ module _ (old mid new : StoreView) (id : ℕ) (so_far : IsUnderWay old mid id) w
         rest = ap (λ ps. without_nodes new.tree ps) left ∙ ap (λ (t : Tree). without_nodes t paths) tree ∙ sym (ap (without_nodes mid.tree) all) ∙ so_far.rest;
         sessions = ap (λ (t : Tree). t.sessions) tree ∙ so_far.sessions;
         zxid = ap (λ (t : Tree). t.zxid) tree ∙ so_far.zxid;
-        counters = λ q m found. room left q m (found-dropped mid.tree path q m (sym (ap (λ (t : Tree). finite.get t.nodes q) tree) ∙ found));
+        counters = λ q m found owned n is. room left q m n (before q m found) owned (before (parent_of q) n is);
         forgotten = forgets_both old mid new so_far.forgotten gone (λ q there. fewer q (eq_by_cmp path_cmp q path) refl there);
         given = given ∙ so_far.given;
       }
     where
-      room : ephemerals new.tree.nodes id ≡ paths → (q : Path) (m : Node) → ((n : Node) × (finite.get mid.tree.nodes q ≡ Some n) × HasLost 1 n m) → m.cversion + length (ephemerals new.tree.nodes id) < 2 ^ 62
-      room left q m was =
-          let before = so_far.counters q was.0 was.1 in
+      before : (q : Path) (m : Node) → finite.get new.tree.nodes q ≡ Some m → (n : Node) × (finite.get mid.tree.nodes q ≡ Some n) × HasLost 1 n m
+      before q m found = found-dropped mid.tree path q m (sym (ap (λ (t : Tree). finite.get t.nodes q) tree) ∙ found)
+
+      room : ephemerals new.tree.nodes id ≡ paths → (q : Path) (m n : Node) → ((l : Node) × (finite.get mid.tree.nodes q ≡ Some l) × HasLost 1 l m) → m.owner ≡ id → ((l : Node) × (finite.get mid.tree.nodes (parent_of q) ≡ Some l) × HasLost 1 l n) → HasRoomForLosses (length (ephemerals new.tree.nodes id)) n
+      room left q m n was owned above =
+          let owner = sym (ap (λ (x : Node). x.owner) was.2.same) ∙ owned in
+          let had = so_far.counters q was.0 was.1 owner above.0 above.1 in
           let many : length (ephemerals mid.tree.nodes id) ≡ length paths + 1 = ap length all ∙ omega arith in
-          rw left (omega (arith, before, many, was.2.bound))
+          rw left (omega (arith, had, many, above.2.bound))
 
       fewer : (q : Path) (b : Bool) → eq_by_cmp path_cmp q path ≡ b → has_node new.tree.nodes q ≡ true → has_node mid.tree.nodes q ≡ true
       fewer q b e there = by b (ap (λ t. cond t false (has_node mid.tree.nodes q)) (sym e) ∙ sym (has_node-dropped mid.tree path q) ∙ sym (ap (λ (t : Tree). has_node t.nodes q) tree) ∙ there)

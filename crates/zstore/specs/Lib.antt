@@ -1,2 +1,2 @@
 pub mod StoreView
-pub mod Rows
+pub mod support

@@ -1,13 +1,16 @@
 -- What a store shows: the plain tree that it stands for, and which Ids name its nodes.
-use Rattle.std.specs.Prelude.{◌≡◌, ℕ, ◌+◌, Option, None, Some, refl, if◌then◌else◌}
+use Rattle.std.specs.Prelude.{◌≡◌, ℕ, ◌+◌, ◌≤◌, List, Option, None, Some, refl, if◌then◌else◌}
 use Rattle.std.specs.Coded.{Coded, code_by, coded×, coded_ℕ}
-use Rattle.std.specs.Option.{option_and_then}
+use Rattle.std.specs.Option.{option_and_then, option_map}
 use Rattle.std.specs.Ordering.{nat_cmp}
 use Rattle.std.specs.FinMap as finite
 use Rattle.std.specs.FinMap.{FinMap, get, insert, remove}
 use Rattle.zstore.specs.declared.id.Id.{Id}
 use Rattle.ztree.specs.declared.node.Node.{Node}
-use Rattle.ztree.specs.Tree.{Tree, Path, Nodes, has_node, coded_tree, coded_path}
+use Rattle.ztree.specs.declared.node.Stat.{Stat}
+use Rattle.ztree.specs.Tree.{Tree, Name, Path, Nodes, has_node, stat_at, children, with_data_at, without_node}
+use Rattle.ztree.specs.Room.{AtParent}
+use Rattle.ztree.specs.support.Codes.{coded_tree, coded_path}
 
 -- the tree, the paths of the live Ids, and how many Ids were given so far
 pub record StoreView : Type 0 where
@@ -15,26 +18,64 @@ pub record StoreView : Type 0 where
   pub places : FinMap nat_cmp Path
   pub given : ℕ
 
+-- the number of an Id: all that is seen of it
+abbrev pub number_of : Id → ℕ
+number_of id = id.number
+
 -- the path of the node that an Id names
 abbrev pub path_of : StoreView → Id → Option Path
-path_of h id = get h.places id.number
+path_of h id = get h.places (number_of id)
 
 -- the node that an Id names
 abbrev pub node_of : StoreView → Id → Option Node
 node_of h id = option_and_then (get h.tree.nodes) (path_of h id)
 
--- the number of an Id
-abbrev pub number_of : Id → ℕ
-number_of id = id.number
+-- a fact on the path that an Id names
+abbrev pub AtPath : StoreView → Id → (Path → Type 0) → Type 0
+AtPath h id P = (path : Path) → path_of h id ≡ Some path → P path
+
+-- a fact on the node right above that path, where there is one
+abbrev pub AtParentOf : StoreView → Id → (Node → Type 0) → Type 0
+AtParentOf h id P = AtPath h id (λ path. AtParent h.tree.nodes path P)
+
+-- a fact on the node that an Id names
+abbrev pub AtNode : StoreView → Id → (Node → Type 0) → Type 0
+AtNode h id P = (n : Node) → node_of h id ≡ Some n → P n
+
+-- the data of the node that an Id names
+abbrev pub data_of : StoreView → Id → Option (List ℕ)
+data_of h id = option_map (λ (n : Node). n.bytes) (node_of h id)
+
+-- and its counter
+abbrev pub seq_of : StoreView → Id → Option ℕ
+seq_of h id = option_map (λ (n : Node). n.seq) (node_of h id)
+
+-- what is told of the node that an Id names
+abbrev pub IsStatOf : StoreView → Id → Stat → Type 0
+IsStatOf h id stat = AtPath h id (λ path. stat_at h.tree.nodes path ≡ Some stat)
+
+-- the names of its children, in the order of their bytes
+abbrev pub AreChildrenOf : StoreView → Id → List Name → Type 0
+AreChildrenOf h id names = AtPath h id (λ path. names ≡ children h.tree.nodes path)
+
+-- every Id names what it named, and none is given
+abbrev pub KeepsIds : StoreView → StoreView → Type 0
+KeepsIds old new = (new.places ≡ old.places) × (new.given ≡ old.given)
+
+-- at most one Id is given, and none is taken back
+abbrev pub GivesAtMostOne : StoreView → StoreView → Type 0
+GivesAtMostOne old new = (old.given ≤ new.given) × (new.given ≤ old.given + 1)
 
 -- the Id is the next that is given, and it names this path and no other, and every other Id names what it named
-abbrev pub Names : StoreView → StoreView → Id → Path → Type 0
-Names old new id path =
-    (path_of old id ≡ None) × (new.places ≡ insert old.places id.number path) × (number_of id ≡ old.given) × (new.given ≡ old.given + 1)
+pub record NamesNew (old new : StoreView) (id : Id) (path : Path) : Type 0 where
+  pub free : path_of old id ≡ None
+  pub named : new.places ≡ insert old.places (number_of id) path
+  pub next : number_of id ≡ old.given
+  pub given : new.given ≡ old.given + 1
 
 -- the Id names nothing any more, and every other Id names what it named
 abbrev pub Forgets : StoreView → StoreView → Id → Type 0
-Forgets old new id = new.places ≡ remove old.places id.number
+Forgets old new id = new.places ≡ remove old.places (number_of id)
 
 -- a path where it has a node still
 abbrev pub while_there : Nodes → Path → Option Path
@@ -43,6 +84,14 @@ while_there nodes path = if has_node nodes path then Some path else None
 -- an Id whose node went names nothing any more, and every other Id names what it named
 abbrev pub ForgetsGone : StoreView → StoreView → Type 0
 ForgetsGone old new = (id : Id) → path_of new id ≡ option_and_then (while_there new.tree.nodes) (path_of old id)
+
+-- the data of the node that an Id names is written by the next change
+abbrev pub WritesData : StoreView → StoreView → Id → List ℕ → Type 0
+WritesData old new id bytes = AtPath old id (λ path. new.tree ≡ with_data_at old.tree path bytes)
+
+-- the node that an Id names is taken away by the next change
+abbrev pub DropsNode : StoreView → StoreView → Id → Type 0
+DropsNode old new id = AtPath old id (λ path. new.tree ≡ without_node old.tree path)
 
 -- how it is stored
 abbrev pub coded_store_view : Coded StoreView

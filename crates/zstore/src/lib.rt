@@ -8,19 +8,17 @@
 
 mod family;
 mod id;
+pub mod limits;
 mod place;
 mod reading;
 mod row;
 mod session_place;
-#[cfg(test)]
-mod session_tests;
 mod sessions;
 mod store;
 mod taking;
-#[cfg(test)]
-mod tests;
 mod writing;
 
 pub use id::Id;
-pub use store::{MAX_NODES, MAX_SESSIONS, Store};
-pub use ztree::{ClientId, Data, MAX_DATA, Node, Session, Stat};
+pub use store::Store;
+pub use ztree::limits::{MAX_DATA, MAX_NODES, MAX_SESSIONS};
+pub use ztree::{ClientId, Data, Node, Session, SessionId, Stat, Zxid};

@@ -1,12 +1,12 @@
 //! Where a node's row is.
 
-ghost use Rattle.std.specs.Prelude.{◌≡◌, ◌≢◌, [], ◌<◌, IfOk, IfErr, IfSome, IfNone, None, length, slice_index_or};
+ghost use Rattle.std.specs.Prelude.{◌≡◌, ◌≢◌, [], IfOk, IfErr, IfSome, IfNone, None};
 ghost use lib.Dec.{T};
 ghost use Rattle.std.specs.Ordering.{nat_cmp};
 ghost use Rattle.std.specs.FinMap.{find, is_sorted};
 ghost use Rattle.zpath.specs.Grammar.{path_cmp};
-ghost use Rattle.zstore.specs.declared.row.Row.{Row};
-ghost use Rattle.zstore.specs.Rows.{IsAt, IsGapFor, node_rows, place_rows};
+ghost use Rattle.zstore.specs.StoreView.{number_of};
+ghost use Rattle.zstore.specs.support.Rows.{HasNoRow, IsAt, IsGapFor, IsNumberAt, node_rows, place_rows};
 ghost use Rattle.ztree.specs.Tree.{parent_of};
 
 use crate::id::Id;
@@ -25,7 +25,7 @@ pub(crate) fn place_of(rows: &[Row], path: &Path) -> Result<usize, usize>
 /// Where a path goes that has no row.
 pub(crate) fn gap_of(rows: &[Row], path: &Path) -> usize
     requires sorted { T (is_sorted path_cmp (node_rows rows.now)) }
-    requires free { find path_cmp path.now (node_rows rows.now) ≡ None }
+    requires free { HasNoRow rows.now path.now }
     ensures { IsGapFor rows.now path.now result }
 {
     match place_of(rows, path) {
@@ -39,7 +39,7 @@ pub(crate) fn parent_place(rows: &[Row], path: &Path) -> Option<usize>
     requires sorted { T (is_sorted path_cmp (node_rows rows.now)) }
     requires below_root { path.now ≢ [] }
     ensures found { IfSome result (IsAt rows.now (parent_of path.now)) }
-    ensures absent { IfNone result (find path_cmp (parent_of path.now) (node_rows rows.now) ≡ None) }
+    ensures absent { IfNone result (HasNoRow rows.now (parent_of path.now)) }
 {
     let (_, front) = path.names().split_last()?;
     rows.binary_search_by(|row| row.path.names().cmp(front))
@@ -48,8 +48,8 @@ pub(crate) fn parent_place(rows: &[Row], path: &Path) -> Option<usize>
 
 /// Where the row of an Id is, if its node lives. Mostly the hint is right.
 pub(crate) fn row_of(rows: &[Row], id: Id) -> Option<usize>
-    ensures found { IfSome result (λ at. (at < length rows.now) × ((d : Row) → (slice_index_or rows.now at d).number ≡ id.number)) }
-    ensures absent { IfNone result (find nat_cmp id.number (place_rows rows.now) ≡ None) }
+    ensures found { IfSome result (IsNumberAt rows.now (number_of id)) }
+    ensures absent { IfNone result (find nat_cmp (number_of id) (place_rows rows.now) ≡ None) }
 {
     if id.hint < rows.len() && rows[id.hint].number == id.number {
         return Some(id.hint);

@@ -1,17 +1,15 @@
 //! What is read of a store.
 
-ghost use Rattle.std.specs.Prelude.{◌≡◌, ◌≢◌, [], Some, None, IfOk, IfSome, IfNone, is_some, IsSome};
+ghost use Rattle.std.specs.Prelude.{◌≡◌, ◌≢◌, [], Some, None, IfOk, IfSome, IfNone, OnSome, is_some, IsSome};
 ghost use Rattle.std.specs.FinMap.{get};
-ghost use Rattle.std.specs.Option.{option_map};
-ghost use Rattle.ztree.specs.Tree.{Path, parent_of, has_node, stat_at, children};
-ghost use Rattle.zstore.specs.StoreView.{path_of, node_of};
+ghost use Rattle.ztree.specs.Tree.{parent_of, has_node};
+ghost use Rattle.zstore.specs.StoreView.{path_of, node_of, data_of, seq_of, IsStatOf, AreChildrenOf};
 
 use crate::family::{child_count, child_names};
 use crate::id::Id;
 use crate::place::{parent_place, place_of, row_of};
 use crate::row::{copied_rows, copied_sessions};
 use crate::store::Store;
-use std::alloc::Global;
 use zpath::{Memory, Name, Path};
 use ztree::{Node, Stat};
 
@@ -41,7 +39,7 @@ impl Store {
 
     /// The data of the node that an Id names; none where it names none.
     pub fn data(&self, id: Id) -> Option<&[u8]>
-        ensures bytes { IfSome result (λ bytes. option_map (λ n. n.bytes) (node_of self.now id) ≡ Some bytes.now) }
+        ensures bytes { IfSome result (λ bytes. data_of self.now id ≡ Some bytes.now) }
         ensures gone { IfNone result (path_of self.now id ≡ None) }
     {
         let node = self.node(id)?;
@@ -51,8 +49,8 @@ impl Store {
     /// What is told of the node that an Id names; none where it names none. All rows are looked at,
     /// to count the children.
     pub fn stat(&self, id: Id) -> Option<Stat>
-        ensures stat { IfSome result (λ stat. (path : Path) → path_of self.now id ≡ Some path → stat_at self.now.tree.nodes path ≡ Some stat) }
-        ensures live { IfSome result (λ _. IsSome (path_of self.now id)) }
+        ensures stat { IfSome result (IsStatOf self.now id) }
+        ensures live { OnSome result (IsSome (path_of self.now id)) }
         ensures gone { IfNone result (path_of self.now id ≡ None) }
     {
         let at = row_of(&self.rows, id)?;
@@ -63,33 +61,34 @@ impl Store {
 
     /// The counter of the node that an Id names; none where it names none.
     pub fn seq(&self, id: Id) -> Option<u64>
-        ensures seq { IfSome result (λ seq. option_map (λ n. n.seq) (node_of self.now id) ≡ Some seq) }
+        ensures seq { IfSome result (λ seq. seq_of self.now id ≡ Some seq) }
         ensures gone { IfNone result (path_of self.now id ≡ None) }
     {
         Some(self.node(id)?.seq)
     }
 
     /// The names of the children of the node that an Id names, in the order of their bytes.
-    pub fn children(&self, alloc: Global, id: Id) -> Result<Vec<Name>, Memory>
+    pub fn children(&self, id: Id) -> Result<Vec<Name>, Memory>
         requires live { IsSome (path_of self.now id) }
-        ensures { IfOk result (λ names. (path : Path) → path_of self.now id ≡ Some path → names.items ≡ children self.now.tree.nodes path) }
+        ensures { IfOk result (λ names. AreChildrenOf self.now id names.items) }
     {
         match row_of(&self.rows, id) {
-            Some(at) => child_names(alloc, &self.rows, at),
-            None => Ok(Vec::new(alloc)),
+            Some(at) => child_names(self.alloc, &self.rows, at),
+            None => unreachable!(),
         }
     }
 
     /// A store of its own with the same tree and the same Ids.
-    pub fn copy(&self, alloc: Global) -> Result<Store, Memory>
+    pub fn copy(&self) -> Result<Store, Memory>
         ensures { IfOk result (λ copy. copy ≡ self.now) }
     {
         Ok(Store {
-            rows: copied_rows(alloc, &self.rows)?,
-            sessions: copied_sessions(alloc, &self.sessions)?,
+            rows: copied_rows(self.alloc, &self.rows)?,
+            sessions: copied_sessions(self.alloc, &self.sessions)?,
             time: self.time,
             zxid: self.zxid,
             given: self.given,
+            alloc: self.alloc,
         })
     }
 

@@ -4,7 +4,7 @@ ghost use Rattle.std.specs.Prelude.{◌≡◌, IfOk};
 
 use std::alloc::Global;
 use zpath::{Memory, Path};
-use ztree::{Node, Session};
+use ztree::{Node, Session, SessionId};
 
 /// A node, where it is, and the number of its Id.
 #[derive(Drop)]
@@ -14,10 +14,10 @@ pub(crate) struct Row {
     pub(crate) node: Node,
 }
 
-/// A session, by its number.
+/// A session, by its id.
 #[derive(Drop)]
 pub(crate) struct SessionRow {
-    pub(crate) number: u64,
+    pub(crate) id: SessionId,
     pub(crate) session: Session,
 }
 
@@ -40,7 +40,7 @@ impl SessionRow {
         ensures { result ≡ self.now }
     {
         SessionRow {
-            number: self.number,
+            id: self.id,
             session: self.session,
         }
     }

@@ -1,25 +1,28 @@
 //! What is read of sessions, and done with them.
 
-ghost use Rattle.std.specs.Prelude.{◌≡◌, ◌<◌, ◌≤◌, ◌+◌, ◌^◌, [], length, None, Some, IfOk, IfSome, IfNone, OnOk, OnErr, IsSome};
+ghost use Rattle.std.specs.Prelude.{◌≡◌, ◌<◌, ◌+◌, [], None, Some, IfOk, IfSome, IfNone, OnOk, OnErr, IsSome};
 ghost use Rattle.std.specs.FinMap as finite;
 ghost use Rattle.std.specs.FinMap.{get};
 ghost use Rattle.ztree.specs.Tree.{ephemerals};
 ghost use Rattle.ztree.specs.Sessions.{with_session, with_renewed_session, without_session, due_sessions, with_next_tick};
-ghost use Rattle.ztree.specs.Lawful.{AllNodes, AllSessions, IsLawful};
-ghost use Rattle.zstore.specs.StoreView.{ForgetsGone};
-ghost use Rattle.zstore.specs.Rows.{IsFirstOwned};
+ghost use Rattle.ztree.specs.Lawful.{IsLawful};
+ghost use Rattle.ztree.specs.declared.limits.TheConstants.{MAX_SESSIONS, ZXID_BOUND, TICK_BOUND, DEADLINE_BOUND};
+ghost use Rattle.ztree.specs.declared.session.Session.{Session};
+ghost use Rattle.ztree.specs.Room.{HasRoomForEnd, HasRoomForDeadline};
+ghost use Rattle.zstore.specs.StoreView.{KeepsIds, ForgetsGone};
+ghost use Rattle.zstore.specs.support.Rows.{IsFirstOwned};
+ghost use Rattle.zstore.specs.support.Parts.{tree_without_session};
 
 use crate::id::Id;
 use crate::row::SessionRow;
 use crate::session_place::{owned_place, reached, session_gap, session_place};
 use crate::store::Store;
-use std::alloc::Global;
 use zpath::Memory;
-use ztree::{ClientId, Session};
+use ztree::{ClientId, Session, SessionId};
 
 impl Store {
     /// The session of that id; none where there is none.
-    pub fn session(&self, id: u64) -> Option<Session>
+    pub fn session(&self, id: SessionId) -> Option<Session>
         ensures { result ≡ get self.now.tree.sessions id }
     {
         match session_place(&self.sessions, id) {
@@ -30,44 +33,44 @@ impl Store {
 
     /// The ids of the sessions that the next tick ends, in their order: those whose deadline it
     /// reaches. All sessions are looked at.
-    pub fn due(&self, alloc: Global, tick: u64) -> Result<Vec<u64>, Memory>
+    pub fn due(&self, tick: u64) -> Result<Vec<SessionId>, Memory>
         requires next { tick ≡ self.now.tree.time + 1 }
         ensures { IfOk result (λ ids. ids.items ≡ due_sessions self.now.tree.sessions tick) }
     {
-        reached(alloc, &self.sessions, tick)
+        reached(self.alloc, &self.sessions, tick)
     }
 
     /// Opens a session, whose id is the number of the next change and whose deadline is its timeout
     /// from now. The machine has tested what is asked for. After `Memory` nothing has changed.
     pub fn open_session(&mut self, client: ClientId, timeout: u64) -> Result<(), Memory>
         requires free { get self.old.tree.sessions (self.old.tree.zxid + 1) ≡ None }
-        requires few { finite.len self.old.tree.sessions < 1024 }
+        requires few { finite.len self.old.tree.sessions < MAX_SESSIONS }
         requires lives { 0 < timeout }
-        requires deadline { self.old.tree.time + timeout < 2 ^ 62 }
-        requires zxid { self.old.tree.zxid + 1 < 2 ^ 40 }
-        requires given { self.old.given < 2 ^ 127 }
+        requires deadline { self.old.tree.time + timeout < DEADLINE_BOUND }
+        requires zxid { self.old.tree.zxid + 1 < ZXID_BOUND }
         ensures tree { OnOk result (self.new.tree ≡ with_session self.old.tree client timeout) }
-        ensures places { self.new.places ≡ self.old.places }
-        ensures given { self.new.given ≤ self.old.given + 1 }
+        ensures same { OnOk result (KeepsIds self.old self.new) }
         ensures err { OnErr result (self.new ≡ self.old) }
     {
-        let number = self.zxid + 1;
+        let zxid = self.zxid.next();
+        let id = SessionId::of(zxid);
         let session = Session {
             client,
             timeout,
             deadline: self.time + timeout,
         };
-        let at = session_gap(&self.sessions, number);
-        self.sessions.insert(at, SessionRow { number, session })?;
+        let at = session_gap(&self.sessions, id);
+        self.sessions.insert(at, SessionRow { id, session })?;
         Ok(())
     }
 
     /// Keeps a session alive: its deadline is its timeout from now. It takes no memory.
-    pub fn touch(&mut self, id: u64)
+    pub fn touch(&mut self, id: SessionId)
         requires live { IsSome (get self.old.tree.sessions id) }
-        requires deadlines { AllSessions (λ id s. (0 < s.timeout) × (self.old.tree.time + s.timeout < 2 ^ 62)) self.old.tree.sessions }
+        requires deadline { (s : Session) → get self.old.tree.sessions id ≡ Some s
+            → HasRoomForDeadline self.old.tree.time s.timeout }
         ensures tree { self.new.tree ≡ with_renewed_session self.old.tree id }
-        ensures same { (self.new.places ≡ self.old.places) × (self.new.given ≡ self.old.given) }
+        ensures same { KeepsIds self.old self.new }
     {
         if let Ok(at) = session_place(&self.sessions, id) {
             let session = &mut self.sessions[at].session;
@@ -78,10 +81,10 @@ impl Store {
     /// Ends a session by the next change: it goes, and with it every node that it owns; the Ids of
     /// these name nothing any more. It takes no memory. All rows are looked at, once for each such
     /// node.
-    pub fn end_session(&mut self, id: u64)
+    pub fn end_session(&mut self, id: SessionId)
         requires live { IsSome (get self.old.tree.sessions id) }
-        requires counters { AllNodes (λ n. n.cversion + length (ephemerals self.old.tree.nodes id) < 2 ^ 62) self.old.tree.nodes }
-        requires zxid { self.old.tree.zxid + 1 < 2 ^ 40 }
+        requires counters { HasRoomForEnd self.old.tree id }
+        requires zxid { self.old.tree.zxid + 1 < ZXID_BOUND }
         ensures tree { self.new.tree ≡ without_session self.old.tree id }
         ensures forgotten { ForgetsGone self.old self.new }
         ensures given { self.new.given ≡ self.old.given }
@@ -89,7 +92,7 @@ impl Store {
         self.is_kept_named();
         self.keeps_lawful();
         while let Some(ephemeral) = self.first_owned(id) {
-            self.take_leaf(ephemeral);
+            self.drop_leaf(ephemeral);
         }
         self.forget(id);
     }
@@ -97,9 +100,9 @@ impl Store {
     /// One tick more. No session may be due then.
     pub fn advance(&mut self)
         requires none_due { due_sessions self.old.tree.sessions (self.old.tree.time + 1) ≡ [] }
-        requires ticks { self.old.tree.time + 1 < 2 ^ 40 }
+        requires ticks { self.old.tree.time + 1 < TICK_BOUND }
         ensures tree { self.new.tree ≡ with_next_tick self.old.tree }
-        ensures same { (self.new.places ≡ self.old.places) × (self.new.given ≡ self.old.given) }
+        ensures same { KeepsIds self.old self.new }
     {
         self.time += 1;
     }
@@ -112,7 +115,7 @@ impl Store {
     }
 
     // The first node that a session owns, if it owns one.
-    fn first_owned(&self, session: u64) -> Option<Id>
+    fn first_owned(&self, session: SessionId) -> Option<Id>
         ensures lawful { IsLawful self.now.tree }
         ensures found { IfSome result (λ id. IsFirstOwned self.now session id) }
         ensures absent { IfNone result (ephemerals self.now.tree.nodes session ≡ []) }
@@ -125,11 +128,11 @@ impl Store {
     }
 
     // A session that owns no node gone.
-    fn forget(&mut self, session: u64)
+    fn forget(&mut self, session: SessionId)
         requires live { IsSome (get self.old.tree.sessions session) }
         requires owns_none { ephemerals self.old.tree.nodes session ≡ [] }
-        ensures tree { self.new.tree ≡ record self.old.tree { sessions = finite.remove self.old.tree.sessions session } }
-        ensures same { (self.new.places ≡ self.old.places) × (self.new.given ≡ self.old.given) }
+        ensures tree { self.new.tree ≡ tree_without_session self.old.tree session }
+        ensures same { KeepsIds self.old self.new }
     {
         if let Ok(at) = session_place(&self.sessions, session) {
             self.sessions.remove(at);

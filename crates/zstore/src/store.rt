@@ -7,13 +7,7 @@ use crate::row::{Row, SessionRow};
 use std::alloc::Global;
 use std::marker::Model;
 use zpath::{Memory, Path};
-use ztree::{Data, Node};
-
-/// The most znodes that a store may hold, the root among them. The limit is this project's profile.
-pub const MAX_NODES: usize = 4096;
-
-/// The most sessions that a store may hold. The limit is this project's profile.
-pub const MAX_SESSIONS: usize = 1024;
+use ztree::{Data, Node, Zxid};
 
 /// The znodes and sessions of one machine, its clock and the number of its last change.
 #[derive(Drop)]
@@ -21,8 +15,9 @@ pub struct Store {
     pub(crate) rows: Vec<Row>,
     pub(crate) sessions: Vec<SessionRow>,
     pub(crate) time: u64,
-    pub(crate) zxid: u64,
+    pub(crate) zxid: Zxid,
     pub(crate) given: u128,
+    pub(crate) alloc: Global,
 }
 
 impl Model for Store {
@@ -32,7 +27,7 @@ impl Model for Store {
 
     ghost coded = { coded_store_view };
 
-    ghost use Rattle.zstore.specs.Rows.{held_by, IsKept};
+    ghost use Rattle.zstore.specs.support.Rows.{held_by, IsKept};
 
     ghost view = { held_by };
 
@@ -41,18 +36,19 @@ impl Model for Store {
 
 impl Store {
     ghost use Rattle.ztree.specs.Tree.{opening_tree};
-    ghost use Rattle.ztree.specs.Lawful.{IsLawful};
+    ghost use Rattle.ztree.specs.Lawful.{IsLawful, HasPaths};
 
     /// The opening: the root alone.
     pub fn new(alloc: Global) -> Result<Store, Memory>
         ensures opening { IfOk result (λ s. s.tree ≡ opening_tree) }
         ensures given { IfOk result (λ s. s.given ≤ 1) }
     {
+        let zxid = Zxid::new(0);
         let root = Node {
             bytes: Data::empty(alloc),
-            czxid: 0,
-            mzxid: 0,
-            pzxid: 0,
+            czxid: zxid,
+            mzxid: zxid,
+            pzxid: zxid,
             ctime: 0,
             mtime: 0,
             version: 0,
@@ -70,8 +66,9 @@ impl Store {
             rows,
             sessions: Vec::new(alloc),
             time: 0,
-            zxid: 0,
+            zxid,
             given: 1,
+            alloc,
         })
     }
 
@@ -83,7 +80,7 @@ impl Store {
     }
 
     /// The number of the last change.
-    pub fn zxid(&self) -> u64
+    pub fn zxid(&self) -> Zxid
         ensures { result ≡ self.now.tree.zxid }
     {
         self.zxid
@@ -106,6 +103,13 @@ impl Store {
     /// What every store keeps: its tree is lawful.
     pub fn keeps_lawful(&self)
         ensures { IsLawful self.now.tree }
+    {
+        let _ = &self.rows;
+    }
+
+    /// What every store keeps: each key of its tree is a path.
+    pub fn keeps_paths(&self)
+        ensures { HasPaths self.now.tree.nodes }
     {
         let _ = &self.rows;
     }

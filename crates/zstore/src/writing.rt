@@ -1,11 +1,15 @@
 //! What is changed in a store.
 
-ghost use Rattle.std.specs.Prelude.{◌≡◌, ◌≢◌, ◌≤◌, ◌<◌, ◌+◌, ◌^◌, [], Some, IfOk, IfSome, IfNone, OnOk, OnErr, IsSome, false};
+ghost use Rattle.std.specs.Prelude.{◌≡◌, ◌≢◌, ◌<◌, ◌+◌, [], Some, IfOk, OnOk, OnErr, IsSome, false};
 ghost use Rattle.std.specs.FinMap as finite;
 ghost use Rattle.std.specs.FinMap.{get};
-ghost use Rattle.ztree.specs.declared.node.Node.{Node};
-ghost use Rattle.ztree.specs.Tree.{Path, HasRoom, parent_of, has_node, children, with_change_at, with_child, with_node, without_node, with_data_at, with_next_zxid};
-ghost use Rattle.zstore.specs.StoreView.{path_of, node_of, Names, Forgets};
+ghost use Rattle.ztree.specs.declared.limits.TheConstants.{MAX_NODES, ZXID_BOUND};
+ghost use Rattle.zstore.specs.declared.limits.TheConstants.{ID_BOUND};
+ghost use Rattle.ztree.specs.Tree.{parent_of, has_node, with_node, with_next_zxid};
+ghost use Rattle.ztree.specs.Room.{HasRoomForChild, HasRoomForData};
+ghost use Rattle.zstore.specs.StoreView.{path_of, node_of, AtNode};
+ghost use Rattle.zstore.specs.StoreView.{KeepsIds, GivesAtMostOne, NamesNew, WritesData};
+ghost use Rattle.zstore.specs.support.Parts.{tree_with, GainsChild};
 ghost use Rattle.ztree.specs.Lawful.{IsPersistent, IsOwner};
 
 use crate::id::Id;
@@ -18,11 +22,11 @@ use ztree::{Data, Node};
 impl Store {
     /// One more change. No other call changes the number.
     pub fn raise(&mut self)
-        requires { self.old.tree.zxid + 1 < 2 ^ 40 }
+        requires { self.old.tree.zxid + 1 < ZXID_BOUND }
         ensures tree { self.new.tree ≡ with_next_zxid self.old.tree }
-        ensures same { (self.new.places ≡ self.old.places) × (self.new.given ≡ self.old.given) }
+        ensures same { KeepsIds self.old self.new }
     {
-        self.zxid += 1;
+        self.zxid = self.zxid.next();
     }
 
     /// Adds a node that the next change makes, beneath a live parent, at a path that is free. The
@@ -40,20 +44,22 @@ impl Store {
         requires free { has_node self.old.tree.nodes path ≡ false }
         requires persistent { IsPersistent (node_of self.old parent) }
         requires owner { IsOwner self.old.tree.sessions owner }
-        requires counters { (n : Node) → node_of self.old parent ≡ Some n → HasRoom n }
-        requires few { finite.len self.old.tree.nodes < 4096 }
-        requires zxid { self.old.tree.zxid + 1 < 2 ^ 40 }
-        requires given { self.old.given < 2 ^ 127 }
-        ensures added { IfOk result (λ _. self.new.tree ≡ with_node self.old.tree path bytes owner sequential) }
-        ensures named { IfOk result (λ id. Names self.old self.new id path) }
-        ensures given { self.new.given ≤ self.old.given + 1 }
+        requires counters { AtNode self.old parent (HasRoomForChild sequential) }
+        requires few { finite.len self.old.tree.nodes < MAX_NODES }
+        requires zxid { self.old.tree.zxid + 1 < ZXID_BOUND }
+        requires given { self.old.given < ID_BOUND }
+        ensures added { OnOk result
+            (self.new.tree ≡ with_node self.old.tree path bytes owner sequential) }
+        ensures named { IfOk result (λ id. NamesNew self.old self.new id path) }
+        ensures given { GivesAtMostOne self.old self.new }
         ensures err { OnErr result (self.new ≡ self.old) }
     {
+        let zxid = self.zxid.next();
         let node = Node {
             bytes,
-            czxid: self.zxid + 1,
-            mzxid: self.zxid + 1,
-            pzxid: self.zxid + 1,
+            czxid: zxid,
+            mzxid: zxid,
+            pzxid: zxid,
             ctime: self.time,
             mtime: self.time,
             version: 0,
@@ -66,34 +72,20 @@ impl Store {
         Ok(id)
     }
 
-    /// Takes away a node beneath which there is none, by the next change; its Id names nothing any
-    /// more. The machine has tested what is asked for. It takes no memory.
-    pub fn drop_leaf(&mut self, id: Id)
-        requires live { IsSome (path_of self.old id) }
-        requires below_root { (path : Path) → path_of self.old id ≡ Some path → path ≢ [] }
-        requires leaf { (path : Path) → path_of self.old id ≡ Some path → children self.old.tree.nodes path ≡ [] }
-        requires counters { (path : Path) (n : Node) → path_of self.old id ≡ Some path → get self.old.tree.nodes (parent_of path) ≡ Some n → HasRoom n }
-        requires zxid { self.old.tree.zxid + 1 < 2 ^ 40 }
-        ensures tree { (path : Path) → path_of self.old id ≡ Some path → self.new.tree ≡ without_node self.old.tree path }
-        ensures forgotten { Forgets self.old self.new id }
-        ensures given { self.new.given ≡ self.old.given }
-    {
-        self.take_leaf(id);
-    }
-
     /// Writes the data of a live node, by the next change. After `Memory` nothing has changed.
     pub fn put_data(&mut self, id: Id, bytes: Data) -> Result<(), Memory>
         requires live { IsSome (path_of self.old id) }
-        requires counters { (n : Node) → node_of self.old id ≡ Some n → HasRoom n }
-        requires zxid { self.old.tree.zxid + 1 < 2 ^ 40 }
-        ensures tree { OnOk result ((path : Path) → path_of self.old id ≡ Some path → self.new.tree ≡ with_data_at self.old.tree path bytes) }
-        ensures same { OnOk result ((self.new.places ≡ self.old.places) × (self.new.given ≡ self.old.given)) }
+        requires counters { AtNode self.old id HasRoomForData }
+        requires zxid { self.old.tree.zxid + 1 < ZXID_BOUND }
+        ensures tree { OnOk result (WritesData self.old self.new id bytes) }
+        ensures same { OnOk result (KeepsIds self.old self.new) }
         ensures err { OnErr result (self.new ≡ self.old) }
     {
         if let Some(at) = row_of(&self.rows, id) {
+            let zxid = self.zxid.next();
             let node = &mut self.rows[at].node;
             node.bytes = bytes;
-            node.mzxid = self.zxid + 1;
+            node.mzxid = zxid;
             node.mtime = self.time;
             node.version += 1;
         }
@@ -105,12 +97,14 @@ impl Store {
         requires free { has_node self.old.tree.nodes path ≡ false }
         requires parent { IsPersistent (get self.old.tree.nodes (parent_of path)) }
         requires owner { IsOwner self.old.tree.sessions node.owner }
-        requires few { finite.len self.old.tree.nodes < 4096 }
-        requires given { self.old.given < 2 ^ 127 }
-        ensures tree { IfOk result (λ _. self.new.tree ≡ record self.old.tree { nodes = finite.insert self.old.tree.nodes path node }) }
-        ensures named { IfOk result (λ id. Names self.old self.new id path) }
+        requires few { finite.len self.old.tree.nodes < MAX_NODES }
+        requires given { self.old.given < ID_BOUND }
+        ensures tree { OnOk result (self.new.tree ≡ tree_with self.old.tree path node) }
+        ensures named { IfOk result (λ id. NamesNew self.old self.new id path) }
         ensures err { OnErr result (self.new ≡ self.old) }
     {
+        // A path's names are those of a path: the row keeps that.
+        let _ = path.names();
         let at = gap_of(&self.rows, &path);
         let number = self.given;
         self.rows.insert(at, Row { path, number, node })?;
@@ -121,14 +115,15 @@ impl Store {
     // The marks of the next change at a node beneath which a child came.
     fn child_changed(&mut self, parent: Id, sequential: bool)
         requires live { IsSome (path_of self.old parent) }
-        requires counters { (n : Node) → node_of self.old parent ≡ Some n → HasRoom n }
-        requires zxid { self.old.tree.zxid + 1 < 2 ^ 40 }
-        ensures tree { (path : Path) → path_of self.old parent ≡ Some path → self.new.tree ≡ record self.old.tree { nodes = with_change_at self.old.tree.nodes path (with_child (self.old.tree.zxid + 1) sequential) } }
-        ensures same { (self.new.places ≡ self.old.places) × (self.new.given ≡ self.old.given) }
+        requires counters { AtNode self.old parent (HasRoomForChild sequential) }
+        requires zxid { self.old.tree.zxid + 1 < ZXID_BOUND }
+        ensures tree { GainsChild self.old self.new parent sequential }
+        ensures same { KeepsIds self.old self.new }
     {
         if let Some(at) = row_of(&self.rows, parent) {
+            let zxid = self.zxid.next();
             let node = &mut self.rows[at].node;
-            node.pzxid = self.zxid + 1;
+            node.pzxid = zxid;
             node.cversion += 1;
             node.seq += u64::from(sequential);
         }

@@ -6,3 +6,6 @@ pub mod Lawful
 pub mod Ephemerals
 pub mod Ending
 pub mod LawfulEnd
+pub mod Listed
+pub mod Room
+pub mod Paths

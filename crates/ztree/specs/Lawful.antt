@@ -4,6 +4,8 @@
 use Rattle.std.specs.Prelude.{◌≡◌, ℕ, ◌<◌, ◌≤◌, ◌⊎◌, true, [], Option, Some, IsSome}
 use Rattle.std.specs.FinMap as finite
 use Rattle.std.specs.FinMap.{get}
+use Rattle.zpath.specs.Grammar.{IsPath}
+use Rattle.ztree.specs.declared.limits.TheConstants.{MAX_NODES, MAX_SESSIONS}
 use Rattle.ztree.specs.declared.node.Node.{Node}
 use Rattle.ztree.specs.declared.session.Session.{Session}
 use Rattle.ztree.specs.Tree.{Tree, Path, Nodes, Sessions, parent_of, has_node}
@@ -31,5 +33,9 @@ pub record IsLawful (t : Tree) : Type 0 where
   pub owners : AllNodes (λ n. IsOwner t.sessions n.owner) t.nodes
   pub ids : AllSessions (λ id s. 0 < id) t.sessions
   pub deadlines : AllSessions (λ id s. t.time < s.deadline) t.sessions
-  pub few_nodes : finite.len t.nodes ≤ 4096
-  pub few_sessions : finite.len t.sessions ≤ 1024
+  pub few_nodes : finite.len t.nodes ≤ MAX_NODES
+  pub few_sessions : finite.len t.sessions ≤ MAX_SESSIONS
+
+-- each key is a path, as the grammar has it
+abbrev pub HasPaths : Nodes → Type 0
+HasPaths nodes = (path : Path) → has_node nodes path ≡ true → IsPath path

@@ -1,3 +1,6 @@
 pub mod Tree
 pub mod Sessions
 pub mod Lawful
+pub mod Room
+pub mod Laws
+pub mod support

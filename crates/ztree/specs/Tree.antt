@@ -1,8 +1,7 @@
 -- The plain tree: the sequential specification's state. Every call of every layer is stated on it.
 -- ZooKeeper Programmer's Guide, "The ZooKeeper Data Model" ("ZNodes", "ZooKeeper Stat Structure",
 -- "Time in ZooKeeper"). Ticks, the counter of a node and zxids as a plain counter are this project's profile.
-use Rattle.std.specs.Prelude.{ℕ, ◌+◌, ◌<◌, ◌^◌, Bool, List, [], ◌∷◌, length, Option, None, Some, refl, if◌then◌else◌, is_some, ◌==◌}
-use Rattle.std.specs.Coded.{Coded, code_by, coded×, coded_ℕ, coded_list}
+use Rattle.std.specs.Prelude.{ℕ, ◌+◌, Bool, List, [], ◌∷◌, length, Option, None, Some, if◌then◌else◌, is_some, ◌==◌}
 use Rattle.std.specs.Option.{option_map, option_map_or}
 use Rattle.std.specs.Ordering.{nat_cmp}
 use Rattle.std.specs.FinMap as finite
@@ -129,43 +128,3 @@ with_data_at t path bytes = record t { nodes = with_change_at t.nodes path (with
 -- one more change
 abbrev pub with_next_zxid : Tree → Tree
 with_next_zxid t = record t { zxid = t.zxid + 1 }
-
--- the counters of a node have room for one more
-abbrev pub HasRoom : Node → Type 0
-HasRoom n = (n.version + 1 < 2 ^ 62) × (n.cversion + 1 < 2 ^ 62) × (n.seq + 1 < 2 ^ 62)
-
--- how a path is stored
-abbrev pub coded_path : Coded Path
-coded_path = coded_list (coded_list coded_ℕ)
-
--- how a node is stored
-abbrev pub coded_node : Coded Node
-coded_node =
-    code_by (List ℕ × (ℕ × (ℕ × (ℕ × (ℕ × (ℕ × (ℕ × (ℕ × (ℕ × ℕ)))))))))
-    (coded× (coded_list coded_ℕ) (coded× coded_ℕ (coded× coded_ℕ (coded× coded_ℕ (coded× coded_ℕ (coded× coded_ℕ (coded× coded_ℕ (coded× coded_ℕ (coded× coded_ℕ coded_ℕ)))))))))
-    (λ n. (n.bytes, (n.czxid, (n.mzxid, (n.pzxid, (n.ctime, (n.mtime, (n.version, (n.cversion, (n.owner, n.seq))))))))))
-    (λ p. record {
-      bytes = p.0;
-      czxid = p.1.0;
-      mzxid = p.1.1.0;
-      pzxid = p.1.1.1.0;
-      ctime = p.1.1.1.1.0;
-      mtime = p.1.1.1.1.1.0;
-      version = p.1.1.1.1.1.1.0;
-      cversion = p.1.1.1.1.1.1.1.0;
-      owner = p.1.1.1.1.1.1.1.1.0;
-      seq = p.1.1.1.1.1.1.1.1.1;
-    }) (λ _. refl)
-
--- how a session is stored
-abbrev pub coded_session : Coded Session
-coded_session =
-    code_by (ℕ × (ℕ × ℕ)) (coded× coded_ℕ (coded× coded_ℕ coded_ℕ))
-    (λ s. (s.client, (s.timeout, s.deadline))) (λ p. record { client = p.0; timeout = p.1.0; deadline = p.1.1 }) (λ _. refl)
-
--- how a tree is stored
-abbrev pub coded_tree : Coded Tree
-coded_tree =
-    code_by (Nodes × (Sessions × (ℕ × ℕ)))
-    (coded× (finite.code coded_path coded_node) (coded× (finite.code coded_ℕ coded_session) (coded× coded_ℕ coded_ℕ)))
-    (λ t. (t.nodes, (t.sessions, (t.time, t.zxid)))) (λ p. record { nodes = p.0; sessions = p.1.0; time = p.1.1.0; zxid = p.1.1.1 }) (λ _. refl)

@@ -1,7 +1,9 @@
 //! The number of a client.
 
 ghost use Rattle.std.specs.Prelude.{◌≡◌, ◌<◌, ◌≤◌, IfNone, IfSome};
+ghost use Rattle.ztree.specs.declared.limits.TheConstants.{MAX_CLIENTS};
 
+use crate::limits::MAX_CLIENTS;
 use std::marker::Model;
 
 /// One of the 32 clients that this project's profile has, by its number: 0 to 31.
@@ -12,12 +14,13 @@ pub struct ClientId {
 
 impl Model for ClientId {
     ghost use Rattle.std.specs.Prelude.{ℕ, ◌<◌};
+    ghost use Rattle.ztree.specs.declared.limits.TheConstants.{MAX_CLIENTS};
 
     ghost Value = { ℕ };
 
     ghost view = { λ c. c.number };
 
-    ghost invariant = { λ c. c.number < 32 };
+    ghost invariant = { λ c. c.number < MAX_CLIENTS };
 
     ghost inverse = { λ n. record { number = n } };
 }
@@ -25,10 +28,10 @@ impl Model for ClientId {
 impl ClientId {
     /// The client of that number; none above 31.
     pub fn new(number: u8) -> Option<ClientId>
-        ensures client { IfSome result (λ c. (c ≡ number) × (number < 32)) }
-        ensures none { IfNone result (32 ≤ number) }
+        ensures client { IfSome result (λ c. (c ≡ number) × (number < MAX_CLIENTS)) }
+        ensures none { IfNone result (MAX_CLIENTS ≤ number) }
     {
-        if number < 32 {
+        if number < MAX_CLIENTS {
             Some(ClientId { number })
         } else {
             None
@@ -38,7 +41,7 @@ impl ClientId {
     /// Its number.
     pub fn number(self) -> u8
         ensures same { result ≡ self }
-        ensures small { result < 32 }
+        ensures small { result < MAX_CLIENTS }
     {
         self.number
     }

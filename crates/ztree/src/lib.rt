@@ -6,11 +6,18 @@
 #![tactic(auto)]
 
 mod client;
+pub mod laws;
+pub mod limits;
 mod node;
 mod node_data;
 mod session;
+mod session_id;
+mod zxid;
 
 pub use client::ClientId;
+pub use limits::{MAX_DATA, MAX_NODES, MAX_SESSIONS};
 pub use node::{Node, Stat};
-pub use node_data::{Data, MAX_DATA};
+pub use node_data::Data;
 pub use session::Session;
+pub use session_id::SessionId;
+pub use zxid::Zxid;

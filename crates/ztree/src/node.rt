@@ -1,6 +1,7 @@
 //! A znode, and what is told of one.
 
 use crate::node_data::Data;
+use crate::zxid::Zxid;
 use std::alloc::Global;
 use zpath::Memory;
 
@@ -11,11 +12,11 @@ pub struct Node {
     /// The data.
     pub bytes: Data,
     /// The number of the change that made the node.
-    pub czxid: u64,
+    pub czxid: Zxid,
     /// The number of the last change of its data.
-    pub mzxid: u64,
+    pub mzxid: Zxid,
     /// The number of the last change of its children.
-    pub pzxid: u64,
+    pub pzxid: Zxid,
     /// The tick at which it was made.
     pub ctime: u64,
     /// The tick of the last change of its data.
@@ -35,11 +36,11 @@ pub struct Node {
 #[derive(Clone, Copy, Debug, PartialEq, Eq)]
 pub struct Stat {
     /// The number of the change that made the node.
-    pub czxid: u64,
+    pub czxid: Zxid,
     /// The number of the last change of its data.
-    pub mzxid: u64,
+    pub mzxid: Zxid,
     /// The number of the last change of its children.
-    pub pzxid: u64,
+    pub pzxid: Zxid,
     /// The tick at which it was made.
     pub ctime: u64,
     /// The tick of the last change of its data.

@@ -1,13 +1,12 @@
 //! The data of a znode.
 
-ghost use Rattle.std.specs.Prelude.{◌≡◌, [], ◌<◌, ◌≤◌, length, IfErr, IfOk};
+ghost use Rattle.std.specs.Prelude.{◌≡◌, [], ◌<◌, ◌≤◌, length, IfErr, IfOk, OnErr, OnOk};
+ghost use Rattle.ztree.specs.declared.limits.TheConstants.{MAX_DATA};
 
+use crate::limits::MAX_DATA;
 use std::alloc::Global;
 use std::marker::Model;
 use zpath::Memory;
-
-/// The most bytes that a znode's data may have. The limit is this project's profile.
-pub const MAX_DATA: usize = 4096;
 
 /// A znode's data: at most 4,096 bytes, which are read and written whole.
 #[derive(Debug, Drop)]
@@ -17,19 +16,22 @@ pub struct Data {
 
 impl Model for Data {
     ghost use Rattle.std.specs.Prelude.{ℕ, List, length, ◌≤◌};
+    ghost use Rattle.ztree.specs.declared.limits.TheConstants.{MAX_DATA};
 
     ghost Value = { List ℕ };
 
     ghost view = { λ d. d.bytes.items };
 
-    ghost invariant = { λ d. length d.bytes.items ≤ 4096 };
+    ghost invariant = { λ d. length d.bytes.items ≤ MAX_DATA };
 }
 
 impl Data {
     /// Takes the bytes, and allocates nothing. Where there are more than 4,096, hands them back.
     pub fn new(bytes: Vec<u8>) -> Result<Data, Vec<u8>>
-        ensures taken { IfOk result (λ d. (d ≡ bytes.items) × (length bytes.items ≤ 4096)) }
-        ensures too_long { IfErr result (λ back. (back.items ≡ bytes.items) × (4096 < length bytes.items)) }
+        ensures taken { IfOk result (λ d. d ≡ bytes.items) }
+        ensures fits { OnOk result (length bytes.items ≤ MAX_DATA) }
+        ensures same { IfErr result (λ back. back.items ≡ bytes.items) }
+        ensures too_long { OnErr result (MAX_DATA < length bytes.items) }
     {
         if bytes.len() <= MAX_DATA {
             Ok(Data { bytes })
@@ -50,7 +52,7 @@ impl Data {
     /// The bytes.
     pub fn as_slice(&self) -> &[u8]
         ensures bytes { result.now ≡ self.now }
-        ensures short { length self.now ≤ 4096 }
+        ensures short { length self.now ≤ MAX_DATA }
     {
         &self.bytes
     }

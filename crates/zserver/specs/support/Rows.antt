@@ -1,5 +1,5 @@
 -- What the worked rows of the server table speak of: a machine that counts, entries, and some servers.
-use Rattle.std.specs.Prelude.{ℕ, ◌+◌, Option, None, Some, List, [], ◌∷◌, length, if◌then◌else◌, ◌==◌}
+use Rattle.std.specs.Prelude.{ℕ, ◌+◌, ◌≡◌, Option, None, Some, List, [], ◌∷◌, length, if◌then◌else◌, ◌==◌}
 use Rattle.zcalls.specs.declared.call.Entry.{Entry}
 use Rattle.zcalls.specs.declared.call.Expected.TheVariants.{Any}
 use Rattle.zcalls.specs.declared.call.Update.{Update}
@@ -10,7 +10,9 @@ use Rattle.zcalls.specs.declared.refusal.Refusal.TheVariants.{NoNode}
 use Rattle.zcalls.specs.declared.reply.Reply.{Reply}
 use Rattle.zcalls.specs.declared.reply.Reply.TheVariants.{MultiRefused}
 use Rattle.zserver.specs.Machine.{Does}
-use Rattle.zserver.specs.View.{ServerView, Transfer, Neighbour}
+use Rattle.zserver.specs.declared.process.Process.{Process}
+use Rattle.zserver.specs.View.{ServerView, Transfer, Neighbour, MessageOf}
+use Rattle.zserver.specs.Table.{ServerResult, server_step}
 
 -- a reply that tells a number
 abbrev pub number_reply : ℕ → Reply
@@ -36,6 +38,10 @@ query = Exists []
 -- client 5's call of this number as an entry
 abbrev pub call : ℕ → Entry
 call number = record { client = 5; number = number; update = update }
+
+-- a client's first call as an entry
+abbrev pub first_entry : ℕ → Update → Entry
+first_entry client update = record { client = client; number = 1; update = update }
 
 -- a server with the state after seven entries, of which the tail may not have processed the last two
 abbrev pub initialised_server : Option Neighbour → Option Neighbour → ServerView ℕ
@@ -80,3 +86,11 @@ nine = record { last = 9; machine = 9 }
 -- a head before server 3 that has this log, of which all was processed
 abbrev pub on_log : List Entry → ServerView (List Entry)
 on_log log = record { machine = Some log; last = length log; sent = []; pred = None; succ = Some (3, 5) }
+
+-- what a server does with a message
+abbrev pub after : ServerView ℕ → Process → MessageOf ℕ → ServerResult ℕ
+after v from m = server_step counting_machine v from m
+
+-- that changes nothing, and puts nothing
+abbrev pub Ignores : ServerView ℕ → Process → MessageOf ℕ → Type 0
+Ignores v from m = after v from m ≡ (v, [])

@@ -2,6 +2,11 @@
 -- Client 1 creates and is answered; then client 2 asks for the count and is answered. Meanwhile client 3 creates and
 -- client 4 asks, and neither is answered; client 3's create was done, since client 2's count has it.
 use Rattle.std.specs.Prelude.{ℕ, ◌≤◌, List, [], ◌∷◌}
+use Rattle.ztree.specs.Tree.{opening_tree}
+use Rattle.zcalls.specs.declared.call.Call.TheVariants as call
+use Rattle.zcalls.specs.declared.call.Query.{Query}
+use Rattle.zcalls.specs.declared.call.Update.{Update}
+use Rattle.zcalls.specs.Step.{step, query_reply}
 use Rattle.zworld.specs.declared.history.CallEvent.TheVariants.{Begin, Answer}
 use Rattle.zcalls.specs.Operation.{Operation}
 use Rattle.zworld.specs.History.{History}
@@ -55,3 +60,16 @@ second_down = record { client = 1; number = 1; call = create }
 -- the order explains the history of that run
 abbrev pub ExplainsTheRun : List Operation → Type 0
 ExplainsTheRun order = IsLegalOrder (λ state. Unit {0}) counter (seen 3 two_updates) order
+
+-- a query of the opening tree is asked and answered
+abbrev pub query_is_first : Query → History
+query_is_first query = Begin 1 1 (call.Query query) ∷ Answer 1 1 (query_reply opening_tree query) ∷ []
+
+-- an update is done and answered, and then a query is answered from the tree after it
+abbrev pub update_is_first : Update → Query → History
+update_is_first update query =
+    Begin 1 1 (call.Update update)
+    ∷ Answer 1 1 (step opening_tree 1 update).1
+    ∷ Begin 1 2 (call.Query query)
+    ∷ Answer 1 2 (query_reply (step opening_tree 1 update).0 query)
+    ∷ []

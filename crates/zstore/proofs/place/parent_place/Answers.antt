@@ -3,7 +3,7 @@ use Rattle.std.specs.Result.{result_ok}
 use Rattle.std.proofs.lemmas.Fn.{always_returns_same}
 use Rattle.zpath.specs.Grammar.{path_cmp}
 use Rattle.zstore.specs.declared.row.Row.{Row}
-use Rattle.zstore.specs.Rows.{IsAt, IsGapFor, node_rows}
+use Rattle.zstore.specs.support.Rows.{IsAt, IsGapFor, node_rows}
 use Rattle.ztree.specs.Tree.{parent_of}
 use Rattle.ztree.proofs.Sorted.{find_gap, paths_total}
 use Rattle.zstore.proofs.Search.{searched, gap_rows}

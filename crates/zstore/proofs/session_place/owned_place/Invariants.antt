@@ -1,5 +1,5 @@
 use Rattle.std.proofs.Common.{◌≡◌, drop}
-use Rattle.zstore.specs.Rows.{owned_by}
+use Rattle.zstore.specs.support.Rows.{owned_by}
 use Rattle.zstore.proofs.session_place.owned_place.Given as goal
 
 abbrev pub invariant-loop-at : goal.invariant-loop-at

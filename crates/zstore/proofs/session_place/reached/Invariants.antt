@@ -1,5 +1,5 @@
 use Rattle.std.proofs.Common.{◌≡◌, take}
-use Rattle.zstore.specs.Rows.{due_among}
+use Rattle.zstore.specs.support.Rows.{due_among}
 use Rattle.zstore.proofs.session_place.reached.Given as goal
 
 abbrev pub invariant-loop-row : goal.invariant-loop-row

@@ -4,7 +4,7 @@ use Rattle.zpath.specs.Grammar.{path_cmp}
 use Rattle.zstore.specs.declared.id.Id.{Id}
 use Rattle.zstore.specs.declared.row.Row.{Row}
 use Rattle.zstore.specs.StoreView.{StoreView}
-use Rattle.zstore.specs.Rows.{node_rows}
+use Rattle.zstore.specs.support.Rows.{node_rows}
 use Rattle.ztree.specs.Tree.{parent_of}
 use Rattle.zstore.proofs.Shown.{if_none, path_of-held}
 use Rattle.zstore.proofs.store.Store.above.Goals as goal

@@ -24,7 +24,9 @@ pub returns-clause-added : goal.returns-clause-added
 returns-clause-added c =
     let path = c.args.path in
     let live = still_named c.args.self.now c.insert.new.self c.in_ok-id.id path c.args.parent (parent_of path) c.in_ok-id.ensures.named c.requires.live in
-    let made = ap (λ (h : StoreView). new_node c.args.bytes c.args.owner (h.tree.zxid + 1) h.tree.time) c.self.view_is in
+    let made =
+    ap (λ z. new_node c.args.bytes c.args.owner z c.self.inside.time) c.next-zxid.ensures
+    ∙ ap (λ (h : StoreView). new_node c.args.bytes c.args.owner (h.tree.zxid + 1) h.tree.time) c.self.view_is in
     c.child_changed.ensures.tree (parent_of path) live
     ∙ ap (λ (t : Tree). record t { nodes = with_change_at t.nodes (parent_of path) (with_child (t.zxid + 1) c.args.sequential) }) c.in_ok-id.ensures.tree
     ∙ ap (λ (n : Node). record c.args.self.now.tree { nodes = with_change_at (finite.insert c.args.self.now.tree.nodes path n) (parent_of path) (with_child (c.args.self.now.tree.zxid + 1) c.args.sequential) }) made

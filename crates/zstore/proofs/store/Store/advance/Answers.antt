@@ -1,7 +1,7 @@
 use Rattle.std.proofs.Common.{◌+◌, ap, ◌∙◌}
 use Rattle.zstore.specs.StoreView.{StoreView}
 use Rattle.ztree.specs.Sessions.{due_sessions}
-use Rattle.zstore.specs.Rows.{tree_of}
+use Rattle.zstore.specs.support.Rows.{tree_of}
 use Rattle.ztree.proofs.Lawful.{lawful_advanced}
 use Rattle.zstore.proofs.store.Store.advance.Goals as goal
 
@@ -9,4 +9,4 @@ pub invariant_of-self : goal.invariant_of-self
 invariant_of-self c =
     let s = c.self.inside in
     let none = ap (λ (h : StoreView). due_sessions h.tree.sessions (h.tree.time + 1)) c.self.view_is ∙ c.requires.none_due in
-    record { laid = c.self.invariant.laid; lawful = lawful_advanced (tree_of s.rows.items s.sessions.items s.time s.zxid) c.self.invariant.lawful none }
+    record { laid = c.self.invariant.laid; lawful = lawful_advanced (tree_of s.rows.items s.sessions.items s.time s.zxid) c.self.invariant.lawful none; paths = c.self.invariant.paths }

@@ -2,8 +2,8 @@ use Rattle.std.proofs.Common.{◌≡◌, ◌≤◌, Bool, true, false, ◌+◌, 
 use Rattle.std.specs.FinMap as finite
 use Rattle.zstore.specs.declared.row.Row.{Row}
 use Rattle.zstore.specs.StoreView.{StoreView}
-use Rattle.ztree.specs.Tree.{HasRoom, with_child}
-use Rattle.zstore.specs.Rows.{place_row}
+use Rattle.ztree.specs.Tree.{with_child}
+use Rattle.zstore.specs.support.Rows.{place_row}
 use mir.Val.{bool_byte}
 use Rattle.ztree.proofs.Nodes.{changed_at-some}
 use Rattle.zstore.proofs.Shown.{nodes_of, some_is_not_none, get-at, path_of-held, node_of-held, path_of-gone, nodes_of-set, places_of-set}
@@ -14,26 +14,21 @@ byte_is : (b : Bool) → bool_byte b ≡ cond b 1 0
 byte_is true = refl
 byte_is false = refl
 
-at_most_one : (b : Bool) → bool_byte b ≤ 1
-at_most_one true = omega arith
-at_most_one false = omega arith
+pub overflow_add-node : goal.overflow_add-node
+overflow_add-node c =
+    let found = rw c.deref.ensures.value at c.in-Some.ensures.found in
+    let row = c.index_mut.result.now in
+    let is = node_of-held c.self.inside c.self.invariant.laid _ c.self.view_is c.args.parent c.in-Some.at row found.0 (found.1 row) ∙ ap (λ (r : Row). Some r.node) (sym c.index_mut.ensures.value) in
+    let room = c.requires.counters row.node is in
+    omega (arith, room.0)
 
 pub overflow_add-node-in-Some : goal.overflow_add-node-in-Some
 overflow_add-node-in-Some c =
     let found = rw c.deref.ensures.value at c.in-Some.ensures.found in
     let row = c.index_mut.result.now in
     let is = node_of-held c.self.inside c.self.invariant.laid _ c.self.view_is c.args.parent c.in-Some.at row found.0 (found.1 row) ∙ ap (λ (r : Row). Some r.node) (sym c.index_mut.ensures.value) in
-    let room : HasRoom row.node = c.requires.counters row.node is in
-    omega (arith, room.1)
-
-pub overflow_add-node-in-Some-2 : goal.overflow_add-node-in-Some-2
-overflow_add-node-in-Some-2 c =
-    let found = rw c.deref.ensures.value at c.in-Some.ensures.found in
-    let row = c.index_mut.result.now in
-    let is = node_of-held c.self.inside c.self.invariant.laid _ c.self.view_is c.args.parent c.in-Some.at row found.0 (found.1 row) ∙ ap (λ (r : Row). Some r.node) (sym c.index_mut.ensures.value) in
-    let room : HasRoom row.node = c.requires.counters row.node is in
-    let most = at_most_one c.args.sequential in
-    rw c.from.ensures (omega (arith, room.2, most))
+    let room = c.requires.counters row.node is in
+    rw (c.from.ensures, byte_is c.args.sequential) (omega (arith, room.1))
 
 pub invariant_of-self : goal.invariant_of-self
 invariant_of-self c =
@@ -53,7 +48,7 @@ returns-in-Some-clause-tree c = λ path named.
     let got = ap (finite.get (nodes_of rows)) same ∙ get-at rows c.self.invariant.laid.sorted c.in-Some.at row found.0 ∙ ap (λ (r : Row). Some r.node) (sym c.index_mut.ensures.value) in
     let place = ap place_row c.index_mut.ensures.value in
     let new : Row = record { path = row.path; number = row.number; node = with_child (s.zxid + 1) c.args.sequential row.node } in
-    rw (c.from.ensures, byte_is c.args.sequential, ← c.self.view_is, nodes_of-set rows s.sessions.items s.given c.self.invariant.laid c.in-Some.at row new found.0 place, changed_at-some (nodes_of rows) path (with_child (s.zxid + 1) c.args.sequential) row.node got, same) refl
+    rw (c.from.ensures, c.next-zxid.ensures, byte_is c.args.sequential, ← c.self.view_is, nodes_of-set rows s.sessions.items s.given c.self.invariant.laid c.in-Some.at row new found.0 place, changed_at-some (nodes_of rows) path (with_child (s.zxid + 1) c.args.sequential) row.node got, same) refl
 
 pub returns-in-Some-clause-same : goal.returns-in-Some-clause-same
 returns-in-Some-clause-same c =

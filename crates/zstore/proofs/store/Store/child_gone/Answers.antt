@@ -3,14 +3,14 @@ use Rattle.std.specs.FinMap as finite
 use Rattle.zstore.specs.declared.row.Row.{Row}
 use Rattle.zstore.specs.StoreView.{StoreView}
 use Rattle.ztree.specs.Tree.{without_child}
-use Rattle.zstore.specs.Rows.{place_row}
+use Rattle.zstore.specs.support.Rows.{place_row}
 use Rattle.ztree.proofs.Nodes.{changed_at-some}
 use Rattle.zstore.proofs.Shown.{nodes_of, some_is_not_none, get-at, path_of-held, node_of-held, path_of-gone, nodes_of-set, places_of-set}
 use Rattle.zstore.proofs.Kept.{kept_set}
 use Rattle.zstore.proofs.store.Store.child_gone.Goals as goal
 
-pub overflow_add-node-in-Some : goal.overflow_add-node-in-Some
-overflow_add-node-in-Some c =
+pub overflow_add-node : goal.overflow_add-node
+overflow_add-node c =
     let found = rw c.deref.ensures.value at c.in-Some.ensures.found in
     let row = c.index_mut.result.now in
     let is = node_of-held c.self.inside c.self.invariant.laid _ c.self.view_is c.args.parent c.in-Some.at row found.0 (found.1 row) ∙ ap (λ (r : Row). Some r.node) (sym c.index_mut.ensures.value) in
@@ -35,7 +35,7 @@ returns-in-Some-clause-tree c = λ path named.
     let got = ap (finite.get (nodes_of rows)) same ∙ get-at rows c.self.invariant.laid.sorted c.in-Some.at row found.0 ∙ ap (λ (r : Row). Some r.node) (sym c.index_mut.ensures.value) in
     let place = ap place_row c.index_mut.ensures.value in
     let new : Row = record { path = row.path; number = row.number; node = without_child (s.zxid + 1) row.node } in
-    rw (← c.self.view_is, nodes_of-set rows s.sessions.items s.given c.self.invariant.laid c.in-Some.at row new found.0 place, changed_at-some (nodes_of rows) path (without_child (s.zxid + 1)) row.node got, same) refl
+    rw (c.next-zxid.ensures, ← c.self.view_is, nodes_of-set rows s.sessions.items s.given c.self.invariant.laid c.in-Some.at row new found.0 place, changed_at-some (nodes_of rows) path (without_child (s.zxid + 1)) row.node got, same) refl
 
 pub returns-in-Some-clause-same : goal.returns-in-Some-clause-same
 returns-in-Some-clause-same c =

@@ -4,7 +4,7 @@ use Rattle.zstore.specs.declared.row.Row.{Row}
 use Rattle.zstore.specs.StoreView.{StoreView}
 use Rattle.ztree.specs.Tree.{ephemerals}
 use Rattle.ztree.specs.Lawful.{IsLawful}
-use Rattle.zstore.specs.Rows.{owned_by}
+use Rattle.zstore.specs.support.Rows.{owned_by}
 use Rattle.zstore.proofs.Shown.{if_none, path_of-held}
 use Rattle.zstore.proofs.Owned.{ephemerals-shown}
 use Rattle.zstore.proofs.store.Store.first_owned.Goals as goal

@@ -3,7 +3,7 @@ use Rattle.std.specs.FinMap as finite
 use Rattle.zstore.specs.StoreView.{StoreView}
 use Rattle.ztree.specs.Tree.{Sessions, ephemerals}
 use Rattle.ztree.specs.Lawful.{IsLawful}
-use Rattle.zstore.specs.Rows.{tree_of}
+use Rattle.zstore.specs.support.Rows.{tree_of}
 use Rattle.zstore.proofs.Shown.{nodes_of}
 use Rattle.zstore.proofs.Alive.{alive_remove, alive_nowhere}
 use Rattle.ztree.proofs.Maps.{not_none}
@@ -20,6 +20,7 @@ invariant_of-self c =
     rw c.remove.ensures.items (record {
       laid = record { sorted = laid.sorted; apart = laid.apart; numbers = laid.numbers; sessions = gone.0 };
       lawful = subst (λ (m : Sessions). IsLawful (record { nodes = nodes_of s.rows.items; sessions = m; time = s.time; zxid = s.zxid })) (sym gone.1) (lawful_forgotten (tree_of s.rows.items s.sessions.items s.time s.zxid) c.args.session c.self.invariant.lawful none);
+      paths = c.self.invariant.paths;
     })
 
 pub returns-in-Ok-clause-tree : goal.returns-in-Ok-clause-tree

@@ -4,10 +4,11 @@ use Rattle.std.specs.FinMap.{get-from_sorted}
 use Rattle.std.specs.Ordering.{nat_cmp}
 use Rattle.zstore.specs.declared.row.SessionRow.{SessionRow}
 use Rattle.zstore.specs.StoreView.{StoreView}
+use Rattle.ztree.specs.declared.limits.TheConstants.{MAX_SESSIONS}
 use Rattle.ztree.specs.Tree.{Sessions}
 use Rattle.ztree.specs.Sessions.{new_session}
 use Rattle.ztree.specs.Lawful.{IsLawful}
-use Rattle.zstore.specs.Rows.{tree_of, session_rows}
+use Rattle.zstore.specs.support.Rows.{tree_of, session_rows}
 use Rattle.zstore.proofs.Shown.{nodes_of}
 use Rattle.zstore.proofs.Alive.{alive_insert}
 use Rattle.ztree.proofs.Lawful.{lawful_opened}
@@ -18,25 +19,26 @@ session_gap-at-requires c =
     let s = c.self.inside in
     let sorted = c.self.invariant.laid.sessions in
     let free = ap (λ (h : StoreView). finite.get h.tree.sessions (h.tree.zxid + 1)) c.self.view_is ∙ c.requires.free in
-    rw c.deref.ensures.value (record { sorted = sorted; free = sym (get-from_sorted nat_cmp (session_rows s.sessions.items) (s.zxid + 1) sorted) ∙ free })
+    rw (c.deref.ensures.value, c.of-id.ensures, c.next-zxid.ensures) (record { sorted = sorted; free = sym (get-from_sorted nat_cmp (session_rows s.sessions.items) (s.zxid + 1) sorted) ∙ free })
 
 pub invariant_of-self-2 : goal.invariant_of-self-2
 invariant_of-self-2 c =
     let s = c.self.inside in
     let laid = c.self.invariant.laid in
-    let new : SessionRow = record { number = s.zxid + 1; session = new_session c.args.client c.args.timeout s.time } in
-    let gap = rw c.deref.ensures.value at c.session_gap-at.ensures in
+    let new : SessionRow = record { id = s.zxid + 1; session = new_session c.args.client c.args.timeout s.time } in
+    let gap = rw (c.deref.ensures.value, c.of-id.ensures, c.next-zxid.ensures) at c.session_gap-at.ensures in
     let put = alive_insert s.sessions.items (s.zxid + 1) c.session_gap-at.result laid.sessions gap new refl in
-    let few = subst (λ (h : StoreView). finite.len h.tree.sessions < 1024) (sym c.self.view_is) c.requires.few in
-    rw c.in_ok-insert.ensures.items (record {
+    let few = subst (λ (h : StoreView). finite.len h.tree.sessions < MAX_SESSIONS) (sym c.self.view_is) c.requires.few in
+    rw (c.in_ok-insert.ensures.items, c.of-id.ensures, c.next-zxid.ensures) (record {
       laid = record { sorted = laid.sorted; apart = laid.apart; numbers = laid.numbers; sessions = put.0 };
       lawful = subst (λ (m : Sessions). IsLawful (record { nodes = nodes_of s.rows.items; sessions = m; time = s.time; zxid = s.zxid })) (sym put.1) (lawful_opened (tree_of s.rows.items s.sessions.items s.time s.zxid) c.args.client c.args.timeout c.self.invariant.lawful c.requires.lives few);
+      paths = c.self.invariant.paths;
     })
 
 pub returns-clause-tree : goal.returns-clause-tree
 returns-clause-tree c =
     let s = c.self.inside in
-    let new : SessionRow = record { number = s.zxid + 1; session = new_session c.args.client c.args.timeout s.time } in
-    let gap = rw c.deref.ensures.value at c.session_gap-at.ensures in
+    let new : SessionRow = record { id = s.zxid + 1; session = new_session c.args.client c.args.timeout s.time } in
+    let gap = rw (c.deref.ensures.value, c.of-id.ensures, c.next-zxid.ensures) at c.session_gap-at.ensures in
     let put = alive_insert s.sessions.items (s.zxid + 1) c.session_gap-at.result c.self.invariant.laid.sessions gap new refl in
-    rw (c.in_ok-insert.ensures.items, ← c.self.view_is, put.1) refl
+    rw (c.in_ok-insert.ensures.items, c.of-id.ensures, c.next-zxid.ensures, ← c.self.view_is, put.1) refl

@@ -1,8 +1,8 @@
-use Rattle.zstore.specs.Rows.{tree_of}
+use Rattle.zstore.specs.support.Rows.{tree_of}
 use Rattle.ztree.proofs.Lawful.{lawful_raised}
 use Rattle.zstore.proofs.store.Store.raise.Goals as goal
 
 pub invariant_of-self : goal.invariant_of-self
 invariant_of-self c =
     let s = c.self.inside in
-    record { laid = c.self.invariant.laid; lawful = lawful_raised (tree_of s.rows.items s.sessions.items s.time s.zxid) c.self.invariant.lawful }
+    rw c.next-self-inside.ensures (record { laid = c.self.invariant.laid; lawful = lawful_raised (tree_of s.rows.items s.sessions.items s.time s.zxid) c.self.invariant.lawful; paths = c.self.invariant.paths })

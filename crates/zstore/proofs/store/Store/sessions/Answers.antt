@@ -4,7 +4,7 @@ use Rattle.std.specs.FinMap.{entries-from_sorted}
 use Rattle.std.specs.Ordering.{nat_cmp}
 use Rattle.std.proofs.lemmas.List.{length-map}
 use Rattle.zstore.specs.StoreView.{StoreView}
-use Rattle.zstore.specs.Rows.{session_row, session_rows}
+use Rattle.zstore.specs.support.Rows.{session_row, session_rows}
 use Rattle.zstore.proofs.store.Store.sessions.Goals as goal
 
 pub returns : goal.returns

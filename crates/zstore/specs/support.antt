@@ -1,0 +1,3 @@
+-- What serves proofs alone: the rows of a store, and the parts of its changes.
+pub mod Rows
+pub mod Parts

@@ -1,0 +1,34 @@
+-- What the words on paths and nodes mean, as laws.
+use Rattle.std.specs.Prelude.{◌≡◌, ℕ, false, Bool, List, [], ◌∷◌, ◌++◌, ◌==◌}
+use Rattle.std.specs.List.{list_any}
+use Rattle.std.specs.Option.{option_map_or}
+use Rattle.std.specs.Ordering.{eq_by_cmp}
+use Rattle.std.specs.FinMap.{get}
+use Rattle.std.specs.Str.{bytes_eq}
+use Rattle.zpath.specs.Grammar.{path_cmp}
+use Rattle.ztree.specs.declared.node.Node.{Node}
+use Rattle.ztree.specs.Tree.{Name, Path, Nodes, has_node, parent_of, children, ephemerals}
+
+-- the name is among the names
+abbrev pub has_name : List Name → Name → Bool
+has_name names name = list_any (bytes_eq name) names
+
+-- the path is among the paths
+abbrev pub has_path : List Path → Path → Bool
+has_path paths path = list_any (eq_by_cmp path_cmp path) paths
+
+-- a name is listed exactly where the path with it appended is a node
+abbrev pub ListsChildren : Type 0
+ListsChildren = (nodes : Nodes) (path : Path) (name : Name) → has_name (children nodes path) name ≡ has_node nodes (path ++ name ∷ [])
+
+-- a path with one more name is right beneath the path
+abbrev pub IsParentOfChild : Type 0
+IsParentOfChild = (path : Path) (name : Name) → parent_of (path ++ name ∷ []) ≡ path
+
+-- the node at the path is there, and the session owns it
+abbrev pub is_owned_at : Nodes → ℕ → Path → Bool
+is_owned_at nodes session path = option_map_or (λ (n : Node). n.owner == session) (get nodes path) false
+
+-- a path is among the ephemerals of a session exactly where its node is owned by that session
+abbrev pub ListsEphemerals : Type 0
+ListsEphemerals = (nodes : Nodes) (session : ℕ) (path : Path) → has_path (ephemerals nodes session) path ≡ is_owned_at nodes session path

@@ -1,0 +1,43 @@
+-- How a tree is stored, by the codes of its parts: a proof tells trees apart by them.
+use Rattle.std.specs.Prelude.{ℕ, List, refl}
+use Rattle.std.specs.Coded.{Coded, code_by, coded×, coded_ℕ, coded_list}
+use Rattle.std.specs.FinMap as finite
+use Rattle.ztree.specs.declared.node.Node.{Node}
+use Rattle.ztree.specs.declared.session.Session.{Session}
+use Rattle.ztree.specs.Tree.{Tree, Path, Nodes, Sessions}
+
+-- how a path is stored
+abbrev pub coded_path : Coded Path
+coded_path = coded_list (coded_list coded_ℕ)
+
+-- how a node is stored
+abbrev pub coded_node : Coded Node
+coded_node =
+    code_by (List ℕ × (ℕ × (ℕ × (ℕ × (ℕ × (ℕ × (ℕ × (ℕ × (ℕ × ℕ)))))))))
+    (coded× (coded_list coded_ℕ) (coded× coded_ℕ (coded× coded_ℕ (coded× coded_ℕ (coded× coded_ℕ (coded× coded_ℕ (coded× coded_ℕ (coded× coded_ℕ (coded× coded_ℕ coded_ℕ)))))))))
+    (λ n. (n.bytes, (n.czxid, (n.mzxid, (n.pzxid, (n.ctime, (n.mtime, (n.version, (n.cversion, (n.owner, n.seq))))))))))
+    (λ p. record {
+      bytes = p.0;
+      czxid = p.1.0;
+      mzxid = p.1.1.0;
+      pzxid = p.1.1.1.0;
+      ctime = p.1.1.1.1.0;
+      mtime = p.1.1.1.1.1.0;
+      version = p.1.1.1.1.1.1.0;
+      cversion = p.1.1.1.1.1.1.1.0;
+      owner = p.1.1.1.1.1.1.1.1.0;
+      seq = p.1.1.1.1.1.1.1.1.1;
+    }) (λ _. refl)
+
+-- how a session is stored
+abbrev pub coded_session : Coded Session
+coded_session =
+    code_by (ℕ × (ℕ × ℕ)) (coded× coded_ℕ (coded× coded_ℕ coded_ℕ))
+    (λ s. (s.client, (s.timeout, s.deadline))) (λ p. record { client = p.0; timeout = p.1.0; deadline = p.1.1 }) (λ _. refl)
+
+-- how a tree is stored
+abbrev pub coded_tree : Coded Tree
+coded_tree =
+    code_by (Nodes × (Sessions × (ℕ × ℕ)))
+    (coded× (finite.code coded_path coded_node) (coded× (finite.code coded_ℕ coded_session) (coded× coded_ℕ coded_ℕ)))
+    (λ t. (t.nodes, (t.sessions, (t.time, t.zxid)))) (λ p. record { nodes = p.0; sessions = p.1.0; time = p.1.1.0; zxid = p.1.1.1 }) (λ _. refl)

@@ -1,0 +1,47 @@
+//! The id of a session.
+
+ghost use Rattle.std.specs.Prelude.{◌≡◌};
+
+use crate::zxid::Zxid;
+use std::marker::Model;
+
+/// The id of a session: the number of the change that opened it.
+#[derive(Clone, Copy, Debug, PartialEq, Eq, PartialOrd, Ord)]
+pub struct SessionId {
+    number: u64,
+}
+
+impl Model for SessionId {
+    ghost use Rattle.std.specs.Prelude.{ℕ};
+
+    ghost Value = { ℕ };
+
+    ghost view = { λ id. id.number };
+
+    ghost inverse = { λ n. record { number = n } };
+}
+
+impl SessionId {
+    /// The session of that number.
+    pub fn new(number: u64) -> SessionId
+        ensures { result ≡ number }
+    {
+        SessionId { number }
+    }
+
+    /// The session that a change opens.
+    pub fn of(zxid: Zxid) -> SessionId
+        ensures { result ≡ zxid }
+    {
+        SessionId {
+            number: zxid.number(),
+        }
+    }
+
+    /// Its number.
+    pub fn number(self) -> u64
+        ensures { result ≡ self }
+    {
+        self.number
+    }
+}
