@@ -16,7 +16,7 @@ use Rattle.zserver.specs.Machine.{Does}
 use Rattle.zserver.specs.View.{ServerView, Neighbour, Transfer, spare}
 use Rattle.zserver.specs.Table.{ServerResult, if_initialised, is_neighbour, no_effect, accept_result, forward_post}
 use Rattle.zworld.specs.declared.event.Event.TheVariants.{Take}
-use Rattle.zworld.specs.Links.{is_same, without_front}
+use Rattle.zworld.specs.Links.{Links, is_same, without_front}
 use Rattle.zworld.specs.World.{opening_world}
 use Rattle.zworld.specs.Events.{server_does}
 use Rattle.zlegal.specs.Items.{updates_of}
@@ -33,14 +33,18 @@ abbrev pub holder : Log → Option Neighbour → Option Neighbour → ServerView
 holder None pred succ = record { machine = None; last = 0; sent = []; pred = pred; succ = succ }
 holder (Some log) pred succ = record { machine = Some log; last = length log; sent = []; pred = pred; succ = succ }
 
--- server 1 before server 2, as a pair of epoch 0: what each has, and what is under way from the one to the other
-abbrev pub two_members : List Entry → Log → List LogMessage → LogWorld
-two_members first second link =
+-- links of which one has this message alone
+abbrev pub on_link : Process → Process → LogMessage → Links (List Entry)
+on_link sender receiver m from to = if is_same from sender && is_same to receiver then m ∷ [] else []
+
+-- server 1 before server 2, as a pair of epoch 0: what each has, and what is under way
+abbrev pub two_members : List Entry → Log → Links (List Entry) → LogWorld
+two_members first second links =
     record (opening_world (log_machine plain_tree) 2 1) {
       servers = λ s.
           if s == 1 then holder (Some first) None (Some (2, 0)) else
           if s == 2 then holder second (Some (1, 0)) None else spare;
-      links = λ from to. if is_same from (Server 1) && is_same to (Server 2) then link else [];
+      links = links;
     }
 
 -- the invariants are lost where a server takes a message with this result
@@ -60,7 +64,7 @@ early_answer does v m succ entry reply = (
 abbrev pub EarlyAnswersAreRefuted : Type 0
 EarlyAnswersAreRefuted =
     (reply : Reply)
-    → Refutes (two_members [] (Some []) []) [] (Client 0) 1
+    → Refutes (two_members [] (Some []) (on_link (Client 0) (Server 1) (message.Submit 1 (call 1).update))) [] (Client 0) 1
     (early_answer (log_machine plain_tree) (holder (Some []) None (Some (2, 0))) [] (2, 0) (call 1) reply)
 
 -- a server with a log that answers queries, tail or not
@@ -71,15 +75,17 @@ any_query_row does v client number query =
 abbrev pub AnyQueriesAreRefuted : Type 0
 AnyQueriesAreRefuted =
     (query : Query)
-    → Refutes (two_members [] (Some []) []) [] (Client 0) 1
+    → Refutes (two_members [] (Some []) (on_link (Client 0) (Server 1) (message.Query 1 query))) [] (Client 0) 1
     (any_query_row (log_machine plain_tree) (holder (Some []) None (Some (2, 0))) 0 1 query)
 
 -- and so an old tail, which has put its snapshot
 abbrev pub OldTailsAreRefuted : Type 0
 OldTailsAreRefuted =
     (query : Query)
-    → Refutes (two_members (call 1 ∷ []) None (message.Snapshot 0 (record { last = 1; machine = call 1 ∷ [] }) ∷ [])) (call 1 ∷ [])
-    (Client 0) 1 (any_query_row (log_machine plain_tree) (holder (Some (call 1 ∷ [])) None (Some (2, 0))) 0 2 query)
+    → let snapshot = on_link (Server 1) (Server 2) (message.Snapshot 0 (record { last = 1; machine = call 1 ∷ [] })) in
+    let asked = on_link (Client 0) (Server 1) (message.Query 2 query) in
+    Refutes (two_members (call 1 ∷ []) None (λ from to. snapshot from to ++ asked from to)) (call 1 ∷ []) (Client 0) 1
+    (any_query_row (log_machine plain_tree) (holder (Some (call 1 ∷ [])) None (Some (2, 0))) 0 2 query)
 
 -- a server with a log that takes updates from clients, head or not
 abbrev pub any_submit_row : {M : Type 0} → Does M → ServerView M → ℕ → ℕ → Update → ServerResult M
@@ -88,7 +94,7 @@ any_submit_row does v client number update =
 
 abbrev pub AnySubmitsAreRefuted : Type 0
 AnySubmitsAreRefuted =
-    Refutes (two_members [] (Some []) []) [] (Client 0) 2
+    Refutes (two_members [] (Some []) (on_link (Client 0) (Server 2) (message.Submit 1 (call 1).update))) [] (Client 0) 2
     (any_submit_row (log_machine plain_tree) (holder (Some []) (Some (1, 0)) None) 0 1 (call 1).update)
 
 -- an update of the predecessor that is taken without its number being the next
@@ -98,7 +104,7 @@ any_update_row does v p epoch n entry =
 
 abbrev pub AnyUpdatesAreRefuted : Type 0
 AnyUpdatesAreRefuted =
-    Refutes (two_members (call 1 ∷ call 2 ∷ []) (Some []) (message.Update 0 2 (call 2) ∷ [])) [] (Server 1) 2
+    Refutes (two_members (call 1 ∷ call 2 ∷ []) (Some []) (on_link (Server 1) (Server 2) (message.Update 0 2 (call 2)))) [] (Server 1) 2
     (any_update_row (log_machine plain_tree) (holder (Some []) (Some (1, 0)) None) 1 0 2 (call 2))
 
 -- a snapshot of the predecessor that is taken over a state that is there
@@ -108,8 +114,8 @@ any_snapshot_row v p epoch transfer =
 
 abbrev pub AnySnapshotsAreRefuted : Type 0
 AnySnapshotsAreRefuted =
-    Refutes (two_members (call 1 ∷ []) (Some (call 1 ∷ [])) (message.Snapshot 0 (record { last = 0; machine = [] }) ∷ [])) (call 1 ∷ [])
-    (Server 1) 2 (any_snapshot_row (holder (Some (call 1 ∷ [])) (Some (1, 0)) None) 1 0 (record { last = 0; machine = [] }))
+    Refutes (two_members (call 1 ∷ []) (Some (call 1 ∷ [])) (on_link (Server 1) (Server 2) (message.Snapshot 0 (record { last = 0; machine = [] }))))
+    (call 1 ∷ []) (Server 1) 2 (any_snapshot_row (holder (Some (call 1 ∷ [])) (Some (1, 0)) None) 1 0 (record { last = 0; machine = [] }))
 
 -- a retried update that acts again stands twice among the items
 abbrev pub SecondActsAreRefuted : Type 0
