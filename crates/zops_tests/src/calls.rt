@@ -11,22 +11,25 @@ fn creates_nodes(rt: HostRuntime) -> Result<(), Fail> {
     let alloc = rt.alloc();
     let mut machine = Machine::new(alloc)?;
     let rows = [
-        (7, Act::Create("/q", Persistent), ("created", 0, 0)),
+        (7, Act::Create(Persistent), "/q", ("created", 0, 0)),
         (
             7,
-            Act::Create("/q/n-", PersistentSequential),
+            Act::Create(PersistentSequential),
+            "/q/n-",
             ("created", 0, 0),
         ),
         (
             7,
-            Act::Create("/q/n-", PersistentSequential),
+            Act::Create(PersistentSequential),
+            "/q/n-",
             ("created", 0, 0),
         ),
-        (7, Act::Create("/q", Persistent), ("NodeExists", 0, 0)),
-        (7, Act::Create("/x/y", Persistent), ("NoNode", 0, 0)),
+        (7, Act::Create(Persistent), "/q", ("NodeExists", 0, 0)),
+        (7, Act::Create(Persistent), "/x/y", ("NoNode", 0, 0)),
         (
             7,
-            Act::Create("/x/n-", PersistentSequential),
+            Act::Create(PersistentSequential),
+            "/x/n-",
             ("NoNode", 0, 0),
         ),
     ];
@@ -48,34 +51,40 @@ fn refused_sequential_creates_take_no_number(rt: HostRuntime) -> Result<(), Fail
     let rows = [
         (
             7,
-            Act::Create("/", PersistentSequential),
+            Act::Create(PersistentSequential),
+            "/",
             ("NodeExists", 0, 0),
         ),
         (
             7,
-            Act::Create(long.as_str(), PersistentSequential),
+            Act::Create(PersistentSequential),
+            long.as_str(),
             ("PathLimit", 0, 0),
         ),
-        (7, Act::Create("/b", gone), ("SessionGone", 0, 0)),
+        (7, Act::Create(gone), "/b", ("SessionGone", 0, 0)),
         (
             7,
-            Act::Create("/b", PersistentSequential),
+            Act::Create(PersistentSequential),
+            "/b",
             ("created", 0, 0),
         ),
         (
             7,
-            Act::Create("/b0000000001", Persistent),
+            Act::Create(Persistent),
+            "/b0000000001",
             ("created", 0, 0),
         ),
         (
             7,
-            Act::Create("/b", PersistentSequential),
+            Act::Create(PersistentSequential),
+            "/b",
             ("NodeExists", 0, 0),
         ),
-        (7, Act::Delete("/b0000000001", Any), ("deleted", 0, 0)),
+        (7, Act::Delete(Any), "/b0000000001", ("deleted", 0, 0)),
         (
             7,
-            Act::Create("/b", PersistentSequential),
+            Act::Create(PersistentSequential),
+            "/b",
             ("created", 0, 0),
         ),
     ];
@@ -92,16 +101,16 @@ fn sets_checks_and_deletes(rt: HostRuntime) -> Result<(), Fail> {
     let alloc = rt.alloc();
     let mut machine = Machine::new(alloc)?;
     let rows = [
-        (7, Act::Create("/a", Persistent), ("created", 0, 0)),
-        (7, Act::Set("/a", Exactly(1)), ("BadVersion", 0, 0)),
-        (7, Act::Set("/a", Any), ("set", 2, 1)),
-        (7, Act::Set("/none", Any), ("NoNode", 0, 0)),
-        (7, Act::Check("/a", Exactly(1)), ("multi", 1, 0)),
-        (7, Act::Check("/a", Exactly(0)), ("BadVersion", 1, 0)),
-        (7, Act::Check("/none", Any), ("NoNode", 1, 0)),
-        (7, Act::Delete("/a", Exactly(0)), ("BadVersion", 0, 0)),
-        (7, Act::Delete("/a", Exactly(1)), ("deleted", 0, 0)),
-        (7, Act::Delete("/a", Any), ("NoNode", 0, 0)),
+        (7, Act::Create(Persistent), "/a", ("created", 0, 0)),
+        (7, Act::Set(Exactly(1)), "/a", ("BadVersion", 0, 0)),
+        (7, Act::Set(Any), "/a", ("set", 2, 1)),
+        (7, Act::Set(Any), "/none", ("NoNode", 0, 0)),
+        (7, Act::Check(Exactly(1)), "/a", ("multi", 1, 0)),
+        (7, Act::Check(Exactly(0)), "/a", ("BadVersion", 1, 0)),
+        (7, Act::Check(Any), "/none", ("NoNode", 1, 0)),
+        (7, Act::Delete(Exactly(0)), "/a", ("BadVersion", 0, 0)),
+        (7, Act::Delete(Exactly(1)), "/a", ("deleted", 0, 0)),
+        (7, Act::Delete(Any), "/a", ("NoNode", 0, 0)),
     ];
     play(&rt, alloc, &mut machine, &rows)?;
     assert!(rt; stat(alloc, &machine, "/a")?.is_none());

@@ -11,9 +11,9 @@ fn refused_multi_leaves_all_as_it_was(rt: HostRuntime) -> Result<(), Fail> {
     let alloc = rt.alloc();
     let mut machine = Machine::new(alloc)?;
     let refused = [
-        Act::Create("/n-", PersistentSequential),
-        Act::Delete("/none", Any),
-        Act::Check("/", Any),
+        (Act::Create(PersistentSequential), "/n-"),
+        (Act::Delete(Any), "/none"),
+        (Act::Check(Any), "/"),
     ];
     apply(
         &rt,
@@ -23,7 +23,7 @@ fn refused_multi_leaves_all_as_it_was(rt: HostRuntime) -> Result<(), Fail> {
         ("NoNode", 2, 0),
     )?;
     assert_eq!(rt; stat(alloc, &machine, "/")?, Some([0; 10]));
-    let made = [Act::Create("/n-", PersistentSequential)];
+    let made = [(Act::Create(PersistentSequential), "/n-")];
     apply(&rt, &mut machine, 7, multi(alloc, &made)?, ("multi", 1, 0))?;
     assert_eq!(rt; names(alloc, &machine, "/")?.as_str(), " n-0000000000");
     Ok(())
@@ -34,12 +34,12 @@ fn multi_takes_one_zxid(rt: HostRuntime) -> Result<(), Fail> {
     let alloc = rt.alloc();
     let mut machine = Machine::new(alloc)?;
     let made = [
-        Act::Create("/b", Persistent),
-        Act::Create("/a", Persistent),
-        Act::Check("/a", Exactly(0)),
-        Act::Set("/a", Exactly(0)),
-        Act::Create("/a/c", Persistent),
-        Act::Delete("/a/c", Any),
+        (Act::Create(Persistent), "/b"),
+        (Act::Create(Persistent), "/a"),
+        (Act::Check(Exactly(0)), "/a"),
+        (Act::Set(Exactly(0)), "/a"),
+        (Act::Create(Persistent), "/a/c"),
+        (Act::Delete(Any), "/a/c"),
     ];
     apply(&rt, &mut machine, 7, multi(alloc, &made)?, ("multi", 6, 0))?;
     let root = stat(alloc, &machine, "/")?;
@@ -55,7 +55,7 @@ fn takes_1_to_64_parts(rt: HostRuntime) -> Result<(), Fail> {
     for (count, is_taken) in [(0, false), (1, true), (MAX_PARTS, true), (65, false)] {
         let mut parts = Vec::new(alloc);
         for _ in 0..count {
-            parts.push(part(alloc, Act::Check("/", Any))?)?;
+            parts.push(part(alloc, Act::Check(Any), "/")?)?;
         }
         match Multi::new(parts) {
             Ok(_) => assert!(rt; is_taken, "{count} parts"),

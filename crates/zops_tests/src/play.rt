@@ -9,17 +9,22 @@ use zops::{
 };
 use zpath::Path;
 
-/// What a row asks for: a create has the data "hi", and a set no bytes.
+/// What a row asks for, at its path: a create has the data "hi", and a set no bytes.
 #[derive(Clone, Copy)]
-pub enum Act<'a> {
-    Create(&'a str, Kind),
-    Delete(&'a str, Expected),
-    Set(&'a str, Expected),
-    Check(&'a str, Expected),
+pub enum Act {
+    Create(Kind),
+    Delete(Expected),
+    Set(Expected),
+    Check(Expected),
     Open(u64),
     Ping(u64),
     Close(u64),
     Tick,
+}
+
+/// The kind of a node that the session of that id owns.
+pub fn owned(session: u64) -> Kind {
+    Kind::Ephemeral(SessionId::new(session))
 }
 
 // A create of a node with the data "hi".
@@ -51,32 +56,32 @@ fn check(alloc: Global, path: &str, version: Expected) -> Result<Part, Fail> {
 }
 
 /// The part that a row asks for.
-pub fn part(alloc: Global, act: Act) -> Result<Part, Fail> {
+pub fn part(alloc: Global, act: Act, path: &str) -> Result<Part, Fail> {
     match act {
-        Act::Create(path, kind) => Ok(Part::from(create(alloc, path, kind)?)),
-        Act::Delete(path, version) => Ok(Part::from(delete(alloc, path, version)?)),
-        Act::Set(path, version) => Ok(Part::from(set(alloc, path, version)?)),
-        Act::Check(path, version) => check(alloc, path, version),
+        Act::Create(kind) => Ok(Part::from(create(alloc, path, kind)?)),
+        Act::Delete(version) => Ok(Part::from(delete(alloc, path, version)?)),
+        Act::Set(version) => Ok(Part::from(set(alloc, path, version)?)),
+        Act::Check(version) => check(alloc, path, version),
         _ => Err("a part is no call of sessions".into()),
     }
 }
 
 /// The multi of these parts.
-pub fn multi(alloc: Global, acts: &[Act]) -> Result<Update, Fail> {
+pub fn multi(alloc: Global, rows: &[(Act, &str)]) -> Result<Update, Fail> {
     let mut parts = Vec::new(alloc);
-    for act in acts {
-        parts.push(part(alloc, *act)?)?;
+    for (act, path) in rows {
+        parts.push(part(alloc, *act, path)?)?;
     }
     Ok(Update::Multi(Multi::new(parts).ok().ok_or("there are 1 to 64")?))
 }
 
 /// The update that a row asks for; that of a check is a multi.
-pub fn update(alloc: Global, act: Act) -> Result<Update, Fail> {
+pub fn update(alloc: Global, act: Act, path: &str) -> Result<Update, Fail> {
     match act {
-        Act::Create(path, kind) => Ok(Update::from(create(alloc, path, kind)?)),
-        Act::Delete(path, version) => Ok(Update::from(delete(alloc, path, version)?)),
-        Act::Set(path, version) => Ok(Update::from(set(alloc, path, version)?)),
-        Act::Check(_, _) => multi(alloc, [act].as_slice()),
+        Act::Create(kind) => Ok(Update::from(create(alloc, path, kind)?)),
+        Act::Delete(version) => Ok(Update::from(delete(alloc, path, version)?)),
+        Act::Set(version) => Ok(Update::from(set(alloc, path, version)?)),
+        Act::Check(_) => multi(alloc, [(act, path)].as_slice()),
         Act::Open(ticks) => Ok(Update::Open(ticks)),
         Act::Ping(session) => Ok(Update::Ping(SessionId::new(session))),
         Act::Close(session) => Ok(Update::Close(SessionId::new(session))),
@@ -147,10 +152,10 @@ pub fn play(
     rt: &impl Abort,
     alloc: Global,
     machine: &mut Machine,
-    rows: &[(u8, Act, (&str, u64, u64))],
+    rows: &[(u8, Act, &str, (&str, u64, u64))],
 ) -> Result<(), Fail> {
-    for (client, act, want) in rows {
-        apply(rt, machine, *client, update(alloc, *act)?, *want)?;
+    for (client, act, path, want) in rows {
+        apply(rt, machine, *client, update(alloc, *act, path)?, *want)?;
     }
     Ok(())
 }
