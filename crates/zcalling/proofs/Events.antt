@@ -17,7 +17,7 @@ use Rattle.zchain.specs.Sound.{IsSound}
 use Rattle.zcalling.specs.Laws.{ClientsHear, CallsBegin, CallsAreSentAgain, ServersFail}
 use Rattle.zchain.proofs.links.Links.{at_cases, at_same, front_among}
 use Rattle.zchain.proofs.links.LaterWorlds.{justified_later}
-use Rattle.zchain.proofs.rows.Lasts.{lasts}
+use Rattle.zchain.proofs.tables.Lasts.{lasts}
 use Rattle.zchain.proofs.steps.Puts.{put_unread, unread_foreign}
 use Rattle.zcalling.proofs.ClientSteps.{begin_sound}
 use Rattle.zcalling.proofs.ClientMessages.{again_sound, message_taken}

@@ -8,6 +8,7 @@
 mod call;
 mod call_number;
 mod change;
+mod copies;
 pub mod laws;
 pub mod limits;
 mod listed;

@@ -40,6 +40,15 @@ impl Multi {
         }
     }
 
+    /// The parts in their order.
+    pub fn as_slice(&self) -> &[Part]
+        ensures parts { result.now ≡ self.now }
+        ensures some { 0 < length self.now }
+        ensures few { length self.now ≤ 64 }
+    {
+        &self.parts
+    }
+
     /// The parts.
     pub fn into_parts(self) -> Vec<Part>
         ensures parts { result.items ≡ self }

@@ -28,9 +28,9 @@ nothing_new t = ap (λ es. all_at_time (length t.world.history) (acts_from plain
 pub quiet_event : (t : Account) (w : LogWorld) → IsSound plain_tree (record t { world = w })
     → IsSoundAfter plain_tree t (record { world = w; committed = t.committed; items = t.items ++ new_items plain_tree (length t.world.history) t.committed t.committed })
 quiet_event t w s = (
-    subst (λ more. IsSound plain_tree (record { world = w; committed = t.committed; items = t.items ++ more })) (sym (nothing_new t))
-    (subst (λ items. IsSound plain_tree (record { world = w; committed = t.committed; items = items })) (sym (append-nil t.items)) s),
-    prefix_same t.committed,
+  subst (λ more. IsSound plain_tree (record { world = w; committed = t.committed; items = t.items ++ more })) (sym (nothing_new t))
+      (subst (λ items. IsSound plain_tree (record { world = w; committed = t.committed; items = items })) (sym (append-nil t.items)) s),
+  prefix_same t.committed,
 )
 
 -- a message is taken: there is a front, and the taker hasn't failed

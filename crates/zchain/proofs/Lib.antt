@@ -2,5 +2,6 @@ pub mod Events
 pub mod flow
 pub mod links
 pub mod places
-pub mod rows
 pub mod steps
+pub mod tables
+pub mod WrongTables

@@ -1,3 +1,4 @@
+-- The opening, and the steps that events are made of.
 pub mod Commits
 pub mod Drops
 pub mod Opening

@@ -6,3 +6,4 @@ pub mod Last
 pub mod Laws
 pub mod Messages
 pub mod Sound
+pub mod support

@@ -79,57 +79,60 @@ WaitsAreOpen w =
     (c n : ℕ) (call : Call) → (w.clients c).outstanding ≡ Some (n, call)
     → HasBegun w.history (record { client = c; number = n; call = call }) × ((reply : Reply) → Among (Answer c n reply) w.history → ⊥)
 
--- every message under way is fine
+-- every message under way is justified
 abbrev pub AllAreJustified : LogWorld → List Item → Links (List Entry) → Type 0
 AllAreJustified w items links = (from to : Process) → (m : _) → Among m (links from to) → IsJustified w items from to m
 
--- the invariants of a run
+-- the invariants of a run: what holds of the log world, the committed log and the items after every list of events
 pub record IsSound {P : Type 0} (plain : Plain P) (t : Account) : Type 0 where
-  -- the members are distinct
+  -- the chain's members are distinct
   pub distinct : AreDistinct t.world
-  -- and their numbers were used
+  -- each member's number was used
   pub used : MembersAreUsed t.world
-  -- a server whose number wasn't used has nothing
+  -- a server whose number wasn't used has nothing, and nothing from the master is under way to it
   pub blank : UnusedAreBlank t.world
   -- a server that was used and hasn't failed is a member
   pub live : LiveAreMembers t.world
-  -- orders lead to the predecessor that the master has in mind
+  -- the predecessor that a member has, and those that the master has told it of since, lead to the one in the master's
+  -- mind; all but the last are past
   pub line : OrdersLead t.world
-  -- a successor has taken the epoch of the pair
+  -- a server that is somebody's successor has taken the epoch of the pair
   pub successors : SuccessorsAreOpened t.world
-  -- new epochs differ
+  -- the epochs of the new predecessors under way to a server differ, and none is above the master's
   pub epochs : EpochsAreDistinct t.world
-  -- no tail order stands behind a successor that holds
+  -- behind a NewSucc that holds, no BecomeTail is under way to the same server
   pub tail_orders : TailOrdersAreLast t.world
-  -- who is nearer to the head has all that the others have
+  -- of two members, the one nearer to the head has all that the other has or could still take from what is under way, has a
+  -- successor, and isn't about to become the tail
   pub ordered : ChainIsOrdered t.world
-  -- the committed log begins every log
+  -- the committed log begins every log, and every first log that a joining member could take
   pub committed : AllShowCommitted t.world t.committed
-  -- the tail holds exactly that
+  -- a member with a log and without successor has exactly the committed log
   pub tail : TailHoldsCommitted t.world t.committed
-  -- Sent is of the log
+  -- each entry of Sent is the entry of that number in the server's own log
   pub sent : SentIsLogged t.world
-  -- logs are of calls that began
+  -- every entry of a log is a call that began
   pub begun : LogsAreBegun t.world
-  -- and so is the committed log
+  -- every entry of the committed log is a call that began
   pub committed_begun : AllBegun t.world.history t.committed
-  -- messages under way are fine
+  -- every message under way is justified: a request is a call that began, an answer is that of an item, a message of an epoch
+  -- is there only once its receiver has taken the epoch, and who is gone has failed
   pub justified : AllAreJustified t.world t.items t.world.links
-  -- the processed updates are the committed entries that acted
+  -- the updates among the items are the entries of the committed log that acted, in order
   pub acted : AreCommitted plain t.committed t.items
-  -- the processed list replays
+  -- the plain service, call after call from its opening, gives each item its reply
   pub replays : Replays (service_of plain) plain.opening t.items
-  -- its times don't fall
+  -- along the items times don't fall
   pub rising : TimesRise t.items
-  -- each item is later than its call's beginning
+  -- an item is later than the beginning of its call
   pub in_time : AreBegunInTime t.world.history t.items
-  -- each answer is later than its item
+  -- a call that was answered has an item that is no later than the answer
   pub answered : AreAnsweredInTime t.items 0 t.world.history
-  -- calls begin once and are answered once
+  -- no call begins twice, and none is answered twice
   pub once : EventsDiffer t.world.history
-  -- under numbers up to the client's
+  -- a call that has begun has a number up to its client's
   pub numbered : AreNumbered t.world.clients t.world.history
-  -- and the call that is waited for is open
+  -- the call that a client waits for has begun, and isn't answered
   pub waits : WaitsAreOpen t.world
 
 -- a run after another: it is sound, and what was committed stays committed

@@ -1,30 +1,23 @@
 //! Worked rows of the client table: each clause is one, and the bodies do nothing. The clients are those
 //! of `specs/support/Rows.antt`, and the messages those between servers whose machine is a number.
 
-ghost use Rattle.std.specs.Prelude.{◌≡◌, ◌-◌, ◌^◌, ℕ, None, Some, [], ◌∷◌};
+ghost use Rattle.std.specs.Prelude.{◌≡◌, ◌-◌, ℕ, None, Some, [], ◌∷◌};
 ghost use Rattle.zcalls.specs.declared.call.Call.TheVariants as call;
+ghost use Rattle.zcalls.specs.declared.limits.TheConstants.{MAX_CALL_NUMBER};
 ghost use Rattle.zcalls.specs.declared.reply.Reply.TheVariants.{Deleted};
 ghost use Rattle.zserver.specs.declared.message.Message.TheVariants as message;
 ghost use Rattle.zserver.specs.declared.process.Process.TheVariants.{Master, Server};
 ghost use Rattle.zclient.specs.declared.begin_fault.BeginFault.TheVariants.{Busy, Exhausted};
 ghost use Rattle.zclient.specs.View.{opening_client};
 ghost use Rattle.zclient.specs.Table.{begin_fault};
-ghost use Rattle.zclient.specs.support.Rows.{after, Ignores, after_call, after_retry, update};
+ghost use Rattle.zclient.specs.support.Rows.{after, Ignores, after_call, beginner, after_retry};
+ghost use Rattle.zclient.specs.support.Rows.{update};
 ghost use Rattle.zclient.specs.support.Rows.{query, client, idle, updating, asking};
 
 /// How a call begins: an update goes to the head and a query to the tail; and why it can't.
 pub fn calls_begin()
     ensures first_call { after_call (opening_client 2 3 1) (call.Update update)
-        ≡ (
-          record {
-            number = 1;
-            outstanding = Some (1, call.Update update);
-            epoch = 0;
-            head = Some 1;
-            tail = Some 2;
-          },
-          (Server 1, message.Submit 1 update) ∷ [],
-        ) }
+        ≡ (beginner, (Server 1, message.Submit 1 update) ∷ []) }
     ensures update { after_call idle (call.Update update)
         ≡ (client 8 (Some (8, call.Update update)), (Server 1, message.Submit 8 update) ∷ []) }
     ensures query { after_call idle (call.Query query)
@@ -33,15 +26,18 @@ pub fn calls_begin()
         ≡ (record (client 8 (Some (8, call.Update update))) { head = None }, []) }
     ensures allowed { begin_fault idle ≡ None }
     ensures busy { begin_fault updating ≡ Some Busy }
-    ensures exhausted { begin_fault (client (2 ^ 62 - 1) None) ≡ Some Exhausted }
-    ensures busy_before_exhausted { begin_fault (client (2 ^ 62 - 1) (Some (7, call.Query query))) ≡ Some Busy }
-    ensures last_number { begin_fault (client (2 ^ 62 - 2) None) ≡ None }
+    ensures exhausted { begin_fault (client MAX_CALL_NUMBER None) ≡ Some Exhausted }
+    ensures busy_before_exhausted { begin_fault (client MAX_CALL_NUMBER (asking.outstanding))
+        ≡ Some Busy }
+    ensures last_number { begin_fault (client (MAX_CALL_NUMBER - 1) None) ≡ None }
 {}
 
 /// What a client does with a server's answer, and with what it is told of the chain.
 pub fn answers_are_taken()
-    ensures answer { after updating (Server 3) (message.Answer 7 Deleted) ≡ (idle, [], Some (7, Deleted)) }
-    ensures answer_of_any_server { after updating (Server 2) (message.Answer 7 Deleted) ≡ (idle, [], Some (7, Deleted)) }
+    ensures answer { after updating (Server 3) (message.Answer 7 Deleted)
+        ≡ (idle, [], Some (7, Deleted)) }
+    ensures answer_of_any_server { after updating (Server 2) (message.Answer 7 Deleted)
+        ≡ (idle, [], Some (7, Deleted)) }
     ensures old_answer { Ignores updating (Server 3) (message.Answer 6 Deleted) }
     ensures answer_again { Ignores idle (Server 3) (message.Answer 7 Deleted) }
     ensures answer_of_the_master { Ignores updating Master (message.Answer 7 Deleted) }

@@ -1,3 +1,4 @@
+-- Lists, of whatever there is.
 pub mod Distinct
 pub mod Members
 pub mod Places

@@ -8,7 +8,8 @@ ghost use Rattle.zmaster.specs.declared.join_fault.JoinFault.TheVariants.{Used, 
 ghost use Rattle.zmaster.specs.declared.join_fault.JoinFault.TheVariants.{Lost};
 ghost use Rattle.zmaster.specs.View.{opening_master, with_number, head_of, tail_of};
 ghost use Rattle.zmaster.specs.Table.{join_fault};
-ghost use Rattle.zmaster.specs.support.Rows.{after, Ignores, after_join, three, four, growing, one};
+ghost use Rattle.zmaster.specs.support.Rows.{after, Ignores, after_join, with_fifth};
+ghost use Rattle.zmaster.specs.support.Rows.{opening_of_two, three, four, growing, one};
 ghost use Rattle.zmaster.specs.support.Rows.{lost, empty, tells};
 
 /// What the master does with a server's report of its log, and when a new server has the state.
@@ -65,23 +66,16 @@ pub fn chain_is_mended()
           record growing { chain = (1, 0) ∷ (4, 7) ∷ []; epoch = 7 },
           (Server 4, message.NewPred 7 1) ∷ tells (Some 1) (Some 1),
         ) }
-    ensures only { after one (Server 2) message.Gone ≡ (record one { chain = []; epoch = 7 }, tells None None) }
+    ensures only { after one (Server 2) message.Gone
+        ≡ (record one { chain = []; epoch = 7 }, tells None None) }
     ensures outside { Ignores three (Server 3) message.Gone }
-    ensures spare { after three (Server 5) message.Gone ≡ (record three { used = 1 ∷ 2 ∷ 3 ∷ 4 ∷ 5 ∷ [] }, []) }
+    ensures spare { after three (Server 5) message.Gone
+        ≡ (record three { used = 1 ∷ 2 ∷ 3 ∷ 4 ∷ 5 ∷ [] }, []) }
 {}
 
 /// How a server joins, and why it can't.
 pub fn servers_join()
-    ensures joins { after_join three 5
-        ≡ (
-          record three {
-            chain = (1, 0) ∷ (2, 3) ∷ (4, 5) ∷ (5, 7) ∷ [];
-            joining = Some 5;
-            used = 1 ∷ 2 ∷ 3 ∷ 4 ∷ 5 ∷ [];
-            epoch = 7;
-          },
-          (Server 5, message.NewPred 7 4) ∷ [],
-        ) }
+    ensures joins { after_join three 5 ≡ (with_fifth, (Server 5, message.NewPred 7 4) ∷ []) }
     ensures allowed { join_fault three 5 ≡ None }
     ensures used { join_fault three 3 ≡ Some Used }
     ensures used_before_all { join_fault growing 4 ≡ Some Used }
@@ -94,14 +88,7 @@ pub fn servers_join()
 /// The opening of a chain of two with three clients, the head and tail that clients are told, and the used
 /// numbers with one more.
 pub fn opening_and_ends()
-    ensures opening { opening_master 2 3
-        ≡ record {
-          chain = (1, 0) ∷ (2, 0) ∷ [];
-          joining = None;
-          used = 1 ∷ 2 ∷ [];
-          epoch = 0;
-          clients = 3;
-        } }
+    ensures opening { opening_master 2 3 ≡ opening_of_two }
     ensures head { head_of three ≡ Some 1 }
     ensures tail { tail_of three ≡ Some 4 }
     ensures tail_is_joining { tail_of growing ≡ Some 2 }

@@ -19,7 +19,7 @@ use Rattle.zchain.specs.Sound.{IsSound}
 use Rattle.zmending.specs.Laws.{MasterHears, ServersJoin}
 use Rattle.zchain.proofs.links.Links.{front_among}
 use Rattle.zchain.proofs.links.LaterWorlds.{justified_later}
-use Rattle.zmending.proofs.chain.Moves.{moved}
+use Rattle.zmending.proofs.chain.Moves.{world_with_move}
 use Rattle.zchain.proofs.steps.Drops.{kept_not_to, dropped_sound}
 use Rattle.zmending.proofs.chain.StandingChains.{unheard, have_heard, joined_heard}
 use Rattle.zmending.proofs.chain.Departures.{gone_heard}
@@ -29,7 +29,7 @@ use Rattle.zchain.proofs.Events.{where_enabled, front_there, quiet_event}
 
 -- what the master does with a message
 heard : (t : Account) → IsSound plain_tree t → (from : Process) (m : LogMessage) → IsJustified t.world t.items from Master m
-    → IsSound plain_tree (record t { world = moved t.world (master.master_step {M = List Entry} t.world.master from m).0 (master.master_step t.world.master from m).1 })
+    → IsSound plain_tree (record t { world = world_with_move t.world (master.master_step {M = List Entry} t.world.master from m).0 (master.master_step t.world.master from m).1 })
 unfolding master.master_step
 heard t s (Server x) (message.Have epoch last) justified = have_heard plain_tree t s x epoch last justified
 heard t s (Server x) (message.Joined epoch) justified = joined_heard plain_tree t s x

@@ -1,6 +1,7 @@
-pub mod Handovers
-pub mod Neighbours
-pub mod OrderSteps
+-- Servers take the master's orders.
 pub mod OrderViews
-pub mod Orders
+pub mod OrderSteps
+pub mod Neighbours
 pub mod Successors
+pub mod Handovers
+pub mod Orders

@@ -13,7 +13,7 @@ use Rattle.zchain.specs.Last.{LastsAreLengths}
 use Rattle.zchain.specs.Account.{Account, account_by, next_account, account_after, opening_account}
 use Rattle.zchain.specs.Sound.{IsSound, IsSoundAfter}
 use Rattle.zchain.specs.Events.{KeepsSound}
-use Rattle.zchain.proofs.rows.Lasts.{lasts, lasts_happen}
+use Rattle.zchain.proofs.tables.Lasts.{lasts, lasts_happen}
 use Rattle.zchain.proofs.steps.Opening.{opening_sound}
 use Rattle.zchain.proofs.steps.Drops.{requests_are_lost}
 use Rattle.zserving.proofs.Events.{servers_hear_servers, servers_hear_clients}

@@ -24,7 +24,7 @@ use Rattle.zchain.specs.Flow.{LogWorld, Log, log_at}
 use Rattle.zchain.specs.Account.{Account, opening_account}
 use Rattle.zchain.specs.Sound.{IsSound}
 use Rattle.zchain.proofs.places.Pairs.{log_member}
-use Rattle.zchain.proofs.steps.Sends.{upper_of_log}
+use Rattle.zchain.proofs.steps.Sends.{final_log_of_log}
 use Rattle.zorder.specs.Facts.{account_of, OneTailAnswers, LogsBeginEachOther, TailsHoldWhatTailsHeld, UpdatesActOnce}
 use Rattle.zorder.proofs.Runs.{account_world, every_run_is_sound, committed_stays}
 
@@ -38,7 +38,7 @@ record IsLonger (w : LogWorld) (x : ℕ) (log : List Entry) : Type 0 where
 longer : (t : Account) → IsSound plain_tree t → (x y : ℕ) (log : List Entry) → ComesBefore x y (members t.world.master) → log_at t.world y ≡ Some log
     → IsLonger t.world x log
 longer t s x y log before has =
-    let more = upper_of_log t.world y log has in
+    let more = final_log_of_log t.world y log has in
     let ahead = s.ordered x y before more.0 more.1 in
     record { own = ahead.own; holds = ahead.holds; begins = prefix_of log more.0 ahead.own more.2 ahead.begins; has_successor = ahead.has_successor }
 

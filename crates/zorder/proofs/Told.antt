@@ -120,11 +120,10 @@ answered_queries_saw_committed servers clients events client number query reply 
     let leads : after_items plain_tree plain_tree.opening place.before ≡ (after_log plain_tree split.0).plain =
     items_lead plain_tree plain_tree.opening place.before ∙ ap (after_calls plain_tree plain_tree.opening) (sym split.3) ∙ acted_leads plain_tree (nothing_kept plain_tree.opening) split.0 in
     let told : (operation_step (service_of plain_tree) (after_items plain_tree plain_tree.opening place.before) found.item.operation).1 ≡ found.item.reply =
-    replays_at plain_tree.opening place.before found.item place.after (subst (Replays (service_of plain_tree) plain_tree.opening) place.split s.replays) in
-    (
+    replays_at plain_tree.opening place.before found.item place.after (subst (Replays (service_of plain_tree) plain_tree.opening) place.split s.replays) in (
       split.0,
       (split.1, split.2),
       ap (λ p. plain_tree.ask p query) (sym leads)
-      ∙ ap (λ (p : Operation). (operation_step (service_of plain_tree) (after_items plain_tree plain_tree.opening place.before) p).1) (sym found.operation)
-      ∙ told ∙ found.told,
+          ∙ ap (λ (p : Operation). (operation_step (service_of plain_tree) (after_items plain_tree plain_tree.opening place.before) p).1) (sym found.operation)
+          ∙ told ∙ found.told,
     )

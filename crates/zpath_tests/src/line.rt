@@ -16,8 +16,8 @@ pub fn answer(alloc: Global, line: &str) -> Result<String, AllocError> {
 fn called(alloc: Global, line: &str) -> Result<String, PathFault> {
     let (word, rest) = line.split_once(' ').unwrap_or((line, ""));
     match word {
-        "path" => shown(alloc, &Path::parse(alloc, rest)?),
-        "copy" => shown(alloc, &Path::parse(alloc, rest)?.copied(alloc)?),
+        "path" => path(alloc, rest),
+        "copy" => copy(alloc, rest),
         "parent" => parent(alloc, rest),
         "name" => name(alloc, rest),
         "child" => child(alloc, rest),
@@ -34,6 +34,14 @@ fn text_of(alloc: Global, text: &str) -> Result<String, PathFault> {
 
 fn shown(alloc: Global, path: &Path) -> Result<String, PathFault> {
     Ok(format!(in alloc; "{path}")?)
+}
+
+fn path(alloc: Global, text: &str) -> Result<String, PathFault> {
+    shown(alloc, &Path::parse(alloc, text)?)
+}
+
+fn copy(alloc: Global, text: &str) -> Result<String, PathFault> {
+    shown(alloc, &Path::parse(alloc, text)?.copied(alloc)?)
 }
 
 fn parent(alloc: Global, text: &str) -> Result<String, PathFault> {

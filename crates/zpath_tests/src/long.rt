@@ -8,12 +8,16 @@ pub fn answer(alloc: Global, text: &str) -> Result<String, PathFault> {
     let mut words = text.split(' ');
     let count = number(words.next());
     let length = number(words.next());
-    let text = long_text(alloc, count, length)?;
-    let path = Path::parse(alloc, text.as_str())?;
+    let path = long_path(alloc, count, length)?;
     if words.next().is_none() || path.names().is_empty() {
         return size(alloc, &path);
     }
     size(alloc, &path.numbered(alloc, 7)?)
+}
+
+fn long_path(alloc: Global, count: u16, length: u16) -> Result<Path, PathFault> {
+    let text = long_text(alloc, count, length)?;
+    Path::parse(alloc, text.as_str())
 }
 
 fn size(alloc: Global, path: &Path) -> Result<String, PathFault> {

@@ -34,5 +34,6 @@ pub fn machine_does_the_plain_step()
     ensures first_reply { (t : Tree) (client : ℕ) (update : Update)
         → (kept_tree.apply (nothing_kept t) (first_entry client update)).1
         ≡ Some (step t client update).1 }
-    ensures query { (s : KeptState Tree) (query : Query) → kept_tree.ask s query ≡ query_reply s.plain query }
+    ensures query { (s : KeptState Tree) (query : Query)
+        → kept_tree.ask s query ≡ query_reply s.plain query }
 {}

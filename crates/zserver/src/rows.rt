@@ -40,8 +40,10 @@ pub fn updates_go_down()
         ≡ (with_entry_kept head, (Server 3, message.Update 5 8 (call 18)) ∷ []) }
     ensures alone_answers { after single (Client 5) (message.Submit 18 update)
         ≡ (with_entry single, (Client 5, message.Answer 18 (number_reply 8)) ∷ []) }
-    ensures alone_has_no_reply { after single (Client 5) (message.Submit 0 update) ≡ (with_entry single, []) }
-    ensures last_number { after (with_last (MAX_LOG_NUMBER - 1)) (Client 5) (message.Submit 18 update)
+    ensures alone_has_no_reply { after single (Client 5) (message.Submit 0 update)
+        ≡ (with_entry single, []) }
+    ensures last_number { after (with_last (MAX_LOG_NUMBER - 1)) (Client 5)
+        (message.Submit 18 update)
         ≡ (
           record single { machine = Some 8; last = MAX_LOG_NUMBER },
           (Client 5, message.Answer 18 (number_reply 8)) ∷ [],
@@ -57,7 +59,8 @@ pub fn updates_go_down()
         ) }
     ensures tail_acknowledges_without_reply { after tail (Server 1) (message.Update 4 8 (call 0))
         ≡ (with_entry tail, (Server 1, message.Ack 4 8) ∷ []) }
-    ensures joining_has_no_state { Ignores joining_server (Server 1) (message.Update 4 1 (call 11)) }
+    ensures joining_has_no_state { Ignores joining_server (Server 1)
+        (message.Update 4 1 (call 11)) }
     ensures spare_has_no_state { Ignores spare (Client 5) (message.Submit 18 update) }
 {}
 
@@ -73,7 +76,8 @@ pub fn tail_answers()
         ≡ (record middle { sent = (7, call 17) ∷ [] }, (Server 1, message.Ack 4 6) ∷ []) }
     ensures ack_of_all { after middle (Server 3) (message.Ack 5 7)
         ≡ (record middle { sent = [] }, (Server 1, message.Ack 4 7) ∷ []) }
-    ensures ack_ends_at_the_head { after head (Server 3) (message.Ack 5 7) ≡ (record head { sent = [] }, []) }
+    ensures ack_ends_at_the_head { after head (Server 3) (message.Ack 5 7)
+        ≡ (record head { sent = [] }, []) }
     ensures tail_has_no_successor { Ignores tail (Server 3) (message.Ack 5 7) }
 {}
 
@@ -98,12 +102,14 @@ pub fn neighbours_change()
           (Server 4, message.Snapshot 8 (record { last = 7; machine = 7 })) ∷ [],
         ) }
     ensures joining_has_no_successor { Ignores joining_server Master (message.NewSucc 8 4 None) }
-    ensures middle_becomes_head { after middle Master (message.BecomeHead 8) ≡ (record middle { pred = None }, []) }
+    ensures middle_becomes_head { after middle Master (message.BecomeHead 8)
+        ≡ (record middle { pred = None }, []) }
     ensures joining_becomes_head { after joining_server Master (message.BecomeHead 8)
         ≡ (record joining_server { pred = None }, []) }
     ensures middle_becomes_tail { after middle Master (message.BecomeTail 8)
         ≡ (record middle { sent = []; succ = None }, (Server 1, message.Ack 4 7) ∷ []) }
-    ensures head_becomes_tail { after head Master (message.BecomeTail 8) ≡ (record head { sent = []; succ = None }, []) }
+    ensures head_becomes_tail { after head Master (message.BecomeTail 8)
+        ≡ (record head { sent = []; succ = None }, []) }
     ensures joining_becomes_tail { Ignores joining_server Master (message.BecomeTail 8) }
 {}
 
@@ -118,7 +124,8 @@ pub fn state_is_handed_over()
     ensures snapshot_of_old_epoch { Ignores joining_server (Server 1) (message.Snapshot 3 nine) }
     ensures snapshot_of_a_stranger { Ignores joining_server (Server 2) (message.Snapshot 4 nine) }
     ensures snapshot_at_a_spare { Ignores spare (Server 1) (message.Snapshot 4 nine) }
-    ensures old_tail_is_silent { after (after tail Master (message.NewSucc 8 4 None)).0 (Client 5) (message.Query 18 query)
+    ensures old_tail_is_silent { after (after tail Master (message.NewSucc 8 4 None)).0 (Client 5)
+        (message.Query 18 query)
         ≡ (record tail { succ = Some (4, 8) }, []) }
     ensures old_tail_forwards { after (after tail Master (message.NewSucc 8 4 None)).0 (Server 1)
         (message.Update 4 8 (call 18))
@@ -144,9 +151,12 @@ pub fn roles_of_servers()
 
 /// The servers at the opening of a chain of three, and of a chain of one.
 pub fn opening_views()
-    ensures first { opening_server counting_machine 3 1 ≡ member counting_machine None (Some (2, 0)) }
-    ensures second { opening_server counting_machine 3 2 ≡ member counting_machine (Some (1, 0)) (Some (3, 0)) }
-    ensures third { opening_server counting_machine 3 3 ≡ member counting_machine (Some (2, 0)) None }
+    ensures first { opening_server counting_machine 3 1
+        ≡ member counting_machine None (Some (2, 0)) }
+    ensures second { opening_server counting_machine 3 2
+        ≡ member counting_machine (Some (1, 0)) (Some (3, 0)) }
+    ensures third { opening_server counting_machine 3 3
+        ≡ member counting_machine (Some (2, 0)) None }
     ensures fourth { opening_server counting_machine 3 4 ≡ spare }
     ensures only { opening_server counting_machine 1 1 ≡ member counting_machine None None }
     ensures empty_log { opening_server counting_machine 1 1
@@ -160,10 +170,12 @@ pub fn log_replies_as_its_machine()
     ensures starts_empty { (log_of counting_machine).start ≡ [] }
     ensures keeps_an_entry { (log_of counting_machine).apply (call 11 ∷ []) (call 12)
         ≡ (call 11 ∷ call 12 ∷ [], Some (number_reply 2)) }
-    ensures keeps_an_entry_without_reply { (log_of counting_machine).apply (call 11 ∷ []) (call 0) ≡ (call 11 ∷ call 0 ∷ [], None) }
-    ensures asks_the_machine { (log_of counting_machine).ask (call 11 ∷ call 12 ∷ []) query ≡ number_reply 2 }
-    ensures is_a_machine_of_the_table { server_step (log_of counting_machine) (on_log (call 11 ∷ [])) (Client 5)
-        (message.Submit 12 update)
+    ensures keeps_an_entry_without_reply { (log_of counting_machine).apply (call 11 ∷ []) (call 0)
+        ≡ (call 11 ∷ call 0 ∷ [], None) }
+    ensures asks_the_machine { (log_of counting_machine).ask (call 11 ∷ call 12 ∷ []) query
+        ≡ number_reply 2 }
+    ensures is_a_machine_of_the_table { server_step (log_of counting_machine)
+        (on_log (call 11 ∷ [])) (Client 5) (message.Submit 12 update)
         ≡ (
           record (on_log (call 11 ∷ call 12 ∷ [])) { sent = (2, call 12) ∷ [] },
           (Server 3, message.Update 5 2 (call 12)) ∷ [],

@@ -28,7 +28,7 @@ use Rattle.zchain.proofs.links.Links.{at_same}
 use Rattle.zchain.proofs.places.Pairs.{log_member}
 use Rattle.zserver.specs.support.Cases.{IsAccepted, IsRow, Processes, Forwards, Ignores, Submits, Updates, Asks, Acknowledges, Shows, Turns, Follows, Leads, Ends}
 use Rattle.zserver.proofs.Cases.{server_case}
-use Rattle.zchain.proofs.rows.RowViews.{row_sent, row_begun, row_blank}
+use Rattle.zchain.proofs.tables.RowViews.{row_sent, row_begun, row_blank}
 use Rattle.zchain.proofs.places.Heads.{head_is_first}
 use Rattle.zchain.proofs.steps.Takes.{with_view, neighbours_stay}
 use Rattle.zchain.proofs.steps.Views.{IsGoodView}
@@ -95,9 +95,9 @@ module _ {P : Type 0} (plain : Plain P) (t : Account) (s : IsSound plain t) (c y
   pub justified : IsJustified w t.items (Client c) (Server y) m
   justified = s.justified (Client c) (Server y) m (subst (Among m) (sym link) (inl refl))
 
-  same_upper : (log : Log) (pred : Option Neighbour) → final_log_by w1 y log pred ≡ final_log_by w y log pred
-  same_upper log None = refl
-  same_upper log (Some pred) = refl
+  same_final_log : (log : Log) (pred : Option Neighbour) → final_log_by w1 y log pred ≡ final_log_by w y log pred
+  same_final_log log None = refl
+  same_final_log log (Some pred) = refl
 
   same_first : (pred : Option Neighbour) → first_snapshot_by w1 y pred ≡ first_snapshot_by w y pred
   same_first None = refl
@@ -106,7 +106,7 @@ module _ {P : Type 0} (plain : Plain P) (t : Account) (s : IsSound plain t) (c y
   ahead : (x : ℕ) → ComesBefore x y (members w.master) → (log : List Entry) → final_log w1 y ≡ Some log → IsAhead w x log
   ahead x before log is = elim (machine) [
     | inl same ↦ s.ordered x y before log
-        (sym (same_upper old.machine old.pred) ∙ (λ i. final_log_by w1 y (sym same i) (sym stay.0 i))
+        (sym (same_final_log old.machine old.pred) ∙ (λ i. final_log_by w1 y (sym same i) (sym stay.0 i))
         ∙ sym (ap (λ (u : ServerView (List Entry)). final_log_by w1 y u.machine u.pred) (at_same y taken.0 w.servers)) ∙ is)
     | inr new ↦ absurd (head_is_first w s.line s.distinct y (log_member w s.blank s.live y alive new.log new.has) new.log new.has new.head x before)
   ]

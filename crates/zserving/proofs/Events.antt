@@ -11,7 +11,7 @@ use Rattle.zchain.specs.Last.{LastsAreLengths}
 use Rattle.zchain.specs.Account.{Account, tail_log, query_items_of_front, account_by}
 use Rattle.zchain.specs.Sound.{IsSound, IsSoundAfter}
 use Rattle.zserving.specs.Laws.{ServersHearServers, ServersHearClients}
-use Rattle.zchain.proofs.rows.Lasts.{lasts}
+use Rattle.zchain.proofs.tables.Lasts.{lasts}
 use Rattle.zserving.proofs.ServerMessages.{take_from_server}
 use Rattle.zserving.proofs.ClientMessages.{take_from_client}
 use Rattle.zserving.proofs.Queries.{take_query}

@@ -32,7 +32,7 @@ use Rattle.zserver.specs.support.Cases.{IsAccepted, IsRow, Processes, Forwards, 
 use Rattle.zserver.proofs.Cases.{server_case}
 use Rattle.zchain.proofs.steps.Sends.{put_sent}
 use Rattle.zlegal.proofs.acts.NewItems.{update_among}
-use Rattle.zserving.proofs.ServerViews.{good_view, good_base}
+use Rattle.zserving.proofs.ServerViews.{good_view, good_first_log}
 use Rattle.zchain.proofs.steps.ServerSteps.{account_with_puts, puts_at_once, puts_unread, acks_unread, answers_unread, account_with_view, view_step_sound, view_step_begins, after_puts, IsUnreadAndJustified}
 
 -- the view after an entry was accepted where there is no successor commits the entry
@@ -104,7 +104,7 @@ module _ {P : Type 0} (plain : Plain P) (t : Account) (s : IsSound plain t) (p y
   all_puts : IsSound plain (account_with_puts (account_with_view plain t (Server p) y taken.0) y taken.1)
   all_puts =
       row_puts (Server p) m taken (server_case (log_machine plain) (w.servers y) (Server p) m) refl
-      (s.justified (Server p) (Server y) m (subst (Among m) (sym link) (inl refl))) (view_step_sound plain t s (Server p) refl y taken.0 (good_view plain t s p y m rest link exact) (good_base plain t s p y m rest link exact) alive)
+      (s.justified (Server p) (Server y) m (subst (Among m) (sym link) (inl refl))) (view_step_sound plain t s (Server p) refl y taken.0 (good_view plain t s p y m rest link exact) (good_first_log plain t s p y m rest link exact) alive)
 
   -- the whole step
   abbrev popped : LogWorld
@@ -123,4 +123,4 @@ module _ {P : Type 0} (plain : Plain P) (t : Account) (s : IsSound plain t) (p y
 
   pub take_from_server : IsSoundAfter plain t (account_by plain t (Take (Server p) (Server y)) (process_step (log_machine plain) popped (Server p) (Server y) m))
   take_from_server = after_puts plain t (account_with_view plain t (Server p) y taken.0) _ y taken.1 is_account all_puts
-      (view_step_begins plain t s (Server p) refl y taken.0 (good_view plain t s p y m rest link exact) (good_base plain t s p y m rest link exact) alive)
+      (view_step_begins plain t s (Server p) refl y taken.0 (good_view plain t s p y m rest link exact) (good_first_log plain t s p y m rest link exact) alive)

@@ -15,9 +15,9 @@ use Rattle.zchain.specs.Account.{Account}
 use Rattle.zchain.specs.Sound.{IsSound}
 use Rattle.zlegal.proofs.lists.Tests.{left_of, right_of}
 use Rattle.zserver.proofs.Cases.{server_case}
-use Rattle.zchain.proofs.rows.RowViews.{row_sent, row_begun, row_blank}
+use Rattle.zchain.proofs.tables.RowViews.{row_sent, row_begun, row_blank}
 use Rattle.zchain.proofs.steps.Takes.{takes_stays, neighbours_stay, with_view}
-use Rattle.zserving.proofs.TakerLogs.{taker_grows, upper_taker, base_taker}
+use Rattle.zserving.proofs.TakerLogs.{taker_grows, final_log_taker, first_log_taker}
 use Rattle.zchain.proofs.steps.Views.{IsGoodView}
 
 none_is : (pred : Option Neighbour) → is_none pred ≡ true → (p k : ℕ) → pred ≡ Some (p, k) → ⊥
@@ -44,7 +44,7 @@ module _ {P : Type 0} (plain : Plain P) (t : Account) (s : IsSound plain t) (p y
         pred = stay.0;
         succ = stay.1;
         grows = taker_grows plain w p y m rest link exact;
-        ahead = λ x before log is. s.ordered x y before log (sym (upper_taker plain w p y m rest link exact) ∙ is);
+        ahead = λ x before log is. s.ordered x y before log (sym (final_log_taker plain w p y m rest link exact) ∙ is);
         blank = λ unused. row_blank plain v (Server p) m taken row refl (s.blank y unused).0;
         fresh = λ is. ap is_none (takes_stays plain v p m (λ k e. none_is v.pred (right_of (is_none v.machine) (is_none v.pred) is) p k e))
             ∙ left_of (is_none v.machine) (is_none v.pred) is;
@@ -53,5 +53,5 @@ module _ {P : Type 0} (plain : Plain P) (t : Account) (s : IsSound plain t) (p y
       }
 
   -- what it shows first only grows
-  pub good_base : (log : List Entry) → first_log (with_view w (Server p) y taken.0) y ≡ Some log → (shown : List Entry) × (first_log w y ≡ Some shown) × IsPrefix shown log
-  good_base = base_taker plain w p y m rest link exact
+  pub good_first_log : (log : List Entry) → first_log (with_view w (Server p) y taken.0) y ≡ Some log → (shown : List Entry) × (first_log w y ≡ Some shown) × IsPrefix shown log
+  good_first_log = first_log_taker plain w p y m rest link exact

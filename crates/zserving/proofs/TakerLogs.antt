@@ -54,8 +54,8 @@ module _ {P : Type 0} (plain : Plain P) (w : LogWorld) (p y : ℕ) (m : LogMessa
   ]
 
   -- what it would hold in the end
-  upper_here : (log : Log) (pred : Option Neighbour) → new.machine ≡ log → new.pred ≡ pred → final_log w1 y ≡ final_log_by w1 y log pred
-  upper_here log pred a b = ap (λ (u : ServerView (List Entry)). final_log_by w1 y u.machine u.pred) view_here ∙ (λ i. final_log_by w1 y (a i) (b i))
+  final_log_here : (log : Log) (pred : Option Neighbour) → new.machine ≡ log → new.pred ≡ pred → final_log w1 y ≡ final_log_by w1 y log pred
+  final_log_here log pred a b = ap (λ (u : ServerView (List Entry)). final_log_by w1 y u.machine u.pred) view_here ∙ (λ i. final_log_by w1 y (a i) (b i))
 
   others : (pred : Option Neighbour) → ((k : ℕ) → pred ≡ Some (p, k) → ⊥) → (log : Log) → final_log_by w1 y log pred ≡ final_log_by w y log pred
   others None other log = refl
@@ -64,14 +64,14 @@ module _ {P : Type 0} (plain : Plain P) (w : LogWorld) (p y : ℕ) (m : LogMessa
     | inr f ↦ ap (flow pred.1 log) (front_not_from w.links (Server p) (Server y) (Server pred.0) (Server y) f)
   ]
 
-  pub upper_taker : final_log w1 y ≡ final_log w y
-  upper_taker = elim (is_pred old.pred p) [
+  pub final_log_taker : final_log w1 y ≡ final_log w y
+  final_log_taker = elim (is_pred old.pred p) [
     | inl h ↦
-        upper_here (log_with_message h.0 old.machine m) (Some (p, h.0)) (takes_flows plain old p h.0 m exact h.1) (same_pred ∙ h.1)
+        final_log_here (log_with_message h.0 old.machine m) (Some (p, h.0)) (takes_flows plain old p h.0 m exact h.1) (same_pred ∙ h.1)
         ∙ ap (flow h.0 (log_with_message h.0 old.machine m)) link_here
         ∙ sym (ap (flow h.0 old.machine) link)
         ∙ sym (ap (final_log_by w y old.machine) h.1)
-    | inr other ↦ upper_here old.machine old.pred (takes_stays plain old p m other) same_pred ∙ others old.pred other old.machine
+    | inr other ↦ final_log_here old.machine old.pred (takes_stays plain old p m other) same_pred ∙ others old.pred other old.machine
   ]
 
   -- what it shows first
@@ -82,32 +82,32 @@ module _ {P : Type 0} (plain : Plain P) (w : LogWorld) (p y : ℕ) (m : LogMessa
     | inr f ↦ ap (first_snapshot pred.1) (front_not_from w.links (Server p) (Server y) (Server pred.0) (Server y) f)
   ]
 
-  base_here : (log : Log) (pred : Option Neighbour) → new.machine ≡ log → new.pred ≡ pred → first_log w1 y ≡ or_else log (first_snapshot_by w1 y pred)
-  base_here log pred a b = ap (λ (u : ServerView (List Entry)). or_else u.machine (first_snapshot_by w1 y u.pred)) view_here ∙ (λ i. or_else (a i) (first_snapshot_by w1 y (b i)))
+  first_log_here : (log : Log) (pred : Option Neighbour) → new.machine ≡ log → new.pred ≡ pred → first_log w1 y ≡ or_else log (first_snapshot_by w1 y pred)
+  first_log_here log pred a b = ap (λ (u : ServerView (List Entry)). or_else u.machine (first_snapshot_by w1 y u.pred)) view_here ∙ (λ i. or_else (a i) (first_snapshot_by w1 y (b i)))
 
   -- without a log it shows what it did
-  base_empty : old.machine ≡ None → first_log w1 y ≡ first_log w y
-  base_empty none = elim (is_pred old.pred p) [
+  first_log_empty : old.machine ≡ None → first_log w1 y ≡ first_log w y
+  first_log_empty none = elim (is_pred old.pred p) [
     | inl h ↦
-        base_here (snapshot_of h.0 m) (Some (p, h.0)) (takes_flows plain old p h.0 m exact h.1 ∙ ap (λ l. log_with_message h.0 l m) none ∙ flowed_first h.0 m) (same_pred ∙ h.1)
+        first_log_here (snapshot_of h.0 m) (Some (p, h.0)) (takes_flows plain old p h.0 m exact h.1 ∙ ap (λ l. log_with_message h.0 l m) none ∙ flowed_first h.0 m) (same_pred ∙ h.1)
         ∙ ap (λ l. or_else (snapshot_of h.0 m) (first_snapshot h.0 l)) link_here
         ∙ sym (ap (first_snapshot h.0) link)
         ∙ sym (λ i. or_else (none i) (first_snapshot_by w y (h.1 i)))
     | inr other ↦
-        base_here old.machine old.pred (takes_stays plain old p m other) same_pred ∙ ap (or_else old.machine) (first_others old.pred other)
+        first_log_here old.machine old.pred (takes_stays plain old p m other) same_pred ∙ ap (or_else old.machine) (first_others old.pred other)
   ]
 
   -- with one it shows more
-  base_more : (mine : List Entry) → old.machine ≡ Some mine → (log : List Entry) → first_log w1 y ≡ Some log → (shown : List Entry) × (first_log w y ≡ Some shown) × IsPrefix shown log
-  base_more mine is log h =
+  first_log_more : (mine : List Entry) → old.machine ≡ Some mine → (log : List Entry) → first_log w1 y ≡ Some log → (shown : List Entry) × (first_log w y ≡ Some shown) × IsPrefix shown log
+  first_log_more mine is log h =
       let more = taker_grows mine is in
-      let now : first_log w1 y ≡ Some more.0 = base_here (Some more.0) new.pred more.1 refl in
+      let now : first_log w1 y ≡ Some more.0 = first_log_here (Some more.0) new.pred more.1 refl in
       let same : more.0 ≡ log = (let e : Some more.0 ≡ Some log = sym now ∙ h in cc e) in
       (mine, ap (λ l. or_else l (first_snapshot_by w y old.pred)) is, subst (IsPrefix mine) same more.2)
 
-  pub base_taker : (log : List Entry) → first_log w1 y ≡ Some log → (shown : List Entry) × (first_log w y ≡ Some shown) × IsPrefix shown log
-  base_taker log h = by old.machine refl
+  pub first_log_taker : (log : List Entry) → first_log w1 y ≡ Some log → (shown : List Entry) × (first_log w y ≡ Some shown) × IsPrefix shown log
+  first_log_taker log h = by old.machine refl
     where
       by : (machine : Log) → old.machine ≡ machine → (shown : List Entry) × (first_log w y ≡ Some shown) × IsPrefix shown log
-      by None none = (log, sym (base_empty none) ∙ h, prefix_same log)
-      by (Some mine) is = base_more mine is log h
+      by None none = (log, sym (first_log_empty none) ∙ h, prefix_same log)
+      by (Some mine) is = first_log_more mine is log h

@@ -1,5 +1,5 @@
 -- What a list is, and what its own two fields become.
-use Rattle.std.specs.Prelude.{◌≡◌, ℕ, ◌+◌, ◌-◌, length, Some, None}
+use Rattle.std.specs.Prelude.{◌≡◌, ℕ, ◌+◌, ◌-◌, length, Option, Some, None}
 use Rattle.zslots.specs.declared.id.Id.{Id}
 use Rattle.zslots.specs.declared.linked.Links.{Links}
 use Rattle.zslots.specs.declared.list.List.{List as IdList}
@@ -15,6 +15,14 @@ pub record IsList {L : ℕ} {T : Type 0} (links : T → Links) (m : Items T) (li
   pub count : list.len ≡ length ids
 
 module _ {L : ℕ} where
+  -- the Id that a list begins with
+  abbrev pub first_id : IdList L → Option Id
+  first_id list = list.first
+
+  -- how many items a list counts
+  abbrev pub length_of : IdList L → ℕ
+  length_of list = list.len
+
   -- a list of nothing
   abbrev pub empty_list : IdList L
   empty_list = record { first = None; len = 0 }

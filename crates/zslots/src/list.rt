@@ -24,7 +24,8 @@ pub struct List<const L: usize> {
 }
 
 impl<const L: usize> List<L> {
-    ghost use Rattle.zslots.specs.Lists.{IsList, empty_list, list_with_front, list_without, list_with_between};
+    ghost use Rattle.zslots.specs.Lists.{IsList, first_id, length_of, empty_list};
+    ghost use Rattle.zslots.specs.Lists.{list_with_front, list_without, list_with_between};
 
     /// No item.
     pub fn new() -> List<L>
@@ -38,23 +39,23 @@ impl<const L: usize> List<L> {
 
     /// The first item's Id.
     pub fn first(&self) -> Option<Id>
-        ensures { result ≡ self.now.first }
+        ensures { result ≡ first_id self.now }
     {
         self.first
     }
 
     /// How many items there are.
     pub fn len(&self) -> usize
-        ensures { result ≡ self.now.len }
+        ensures { result ≡ length_of self.now }
     {
         self.len
     }
 
     /// Puts a live item, which stands in no list `L`, before the first.
     pub fn push_front<T: Linked<L>>(&mut self, slots: &mut Slots<T>, id: Id)
-        requires { self.old.len < MAX_LENGTH }
+        requires { length_of self.old < MAX_LENGTH }
         ensures items { slots.new ≡ with_items slots.old
-            (with_front T.links T.with_links slots.old.items self.old.first id) }
+            (with_front T.links T.with_links slots.old.items (first_id self.old) id) }
         ensures own { self.new ≡ list_with_front self.old id }
         ensures list { (ids : Ids) → IsList T.links slots.old.items self.old ids → NotIn id ids →
             IsSome (get slots.old.items id) → IsList T.links slots.new.items self.new (id ∷ ids) }
@@ -71,7 +72,7 @@ impl<const L: usize> List<L> {
 
     /// Takes out an item of the list. Its own links stay as they are.
     pub fn unlink<T: Linked<L>>(&mut self, slots: &mut Slots<T>, id: Id)
-        requires { 0 < self.old.len }
+        requires { 0 < length_of self.old }
         ensures items { slots.new ≡ with_items slots.old
             (without T.links T.with_links slots.old.items id) }
         ensures own { self.new ≡ list_without T.links slots.old.items self.old id }
@@ -88,7 +89,7 @@ impl<const L: usize> List<L> {
 
     /// Puts an item that is in no list `L` between the neighbours, or ends, that its own links name.
     pub fn relink<T: Linked<L>>(&mut self, slots: &mut Slots<T>, id: Id)
-        requires { self.old.len < MAX_LENGTH }
+        requires { length_of self.old < MAX_LENGTH }
         ensures items { slots.new ≡ with_items slots.old
             (with_between T.links T.with_links slots.old.items id) }
         ensures own { self.new ≡ list_with_between T.links slots.old.items self.old id }

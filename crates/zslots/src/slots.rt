@@ -82,6 +82,7 @@ impl<T> Slots<T> {
         ensures items { IfOk result (λ id. self.new.items ≡ finite.insert self.old.items id item) }
         ensures given { OnOk result (self.new.given ≡ self.old.given + 1) }
         ensures room { OnOk result (self.old.room ≤ self.new.room + 1) }
+        ensures had_room { 0 < self.old.room → self.new.room + 1 ≡ self.old.room }
         // It fails only where there was no room, and then nothing else changes.
         ensures succeeds { 0 < self.old.room → IsOk result }
         ensures back { IfErr result (λ same. same ≡ item) }

@@ -8,7 +8,8 @@ use Rattle.std.specs.FinMap.{FinMap, get, insert, remove}
 use Rattle.zstore.specs.declared.id.Id.{Id}
 use Rattle.ztree.specs.declared.node.Node.{Node}
 use Rattle.ztree.specs.declared.node.Stat.{Stat}
-use Rattle.ztree.specs.Tree.{Tree, Name, Path, Nodes, has_node, stat_at, children}
+use Rattle.ztree.specs.Tree.{Tree, Name, Path, Nodes, has_node, stat_at, children, with_data_at, without_node}
+use Rattle.ztree.specs.Room.{AtParent}
 use Rattle.ztree.specs.support.Codes.{coded_tree, coded_path}
 
 -- the tree, the paths of the live Ids, and how many Ids were given so far
@@ -32,6 +33,10 @@ node_of h id = option_and_then (get h.tree.nodes) (path_of h id)
 -- a fact on the path that an Id names
 abbrev pub AtPath : StoreView → Id → (Path → Type 0) → Type 0
 AtPath h id P = (path : Path) → path_of h id ≡ Some path → P path
+
+-- a fact on the node right above that path, where there is one
+abbrev pub AtParentOf : StoreView → Id → (Node → Type 0) → Type 0
+AtParentOf h id P = AtPath h id (λ path. AtParent h.tree.nodes path P)
 
 -- a fact on the node that an Id names
 abbrev pub AtNode : StoreView → Id → (Node → Type 0) → Type 0
@@ -79,6 +84,14 @@ while_there nodes path = if has_node nodes path then Some path else None
 -- an Id whose node went names nothing any more, and every other Id names what it named
 abbrev pub ForgetsGone : StoreView → StoreView → Type 0
 ForgetsGone old new = (id : Id) → path_of new id ≡ option_and_then (while_there new.tree.nodes) (path_of old id)
+
+-- the data of the node that an Id names is written by the next change
+abbrev pub WritesData : StoreView → StoreView → Id → List ℕ → Type 0
+WritesData old new id bytes = AtPath old id (λ path. new.tree ≡ with_data_at old.tree path bytes)
+
+-- the node that an Id names is taken away by the next change
+abbrev pub DropsNode : StoreView → StoreView → Id → Type 0
+DropsNode old new id = AtPath old id (λ path. new.tree ≡ without_node old.tree path)
 
 -- how it is stored
 abbrev pub coded_store_view : Coded StoreView

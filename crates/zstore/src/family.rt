@@ -7,7 +7,7 @@ ghost use Rattle.std.specs.Option.{option_copied};
 ghost use Rattle.std.specs.FinMap.{is_sorted};
 ghost use Rattle.zpath.specs.Grammar.{path_cmp};
 ghost use Rattle.zstore.specs.declared.row.Row.{Row};
-ghost use Rattle.zstore.specs.support.Rows.{node_rows, names_of_children, is_beneath};
+ghost use Rattle.zstore.specs.support.Rows.{AtRow, AppendsOption, node_rows, names_beneath, is_beneath};
 ghost use Rattle.ztree.specs.Tree.{child_name};
 
 use crate::row::Row;
@@ -37,7 +37,8 @@ fn child_name<'a>(parent: &Path, path: &'a Path) -> Option<&'a Name>
 fn family(rows: &[Row], at: usize) -> &[Row]
     requires within { at < length rows.now }
     requires sorted { T (is_sorted path_cmp (node_rows rows.now)) }
-    ensures { (d : Row) → names_of_children (slice_index_or rows.now at d).path result.now ≡ names_of_children (slice_index_or rows.now at d).path rows.now }
+    ensures { AtRow rows.now at (λ r.
+        names_beneath r.path result.now ≡ names_beneath r.path rows.now) }
 {
     let path = &rows[at].path;
     let behind = &rows[at + 1..];
@@ -49,7 +50,7 @@ fn family(rows: &[Row], at: usize) -> &[Row]
 pub(crate) fn child_count(rows: &[Row], at: usize) -> usize
     requires within { at < length rows.now }
     requires sorted { T (is_sorted path_cmp (node_rows rows.now)) }
-    ensures { (d : Row) → result ≡ length (names_of_children (slice_index_or rows.now at d).path rows.now) }
+    ensures { AtRow rows.now at (λ r. result ≡ length (names_beneath r.path rows.now)) }
 {
     let parent = &rows[at].path;
     family(rows, at)
@@ -62,7 +63,8 @@ pub(crate) fn child_count(rows: &[Row], at: usize) -> usize
 pub(crate) fn child_names(alloc: Global, rows: &[Row], at: usize) -> Result<Vec<Name>, Memory>
     requires within { at < length rows.now }
     requires sorted { T (is_sorted path_cmp (node_rows rows.now)) }
-    ensures { IfOk result (λ names. (d : Row) → names.items ≡ names_of_children (slice_index_or rows.now at d).path rows.now) }
+    ensures { IfOk result (λ names. AtRow rows.now at (λ r.
+        names.items ≡ names_beneath r.path rows.now)) }
 {
     let parent = &rows[at].path;
     let mut names = Vec::new(alloc);
@@ -74,7 +76,8 @@ pub(crate) fn child_names(alloc: Global, rows: &[Row], at: usize) -> Result<Vec<
 
 /// Adds the name that a row has beneath the parent, if it has one.
 fn push_child(alloc: Global, parent: &Path, row: &Row, names: &mut Vec<Name>) -> Result<(), Memory>
-    ensures { OnOk result (names.new.items ≡ names.old.items ++ cons_option (child_name parent.now row.now.path) []) }
+    ensures { OnOk result
+        (AppendsOption names.old.items names.new.items (child_name parent.now row.now.path)) }
 {
     if let Some(name) = child_name(parent, &row.path) {
         names.push(name.copied(alloc)?)?;

@@ -6,7 +6,7 @@ ghost use Rattle.std.specs.Ordering.{nat_cmp};
 ghost use Rattle.std.specs.FinMap.{find, is_sorted};
 ghost use Rattle.zpath.specs.Grammar.{path_cmp};
 ghost use Rattle.zstore.specs.StoreView.{number_of};
-ghost use Rattle.zstore.specs.support.Rows.{IsAt, IsGapFor, IsNumberAt, node_rows, place_rows};
+ghost use Rattle.zstore.specs.support.Rows.{HasNoRow, IsAt, IsGapFor, IsNumberAt, node_rows, place_rows};
 ghost use Rattle.ztree.specs.Tree.{parent_of};
 
 use crate::id::Id;
@@ -25,7 +25,7 @@ pub(crate) fn place_of(rows: &[Row], path: &Path) -> Result<usize, usize>
 /// Where a path goes that has no row.
 pub(crate) fn gap_of(rows: &[Row], path: &Path) -> usize
     requires sorted { T (is_sorted path_cmp (node_rows rows.now)) }
-    requires free { find path_cmp path.now (node_rows rows.now) ≡ None }
+    requires free { HasNoRow rows.now path.now }
     ensures { IsGapFor rows.now path.now result }
 {
     match place_of(rows, path) {
@@ -39,7 +39,7 @@ pub(crate) fn parent_place(rows: &[Row], path: &Path) -> Option<usize>
     requires sorted { T (is_sorted path_cmp (node_rows rows.now)) }
     requires below_root { path.now ≢ [] }
     ensures found { IfSome result (IsAt rows.now (parent_of path.now)) }
-    ensures absent { IfNone result (find path_cmp (parent_of path.now) (node_rows rows.now) ≡ None) }
+    ensures absent { IfNone result (HasNoRow rows.now (parent_of path.now)) }
 {
     let (_, front) = path.names().split_last()?;
     rows.binary_search_by(|row| row.path.names().cmp(front))

@@ -5,7 +5,7 @@ ghost use lib.Dec.{T};
 ghost use Rattle.std.specs.List.{cons_option};
 ghost use Rattle.std.specs.Ordering.{nat_cmp};
 ghost use Rattle.std.specs.FinMap.{find, is_sorted};
-ghost use Rattle.zstore.specs.support.Rows.{IsFirstOwnedAt, IsSessionAt, IsSessionGap, session_row, session_rows, owned_by, id_if_due, due_among};
+ghost use Rattle.zstore.specs.support.Rows.{AppendsOption, IsFirstOwnedAt, IsSessionAt, IsSessionGap, session_row, session_rows, owned_by, id_if_due, due_among};
 
 use crate::row::{Row, SessionRow};
 use std::alloc::Global;
@@ -63,7 +63,8 @@ pub(crate) fn reached(
 
 /// Adds a session's id, if the tick reaches its deadline.
 fn push_if_due(row: &SessionRow, tick: u64, ids: &mut Vec<SessionId>) -> Result<(), Memory>
-    ensures { OnOk result (ids.new.items ≡ ids.old.items ++ cons_option (id_if_due tick (session_row row.now)) []) }
+    ensures { OnOk result
+        (AppendsOption ids.old.items ids.new.items (id_if_due tick (session_row row.now))) }
 {
     if row.session.deadline <= tick {
         ids.push(row.id)?;

@@ -4,10 +4,11 @@ ghost use Rattle.std.specs.Prelude.{◌≡◌, ◌≢◌, ◌<◌, ◌+◌, [], 
 ghost use Rattle.std.specs.FinMap as finite;
 ghost use Rattle.std.specs.FinMap.{get};
 ghost use Rattle.ztree.specs.declared.limits.TheConstants.{ZXID_BOUND};
-ghost use Rattle.ztree.specs.Tree.{children, without_node};
-ghost use Rattle.ztree.specs.Room.{HasRoomForLosses, AtParent};
-ghost use Rattle.zstore.specs.StoreView.{path_of, AtPath, AtNode, KeepsIds, Forgets, ForgetsGone};
-ghost use Rattle.zstore.specs.support.Parts.{tree_without, without_child_at};
+ghost use Rattle.ztree.specs.Tree.{children};
+ghost use Rattle.ztree.specs.Room.{HasRoomForLosses};
+ghost use Rattle.zstore.specs.StoreView.{path_of, AtPath, AtNode, AtParentOf, KeepsIds};
+ghost use Rattle.zstore.specs.StoreView.{Forgets, ForgetsGone, DropsNode};
+ghost use Rattle.zstore.specs.support.Parts.{tree_without, LosesChild};
 
 use crate::id::Id;
 use crate::place::row_of;
@@ -21,9 +22,9 @@ impl Store {
         requires live { IsSome (path_of self.old id) }
         requires below_root { AtPath self.old id (λ path. path ≢ []) }
         requires leaf { AtPath self.old id (λ path. children self.old.tree.nodes path ≡ []) }
-        requires counters { AtPath self.old id (λ path. AtParent self.old.tree.nodes path (HasRoomForLosses 1)) }
+        requires counters { AtParentOf self.old id (HasRoomForLosses 1) }
         requires zxid { self.old.tree.zxid + 1 < ZXID_BOUND }
-        ensures tree { AtPath self.old id (λ path. self.new.tree ≡ without_node self.old.tree path) }
+        ensures tree { DropsNode self.old self.new id }
         ensures forgotten { Forgets self.old self.new id }
         ensures gone { ForgetsGone self.old self.new }
         ensures given { self.new.given ≡ self.old.given }
@@ -56,7 +57,7 @@ impl Store {
         requires live { IsSome (path_of self.old parent) }
         requires counters { AtNode self.old parent (HasRoomForLosses 1) }
         requires zxid { self.old.tree.zxid + 1 < ZXID_BOUND }
-        ensures tree { AtPath self.old parent (λ path. self.new.tree ≡ without_child_at self.old.tree path) }
+        ensures tree { LosesChild self.old self.new parent }
         ensures same { KeepsIds self.old self.new }
     {
         if let Some(at) = row_of(&self.rows, parent) {

@@ -5,12 +5,11 @@ ghost use Rattle.std.specs.FinMap as finite;
 ghost use Rattle.std.specs.FinMap.{get};
 ghost use Rattle.ztree.specs.declared.limits.TheConstants.{MAX_NODES, ZXID_BOUND};
 ghost use Rattle.zstore.specs.declared.limits.TheConstants.{ID_BOUND};
-ghost use Rattle.ztree.specs.Tree.{parent_of, has_node, with_node};
-ghost use Rattle.ztree.specs.Tree.{with_data_at, with_next_zxid};
+ghost use Rattle.ztree.specs.Tree.{parent_of, has_node, with_node, with_next_zxid};
 ghost use Rattle.ztree.specs.Room.{HasRoomForChild, HasRoomForData};
-ghost use Rattle.zstore.specs.StoreView.{path_of, node_of, AtPath, AtNode};
-ghost use Rattle.zstore.specs.StoreView.{KeepsIds, GivesAtMostOne, NamesNew};
-ghost use Rattle.zstore.specs.support.Parts.{tree_with, with_child_at};
+ghost use Rattle.zstore.specs.StoreView.{path_of, node_of, AtNode};
+ghost use Rattle.zstore.specs.StoreView.{KeepsIds, GivesAtMostOne, NamesNew, WritesData};
+ghost use Rattle.zstore.specs.support.Parts.{tree_with, GainsChild};
 ghost use Rattle.ztree.specs.Lawful.{IsPersistent, IsOwner};
 
 use crate::id::Id;
@@ -49,7 +48,8 @@ impl Store {
         requires few { finite.len self.old.tree.nodes < MAX_NODES }
         requires zxid { self.old.tree.zxid + 1 < ZXID_BOUND }
         requires given { self.old.given < ID_BOUND }
-        ensures added { OnOk result (self.new.tree ≡ with_node self.old.tree path bytes owner sequential) }
+        ensures added { OnOk result
+            (self.new.tree ≡ with_node self.old.tree path bytes owner sequential) }
         ensures named { IfOk result (λ id. NamesNew self.old self.new id path) }
         ensures given { GivesAtMostOne self.old self.new }
         ensures err { OnErr result (self.new ≡ self.old) }
@@ -77,7 +77,7 @@ impl Store {
         requires live { IsSome (path_of self.old id) }
         requires counters { AtNode self.old id HasRoomForData }
         requires zxid { self.old.tree.zxid + 1 < ZXID_BOUND }
-        ensures tree { OnOk result (AtPath self.old id (λ path. self.new.tree ≡ with_data_at self.old.tree path bytes)) }
+        ensures tree { OnOk result (WritesData self.old self.new id bytes) }
         ensures same { OnOk result (KeepsIds self.old self.new) }
         ensures err { OnErr result (self.new ≡ self.old) }
     {
@@ -117,7 +117,7 @@ impl Store {
         requires live { IsSome (path_of self.old parent) }
         requires counters { AtNode self.old parent (HasRoomForChild sequential) }
         requires zxid { self.old.tree.zxid + 1 < ZXID_BOUND }
-        ensures tree { AtPath self.old parent (λ path. self.new.tree ≡ with_child_at self.old.tree path sequential) }
+        ensures tree { GainsChild self.old self.new parent sequential }
         ensures same { KeepsIds self.old self.new }
     {
         if let Some(at) = row_of(&self.rows, parent) {

@@ -7,15 +7,13 @@ use Rattle.std.specs.FinMap.{get-empty}
 use Rattle.zpath.specs.Grammar.{path_cmp}
 use Rattle.ztree.specs.declared.node.Node.{Node}
 use Rattle.ztree.specs.Tree.{Tree, Path, Nodes, opening_tree, new_node, parent_of, ephemerals, with_change_at, with_child, with_node, with_next_zxid, without_node}
-use Rattle.ztree.specs.Sessions.{without_nodes, without_session}
+use Rattle.ztree.specs.Sessions.{with_session, without_nodes, without_session}
 use Rattle.ztree.specs.Lawful.{AllNodes}
+use Rattle.ztree.specs.Room.{HasRoomForEnd}
+use Rattle.zstore_tests.specs.Low.{IsLow}
 use Rattle.ztree.proofs.Sorted.{paths_total, same_path}
 use Rattle.ztree.proofs.Maps.{none_some, get-inserted}
 use Rattle.ztree.proofs.Ephemerals.{path_if_owned}
-
--- no node's children changed more often than the tree
-abbrev pub IsLow : Tree → Type 0
-IsLow t = AllNodes (λ n. n.cversion ≤ t.zxid) t.nodes
 
 module _ (P : Node → Type 0) (nodes : Nodes) (all : AllNodes P nodes) where
   all_inserted : (path : Path) (new : Node) → P new → AllNodes P (finite.insert nodes path new)
@@ -58,9 +56,9 @@ few_given {Y = Y} h (x ∷ xs) = by (h x) (few_given h xs)
     by (Some y) few = omega (arith, few)
 
 -- so a session of a small tree can end
-pub low_counters : (t : Tree) (id : ℕ) → IsLow t → t.zxid < 9 → finite.len t.nodes < 9 → AllNodes (λ n. n.cversion + length (ephemerals t.nodes id) < 2 ^ 62) t.nodes
-low_counters t id low changes nodes q n e =
-    let before = low q n e in
+pub low_counters : (t : Tree) (id : ℕ) → IsLow t → t.zxid < 9 → finite.len t.nodes < 9 → HasRoomForEnd t id
+low_counters t id low changes nodes q owned n_is is_owned n e =
+    let before = low (parent_of q) n e in
     let owned = few_given (path_if_owned id) (finite.entries t.nodes) in
     let many = finite.len-entries t.nodes in
     omega (arith, before, owned, many, changes, nodes)
@@ -72,3 +70,7 @@ zxid-ended t id = by t (ephemerals t.nodes id)
     by : (u : Tree) (paths : List Path) → (without_nodes u paths).zxid ≡ u.zxid
     by u [] = refl
     by u (path ∷ paths) = by (without_node u path) paths
+
+-- one more session, by the next change
+pub low_opened : (t : Tree) (client timeout : ℕ) → IsLow t → IsLow (with_next_zxid (with_session t client timeout))
+low_opened t client timeout low q n e = let before = low q n e in omega (arith, before)

@@ -15,6 +15,9 @@ use Rattle.zworld.specs.declared.event.Event.TheVariants.{Begin, Retry, Take, Ig
 use Rattle.zworld.specs.Links.{Links, put, without_front, is_same, addressed}
 use Rattle.zworld.specs.World.{World, at}
 use Rattle.zworld.specs.Events.{front_is, is_request, has_failed, is_enabled, with_answer, server_does, client_does, process_step, front_step, acts, happens, run}
+use Rattle.zworld.specs.declared.outcome.Outcome.{Outcome}
+use Rattle.zworld.specs.declared.outcome.Outcome.TheVariants.{Acted, Stopped, Unheard}
+use Rattle.zworld.specs.Reading.{is_query, read_delivery, is_delivery, is_fitting, read}
 use Rattle.zworld.specs.Alike.{IsAlike}
 
 -- the links agree where it matters in the world
@@ -162,3 +165,55 @@ stay_alike machine v w (event ∷ events) alike =
     stay_alike machine (happens machine v event) (happens machine w event) events
     (subst (λ u. IsAlike (happens machine v event) (happens machine u event)) (sym alike.rest)
     (happens_alike machine v w.servers w.links alike.servers alike.links event))
+
+-- a world is like itself
+pub alike_itself : {M : Type 0} (w : World M) → IsAlike w w
+alike_itself w = record { rest = refl; servers = λ s alive. refl; links = λ from to alive. refl }
+
+-- who failed in one failed in the other
+same_failed : {M : Type 0} (u v : World M) → IsAlike u v → (to : Process) → has_failed u to ≡ has_failed v to
+same_failed u v alike to = ap (λ x. has_failed x to) (sym alike.rest)
+
+pub alike_through : {M : Type 0} (u v w : World M) → IsAlike u v → IsAlike v w → IsAlike u w
+alike_through {M} u v w first second = record {
+  rest = second.rest ∙ ap (λ (x : World M). record x { servers = w.servers; links = w.links }) first.rest;
+  servers = λ s alive. first.servers s alive ∙ second.servers s (sym (same_failed u v first (Server s)) ∙ alive);
+  links = λ from to alive. first.links from to alive ∙ second.links from to (sym (same_failed u v first to) ∙ alive);
+}
+
+-- a choice of equal things, where its test passes in both
+same_choice : {A : Type 0} (b c : Bool) (x y z : A) → b ≡ c → (b ≡ true → x ≡ y) → (if b then x else z) ≡ (if c then y else z)
+same_choice true true x y z same equal = equal refl
+same_choice false false x y z same equal = refl
+same_choice true false x y z same equal = absurd (true≢false same)
+same_choice false true x y z same equal = absurd (true≢false (sym same))
+
+-- an enabled delivery has one front in both
+same_link : {M : Type 0} (v w : World M) → IsAlike v w → (from to : Process) → is_enabled v (Take from to) ≡ true → v.links from to ≡ w.links from to
+same_link v w alike from to enabled = alike.links from to (not_failed _ (has_failed v to) enabled)
+
+-- an event reads alike
+pub read_alike : {M : Type 0} (machine : Does M) (v w : World M) (event : Event) (outcome : Outcome) → IsAlike v w → read v event outcome ≡ read w event outcome
+read_alike machine v w (Take from (Server s)) outcome alike =
+    same_choice _ _ _ _ (Take from (Server s)) (have_the_same_enabled machine v w (Take from (Server s)) alike)
+    (λ enabled. ap (λ link. read_delivery from s (front_is is_query link) outcome) (same_link v w alike from (Server s) enabled))
+read_alike machine v w event outcome alike = refl
+
+-- both tests of a delivery
+same_both : (b c x y : Bool) → b ≡ c → (b ≡ true → x ≡ y) → (b && x) ≡ (c && y)
+same_both true true x y same equal = equal refl
+same_both false false x y same equal = refl
+same_both true false x y same equal = absurd (true≢false same)
+same_both false true x y same equal = absurd (true≢false (sym same))
+
+delivery_alike : {M : Type 0} (machine : Does M) (v w : World M) (event : Event) (test : MessageOf M → Bool) → IsAlike v w → is_delivery v event test ≡ is_delivery w event test
+delivery_alike machine v w (Take from (Server s)) test alike =
+    same_both _ _ _ _ (have_the_same_enabled machine v w (Take from (Server s)) alike)
+    (λ enabled. ap (front_is test) (same_link v w alike from (Server s) enabled))
+delivery_alike machine v w event test alike = refl
+
+-- and can have the same outcomes
+pub outcomes_alike : {M : Type 0} (machine : Does M) (v w : World M) (event : Event) (outcome : Outcome) → IsAlike v w → is_fitting v event outcome ≡ is_fitting w event outcome
+outcomes_alike machine v w event Acted alike = refl
+outcomes_alike machine v w event Stopped alike = delivery_alike machine v w event (λ message. not (is_query message)) alike
+outcomes_alike machine v w event Unheard alike = delivery_alike machine v w event is_query alike

@@ -7,3 +7,5 @@ pub mod Alike
 pub mod Settling
 pub mod LogWorlds
 pub mod FirstUpdate
+pub mod Learning
+pub mod Fitting

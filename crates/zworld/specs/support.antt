@@ -1,4 +1,5 @@
 pub mod LogWorld
+pub mod Learning
 pub mod Counter
 pub mod OrderRows
 pub mod RunRows

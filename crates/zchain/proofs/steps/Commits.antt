@@ -19,15 +19,15 @@ use Rattle.zlegal.proofs.lists.Members.{among_left}
 use Rattle.zlegal.proofs.lists.Prefixes.{prefix_same, prefix_of}
 use Rattle.zchain.proofs.flow.Flow.{flow_below, IsBelow}
 use Rattle.zchain.proofs.links.Links.{at_same, at_other}
-use Rattle.zchain.proofs.steps.Sends.{below_some, upper_of_log}
-use Rattle.zchain.proofs.steps.Takes.{with_view, base_elsewhere}
+use Rattle.zchain.proofs.steps.Sends.{below_some, final_log_of_log}
+use Rattle.zchain.proofs.steps.Takes.{with_view, first_log_elsewhere}
 use Rattle.zchain.proofs.steps.Views.{AreGoodLists}
 use Rattle.zlegal.proofs.acts.NewItems.{grown_committed, grown_replays, grown_rises, grown_in_time, grown_answered}
 use Rattle.zlegal.proofs.lists.Places.{two_places}
 
 -- who shows a log could have one
-pub base_upper : (w : LogWorld) (s : ℕ) (log : List Entry) → first_log w s ≡ Some log → (more : List Entry) × (final_log w s ≡ Some more) × IsPrefix log more
-base_upper w s log is = by (w.servers s).pred is
+pub final_log_of_first_log : (w : LogWorld) (s : ℕ) (log : List Entry) → first_log w s ≡ Some log → (more : List Entry) × (final_log w s ≡ Some more) × IsPrefix log more
+final_log_of_first_log w s log is = by (w.servers s).pred is
   where
     none : (l : Log) → or_else l None ≡ Some log → IsBelow (Some log) l
     none None h = absurd (cc h)
@@ -57,13 +57,13 @@ module _ {P : Type 0} (plain : Plain P) (t : Account) (s : IsSound plain t) (fro
   log_here : log_at w1 y ≡ Some log
   log_here = ap (λ (u : ServerView (List Entry)). u.machine) view_here ∙ has
 
-  base_here : first_log w1 y ≡ Some log
-  base_here = ap (λ l. or_else l (first_snapshot_by w1 y (w1.servers y).pred)) log_here
+  first_log_here : first_log w1 y ≡ Some log
+  first_log_here = ap (λ l. or_else l (first_snapshot_by w1 y (w1.servers y).pred)) log_here
 
   -- who stands before the taker is ahead of its log
   ahead : (z : ℕ) → ComesBefore z y (members w.master) → IsAhead w z log
   ahead z before =
-      let more = upper_of_log w1 y log log_here in
+      let more = final_log_of_log w1 y log log_here in
       let h = ahead_of z before more.0 more.1 in
       record { own = h.own; holds = h.holds; begins = prefix_of log more.0 h.own more.2 h.begins; has_successor = h.has_successor; no_tail_order = h.no_tail_order }
 
@@ -72,22 +72,22 @@ module _ {P : Type 0} (plain : Plain P) (t : Account) (s : IsSound plain t) (fro
       let h = ahead z before in
       let mine : Some h.own ≡ Some shown = sym (ap (λ l. or_else l (first_snapshot_by w z (w.servers z).pred)) h.holds) ∙ is in
       subst (IsPrefix log) (cc mine) h.begins
-  shown_there z shown (inr behind) is = let more = base_upper w z shown is in absurd (nobody z behind more.0 more.1)
+  shown_there z shown (inr behind) is = let more = final_log_of_first_log w z shown is in absurd (nobody z behind more.0 more.1)
 
   all_show : AllShowCommitted w1 log
   all_show z shown member is = elim (test (z == y)) [
-    | inl e ↦ let mine : Some log ≡ Some shown = sym base_here ∙ subst (λ x. first_log w1 x ≡ Some shown) (eqb-true _ _ e) is in
+    | inl e ↦ let mine : Some log ≡ Some shown = sym first_log_here ∙ subst (λ x. first_log w1 x ≡ Some shown) (eqb-true _ _ e) is in
         subst (IsPrefix log) (cc mine) (prefix_same log)
     | inr f ↦ elim (two_places z y (members w.master) member y_in) [
-      | inl e ↦ let mine : Some log ≡ Some shown = sym base_here ∙ subst (λ x. first_log w1 x ≡ Some shown) e is in
+      | inl e ↦ let mine : Some log ≡ Some shown = sym first_log_here ∙ subst (λ x. first_log w1 x ≡ Some shown) e is in
           subst (IsPrefix log) (cc mine) (prefix_same log)
-      | inr p ↦ shown_there z shown p (sym (base_elsewhere w from y v z f) ∙ is)
+      | inr p ↦ shown_there z shown p (sym (first_log_elsewhere w from y v z f) ∙ is)
     ]
   ]
 
   tail_there : (z : ℕ) (l : List Entry) → (ComesBefore z y (members w.master) ⊎ ComesBefore y z (members w.master)) → log_at w z ≡ Some l → is_none (w.servers z).succ ≡ true → l ≡ log
   tail_there z l (inl before) is ends = let h = (ahead z before).has_successor in cc
-  tail_there z l (inr behind) is ends = let more = upper_of_log w z l is in absurd (nobody z behind more.0 more.1)
+  tail_there z l (inr behind) is ends = let more = final_log_of_log w z l is in absurd (nobody z behind more.0 more.1)
 
   tail_holds : TailHoldsCommitted w1 log
   tail_holds z l member is ends = elim (test (z == y)) [

@@ -57,9 +57,9 @@ module _ {P : Type 0} (plain : Plain P) (t : Account) (s : IsSound plain t) (fro
   abbrev dropped : LogWorld
   dropped = record t.world { links = without_front t.world.links from to }
 
-  same_upper_by : (z : ℕ) (log : Log) (pred : Option Neighbour) → final_log_by dropped z log pred ≡ final_log_by w z log pred
-  same_upper_by z log None = refl
-  same_upper_by z log (Some pred) =
+  same_final_log_by : (z : ℕ) (log : Log) (pred : Option Neighbour) → final_log_by dropped z log pred ≡ final_log_by w z log pred
+  same_final_log_by z log None = refl
+  same_final_log_by z log (Some pred) =
       kept (λ l. flow pred.1 log l ≡ flow pred.1 log (w.links (Server pred.0) (Server z)))
       (λ m l is e. sym (flow_drops pred.1 log m l is) ∙ e) (Server pred.0) z refl
 
@@ -91,7 +91,7 @@ module _ {P : Type 0} (plain : Plain P) (t : Account) (s : IsSound plain t) (fro
     successors = λ x z k is. opened z k (s.successors x z k is);
     epochs = λ z. kept (HasDistinctEpochs w.master.epoch) (λ m l is h. h.1) Master z (s.epochs z);
     tail_orders = λ z. kept (HasNoTailOrderBehind w z) (λ m l is h. h.1) Master z (s.tail_orders z);
-    ordered = λ x y before log is. ahead_dropped x log (s.ordered x y before log (sym (same_upper_by y (log_at w y) (w.servers y).pred) ∙ is));
+    ordered = λ x y before log is. ahead_dropped x log (s.ordered x y before log (sym (same_final_log_by y (log_at w y) (w.servers y).pred) ∙ is));
     committed = λ z log member is. s.committed z log member (sym (ap (or_else (log_at w z)) (same_first z (w.servers z).pred)) ∙ is);
     tail = s.tail;
     sent = s.sent;

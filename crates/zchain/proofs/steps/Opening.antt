@@ -128,8 +128,8 @@ module _ {P : Type 0} (plain : Plain P) (servers clients : ℕ) where
       (λ e. let is : ◌≡◌ {A = Log} None (Some log) = e in cc) h
 
   -- of each two members the first is ahead
-  upper_empty : (s : ℕ) → 1 ≤ s → s ≤ servers → final_log w s ≡ Some []
-  upper_empty s low high =
+  final_log_empty : (s : ℕ) → 1 ≤ s → s ≤ servers → final_log w s ≡ Some []
+  final_log_empty s low high =
       ap (λ (v : ServerView (List Entry)). final_log_by w s v.machine v.pred) (is_member s low high)
       ∙ (elim (test (s == 1)) [ inl t ↦ rw t refl | inr f ↦ rw f refl ])
 
@@ -139,7 +139,7 @@ module _ {P : Type 0} (plain : Plain P) (servers clients : ℕ) where
       record {
         own = [];
         holds = ap (λ (v : ServerView (List Entry)). v.machine) here;
-        begins = ([], let e : Some [] ≡ Some log = sym (upper_empty y (omega arith) (omega arith)) ∙ is in cc e);
+        begins = ([], let e : Some [] ≡ Some log = sym (final_log_empty y (omega arith) (omega arith)) ∙ is in cc e);
         has_successor = ap (λ (v : ServerView (List Entry)). is_none v.succ) here ∙ (let f : (x == servers) ≡ false = ne_eqb x servers (omega arith) in rw f refl);
         no_tail_order = λ epoch a. absurd a;
       }

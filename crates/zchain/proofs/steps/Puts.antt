@@ -66,22 +66,22 @@ module _ (w : LogWorld) (x : ℕ) (to : Process) (m : LogMessage) (no_snapshot :
         ∙ or_else_none (first_snapshot pred.1 (w.links (Server pred.0) (Server y)))
   ]
 
-  pub base_put : (y : ℕ) → first_log (with_put w x to m) y ≡ first_log w y
-  base_put y = ap (or_else (log_at w y)) (first_put_by y (w.servers y).pred)
+  pub first_log_put : (y : ℕ) → first_log (with_put w x to m) y ≡ first_log w y
+  first_log_put y = ap (or_else (log_at w y)) (first_put_by y (w.servers y).pred)
 
 module _ (w : LogWorld) (x : ℕ) (to : Process) (m : LogMessage) (foreign : (k : ℕ) → IsForeign k m) where
-  upper_unread_by : (y : ℕ) (log : Log) (pred : Option Neighbour) → final_log_by (with_put w x to m) y log pred ≡ final_log_by w y log pred
-  upper_unread_by y log None = refl
-  upper_unread_by y log (Some pred) = elim (put_one w.links (Server x) to m (Server pred.0) (Server y)) [
+  final_log_unread_by : (y : ℕ) (log : Log) (pred : Option Neighbour) → final_log_by (with_put w x to m) y log pred ≡ final_log_by w y log pred
+  final_log_unread_by y log None = refl
+  final_log_unread_by y log (Some pred) = elim (put_one w.links (Server x) to m (Server pred.0) (Server y)) [
     | inl e ↦ ap (flow pred.1 log) e
     | inr p ↦ ap (flow pred.1 log) p.2 ∙ flow_more pred.1 log (w.links (Server pred.0) (Server y)) (m ∷ []) ∙ (foreign pred.1).0 (flow pred.1 log (w.links (Server pred.0) (Server y)))
   ]
 
-  pub upper_unread : (y : ℕ) → final_log (with_put w x to m) y ≡ final_log w y
-  upper_unread y = upper_unread_by y (log_at w y) (w.servers y).pred
+  pub final_log_unread : (y : ℕ) → final_log (with_put w x to m) y ≡ final_log w y
+  final_log_unread y = final_log_unread_by y (log_at w y) (w.servers y).pred
 
   pub ordered_unread : ChainIsOrdered w → ChainIsOrdered (with_put w x to m)
-  ordered_unread h a b before log is = ahead_put w x to m a log (h a b before log (sym (upper_unread b) ∙ is))
+  ordered_unread h a b before log is = ahead_put w x to m a log (h a b before log (sym (final_log_unread b) ∙ is))
 
 -- what nobody reads (Ack, Joined, Have, Gone, Answer): all stays as it is
 pub put_unread : {P : Type 0} (plain : Plain P) (t : Account) (x : ℕ) (to : Process) (m : LogMessage) → ((k : ℕ) → IsForeign k m)
@@ -96,7 +96,7 @@ put_unread plain t x to m foreign justified s = record {
   epochs = s.epochs;
   tail_orders = s.tail_orders;
   ordered = ordered_unread t.world x to m foreign s.ordered;
-  committed = λ y log member is. s.committed y log member (sym (base_put t.world x to m (λ k. (foreign k).1) y) ∙ is);
+  committed = λ y log member is. s.committed y log member (sym (first_log_put t.world x to m (λ k. (foreign k).1) y) ∙ is);
   tail = s.tail;
   sent = s.sent;
   begun = s.begun;

@@ -18,7 +18,7 @@ use Rattle.zcalls.proofs.Among.{test}
 use Rattle.zlegal.proofs.lists.Places.{before_second}
 use Rattle.zlegal.proofs.lists.Prefixes.{prefix_of}
 use Rattle.zchain.proofs.flow.Flow.{flow_more, flow_below, IsBelow, good_update}
-use Rattle.zchain.proofs.steps.Puts.{put_one, with_put, account_with_put, ahead_put, justified_put, base_put}
+use Rattle.zchain.proofs.steps.Puts.{put_one, with_put, account_with_put, ahead_put, justified_put, first_log_put}
 use Rattle.zchain.proofs.places.Pairs.{settled_pred, pair_next}
 
 -- where there is no log an entry makes none
@@ -33,8 +33,8 @@ pub below_some : (log : List Entry) (new : Log) → IsBelow (Some log) new → (
 below_some log None h = absurd h
 below_some log (Some more) h = (more, refl, h)
 
-pub upper_of_log : (w : LogWorld) (x : ℕ) (log : List Entry) → log_at w x ≡ Some log → (more : List Entry) × (final_log w x ≡ Some more) × IsPrefix log more
-upper_of_log w x log is = below_some log (final_log w x) (by (w.servers x).pred)
+pub final_log_of_log : (w : LogWorld) (x : ℕ) (log : List Entry) → log_at w x ≡ Some log → (more : List Entry) × (final_log w x ≡ Some more) × IsPrefix log more
+final_log_of_log w x log is = below_some log (final_log w x) (by (w.servers x).pred)
   where
     by : (pred : Option Neighbour) → IsBelow (Some log) (final_log_by w x (log_at w x) pred)
     by None = subst (IsBelow (Some log)) (sym is) ([], sym (append-nil log))
@@ -62,7 +62,7 @@ module _ (w : LogWorld) (line : OrdersLead w) (apart : AreDistinct w) (ordered :
         | inl is_x ↦ subst (λ b. IsAhead w b new) (sym is_x)
             (record { own = own; holds = holds; begins = begins; has_successor = x_ahead.has_successor; no_tail_order = x_ahead.no_tail_order })
         | inr further ↦
-            let more = upper_of_log w x own holds in
+            let more = final_log_of_log w x own holds in
             ahead_less w a new more.0 (prefix_of new own more.0 begins more.2) (ordered a x further more.0 more.1)
       ]
 
@@ -112,7 +112,7 @@ put_sent plain told x x_in own holds t k n e entry opened begun s = record {
   epochs = s.epochs;
   tail_orders = s.tail_orders;
   ordered = ordered_sent told.world s.line s.distinct s.ordered x x_in own holds t k n e entry;
-  committed = λ y log member is. s.committed y log member (sym (base_put told.world x (Server t) (message.Update k n e) (λ epoch. refl) y) ∙ is);
+  committed = λ y log member is. s.committed y log member (sym (first_log_put told.world x (Server t) (message.Update k n e) (λ epoch. refl) y) ∙ is);
   tail = s.tail;
   sent = s.sent;
   begun = s.begun;

@@ -132,20 +132,20 @@ module _ (w : LogWorld) (from : Process) (y : ℕ) (v : ServerView (List Entry))
   w1 = with_view w from y v
 
   -- at other servers all stays
-  upper_elsewhere_by : (z : ℕ) → (z == y) ≡ false → (log : Log) (pred : Option Neighbour) → final_log_by w1 z log pred ≡ final_log_by w z log pred
-  upper_elsewhere_by z f log None = refl
-  upper_elsewhere_by z f log (Some pred) = ap (flow pred.1 log) (front_not_to w.links from (Server y) (Server pred.0) (Server z) f)
+  final_log_elsewhere_by : (z : ℕ) → (z == y) ≡ false → (log : Log) (pred : Option Neighbour) → final_log_by w1 z log pred ≡ final_log_by w z log pred
+  final_log_elsewhere_by z f log None = refl
+  final_log_elsewhere_by z f log (Some pred) = ap (flow pred.1 log) (front_not_to w.links from (Server y) (Server pred.0) (Server z) f)
 
-  pub upper_elsewhere : (z : ℕ) → (z == y) ≡ false → final_log w1 z ≡ final_log w z
-  upper_elsewhere z f =
-      ap (λ (u : ServerView (List Entry)). final_log_by w1 z u.machine u.pred) (at_other y v w.servers z f) ∙ upper_elsewhere_by z f (w.servers z).machine (w.servers z).pred
+  pub final_log_elsewhere : (z : ℕ) → (z == y) ≡ false → final_log w1 z ≡ final_log w z
+  final_log_elsewhere z f =
+      ap (λ (u : ServerView (List Entry)). final_log_by w1 z u.machine u.pred) (at_other y v w.servers z f) ∙ final_log_elsewhere_by z f (w.servers z).machine (w.servers z).pred
 
   first_elsewhere_by : (z : ℕ) → (z == y) ≡ false → (pred : Option Neighbour) → first_snapshot_by w1 z pred ≡ first_snapshot_by w z pred
   first_elsewhere_by z f None = refl
   first_elsewhere_by z f (Some pred) = ap (first_snapshot pred.1) (front_not_to w.links from (Server y) (Server pred.0) (Server z) f)
 
-  pub base_elsewhere : (z : ℕ) → (z == y) ≡ false → first_log w1 z ≡ first_log w z
-  base_elsewhere z f =
+  pub first_log_elsewhere : (z : ℕ) → (z == y) ≡ false → first_log w1 z ≡ first_log w z
+  first_log_elsewhere z f =
       ap (λ (u : ServerView (List Entry)). or_else u.machine (first_snapshot_by w1 z u.pred)) (at_other y v w.servers z f) ∙ ap (or_else (w.servers z).machine) (first_elsewhere_by z f (w.servers z).pred)
 
   -- the order of the chain stays where logs and successors do, or grow
@@ -184,7 +184,7 @@ module _ (w : LogWorld) (from : Process) (y : ℕ) (v : ServerView (List Entry))
     ordered_view own ordered a b before log is = elim (test (b == y)) [
       | inl t ↦ let e : b ≡ y = eqb-true _ _ t in
           ahead_view a log (own a (subst (λ c. ComesBefore a c (members w.master)) e before) log (subst (λ c. final_log w1 c ≡ Some log) e is))
-      | inr f ↦ ahead_view a log (ordered a b before log (sym (upper_elsewhere b f) ∙ is))
+      | inr f ↦ ahead_view a log (ordered a b before log (sym (final_log_elsewhere b f) ∙ is))
     ]
 
   -- what is committed begins what each shows, where what the taker shows only grows
@@ -194,5 +194,5 @@ module _ (w : LogWorld) (from : Process) (y : ℕ) (v : ServerView (List Entry))
     | inl t ↦ let e : s ≡ y = eqb-true _ _ t in
         let old = own log (subst (λ c. first_log w1 c ≡ Some log) e is) in
         prefix_of done old.0 log (shown y old.0 (subst (IsMember w) e member) old.1) old.2
-    | inr f ↦ shown s log member (sym (base_elsewhere s f) ∙ is)
+    | inr f ↦ shown s log member (sym (first_log_elsewhere s f) ∙ is)
   ]

@@ -24,6 +24,10 @@ query = Exists []
 abbrev pub client : ℕ → Option (ℕ × Call) → ClientView
 client number outstanding = record { number = number; outstanding = outstanding; epoch = 4; head = Some 1; tail = Some 3 }
 
+-- a client of two servers that waits for its first call
+abbrev pub beginner : ClientView
+beginner = record { number = 1; outstanding = Some (1, call.Update update); epoch = 0; head = Some 1; tail = Some 2 }
+
 -- a client that waits for nothing, one that waits for an update, and one that waits for a query
 abbrev pub idle : ClientView
 idle = client 7 None

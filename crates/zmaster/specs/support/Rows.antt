@@ -18,6 +18,21 @@ three = master ((1, 0) ∷ (2, 3) ∷ (4, 5) ∷ []) None
 abbrev pub four : MasterView
 four = master ((1, 0) ∷ (2, 3) ∷ (3, 2) ∷ (4, 5) ∷ []) None
 
+-- the three, behind which server 5 joins
+abbrev pub with_fifth : MasterView
+with_fifth =
+    record three {
+      chain = (1, 0) ∷ (2, 3) ∷ (4, 5) ∷ (5, 7) ∷ [];
+      joining = Some 5;
+      used = 1 ∷ 2 ∷ 3 ∷ 4 ∷ 5 ∷ [];
+      epoch = 7;
+    }
+
+-- the master at the opening of a chain of two, with three clients
+abbrev pub opening_of_two : MasterView
+opening_of_two =
+    record { chain = (1, 0) ∷ (2, 0) ∷ []; joining = None; used = 1 ∷ 2 ∷ []; epoch = 0; clients = 3 }
+
 -- three members, of which the last has no state yet
 abbrev pub growing : MasterView
 growing = master ((1, 0) ∷ (2, 3) ∷ (4, 5) ∷ []) (Some 4)

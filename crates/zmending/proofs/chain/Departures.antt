@@ -1,13 +1,11 @@
 -- The master hears Gone: from outside the chain, or from a member, which is taken out.
-use Rattle.std.proofs.Common.{◌≡◌, ◌⊎◌, ℕ, ◌+◌, ◌≤◌, true, false, if◌then◌else◌, ◌==◌, List, [], ◌∷◌, ◌++◌, Option, Some, None, refl, sym, ap, ◌∙◌, subst, inl, inr, append-nil, arith, eqb-true, eq-eqb}
-use Rattle.std.specs.Prelude.{◌||◌}
+use Rattle.std.proofs.Common.{◌≡◌, ◌⊎◌, ℕ, ◌+◌, ◌≤◌, true, false, if◌then◌else◌, ◌==◌, List, [], ◌∷◌, ◌++◌, Option, Some, None, refl, sym, ap, ◌∙◌, subst, inl, inr, append-nil, arith, eqb-true}
 use Rattle.std.specs.List.{last_or}
 use Rattle.zcalls.specs.declared.call.Entry.{Entry}
 use Rattle.zserver.specs.declared.message.Message.TheVariants as message
 use Rattle.zserver.specs.declared.process.Process.TheVariants.{Master, Server}
 use Rattle.zserver.specs.View.{Post, Neighbour}
 use Rattle.zmaster.specs.View.{MasterView, members, is_among, is_joining, with_number}
-use Rattle.zmaster.proofs.Numbers.{among_with_number}
 use Rattle.zmaster.specs.Table as master
 use Rattle.zcalls.specs.Lists.{Among, ComesBefore, NoTwo}
 use Rattle.zworld.specs.Links.{addressed}
@@ -21,103 +19,24 @@ use Rattle.zcalls.proofs.Among.{test}
 use Rattle.zlegal.proofs.lists.Members.{among_left, among_right, among_insert, among_inserted}
 use Rattle.zchain.proofs.places.Orders.{leads_more, one_more_order, unread_order}
 use Rattle.zchain.proofs.steps.Opening.{among_tested}
-use Rattle.zmending.proofs.chain.Moves.{moved, IsGoodPost, IsGoodMove, move_sound}
+use Rattle.zmending.proofs.chain.Moves.{world_with_move, IsGoodPost, IsGoodMove, move_sound}
 use Rattle.zmending.proofs.chain.StandingChains.{addressed_told, told_among}
-use Rattle.zmending.proofs.chain.MendedChains.{ids, ids_append, Stands, stands, left, mended_is, mended_ids, place_cases, place_in, apart_of, gone_of, last_in, nobody_behind}
+use Rattle.zmending.proofs.chain.MendedChains.{ids, ids_append, Stands, stands, repair, mended_is, mended_ids, place_cases, place_in, apart_of, gone_of, last_in, nobody_behind}
 use Rattle.zlegal.proofs.lists.Places.{before_insert}
 use Rattle.zlegal.proofs.lists.Distinct.{no_two_without}
-
--- what a server is told
-pub data IsTold (before : Option ℕ) (e : ℕ) (rest : List Neighbour) (z : ℕ) (m : LogMessage) : Type 0 where
-  Heads : (r : Neighbour) (more : List Neighbour) → before ≡ None → rest ≡ r ∷ more → z ≡ r.0 → m ≡ message.BecomeHead e → IsTold before e rest z m
-  Ends : (p : ℕ) → before ≡ Some p → rest ≡ [] → z ≡ p → m ≡ message.BecomeTail e → IsTold before e rest z m
-  Turns : (p : ℕ) (r : Neighbour) (more : List Neighbour) → before ≡ Some p → rest ≡ r ∷ more → z ≡ r.0 → m ≡ message.NewPred e p → IsTold before e rest z m
-
-pub one_told : (y : ℕ) (o : LogMessage) (z : ℕ) → (addressed (Server z) ((Server y, o) ∷ []) ≡ []) ⊎ ((z ≡ y) × (addressed (Server z) ((Server y, o) ∷ []) ≡ o ∷ []))
-one_told y o z = elim (test (z == y)) [ inl t ↦ inr (eqb-true _ _ t, rw t refl) | inr f ↦ inl (rw f refl) ]
-
-told_one : (before : Option ℕ) (e : ℕ) (rest : List Neighbour) (z : ℕ)
-    → (addressed (Server z) (left before e rest).1 ≡ []) ⊎ ((m : LogMessage) × (addressed (Server z) (left before e rest).1 ≡ m ∷ []) × IsTold before e rest z m)
-told_one None e [] z = inl refl
-told_one None e (r ∷ more) z = elim (one_told r.0 (message.BecomeHead e) z) [ inl n ↦ inl n | inr o ↦ inr (message.BecomeHead e, o.1, Heads r more refl refl o.0 refl) ]
-told_one (Some p) e [] z = elim (one_told p (message.BecomeTail e) z) [ inl n ↦ inl n | inr o ↦ inr (message.BecomeTail e, o.1, Ends p refl refl o.0 refl) ]
-told_one (Some p) e (r ∷ more) z = elim (one_told r.0 (message.NewPred e p) z) [ inl n ↦ inl n | inr o ↦ inr (message.NewPred e p, o.1, Turns p r more refl refl o.0 refl) ]
-
--- the next one is told its new place
-told_turned : (before : Option ℕ) (e : ℕ) (r : Neighbour) (more : List Neighbour) (z : ℕ) → z ≡ r.0
-    → (m : LogMessage) × (addressed (Server z) (left before e (r ∷ more)).1 ≡ m ∷ []) × (turn_of m ≡ Some (place_behind before e))
-told_turned None e r more z is = let t : (z == r.0) ≡ true = eq-eqb z r.0 is in (message.BecomeHead e, rw t refl, refl)
-told_turned (Some p) e r more z is = let t : (z == r.0) ≡ true = eq-eqb z r.0 is in (message.NewPred e p, rw t refl, refl)
-
--- all of it is fine
-left_justified : (before : Option ℕ) (e : ℕ) (rest : List Neighbour) (w : LogWorld) (items : List _) (post : Post (List Entry)) → Among post (left before e rest).1 → IsJustified w items Master post.0 post.1
-left_justified None e [] w items post a = absurd a
-left_justified None e (r ∷ more) w items post (inl is) = subst (λ (q : Post (List Entry)). IsJustified w items Master q.0 q.1) is tt
-left_justified None e (r ∷ more) w items post (inr a) = absurd a
-left_justified (Some p) e [] w items post (inl is) = subst (λ (q : Post (List Entry)). IsJustified w items Master q.0 q.1) is tt
-left_justified (Some p) e [] w items post (inr a) = absurd a
-left_justified (Some p) e (r ∷ more) w items post (inl is) = subst (λ (q : Post (List Entry)). IsJustified w items Master q.0 q.1) is tt
-left_justified (Some p) e (r ∷ more) w items post (inr a) = absurd a
-
--- who stood right behind the one that is gone, and has another place now
-pub record IsTurned (before : Option ℕ) (e : ℕ) (rest : List Neighbour) (x z : ℕ) (place : Place) (old : Option Place) : Type 0 where
-  pub next : Neighbour
-  pub more : List Neighbour
-  pub is : rest ≡ next ∷ more
-  pub here : z ≡ next.0
-  pub place_is : place_behind before e ≡ place
-  pub was : old ≡ Some (Some (x, next.1))
-
--- who doesn't stand there
-abbrev IsElsewhere : List Neighbour → ℕ → Type 0
-IsElsewhere rest z = (r : Neighbour) (more : List Neighbour) → rest ≡ r ∷ more → z ≡ r.0 → ⊥
-
-elsewhere : (r : Neighbour) (more : List Neighbour) (z : ℕ) → (r.0 == z) ≡ false → IsElsewhere (r ∷ more) z
-elsewhere r more z f q others e is =
-    let heads : r ≡ q = cc e in let t : (r.0 == z) ≡ true = eq-eqb r.0 z (ap (λ (n : Neighbour). n.0) heads ∙ sym is) in cc (f, t)
-
-left_place : (before : Option ℕ) (e : ℕ) (rest : List Neighbour) (x k z : ℕ) (place : Place) → (x == z) ≡ false → place_from before (left before e rest).0 z ≡ Some place
-    → ((place_from before ((x, k) ∷ rest) z ≡ Some place) × IsElsewhere rest z) ⊎ IsTurned before e rest x z place (place_from before ((x, k) ∷ rest) z)
-left_place None e [] x k z place f h = absurd (cc h)
-left_place (Some p) e [] x k z place f h = absurd (cc h)
-left_place None e (r ∷ more) x k z place f h = elim (test (r.0 == z)) [
-  | inl t ↦
-      let is : ◌≡◌ {A = Option Place} (Some None) (Some place) = rw t at h in
-      inr (record { next = r; more = more; is = refl; here = sym (eqb-true _ _ t); place_is = cc is; was = rw f (rw t refl) })
-  | inr g ↦ inl (rw f (rw g (rw g at h)), elsewhere r more z g)
-]
-left_place (Some p) e (r ∷ more) x k z place f h = elim (test (r.0 == z)) [
-  | inl t ↦
-      let is : ◌≡◌ {A = Option Place} (Some (Some (p, e))) (Some place) = rw t at h in
-      inr (record { next = r; more = more; is = refl; here = sym (eqb-true _ _ t); place_is = cc is; was = rw f (rw t refl) })
-  | inr g ↦ inl (rw f (rw g (rw g at h)), elsewhere r more z g)
-]
-
--- used numbers with one more
-pub used_is : (x z : ℕ) (used : List ℕ) → is_among z (with_number x used) ≡ true → (is_among z used ≡ true) ⊎ (x ≡ z)
-used_is x z used h =
-    let either : ((x == z) || is_among z used) ≡ true = sym (among_with_number z x used) ∙ h in
-    elim (test (x == z)) [ inl t ↦ inr (eqb-true _ _ t) | inr f ↦ inl (sym (ap (λ b. b || is_among z used) f) ∙ either) ]
-
-pub used_stays : (x z : ℕ) (used : List ℕ) → is_among z used ≡ true → is_among z (with_number x used) ≡ true
-used_stays x z used h = elim (test (x == z)) [
-  | inl t ↦ among_with_number z x used ∙ ap (λ b. b || is_among z used) t
-  | inr f ↦ among_with_number z x used ∙ ap (λ b. b || is_among z used) f ∙ h
-]
-
-pub used_now : (x : ℕ) (used : List ℕ) → is_among x (with_number x used) ≡ true
-used_now x used = among_with_number x x used ∙ ap (λ b. b || is_among x used) (eq-eqb x x refl)
+use Rattle.zmending.proofs.chain.RepairOrders.{IsTold, Heads, Ends, Turns, told_one, told_turned, repair_justified, IsTurned, IsElsewhere, repair_place}
+use Rattle.zmending.proofs.chain.UsedNumbers.{used_is, used_stays}
 
 -- from outside the chain
 module _ {P : Type 0} (plain : Plain P) (t : Account) (s : IsSound plain t) (x : ℕ) (gone : t.world.failed x ≡ true) where
-  abbrev noted : MasterView
-  noted = record t.world.master { used = with_number x t.world.master.used }
+  abbrev used_view : MasterView
+  used_view = record t.world.master { used = with_number x t.world.master.used }
 
-  past_noted : (p : Place) → IsPast t.world p → IsPast (moved t.world noted []) p
-  past_noted None h = absurd h
-  past_noted (Some p) h = (used_stays x p.0 t.world.master.used h.0, h.1)
+  past_stays : (p : Place) → IsPast t.world p → IsPast (world_with_move t.world used_view []) p
+  past_stays None h = absurd h
+  past_stays (Some p) h = (used_stays x p.0 t.world.master.used h.0, h.1)
 
-  good_outside : IsGoodMove t.world t.items noted []
+  good_outside : IsGoodMove t.world t.items used_view []
   good_outside = record {
     distinct = s.distinct;
     used = λ z a. used_stays x z t.world.master.used (s.used z a);
@@ -127,8 +46,8 @@ module _ {P : Type 0} (plain : Plain P) (t : Account) (s : IsSound plain t) (x :
       | inr e ↦ absurd (let failed = subst (λ y. t.world.failed y ≡ true) e gone in cc (failed, alive))
     ];
     epoch = omega arith;
-    line = λ z place is. subst (λ l. LeadsTo (IsPast (moved t.world noted [])) (is_fresh t.world z) (t.world.servers z).pred l place) (sym (append-nil (queue t.world z)))
-        (leads_more (IsPast t.world) (IsPast (moved t.world noted [])) (is_fresh t.world z) (is_fresh t.world z) (t.world.servers z).pred (queue t.world z) place past_noted (λ h. h) (s.line z place is));
+    line = λ z place is. subst (λ l. LeadsTo (IsPast (world_with_move t.world used_view [])) (is_fresh t.world z) (t.world.servers z).pred l place) (sym (append-nil (queue t.world z)))
+        (leads_more (IsPast t.world) (IsPast (world_with_move t.world used_view [])) (is_fresh t.world z) (is_fresh t.world z) (t.world.servers z).pred (queue t.world z) place past_stays (λ h. h) (s.line z place is));
     pairs = λ p y k given is. is;
     ordered = λ a b before. inl before;
     members_were = λ z a. inl a;
@@ -136,8 +55,8 @@ module _ {P : Type 0} (plain : Plain P) (t : Account) (s : IsSound plain t) (x :
     justified = λ to m a. absurd a;
   }
 
-  pub outside_sound : IsSound plain (record t { world = moved t.world noted [] })
-  outside_sound = move_sound plain t s noted [] good_outside
+  pub outside_sound : IsSound plain (record t { world = world_with_move t.world used_view [] })
+  outside_sound = move_sound plain t s used_view [] good_outside
 
 -- from a member
 module _ {P : Type 0} (plain : Plain P) (t : Account) (s : IsSound plain t) (x : ℕ) (gone : t.world.failed x ≡ true) (x_in : Among x (members t.world.master)) (joining : Option ℕ) where
@@ -160,13 +79,13 @@ module _ {P : Type 0} (plain : Plain P) (t : Account) (s : IsSound plain t) (x :
   e = t.world.master.epoch + 1
 
   abbrev v : MasterView
-  v = record t.world.master { chain = front ++ (left before e rest).0; joining = joining; epoch = e }
+  v = record t.world.master { chain = front ++ (repair before e rest).0; joining = joining; epoch = e }
 
   abbrev posts : List (Post (List Entry))
-  posts = (left before e rest).1 ++ master.config_posts v
+  posts = (repair before e rest).1 ++ master.config_posts v
 
   abbrev w1 : LogWorld
-  w1 = moved w v posts
+  w1 = world_with_move w v posts
 
   were : members w.master ≡ ids front ++ x ∷ ids rest
   were = ap ids split.is ∙ ids_append front ((x, split.epoch) ∷ rest)
@@ -196,12 +115,12 @@ module _ {P : Type 0} (plain : Plain P) (t : Account) (s : IsSound plain t) (x :
       → ((place_from None w.master.chain z ≡ Some place) × IsElsewhere rest z) ⊎ IsTurned before e rest x z place (place_from None w.master.chain z)
   places z place is = elim (place_cases None front z) [
     | inl h ↦ inl (
-      ap (λ c. place_from None c z) split.is ∙ h.2 ((x, split.epoch) ∷ rest) ∙ sym (h.2 (left before e rest).0) ∙ is,
+      ap (λ c. place_from None c z) split.is ∙ h.2 ((x, split.epoch) ∷ rest) ∙ sym (h.2 (repair before e rest).0) ∙ is,
       λ r more next here. apart_of (ids front) (ids rest) z are_apart h.1 (subst (λ l. Among z (ids l)) (sym next) (inl (sym here))),
     )
     | inr h ↦
         let old : place_from None w.master.chain z ≡ place_from before ((x, split.epoch) ∷ rest) z = ap (λ c. place_from None c z) split.is ∙ h ((x, split.epoch) ∷ rest) in
-        elim (left_place before e rest x split.epoch z place other (sym (h (left before e rest).0) ∙ is)) [
+        elim (repair_place before e rest x split.epoch z place other (sym (h (repair before e rest).0) ∙ is)) [
           | inl same ↦ inl (old ∙ same.0, same.1)
           | inr turned ↦ inr (record { next = turned.next; more = turned.more; is = turned.is; here = turned.here; place_is = turned.place_is; was = old ∙ turned.was })
         ]
@@ -216,8 +135,8 @@ module _ {P : Type 0} (plain : Plain P) (t : Account) (s : IsSound plain t) (x :
   -- what is told
   told_is : (z : ℕ) → (addressed (Server z) posts ≡ []) ⊎ ((m : LogMessage) × (addressed (Server z) posts ≡ m ∷ []) × IsTold before e rest z m)
   told_is z = elim (told_one before e rest z) [
-    | inl none ↦ inl (addressed_told z v (left before e rest).1 ∙ none)
-    | inr one ↦ inr (one.0, addressed_told z v (left before e rest).1 ∙ one.1, one.2)
+    | inl none ↦ inl (addressed_told z v (repair before e rest).1 ∙ none)
+    | inr one ↦ inr (one.0, addressed_told z v (repair before e rest).1 ∙ one.1, one.2)
   ]
 
   good_told : (z : ℕ) (m : LogMessage) → IsTold before e rest z m → IsGoodPost w v z m
@@ -265,7 +184,7 @@ module _ {P : Type 0} (plain : Plain P) (t : Account) (s : IsSound plain t) (x :
     | inr turned ↦
         let one = told_turned before e turned.next turned.more z turned.here in
         let there : addressed (Server z) posts ≡ one.0 ∷ [] =
-        addressed_told z v (left before e rest).1 ∙ ap (λ l. addressed (Server z) (left before e l).1) turned.is ∙ one.1 in
+        addressed_told z v (repair before e rest).1 ∙ ap (λ l. addressed (Server z) (repair before e l).1) turned.is ∙ one.1 in
         subst (λ l. LeadsTo (IsPast w1) (is_fresh w z) (w.servers z).pred (queue w z ++ l) place) (sym there)
         (one_more_order (IsPast w1) (is_fresh w z) (w.servers z).pred (queue w z) (Some (x, turned.next.1)) place one.0 (one.2 ∙ ap (λ p. Some p) turned.place_is)
         (past_now turned.next.1) (leads z (Some (x, turned.next.1)) turned.was))
@@ -296,23 +215,23 @@ module _ {P : Type 0} (plain : Plain P) (t : Account) (s : IsSound plain t) (x :
     ordered = λ a b h. inl (subst (ComesBefore a b) (sym were) (before_insert a b x (ids front) (ids rest) (subst (ComesBefore a b) are h)));
     members_were = λ z a. inl (was_member z (subst (Among z) are a));
     orders = λ z. elim (told_is z) [ inl none ↦ inl none | inr one ↦ inr (one.0, one.1, good_told z one.0 one.2) ];
-    justified = λ to m a. elim (told_among v (left before e rest).1 (to, m) a) [
-      | inl b ↦ left_justified before e rest w1 t.items (to, m) b
+    justified = λ to m a. elim (told_among v (repair before e rest).1 (to, m) a) [
+      | inl b ↦ repair_justified before e rest w1 t.items (to, m) b
       | inr c ↦ subst (IsJustified w1 t.items Master to) (sym c) tt
     ];
   }
 
-  mended_here : master.mended_chain {M = List Entry} e x w.master.chain ≡ (front ++ (left before e rest).0, (left before e rest).1)
+  mended_here : master.mended_chain {M = List Entry} e x w.master.chain ≡ (front ++ (repair before e rest).0, (repair before e rest).1)
   mended_here = ap (master.mended_chain e x) split.is ∙ mended_is e x split.epoch front rest split.first
 
   pub inside_sound : IsSound plain (record t {
-    world = moved t.world
+    world = world_with_move t.world
         (record t.world.master { chain = (master.mended_chain {M = List Entry} (t.world.master.epoch + 1) x t.world.master.chain).0; joining = joining; epoch = t.world.master.epoch + 1 })
         ((master.mended_chain {M = List Entry} (t.world.master.epoch + 1) x t.world.master.chain).1
         ++ master.config_posts (record t.world.master { chain = (master.mended_chain {M = List Entry} (t.world.master.epoch + 1) x t.world.master.chain).0; joining = joining; epoch = t.world.master.epoch + 1 }));
   })
   inside_sound = subst (λ (c : List Neighbour × List (Post (List Entry))). IsSound plain (record t {
-    world = moved t.world
+    world = world_with_move t.world
         (record t.world.master { chain = c.0; joining = joining; epoch = t.world.master.epoch + 1 })
         (c.1 ++ master.config_posts (record t.world.master { chain = c.0; joining = joining; epoch = t.world.master.epoch + 1 }));
   }))
@@ -320,7 +239,7 @@ module _ {P : Type 0} (plain : Plain P) (t : Account) (s : IsSound plain t) (x :
 
 module _ {P : Type 0} (plain : Plain P) (t : Account) (s : IsSound plain t) where
   pub gone_heard : (x : ℕ) → t.world.failed x ≡ true
-      → IsSound plain (record t { world = moved t.world (master.gone_row {M = List Entry} t.world.master x).0 (master.gone_row t.world.master x).1 })
+      → IsSound plain (record t { world = world_with_move t.world (master.gone_row {M = List Entry} t.world.master x).0 (master.gone_row t.world.master x).1 })
   unfolding master.gone_row
   gone_heard x gone = elim (test (is_among x (members t.world.master))) [
     | inl member ↦ rw member (inside_sound plain t s x gone (among_tested x (members t.world.master) member) (if is_joining t.world.master x then None else t.world.master.joining))

@@ -20,10 +20,11 @@ use Rattle.zcalls.proofs.Among.{test}
 use Rattle.zlegal.proofs.lists.Members.{among_left, among_right, among_last}
 use Rattle.zlegal.proofs.lists.Distinct.{no_two_last}
 use Rattle.zchain.proofs.places.Orders.{leads_more, first_order}
-use Rattle.zmending.proofs.chain.Moves.{moved, IsGoodPost, IsGoodMove, move_sound}
+use Rattle.zmending.proofs.chain.Moves.{world_with_move, IsGoodPost, IsGoodMove, move_sound}
 use Rattle.zmending.proofs.chain.StandingChains.{unheard}
 use Rattle.zmending.proofs.chain.MendedChains.{ids_append, place_cases, place_in}
-use Rattle.zmending.proofs.chain.Departures.{one_told, used_is, used_stays, used_now}
+use Rattle.zmending.proofs.chain.RepairOrders.{one_told}
+use Rattle.zmending.proofs.chain.UsedNumbers.{used_is, used_stays, used_now}
 use Rattle.zlegal.proofs.lists.Places.{before_last}
 
 -- the place of the last
@@ -51,7 +52,7 @@ module _ {P : Type 0} (plain : Plain P) (t : Account) (s : IsSound plain t) (x :
   posts = (Server x, order) ∷ []
 
   abbrev w1 : LogWorld
-  w1 = moved w v posts
+  w1 = world_with_move w v posts
 
   are : members v ≡ members w.master ++ x ∷ []
   are = ids_append w.master.chain ((x, e) ∷ [])
@@ -67,11 +68,11 @@ module _ {P : Type 0} (plain : Plain P) (t : Account) (s : IsSound plain t) (x :
   nothing : (z : ℕ) → x ≡ z → w.servers z ≡ spare
   nothing z same = subst (λ y. w.servers y ≡ spare) same (s.blank x unused).0
 
-  no_upper : (z : ℕ) → x ≡ z → final_log w z ≡ None
-  no_upper z same = ap (λ (u : ServerView (List Entry)). final_log_by w z u.machine u.pred) (nothing z same)
+  no_final_log : (z : ℕ) → x ≡ z → final_log w z ≡ None
+  no_final_log z same = ap (λ (u : ServerView (List Entry)). final_log_by w z u.machine u.pred) (nothing z same)
 
-  no_base : (z : ℕ) → x ≡ z → first_log w z ≡ None
-  no_base z same = ap (λ (u : ServerView (List Entry)). or_else u.machine (first_snapshot_by w z u.pred)) (nothing z same)
+  no_first_log : (z : ℕ) → x ≡ z → first_log w z ≡ None
+  no_first_log z same = ap (λ (u : ServerView (List Entry)). or_else u.machine (first_snapshot_by w z u.pred)) (nothing z same)
 
   past_later : (p : Place) → IsPast w p → IsPast w1 p
   past_later None h = absurd h
@@ -136,8 +137,8 @@ module _ {P : Type 0} (plain : Plain P) (t : Account) (s : IsSound plain t) (x :
       | inr new ↦ absurd (let same : ◌≡◌ {A = Place} (Some (last, e)) (Some (p, k)) = new.1 in
           let pair : ◌≡◌ {A = Neighbour} (last, e) (p, k) = cc same in let later : e ≡ k = ap (λ (n : Neighbour). n.1) pair in omega arith)
     ];
-    ordered = λ a b h. elim (before_last a b (members w.master) x (subst (ComesBefore a b) are h)) [ inl old ↦ inl old | inr same ↦ inr (no_upper b same) ];
-    members_were = λ z a. elim (member_cases z a) [ inl b ↦ inl b | inr same ↦ inr (no_base z same) ];
+    ordered = λ a b h. elim (before_last a b (members w.master) x (subst (ComesBefore a b) are h)) [ inl old ↦ inl old | inr same ↦ inr (no_final_log b same) ];
+    members_were = λ z a. elim (member_cases z a) [ inl b ↦ inl b | inr same ↦ inr (no_first_log z same) ];
     orders = λ z. elim (told_is z) [ inl none ↦ inl none | inr one ↦ inr (order, one.1, good_post z one.0) ];
     justified = one_justified;
   }
@@ -146,7 +147,7 @@ module _ {P : Type 0} (plain : Plain P) (t : Account) (s : IsSound plain t) (x :
       one_justified to m (inl is) = subst (λ (q : Post (List Entry)). IsJustified w1 t.items Master q.0 q.1) is tt
       one_justified to m (inr a) = absurd a
 
-  pub join_sound : IsSound plain (record t { world = moved t.world v posts })
+  pub join_sound : IsSound plain (record t { world = world_with_move t.world v posts })
   join_sound = move_sound plain t s v posts good_join
 
 module _ {P : Type 0} (plain : Plain P) (t : Account) (s : IsSound plain t) (x : ℕ) (unused : IsUsed t.world x → ⊥) where
@@ -159,10 +160,10 @@ module _ {P : Type 0} (plain : Plain P) (t : Account) (s : IsSound plain t) (x :
           (Server x, message.NewPred (t.world.master.epoch + 1) p) ∷ [],
         )
       ]
-      → IsSound plain (record t { world = moved t.world did.0 did.1 })
-  join_by None is did same = subst (λ (d : MasterView × List (Post (List Entry))). IsSound plain (record t { world = moved t.world d.0 d.1 })) (sym same) (unheard plain t s)
-  join_by (Some p) is did same = subst (λ (d : MasterView × List (Post (List Entry))). IsSound plain (record t { world = moved t.world d.0 d.1 })) (sym same) (join_sound plain t s x unused p is)
+      → IsSound plain (record t { world = world_with_move t.world did.0 did.1 })
+  join_by None is did same = subst (λ (d : MasterView × List (Post (List Entry))). IsSound plain (record t { world = world_with_move t.world d.0 d.1 })) (sym same) (unheard plain t s)
+  join_by (Some p) is did same = subst (λ (d : MasterView × List (Post (List Entry))). IsSound plain (record t { world = world_with_move t.world d.0 d.1 })) (sym same) (join_sound plain t s x unused p is)
 
-  pub joins_sound : IsSound plain (record t { world = moved t.world (master.join_step {M = List Entry} t.world.master x).0 (master.join_step t.world.master x).1 })
+  pub joins_sound : IsSound plain (record t { world = world_with_move t.world (master.join_step {M = List Entry} t.world.master x).0 (master.join_step t.world.master x).1 })
   unfolding master.join_step
   joins_sound = join_by (last_or None (members t.world.master)) refl (master.join_step t.world.master x) refl

@@ -42,14 +42,14 @@ stands (a ∷ chain) x h = elim (test (a.0 == x)) [
     apart f front none (inr b) = none b
 
 -- who is left behind one, or as the first, and what is told
-abbrev pub left : Option ℕ → ℕ → List Neighbour → List Neighbour × List (Post (List Entry))
-left None epoch rest = master.without_first epoch rest
-left (Some p) epoch rest = master.without_next epoch p rest
+abbrev pub repair : Option ℕ → ℕ → List Neighbour → List Neighbour × List (Post (List Entry))
+repair None epoch rest = master.without_first epoch rest
+repair (Some p) epoch rest = master.without_next epoch p rest
 
 -- the table, by who stands before the member that is taken out
 mended_behind_is : (epoch x p k : ℕ) (front rest : List Neighbour) → (Among x (ids front) → ⊥)
     → master.mended_chain_behind {M = List Entry} epoch x p (front ++ (x, k) ∷ rest)
-    ≡ (front ++ (left (last_or (Some p) (ids front)) epoch rest).0, (left (last_or (Some p) (ids front)) epoch rest).1)
+    ≡ (front ++ (repair (last_or (Some p) (ids front)) epoch rest).0, (repair (last_or (Some p) (ids front)) epoch rest).1)
 mended_behind_is epoch x p k [] rest apart = let own : (x == x) ≡ true = eq-eqb x x refl in rw own refl
 mended_behind_is epoch x p k (a ∷ front) rest apart = elim (test (a.0 == x)) [
   | inl t ↦ absurd (apart (inl (eqb-true _ _ t)))
@@ -58,7 +58,7 @@ mended_behind_is epoch x p k (a ∷ front) rest apart = elim (test (a.0 == x)) [
 
 pub mended_is : (epoch x k : ℕ) (front rest : List Neighbour) → (Among x (ids front) → ⊥)
     → master.mended_chain {M = List Entry} epoch x (front ++ (x, k) ∷ rest)
-    ≡ (front ++ (left (last_or None (ids front)) epoch rest).0, (left (last_or None (ids front)) epoch rest).1)
+    ≡ (front ++ (repair (last_or None (ids front)) epoch rest).0, (repair (last_or None (ids front)) epoch rest).1)
 mended_is epoch x k [] rest apart = let own : (x == x) ≡ true = eq-eqb x x refl in rw own refl
 mended_is epoch x k (a ∷ front) rest apart = elim (test (a.0 == x)) [
   | inl t ↦ absurd (apart (inl (eqb-true _ _ t)))
@@ -66,14 +66,14 @@ mended_is epoch x k (a ∷ front) rest apart = elim (test (a.0 == x)) [
 ]
 
 -- the members that are left
-left_ids : (before : Option ℕ) (epoch : ℕ) (rest : List Neighbour) → ids (left before epoch rest).0 ≡ ids rest
-left_ids None epoch [] = refl
-left_ids None epoch (r ∷ rest) = refl
-left_ids (Some p) epoch [] = refl
-left_ids (Some p) epoch (r ∷ rest) = refl
+repair_ids : (before : Option ℕ) (epoch : ℕ) (rest : List Neighbour) → ids (repair before epoch rest).0 ≡ ids rest
+repair_ids None epoch [] = refl
+repair_ids None epoch (r ∷ rest) = refl
+repair_ids (Some p) epoch [] = refl
+repair_ids (Some p) epoch (r ∷ rest) = refl
 
-pub mended_ids : (before : Option ℕ) (epoch : ℕ) (front rest : List Neighbour) → ids (front ++ (left before epoch rest).0) ≡ ids front ++ ids rest
-mended_ids before epoch front rest = ids_append front (left before epoch rest).0 ∙ ap (λ l. ids front ++ l) (left_ids before epoch rest)
+pub mended_ids : (before : Option ℕ) (epoch : ℕ) (front rest : List Neighbour) → ids (front ++ (repair before epoch rest).0) ≡ ids front ++ ids rest
+mended_ids before epoch front rest = ids_append front (repair before epoch rest).0 ∙ ap (λ l. ids front ++ l) (repair_ids before epoch rest)
 
 -- a place in a chain is among its front, whatever follows, or among what follows
 pub place_cases : (before : Option ℕ) (front : List Neighbour) (z : ℕ)

@@ -21,8 +21,8 @@ use Rattle.zchain.proofs.places.Pairs.{pair_next}
 use Rattle.zchain.proofs.links.LaterWorlds.{justified_later}
 
 -- the world then
-abbrev pub moved : LogWorld → MasterView → List (Post (List Entry)) → LogWorld
-moved w v posts = record w { master = v; links = put w.links Master posts }
+abbrev pub world_with_move : LogWorld → MasterView → List (Post (List Entry)) → LogWorld
+world_with_move w v posts = record w { master = v; links = put w.links Master posts }
 
 -- what is shown of an order that is put to a server
 pub record IsGoodPost (w : LogWorld) (v : MasterView) (z : ℕ) (m : LogMessage) : Type 0 where
@@ -39,14 +39,14 @@ pub record IsGoodMove (w : LogWorld) (items : List Item) (v : MasterView) (posts
   pub used_more : (z : ℕ) → IsUsed w z → is_among z v.used ≡ true
   pub live : (z : ℕ) → is_among z v.used ≡ true → w.failed z ≡ false → Among z (members v)
   pub epoch : w.master.epoch ≤ v.epoch
-  pub line : OrdersLead (moved w v posts)
+  pub line : OrdersLead (world_with_move w v posts)
   -- pairs of epochs that were given are old
   pub pairs : (p t k : ℕ) → k ≤ w.master.epoch → place_from None v.chain t ≡ Some (Some (p, k)) → IsPair w p t k
   -- who is in the chain was, or has nothing
   pub ordered : (x y : ℕ) → ComesBefore x y (members v) → ComesBefore x y (members w.master) ⊎ (final_log w y ≡ None)
   pub members_were : (z : ℕ) → Among z (members v) → IsMember w z ⊎ (first_log w z ≡ None)
   pub orders : (z : ℕ) → (addressed (Server z) posts ≡ []) ⊎ ((m : LogMessage) × (addressed (Server z) posts ≡ m ∷ []) × IsGoodPost w v z m)
-  pub justified : (to : Process) (m : LogMessage) → Among (to, m) posts → IsJustified (moved w v posts) items Master to m
+  pub justified : (to : Process) (m : LogMessage) → Among (to, m) posts → IsJustified (world_with_move w v posts) items Master to m
 
 -- epochs stay distinct with one order more
 new_later : (old last : ℕ) (m : LogMessage) (more new : List LogMessage) → old ≤ last
@@ -93,16 +93,16 @@ one_holds w z (message.NewSucc k t n) = λ pair epoch a. absurd a
 one_holds w z m = tt
 
 -- without anything shown there is no log
-no_base : (log first : Log) → or_else log first ≡ None → log ≡ None
-no_base None first h = refl
-no_base (Some log) first h = absurd (cc h)
+no_first_log : (log first : Log) → or_else log first ≡ None → log ≡ None
+no_first_log None first h = refl
+no_first_log (Some log) first h = absurd (cc h)
 
 module _ {P : Type 0} (plain : Plain P) (t : Account) (s : IsSound plain t) (v : MasterView) (posts : List (Post (List Entry))) (good : IsGoodMove t.world t.items v posts) where
   abbrev w : LogWorld
   w = t.world
 
   abbrev w1 : LogWorld
-  w1 = moved t.world v posts
+  w1 = world_with_move t.world v posts
 
   abbrev new : ℕ → List LogMessage
   new z = addressed (Server z) posts
@@ -124,19 +124,19 @@ module _ {P : Type 0} (plain : Plain P) (t : Account) (s : IsSound plain t) (v :
   )
 
   -- nothing changes between servers
-  same_upper_by : (z : ℕ) (log : Log) (pred : Option Neighbour) → final_log_by w1 z log pred ≡ final_log_by w z log pred
-  same_upper_by z log None = refl
-  same_upper_by z log (Some pred) = refl
+  same_final_log_by : (z : ℕ) (log : Log) (pred : Option Neighbour) → final_log_by w1 z log pred ≡ final_log_by w z log pred
+  same_final_log_by z log None = refl
+  same_final_log_by z log (Some pred) = refl
 
-  same_upper : (z : ℕ) → final_log w1 z ≡ final_log w z
-  same_upper z = same_upper_by z (log_at w z) (w.servers z).pred
+  same_final_log : (z : ℕ) → final_log w1 z ≡ final_log w z
+  same_final_log z = same_final_log_by z (log_at w z) (w.servers z).pred
 
   same_first : (z : ℕ) (pred : Option Neighbour) → first_snapshot_by w1 z pred ≡ first_snapshot_by w z pred
   same_first z None = refl
   same_first z (Some pred) = refl
 
-  same_base : (z : ℕ) → first_log w1 z ≡ first_log w z
-  same_base z = ap (or_else (log_at w z)) (same_first z (w.servers z).pred)
+  same_first_log : (z : ℕ) → first_log w1 z ≡ first_log w z
+  same_first_log z = ap (or_else (log_at w z)) (same_first z (w.servers z).pred)
 
   no_tail : (x y : ℕ) → ComesBefore x y (members v) → HasNoTailOrder (new x)
   no_tail x y before epoch a = (new_is x (message.BecomeTail epoch) a).is_last epoch refl y before
@@ -192,10 +192,10 @@ module _ {P : Type 0} (plain : Plain P) (t : Account) (s : IsSound plain t) (v :
         (λ x k low pair. (good.pairs z x k low pair, no_tail z x (pair_next w1 good.distinct z x k pair).before))
         (queue w z) (given z) (s.tail_orders z) (new_tails z);
     ordered = λ x y before log is. elim (good.ordered x y before) [
-      | inl was ↦ ahead x y before log (s.ordered x y was log (sym (same_upper y) ∙ is))
-      | inr none ↦ absurd (let e : ◌≡◌ {A = Log} None (Some log) = sym none ∙ sym (same_upper y) ∙ is in cc e)
+      | inl was ↦ ahead x y before log (s.ordered x y was log (sym (same_final_log y) ∙ is))
+      | inr none ↦ absurd (let e : ◌≡◌ {A = Log} None (Some log) = sym none ∙ sym (same_final_log y) ∙ is in cc e)
     ];
-    committed = λ z log in_chain is. let was = sym (same_base z) ∙ is in s.committed z log (shown z log in_chain was) was;
+    committed = λ z log in_chain is. let was = sym (same_first_log z) ∙ is in s.committed z log (shown z log in_chain was) was;
     tail = λ z log in_chain is ends. s.tail z log (shown z log in_chain (ap (λ l. or_else l (first_snapshot_by w z (w.servers z).pred)) is)) is ends;
     sent = s.sent;
     begun = s.begun;

@@ -19,7 +19,7 @@ use Rattle.zchain.specs.Account.{Account}
 use Rattle.zchain.specs.Sound.{IsSound}
 use Rattle.zcalls.proofs.Among.{test, among_cases}
 use Rattle.zchain.proofs.places.Orders.{unread_order}
-use Rattle.zmending.proofs.chain.Moves.{moved, IsGoodPost, IsGoodMove, move_sound}
+use Rattle.zmending.proofs.chain.Moves.{world_with_move, IsGoodPost, IsGoodMove, move_sound}
 
 -- an order that tells no predecessor and that isn't one to become the tail, or a configuration
 abbrev pub IsStanding : LogWorld → LogMessage → Type 0
@@ -75,7 +75,7 @@ module _ {P : Type 0} (plain : Plain P) (t : Account) (s : IsSound plain t) (joi
   good_post : (z : ℕ) (m : LogMessage) → is_among z w.master.used ≡ true → IsStanding w m → IsGoodPost w v z m
   good_post z m used h = record { is_used = used; new_epoch = λ k p e'. absurd (not_pred w k p m e' h); is_last = λ k e'. absurd (not_tail w k m e' h) }
 
-  opened : (z k : ℕ) → IsOpened w z k → IsOpened (moved w v posts) z k
+  opened : (z k : ℕ) → IsOpened w z k → IsOpened (world_with_move w v posts) z k
   opened z k h = (
     (let given : k ≤ w.master.epoch = h.0 in omega arith),
     λ p a. elim (among_cases (message.NewPred k p) (queue w z) (addressed (Server z) posts) a) [
@@ -87,7 +87,7 @@ module _ {P : Type 0} (plain : Plain P) (t : Account) (s : IsSound plain t) (joi
     ],
   )
 
-  standing_justified : (to : Process) (m : LogMessage) → IsStanding w m → IsJustified (moved w v posts) t.items Master to m
+  standing_justified : (to : Process) (m : LogMessage) → IsStanding w m → IsJustified (world_with_move w v posts) t.items Master to m
   standing_justified to (message.NewSucc k x n) h = opened x k h
   standing_justified to (message.Config epoch head tail) h = tt
   standing_justified to m h = absurd h
@@ -112,7 +112,7 @@ module _ {P : Type 0} (plain : Plain P) (t : Account) (s : IsSound plain t) (joi
     justified = λ to m a. standing_justified to m (standing (to, m) a);
   }
 
-  pub standing_sound : IsSound plain (record t { world = moved t.world v posts })
+  pub standing_sound : IsSound plain (record t { world = world_with_move t.world v posts })
   standing_sound = move_sound plain t s v posts good_standing
 
 -- who stands before another is a member
@@ -126,7 +126,7 @@ before_in x epoch (a ∷ (b ∷ rest)) p h = elim (test (b.0 == x && b.1 == epoc
 
 module _ {P : Type 0} (plain : Plain P) (t : Account) (s : IsSound plain t) where
   abbrev after : MasterView × List (Post (List Entry)) → Account
-  after did = record t { world = moved t.world did.0 did.1 }
+  after did = record t { world = world_with_move t.world did.0 did.1 }
 
   pub unheard : IsSound plain (after (t.world.master, []))
   unheard = standing_sound plain t s t.world.master.joining t.world.master.epoch (omega arith) [] (λ post a. absurd a) (λ z. inl refl)

@@ -26,11 +26,11 @@ use Rattle.zchain.proofs.links.Links.{at_same, front_among}
 use Rattle.zchain.proofs.flow.Flow.{flow_more, first_more}
 use Rattle.zchain.proofs.steps.Puts.{put_one, with_put, account_with_put, ahead_put, justified_put}
 use Rattle.zchain.proofs.places.Pairs.{settled_pred, pair_next}
-use Rattle.zchain.proofs.steps.Sends.{upper_of_log, ahead_less}
+use Rattle.zchain.proofs.steps.Sends.{final_log_of_log, ahead_less}
 use Rattle.zchain.proofs.steps.Takes.{front_here}
 use Rattle.zchain.proofs.steps.ServerSteps.{account_with_view}
 use Rattle.zmending.proofs.orders.OrderSteps.{IsGoodTurn, turn_sound, member}
-use Rattle.zmending.proofs.orders.Neighbours.{upper_of, base_of, same_upper, same_first, after_turn}
+use Rattle.zmending.proofs.orders.Neighbours.{final_log_of, first_log_of, same_final_log, same_first, after_turn}
 
 -- where there was no log, a whole one is there in its epoch only
 shown_first : (epoch k : ℕ) (transfer : Transfer (List Entry)) (log : List Entry) → log_with_message epoch None (message.Snapshot k transfer) ≡ Some log
@@ -83,7 +83,7 @@ module _ {P : Type 0} (plain : Plain P) (told : Account) (s : IsSound plain told
         | inl is_x ↦ subst (λ b. IsAhead w b own) (sym is_x)
             (record { own = own; holds = holds; begins = prefix_same own; has_successor = follows; no_tail_order = stays pair })
         | inr further ↦
-            let more = upper_of_log w x own holds in
+            let more = final_log_of_log w x own holds in
             ahead_less w a own more.0 more.2 (s.ordered a x further more.0 more.1)
       ]
 
@@ -186,8 +186,8 @@ module _ {P : Type 0} (plain : Plain P) (t : Account) (s : IsSound plain t) (y e
   good_hand = record {
     machine = refl;
     succ = λ some no_order. refl;
-    final_log = λ log is. (log, sym (upper_of plain t s y order rest link alive led ∙ same_upper plain t s y order rest link alive led led.machine led.pred) ∙ is, prefix_same log);
-    shows = λ log is. (log, sym (base_of plain t s y order rest link alive led ∙ ap (or_else led.machine) (same_first plain t s y order rest link alive led led.pred)) ∙ is, prefix_same log);
+    final_log = λ log is. (log, sym (final_log_of plain t s y order rest link alive led ∙ same_final_log plain t s y order rest link alive led led.machine led.pred) ∙ is, prefix_same log);
+    shows = λ log is. (log, sym (first_log_of plain t s y order rest link alive led ∙ ap (or_else led.machine) (same_first plain t s y order rest link alive led led.pred)) ∙ is, prefix_same log);
     line = λ place is. subst (λ q. LeadsTo (IsPast t.world) (is_fresh t.world y) (t.world.servers y).pred q place) link (s.line y place is);
     successor = λ x k is. let pair : ◌≡◌ {A = Neighbour} (z, epoch) (x, k) = cc is in subst (λ (q : Neighbour). IsOpened t.world q.0 q.1) pair opened;
     sent = s.sent y;

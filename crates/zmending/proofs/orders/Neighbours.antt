@@ -24,7 +24,7 @@ use Rattle.zchain.proofs.flow.Flow.{IsForeign, AreForeign, flow_foreign, first_f
 use Rattle.zchain.proofs.places.Orders.{leads_more}
 use Rattle.zchain.proofs.links.Links.{at_same}
 use Rattle.zserver.specs.support.Cases.{acks_all}
-use Rattle.zchain.proofs.steps.Sends.{upper_of_log}
+use Rattle.zchain.proofs.steps.Sends.{final_log_of_log}
 use Rattle.zchain.proofs.steps.Takes.{with_view, front_here}
 use Rattle.zchain.proofs.steps.ServerSteps.{account_with_puts, puts_at_once, puts_unread, acks_unread, account_with_view, IsUnreadAndJustified, after_puts}
 use Rattle.zmending.proofs.orders.OrderSteps.{IsGoodTurn, turn_sound, turn_begins}
@@ -59,15 +59,15 @@ module _ {P : Type 0} (plain : Plain P) (t : Account) (s : IsSound plain t) (y :
   old = t.world.servers y
 
   -- what a view with the old log shows and would hold, by its predecessor
-  pub upper_of : (v : ServerView (List Entry)) → final_log (with_view w Master y v) y ≡ final_log_by (with_view w Master y v) y v.machine v.pred
-  upper_of v = ap (λ (u : ServerView (List Entry)). final_log_by (with_view w Master y v) y u.machine u.pred) (at_same y v w.servers)
+  pub final_log_of : (v : ServerView (List Entry)) → final_log (with_view w Master y v) y ≡ final_log_by (with_view w Master y v) y v.machine v.pred
+  final_log_of v = ap (λ (u : ServerView (List Entry)). final_log_by (with_view w Master y v) y u.machine u.pred) (at_same y v w.servers)
 
-  pub base_of : (v : ServerView (List Entry)) → first_log (with_view w Master y v) y ≡ or_else v.machine (first_snapshot_by (with_view w Master y v) y v.pred)
-  base_of v = ap (λ (u : ServerView (List Entry)). or_else u.machine (first_snapshot_by (with_view w Master y v) y u.pred)) (at_same y v w.servers)
+  pub first_log_of : (v : ServerView (List Entry)) → first_log (with_view w Master y v) y ≡ or_else v.machine (first_snapshot_by (with_view w Master y v) y v.pred)
+  first_log_of v = ap (λ (u : ServerView (List Entry)). or_else u.machine (first_snapshot_by (with_view w Master y v) y u.pred)) (at_same y v w.servers)
 
-  pub same_upper : (v : ServerView (List Entry)) (log : Log) (pred : Option Neighbour) → final_log_by (with_view w Master y v) y log pred ≡ final_log_by w y log pred
-  same_upper v log None = refl
-  same_upper v log (Some pred) = refl
+  pub same_final_log : (v : ServerView (List Entry)) (log : Log) (pred : Option Neighbour) → final_log_by (with_view w Master y v) y log pred ≡ final_log_by w y log pred
+  same_final_log v log None = refl
+  same_final_log v log (Some pred) = refl
 
   pub same_first : (v : ServerView (List Entry)) (pred : Option Neighbour) → first_snapshot_by (with_view w Master y v) y pred ≡ first_snapshot_by w y pred
   same_first v None = refl
@@ -110,13 +110,13 @@ module _ {P : Type 0} (plain : Plain P) (t : Account) (s : IsSound plain t) (y e
     succ = λ some no_order. absurd (no_order epoch (subst (Among (message.BecomeTail epoch)) (sym link) (inl refl)));
     final_log = λ log is. (
       log,
-      sym (upper_of plain t s y (message.BecomeTail epoch) rest link alive ended
-          ∙ same_upper plain t s y (message.BecomeTail epoch) rest link alive ended ended.machine ended.pred) ∙ is,
+      sym (final_log_of plain t s y (message.BecomeTail epoch) rest link alive ended
+          ∙ same_final_log plain t s y (message.BecomeTail epoch) rest link alive ended ended.machine ended.pred) ∙ is,
       prefix_same log,
     );
     shows = λ log is. (
       log,
-      sym (base_of plain t s y (message.BecomeTail epoch) rest link alive ended
+      sym (first_log_of plain t s y (message.BecomeTail epoch) rest link alive ended
           ∙ ap (or_else ended.machine) (same_first plain t s y (message.BecomeTail epoch) rest link alive ended ended.pred)) ∙ is,
       prefix_same log,
     );
@@ -150,9 +150,9 @@ module _ {P : Type 0} (plain : Plain P) (t : Account) (s : IsSound plain t) (y e
   good_head = record {
     machine = refl;
     succ = λ some no_order. some;
-    final_log = λ log is. upper_of_log t.world y log (sym (upper_of plain t s y (message.BecomeHead epoch) rest link alive led) ∙ is);
+    final_log = λ log is. final_log_of_log t.world y log (sym (final_log_of plain t s y (message.BecomeHead epoch) rest link alive led) ∙ is);
     shows = λ log is.
-        let mine : log_at t.world y ≡ Some log = sym (base_of plain t s y (message.BecomeHead epoch) rest link alive led ∙ or_none (log_at t.world y)) ∙ is in
+        let mine : log_at t.world y ≡ Some log = sym (first_log_of plain t s y (message.BecomeHead epoch) rest link alive led ∙ or_none (log_at t.world y)) ∙ is in
         (log, ap (λ l. or_else l (first_snapshot_by t.world y (t.world.servers y).pred)) mine, prefix_same log);
     line = λ place is.
         let leads = subst (λ q. LeadsTo (IsPast t.world) (is_fresh t.world y) (t.world.servers y).pred q place) link (s.line y place is) in
@@ -186,11 +186,11 @@ module _ {P : Type 0} (plain : Plain P) (t : Account) (s : IsSound plain t) (y e
   good_turn = record {
     machine = refl;
     succ = λ some no_order. some;
-    final_log = λ log is. upper_of_log t.world y log
-        (sym (upper_of plain t s y (message.NewPred epoch p) rest link alive turned ∙ flow_foreign epoch (log_at t.world y) (t.world.links (Server p) (Server y)) foreign) ∙ is);
+    final_log = λ log is. final_log_of_log t.world y log
+        (sym (final_log_of plain t s y (message.NewPred epoch p) rest link alive turned ∙ flow_foreign epoch (log_at t.world y) (t.world.links (Server p) (Server y)) foreign) ∙ is);
     shows = λ log is.
         let mine : log_at t.world y ≡ Some log =
-        sym (base_of plain t s y (message.NewPred epoch p) rest link alive turned
+        sym (first_log_of plain t s y (message.NewPred epoch p) rest link alive turned
         ∙ ap (or_else (log_at t.world y)) (first_foreign epoch (t.world.links (Server p) (Server y)) foreign) ∙ or_none (log_at t.world y)) ∙ is in
         (log, ap (λ l. or_else l (first_snapshot_by t.world y (t.world.servers y).pred)) mine, prefix_same log);
     line = λ place is.

@@ -20,7 +20,7 @@ use Rattle.zcalls.proofs.Among.{test}
 use Rattle.zlegal.proofs.lists.Prefixes.{prefix_same}
 use Rattle.zchain.proofs.links.Links.{at_cases, at_same, at_other, front_among}
 use Rattle.zchain.proofs.steps.Sends.{ahead_less}
-use Rattle.zchain.proofs.steps.Takes.{with_view, upper_elsewhere, committed_view}
+use Rattle.zchain.proofs.steps.Takes.{with_view, final_log_elsewhere, committed_view}
 use Rattle.zchain.proofs.steps.Views.{AreGoodLists}
 use Rattle.zchain.proofs.steps.Commits.{commit_sound}
 use Rattle.zchain.proofs.steps.ServerSteps.{tail_log_is, no_tail_log, account_with_view}
@@ -93,7 +93,7 @@ module _ {P : Type 0} (plain : Plain P) (t : Account) (s : IsSound plain t) (y :
   ordered a b before log is = elim (test (b == y)) [
     | inl e ↦ let same : b ≡ y = eqb-true _ _ e in
         ahead_turn a log (ahead_of a (subst (λ c. ComesBefore a c (members w.master)) same before) log (subst (λ c. final_log w1 c ≡ Some log) same is))
-    | inr f ↦ ahead_turn a log (s.ordered a b before log (sym (upper_elsewhere w Master y v b f) ∙ is))
+    | inr f ↦ ahead_turn a log (s.ordered a b before log (sym (final_log_elsewhere w Master y v b f) ∙ is))
   ]
 
   begun : (log : List Entry) → v.machine ≡ Some log → AllBegun w.history log

@@ -19,7 +19,7 @@ use Rattle.zchain.specs.Sound.{IsSound, IsSoundAfter}
 use Rattle.zmending.specs.Laws.{ServersHearMaster}
 use Rattle.zlegal.proofs.lists.Prefixes.{prefix_same}
 use Rattle.zmending.proofs.orders.OrderSteps.{IsGoodTurn, turn_sound}
-use Rattle.zmending.proofs.orders.Neighbours.{upper_of, base_of, same_upper, same_first, after_turn, take_tail_order, take_head_order, take_pred_order}
+use Rattle.zmending.proofs.orders.Neighbours.{final_log_of, first_log_of, same_final_log, same_first, after_turn, take_tail_order, take_head_order, take_pred_order}
 use Rattle.zmending.proofs.orders.Successors.{take_succ_order}
 use Rattle.zmending.proofs.orders.Handovers.{take_whole_order}
 use Rattle.zchain.proofs.Events.{where_enabled, front_there}
@@ -43,8 +43,8 @@ module _ {P : Type 0} (plain : Plain P) (t : Account) (s : IsSound plain t) (y :
   good_same turn = record {
     machine = refl;
     succ = λ some no_order. some;
-    final_log = λ log is. (log, sym (upper_of plain t s y m rest link alive old ∙ same_upper plain t s y m rest link alive old old.machine old.pred) ∙ is, prefix_same log);
-    shows = λ log is. (log, sym (base_of plain t s y m rest link alive old ∙ ap (or_else old.machine) (same_first plain t s y m rest link alive old old.pred)) ∙ is, prefix_same log);
+    final_log = λ log is. (log, sym (final_log_of plain t s y m rest link alive old ∙ same_final_log plain t s y m rest link alive old old.machine old.pred) ∙ is, prefix_same log);
+    shows = λ log is. (log, sym (first_log_of plain t s y m rest link alive old ∙ ap (or_else old.machine) (same_first plain t s y m rest link alive old old.pred)) ∙ is, prefix_same log);
     line = λ place is. leads_on (is_fresh t.world y) old.pred place turn
         (subst (λ q. LeadsTo (IsPast t.world) (is_fresh t.world y) (t.world.servers y).pred q place) link (s.line y place is));
     successor = λ x k is. s.successors y x k is;

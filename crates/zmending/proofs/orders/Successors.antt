@@ -21,12 +21,12 @@ use Rattle.zchain.specs.Sound.{IsSound, IsSoundAfter}
 use Rattle.zlegal.proofs.lists.Prefixes.{prefix_same}
 use Rattle.zlegal.proofs.lists.Members.{among_mid}
 use Rattle.zchain.proofs.links.Links.{at_same, front_among}
-use Rattle.zchain.proofs.rows.RowViews.{above_among}
+use Rattle.zchain.proofs.tables.RowViews.{above_among}
 use Rattle.zchain.proofs.steps.Sends.{put_sent}
 use Rattle.zchain.proofs.steps.Puts.{account_with_put}
 use Rattle.zchain.proofs.steps.ServerSteps.{account_with_puts, account_with_view}
 use Rattle.zmending.proofs.orders.OrderSteps.{IsGoodTurn, turn_sound, member}
-use Rattle.zmending.proofs.orders.Neighbours.{upper_of, base_of, same_upper, same_first, after_turn}
+use Rattle.zmending.proofs.orders.Neighbours.{final_log_of, first_log_of, same_final_log, same_first, after_turn}
 
 -- entries of the sender's log, one after the other
 sends : {P : Type 0} (plain : Plain P) (t : Account) (y : ℕ) → IsMember t.world y → (own : List Entry) → log_at t.world y ≡ Some own → AllBegun t.world.history own
@@ -63,8 +63,8 @@ module _ {P : Type 0} (plain : Plain P) (t : Account) (s : IsSound plain t) (y e
   good_follow = record {
     machine = refl;
     succ = λ some no_order. refl;
-    final_log = λ log is. (log, sym (upper_of plain t s y m rest link alive led ∙ same_upper plain t s y m rest link alive led led.machine led.pred) ∙ is, prefix_same log);
-    shows = λ log is. (log, sym (base_of plain t s y m rest link alive led ∙ ap (or_else led.machine) (same_first plain t s y m rest link alive led led.pred)) ∙ is, prefix_same log);
+    final_log = λ log is. (log, sym (final_log_of plain t s y m rest link alive led ∙ same_final_log plain t s y m rest link alive led led.machine led.pred) ∙ is, prefix_same log);
+    shows = λ log is. (log, sym (first_log_of plain t s y m rest link alive led ∙ ap (or_else led.machine) (same_first plain t s y m rest link alive led led.pred)) ∙ is, prefix_same log);
     line = λ place is. subst (λ q. LeadsTo (IsPast t.world) (is_fresh t.world y) (t.world.servers y).pred q place) link (s.line y place is);
     successor = λ x k is. let pair : ◌≡◌ {A = Neighbour} (z, epoch) (x, k) = cc is in subst (λ (q : Neighbour). IsOpened t.world q.0 q.1) pair opened;
     sent = s.sent y;

@@ -1,8 +1,8 @@
 -- The rows of a store, and what they stand for.
 use Rattle.std.specs.Str.{bytes_eq}
-use Rattle.std.specs.Prelude.{filter_map, Bool, true, false, ◌&&◌, ◌≡◌, ℕ, ◌<◌, ◌≤◌, List, [], ◌∷◌, map, length, drop, suc, Option, slice_index_or, None, Some, if◌then◌else◌, ◌==◌, nat_le}
+use Rattle.std.specs.Prelude.{filter_map, Bool, true, false, ◌&&◌, ◌≡◌, ℕ, ◌<◌, ◌≤◌, List, [], ◌∷◌, ◌++◌, map, length, drop, suc, Option, slice_index_or, None, Some, if◌then◌else◌, ◌==◌, nat_le}
 use lib.Dec.{T}
-use Rattle.std.specs.List.{AllByRecursion}
+use Rattle.std.specs.List.{AllByRecursion, cons_option}
 use Rattle.std.specs.Ordering.{nat_cmp}
 use Rattle.std.specs.declared.cmp.Ordering.TheVariants.{Less, Greater}
 use Rattle.std.specs.FinMap.{from_sorted, from_entries, is_sorted, find}
@@ -73,6 +73,18 @@ pub record IsKept (nodes : List Row) (alive : List SessionRow) (time zxid bound 
   pub lawful : IsLawful (tree_of nodes alive time zxid)
   pub paths : HasPaths (tree_of nodes alive time zxid).nodes
 
+-- a fact on the row at a place
+abbrev pub AtRow : List Row → ℕ → (Row → Type 0) → Type 0
+AtRow rows at P = (d : Row) → P (slice_index_or rows at d)
+
+-- the path has no row
+abbrev pub HasNoRow : List Row → Path → Type 0
+HasNoRow rows path = find path_cmp path (node_rows rows) ≡ None
+
+-- the value is appended, where there is one
+abbrev pub AppendsOption : {A : Type 0} → List A → List A → Option A → Type 0
+AppendsOption old new value = new ≡ old ++ cons_option value []
+
 -- the row at a place has the path
 pub record IsAt (rows : List Row) (path : Path) (at : ℕ) : Type 0 where
   pub within : at < length rows
@@ -106,8 +118,8 @@ is_beneath (a ∷ p) [] = false
 is_beneath (a ∷ p) (b ∷ path) = bytes_eq a b && is_beneath p path
 
 -- the names that rows have beneath a path, in the rows' order
-abbrev pub names_of_children : Path → List Row → List Name
-names_of_children path rows = filter_map (child_name path) (map (λ (r : Row). r.path) rows)
+abbrev pub names_beneath : Path → List Row → List Name
+names_beneath path rows = filter_map (child_name path) (map (λ (r : Row). r.path) rows)
 
 -- the paths of the rows whose nodes a session owns, in the rows' order
 abbrev pub owned_by : ℕ → List Row → List Path

@@ -1,12 +1,12 @@
 -- Worked runs of settling, and of readings, over a machine that counts, with two clients (0 and 1).
 use Rattle.std.specs.Prelude.{ℕ, List, [], ◌∷◌}
 use Rattle.zworld.specs.declared.event.Event.{Event}
-use Rattle.zworld.specs.declared.event.Event.TheVariants.{Begin, Take, Ignore}
+use Rattle.zworld.specs.declared.event.Event.TheVariants.{Begin, Take, Ignore, Fail, Join}
 use Rattle.zworld.specs.World.{opening_world}
 use Rattle.zworld.specs.declared.outcome.Outcome.{Outcome}
 use Rattle.zworld.specs.Reading.{read_all}
 use Rattle.zworld.specs.Settle.{Settling, settle}
-use Rattle.zworld.specs.support.Counter.{Counting, counting_machine, create}
+use Rattle.zworld.specs.support.Counter.{Counting, counting_machine, create, exists}
 use Rattle.zworld.specs.support.RunRows.{after, s1, s2, s3, c0, c1}
 
 -- settling after events, with a limit, and what becomes of its events
@@ -41,3 +41,7 @@ two_settle =
 -- a request is lost, and settling asks again
 abbrev pub lost_request : List Event
 lost_request = Begin 1 create ∷ Ignore c1 s1 ∷ []
+
+-- the state is lost with its only server, while another one joins; then a client asks
+abbrev pub lost_state : List Event
+lost_state = Join 2 ∷ Fail 1 ∷ Begin 1 exists ∷ []

@@ -17,7 +17,8 @@ ghost use Rattle.zworld.specs.support.JoinRows.{state_is_lost};
 pub fn joining_server_is_handed_the_state()
     ensures one_joins { join_fault (after 1 (take 4 state_is_handed_over)).master 3 ≡ Some Joining }
     ensures silent { link 1 (take 9 state_is_handed_over) s1 c1 ≡ [] }
-    ensures told { link 1 (take 11 state_is_handed_over) m c1 ≡ message.Config 2 (Some 1) (Some 2) ∷ [] }
+    ensures told { link 1 (take 11 state_is_handed_over) m c1
+        ≡ message.Config 2 (Some 1) (Some 2) ∷ [] }
     ensures handed_over { (view 1 (take 10 state_is_handed_over) 2).last ≡ 1 }
     ensures seen { seen 1 state_is_handed_over
         ≡ saw.Begin 1 1 create ∷ saw.Answer 1 1 (name_reply 0) ∷ saw.Begin 1 2 exists

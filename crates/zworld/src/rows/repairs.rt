@@ -19,8 +19,10 @@ pub fn head_fails_after_it_forwarded()
 
 /// The same, where the client asks the new head again: the update counts once, and is answered once.
 pub fn new_head_is_asked_again()
-    ensures told { link 3 (take 6 head_fails_and_is_asked_again) m c1 ≡ message.Config 1 (Some 2) (Some 3) ∷ [] }
-    ensures asked { link 3 (take 7 head_fails_and_is_asked_again) c1 s2 ≡ message.Submit 1 create_update ∷ [] }
+    ensures told { link 3 (take 6 head_fails_and_is_asked_again) m c1
+        ≡ message.Config 1 (Some 2) (Some 3) ∷ [] }
+    ensures asked { link 3 (take 7 head_fails_and_is_asked_again) c1 s2
+        ≡ message.Submit 1 create_update ∷ [] }
     ensures two_answers { link 3 (take 10 head_fails_and_is_asked_again) s3 c1
         ≡ message.Answer 1 (name_reply 0) ∷ message.Answer 1 (name_reply 0) ∷ [] }
     ensures seen { seen 3 head_fails_and_is_asked_again
@@ -53,6 +55,7 @@ pub fn middle_fails_before_it_forwarded()
     ensures new_succ { link 3 (take 6 middle_fails) m s1 ≡ message.NewSucc 1 3 (Some 0) ∷ [] }
     ensures sent_again { link 3 (take 7 middle_fails) s1 s3 ≡ message.Update 1 1 first_entry ∷ [] }
     ensures still_kept { (view 3 (take 7 middle_fails) 1).sent ≡ (1, first_entry) ∷ [] }
-    ensures seen { seen 3 (take 9 middle_fails) ≡ saw.Begin 1 1 create ∷ saw.Answer 1 1 (name_reply 0) ∷ [] }
+    ensures seen { seen 3 (take 9 middle_fails)
+        ≡ saw.Begin 1 1 create ∷ saw.Answer 1 1 (name_reply 0) ∷ [] }
     ensures acknowledged { (view 3 middle_fails 1).sent ≡ [] }
 {}

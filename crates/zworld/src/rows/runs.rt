@@ -17,7 +17,8 @@ pub fn update_is_answered_by_the_tail()
     ensures head_is_silent { link 3 (take 2 update_in_turn) s1 c1 ≡ [] }
     ensures kept { (view 3 (take 5 update_in_turn) 1).sent ≡ (1, first_entry) ∷ [] }
     ensures unseen { seen 3 (take 4 update_in_turn) ≡ saw.Begin 1 1 create ∷ [] }
-    ensures answered { seen 3 (take 5 update_in_turn) ≡ saw.Begin 1 1 create ∷ saw.Answer 1 1 (name_reply 0) ∷ [] }
+    ensures answered { seen 3 (take 5 update_in_turn)
+        ≡ saw.Begin 1 1 create ∷ saw.Answer 1 1 (name_reply 0) ∷ [] }
     ensures acknowledged { (view 3 update_in_turn 1).sent ≡ [] }
     ensures all_have_it { (view 3 update_in_turn 1).last ≡ 1 }
     ensures nothing_is_left { link 3 update_in_turn s2 s1 ≡ [] }
@@ -37,7 +38,8 @@ pub fn links_keep_order()
 pub fn retried_update_counts_once()
     ensures two_answers { link 2 (take 6 retried_update) s2 c1
         ≡ message.Answer 1 (name_reply 0) ∷ message.Answer 1 (name_reply 0) ∷ [] }
-    ensures one_is_taken { seen 2 (take 8 retried_update) ≡ saw.Begin 1 1 create ∷ saw.Answer 1 1 (name_reply 0) ∷ [] }
+    ensures one_is_taken { seen 2 (take 8 retried_update)
+        ≡ saw.Begin 1 1 create ∷ saw.Answer 1 1 (name_reply 0) ∷ [] }
     ensures stale_answer { seen 2 (take 7 retried_update ++ Begin 1 create ∷ Take s2 c1 ∷ [])
         ≡ saw.Begin 1 1 create ∷ saw.Answer 1 1 (name_reply 0) ∷ saw.Begin 1 2 create ∷ [] }
     ensures next_count { seen 2 retried_update
@@ -51,11 +53,19 @@ pub fn only_enabled_events_happen()
     ensures strange_client { is_enabled (after 3 []) (Begin 2 create) ≡ false }
     ensures nothing_to_retry { is_enabled (after 3 []) (Retry 1) ≡ false }
     ensures empty_link { is_enabled (after 3 []) (Take c1 s1) ≡ false }
-    ensures server_messages_are_not_ignored { is_enabled (after 3 (take 2 update_in_turn)) (Ignore s1 s2) ≡ false }
-    ensures failed_taker { is_enabled (after 3 (Begin 1 create ∷ Fail 1 ∷ [])) (Take c1 s1) ≡ false }
-    ensures failed_ignorer { is_enabled (after 3 (Begin 1 create ∷ Fail 1 ∷ [])) (Ignore c1 s1) ≡ false }
+    ensures server_messages_are_not_ignored { is_enabled (after 3 (take 2 update_in_turn))
+        (Ignore s1 s2)
+        ≡ false }
+    ensures failed_taker { is_enabled (after 3 (Begin 1 create ∷ Fail 1 ∷ [])) (Take c1 s1)
+        ≡ false }
+    ensures failed_ignorer { is_enabled (after 3 (Begin 1 create ∷ Fail 1 ∷ [])) (Ignore c1 s1)
+        ≡ false }
     ensures failed_twice { is_enabled (after 3 (Fail 1 ∷ [])) (Fail 1) ≡ false }
     ensures spare_can_fail { is_enabled (after 3 []) (Fail 4) ≡ true }
+    ensures server_0_does_not_fail { is_enabled (after 3 []) (Fail 0) ≡ false }
+    ensures server_9_does_not_fail { is_enabled (after 3 []) (Fail 9) ≡ false }
+    ensures server_9_does_not_join { is_enabled (after 3 []) (Join 9) ≡ false }
+    ensures server_8_joins { is_enabled (after 3 []) (Join 8) ≡ true }
     ensures member_joins { is_enabled (after 3 []) (Join 3) ≡ false }
     ensures spare_joins { is_enabled (after 3 []) (Join 4) ≡ true }
     ensures unchanged { link 3 (Begin 1 create ∷ Fail 1 ∷ Take c1 s1 ∷ []) c1 s1

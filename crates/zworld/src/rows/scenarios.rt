@@ -35,16 +35,19 @@ pub fn joins_survive_failures()
     ensures tail_fails { (played 3 tail_fails_in_a_join).history
         ≡ Begin 1 1 create ∷ Answer 1 1 (name_reply 0) ∷ Begin 1 2 create
         ∷ Answer 1 2 (name_reply 1) ∷ [] }
-    ensures new_tail { (played 3 tail_fails_in_a_join).master.chain ≡ (1, 0) ∷ (2, 0) ∷ (4, 2) ∷ [] }
+    ensures new_tail { (played 3 tail_fails_in_a_join).master.chain
+        ≡ (1, 0) ∷ (2, 0) ∷ (4, 2) ∷ [] }
     ensures joining_fails { (played 3 joining_server_fails).history
         ≡ Begin 1 1 create ∷ Answer 1 1 (name_reply 0) ∷ Begin 1 2 create
         ∷ Answer 1 2 (name_reply 1) ∷ [] }
-    ensures old_tail { (played 3 joining_server_fails).master.chain ≡ (1, 0) ∷ (2, 0) ∷ (3, 0) ∷ [] }
+    ensures old_tail { (played 3 joining_server_fails).master.chain
+        ≡ (1, 0) ∷ (2, 0) ∷ (3, 0) ∷ [] }
 {}
 
 /// A spare server that failed leaves the chain again when the master hears of it, and its number is used.
 pub fn failed_spare_leaves_again()
-    ensures seen { (played 1 failed_spare_joins).history ≡ Begin 1 1 create ∷ Answer 1 1 (name_reply 0) ∷ [] }
+    ensures seen { (played 1 failed_spare_joins).history
+        ≡ Begin 1 1 create ∷ Answer 1 1 (name_reply 0) ∷ [] }
     ensures used { join_fault (played 1 failed_spare_joins).master 2 ≡ Some Used }
 {}
 

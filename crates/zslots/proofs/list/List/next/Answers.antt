@@ -1,6 +1,9 @@
-use Rattle.std.proofs.Common.{ap, ◌∙◌}
+use Rattle.std.proofs.Common.{rules, ap, ◌∙◌}
 use Rattle.zslots.proofs.ListMoves.{list-next}
 use Rattle.zslots.proofs.list.List.next.Goals as goal
+
+pub returns-clause-own : goal.returns-clause-own
+returns-clause-own g c = search rules
 
 pub returns-clause-list : goal.returns-clause-list
 returns-clause-list g c =

@@ -1,5 +1,12 @@
+use Rattle.std.proofs.Common.{rules}
 use Rattle.zslots.proofs.ListMoves.{list-with_front}
 use Rattle.zslots.proofs.list.List.push_front.Goals as goal
+
+pub returns-clause-items : goal.returns-clause-items
+returns-clause-items g c = search rules
+
+pub returns-clause-own : goal.returns-clause-own
+returns-clause-own g c = search rules
 
 pub returns-clause-list : goal.returns-clause-list
 returns-clause-list g c =

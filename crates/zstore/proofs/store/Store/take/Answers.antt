@@ -9,8 +9,8 @@ use Rattle.zstore.specs.declared.row.Row.{Row}
 use Rattle.zstore.specs.StoreView.{StoreView, while_there}
 use Rattle.ztree.specs.Tree.{children}
 use Rattle.zstore.specs.support.Rows.{place_rows}
-use Rattle.zstore.proofs.Shown.{nodes_of, if_none, path_of-held, path_of-gone, nodes_of-remove, places_of-remove}
-use Rattle.zstore.proofs.Kept.{kept_remove, forgets_removed}
+use Rattle.zstore.proofs.rows.Shown.{nodes_of, if_none, path_of-held, path_of-gone, nodes_of-remove, places_of-remove}
+use Rattle.zstore.proofs.rows.Kept.{kept_remove, forgets_removed}
 use Rattle.zstore.proofs.store.Store.take.Goals as goal
 
 pub returns-in_err-at-clause-gone : goal.returns-in_err-at-clause-gone

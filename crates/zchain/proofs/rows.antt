@@ -1,4 +1,0 @@
-pub mod Everywhere
-pub mod Lasts
-pub mod OtherPosts
-pub mod RowViews

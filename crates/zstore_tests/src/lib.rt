@@ -1,0 +1,12 @@
+//! Tests of `zstore` and of the values of `ztree`: what no clause says. Each call that allocates can
+//! succeed, and worked stats are what they should be.
+#![tactic(auto)]
+
+#[cfg(test)]
+mod nodes;
+#[cfg(test)]
+mod sessions;
+#[cfg(test)]
+mod steps;
+#[cfg(test)]
+mod values;
