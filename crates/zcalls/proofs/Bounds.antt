@@ -1,5 +1,5 @@
 -- What the plain step leaves of the bounds on a tree's numbers.
-use Rattle.std.proofs.Common.{◌≡◌, ℕ, ◌+◌, ◌*◌, ◌^◌, ◌<◌, ◌≤◌, Bool, true, false, cond, if◌then◌else◌, Option, Some, None, Result, Ok, Err, List, [], lit<, refl, sym, ap, subst, ◌∙◌, arith}
+use Rattle.std.proofs.Common.{◌≡◌, ℕ, ◌+◌, ◌*◌, ◌^◌, ◌<◌, ◌≤◌, Bool, true, false, cond, Option, Some, None, List, [], lit<, refl, sym, ap, subst, ◌∙◌, arith}
 use Rattle.std.specs.Prelude.{◌&&◌}
 use Rattle.std.specs.FinMap as finite
 use Rattle.std.specs.FinMap.{get-insert, get-empty, get-remove}
@@ -7,26 +7,20 @@ use Rattle.std.specs.Ordering.{eq_by_cmp, nat_cmp}
 use Rattle.std.specs.Option.{option_map_or}
 use Rattle.std.proofs.lemmas.Bool.Decides.{nat_tests}
 use Rattle.zpath.specs.Grammar.{path_cmp}
-use Rattle.zpath.specs.First.{first_that_holds}
 use Rattle.zpath.proofs.First.{no_test_holds}
 use Rattle.ztree.specs.declared.node.Node.{Node}
 use Rattle.ztree.specs.declared.session.Session.{Session}
-use Rattle.ztree.specs.Tree.{opening_tree, Tree, Nodes, Path, new_node, parent_of, with_change_at, with_child, without_child, with_data, stat_of, with_node, without_node, with_data_at, with_next_zxid, HasRoom}
+use Rattle.ztree.specs.Tree.{opening_tree, Tree, Nodes, Path, new_node, parent_of, with_change_at, with_child, without_child, with_data, with_node, without_node, with_data_at, with_next_zxid}
+use Rattle.ztree.specs.Room.{HasRoom}
 use Rattle.ztree.proofs.Sorted.{paths_total}
-use Rattle.zcalls.specs.declared.call.Create.{Create as ToCreate}
-use Rattle.zcalls.specs.declared.call.Delete.{Delete as ToDelete}
-use Rattle.zcalls.specs.declared.call.SetData.{SetData as ToSet}
-use Rattle.zcalls.specs.declared.call.Check.{Check as ToCheck}
-use Rattle.zcalls.specs.declared.call.Expected.{Expected}
 use Rattle.zcalls.specs.declared.call.Part.{Part}
-use Rattle.zcalls.specs.declared.call.Part.TheVariants.{Create, Delete, SetData, Check}
-use Rattle.zcalls.specs.declared.refusal.Refusal.{Refusal}
-use Rattle.zcalls.specs.declared.reply.PartReply.{PartReply}
-use Rattle.zcalls.specs.declared.reply.PartReply.TheVariants.{Created, Deleted, Set, Checked}
-use Rattle.zcalls.specs.Part.{create_part, delete_part, set_part, check_part, part_step, create_refusals, delete_refusals, made_path, is_sequential, owner_of, is_spent, node_has, unless_refused, on_version, has_other_version}
+use Rattle.zcalls.specs.declared.change.Change.{Change}
+use Rattle.zcalls.specs.declared.change.Change.TheVariants.{Create, Delete, SetData}
+use Rattle.zcalls.specs.Part.{change_step, part_step, create_refusals, made_path, is_sequential, owner_of, is_spent, node_has}
 use Rattle.ztree.specs.Lawful.{AllNodes, AllSessions}
-use Rattle.zcalls.specs.Bounds.{IsWithin, IsBounded, IsGranted, ChangesNodesAlone}
-use Rattle.zcalls.specs.declared.refusal.Refusal.TheVariants.{BadVersion}
+use Rattle.zcalls.specs.Bounds.{IsWithin, IsBounded, IsGranted}
+use Rattle.zcalls.specs.support.Alone.{ChangesNodesAlone}
+use Rattle.zcalls.proofs.Leaving.{Leaves, create_step-leaves, delete_step-leaves, set_step-leaves, part_step-leaves}
 use Rattle.zcalls.proofs.Paths.{parent_of-made}
 
 module _ (P : Node → Type 0) where
@@ -116,60 +110,26 @@ written_within k t path bytes all =
     all_changed (IsWithin k) (IsWithin (k + 1)) t.nodes path (with_data bytes (t.zxid + 1) t.time)
     all (later k) (λ n e. with_data_within k bytes (t.zxid + 1) t.time n (all path n e))
 
--- a part that did something left a tree in which every node was raised once more at most
-abbrev pub IsRoomy : ℕ → Tree → Result (Tree × PartReply) Refusal → Type 0
-IsRoomy k t (Err refusal) = Unit {0}
-IsRoomy k t (Ok (u, reply)) = AllNodes (IsWithin (k + 1)) u.nodes
+-- in a tree every node was raised at most so often
+abbrev pub IsWithinAll : ℕ → Tree → Type 0
+IsWithinAll k t = AllNodes (IsWithin k) t.nodes
 
-create_roomy : (k : ℕ) (t : Tree) (client : ℕ) (create : ToCreate) → AllNodes (IsWithin k) t.nodes → IsRoomy k t (create_part t client create)
-unfolding create_part
-create_roomy k t client create all = by (first_that_holds (create_refusals t client create)) refl
-  where
-    made : Path
-    made = made_path t.nodes create.kind create.path
+-- a change that did something left a tree in which every node was raised once more at most
+pub change_roomy : (k : ℕ) (t : Tree) (client : ℕ) (change : Change) → IsWithinAll k t → Leaves (IsWithinAll (k + 1)) (change_step t client change)
+change_roomy k t client (Create create) all =
+    create_step-leaves (IsWithinAll (k + 1)) t client create
+    (λ e. let tests = no_test_holds (create_refusals t client create) e in
+    let left = unspent t.nodes (parent_of create.path) (is_sequential create.kind) tests.1.1.1.1.0 in
+    added_within k t (made_path t.nodes create.kind create.path) create.bytes (owner_of create.kind) (is_sequential create.kind) all
+    (subst (λ p. IsUnspent t.nodes p (is_sequential create.kind)) (sym (parent_of-made t.nodes create.kind create.path)) left))
+change_roomy k t client (Delete delete) all = delete_step-leaves (IsWithinAll (k + 1)) t delete (λ e. dropped_within k t delete.path all)
+change_roomy k t client (SetData set) all = set_step-leaves (IsWithinAll (k + 1)) t set (written_within k t set.path set.bytes all)
 
-    by : (o : Option Refusal) → first_that_holds (create_refusals t client create) ≡ o
-        → IsRoomy k t (unless_refused o (with_node t made create.bytes (owner_of create.kind) (is_sequential create.kind), Created made))
-    by (Some refusal) e = tt
-    by None e =
-        let tests = no_test_holds (create_refusals t client create) e in
-        let left = unspent t.nodes (parent_of create.path) (is_sequential create.kind) tests.1.1.1.1.0 in
-        added_within k t made create.bytes (owner_of create.kind) (is_sequential create.kind) all (subst (λ p. IsUnspent t.nodes p (is_sequential create.kind)) (sym (parent_of-made t.nodes create.kind create.path)) left)
-
-delete_roomy : (k : ℕ) (t : Tree) (delete : ToDelete) → AllNodes (IsWithin k) t.nodes → IsRoomy k t (delete_part t delete)
-unfolding delete_part
-delete_roomy k t delete all = by (first_that_holds (delete_refusals t.nodes delete))
-  where
-    by : (o : Option Refusal) → IsRoomy k t (unless_refused o (without_node t delete.path, Deleted))
-    by (Some refusal) = tt
-    by None = dropped_within k t delete.path all
-
-on_version_roomy : (k : ℕ) (t : Tree) (expected : Expected) (o : Option Node) (act : Node → Tree × PartReply) → ((n : Node) → IsRoomy k t (Ok (act n))) → IsRoomy k t (on_version expected o act)
-on_version_roomy k t expected None act each = tt
-on_version_roomy k t expected (Some n) act each = by (has_other_version expected n)
-  where
-    by : (b : Bool) → IsRoomy k t (if b then Err BadVersion else Ok (act n))
-    by true = tt
-    by false = each n
-
-set_roomy : (k : ℕ) (t : Tree) (set : ToSet) → AllNodes (IsWithin k) t.nodes → IsRoomy k t (set_part t set)
-unfolding set_part
-set_roomy k t set all =
-    on_version_roomy k t set.version (finite.get t.nodes set.path)
-    (λ n. (with_data_at t set.path set.bytes, Set (stat_of (with_data_at t set.path set.bytes).nodes set.path (with_data set.bytes (t.zxid + 1) t.time n))))
-    (λ n. written_within k t set.path set.bytes all)
-
-check_roomy : (k : ℕ) (t : Tree) (check : ToCheck) → AllNodes (IsWithin k) t.nodes → IsRoomy k t (check_part t check)
-unfolding check_part
-check_roomy k t check all =
-    on_version_roomy k t check.version (finite.get t.nodes check.path) (λ n. (t, Checked))
-    (λ n path m e. later k m (all path m e))
-
-pub part_roomy : (k : ℕ) (t : Tree) (client : ℕ) (part : Part) → AllNodes (IsWithin k) t.nodes → IsRoomy k t (part_step t client part)
-part_roomy k t client (Create create) all = create_roomy k t client create all
-part_roomy k t client (Delete delete) all = delete_roomy k t delete all
-part_roomy k t client (SetData set) all = set_roomy k t set all
-part_roomy k t client (Check check) all = check_roomy k t check all
+pub part_roomy : (k : ℕ) (t : Tree) (client : ℕ) (part : Part) → IsWithinAll k t → Leaves (IsWithinAll (k + 1)) (part_step t client part)
+part_roomy k t client part all =
+    part_step-leaves (IsWithinAll (k + 1)) t client part
+    (λ create. change_roomy k t client (Create create) all) (λ delete. change_roomy k t client (Delete delete) all) (λ set. change_roomy k t client (SetData set) all)
+    (λ path n e. later k n (all path n e))
 
 -- a session that was granted stays so
 pub granted_more : (low high id : ℕ) (s : Session) → low ≤ high → IsGranted low id s → IsGranted high id s

@@ -1,30 +1,90 @@
 -- What is told on going through the parts of calls, and kept with the tree.
-use Rattle.std.proofs.Common.{◌≡◌, ℕ, ◌+◌, Bool, true, false, if◌then◌else◌, List, [], ◌∷◌, ◌++◌, length, Result, Ok, Err, refl, sym, subst}
+use Rattle.std.proofs.Common.{◌≡◌, ℕ, ◌+◌, Bool, true, false, if◌then◌else◌, List, [], ◌∷◌, ◌++◌, Option, Some, None, Result, Ok, Err, refl, sym, subst}
 use Rattle.std.specs.Prelude.{nat_le}
 use Rattle.std.specs.FinMap as finite
-use Rattle.ztree.specs.Tree.{Tree, Nodes, Path, with_next_zxid, without_node, ephemerals}
+use Rattle.std.specs.Option.{option_map_or}
+use Rattle.zpath.specs.First.{first_that_holds}
+use Rattle.ztree.specs.declared.node.Node.{Node}
+use Rattle.ztree.specs.declared.node.Stat.{Stat}
+use Rattle.ztree.specs.Tree.{Tree, Nodes, Path, with_next_zxid, with_node, without_node, with_data_at, with_data, stat_of, ephemerals}
 use Rattle.ztree.specs.Sessions.{with_session, with_renewed_session, without_nodes, without_session, without_sessions, due_sessions}
+use Rattle.zcalls.specs.declared.call.Check.{Check as ToCheck}
+use Rattle.zcalls.specs.declared.call.Create.{Create as ToCreate}
+use Rattle.zcalls.specs.declared.call.Delete.{Delete as ToDelete}
+use Rattle.zcalls.specs.declared.call.SetData.{SetData as ToSet}
 use Rattle.zcalls.specs.declared.call.Part.{Part}
 use Rattle.zcalls.specs.declared.call.Part.TheVariants as part_of
 use Rattle.zcalls.specs.declared.call.Update.{Update}
 use Rattle.zcalls.specs.declared.call.Update.TheVariants.{Create, Delete, SetData, Multi, Open, Ping, Close, Tick}
 use Rattle.zcalls.specs.declared.refusal.Refusal.{Refusal}
-use Rattle.zcalls.specs.declared.refusal.Refusal.TheVariants.{SessionGone, TooManySessions, Exhausted}
+use Rattle.zcalls.specs.declared.refusal.Refusal.TheVariants.{BadVersion, SessionGone, TooManySessions, Exhausted}
+use Rattle.zcalls.specs.declared.change.ChangeReply.{ChangeReply}
+use Rattle.zcalls.specs.declared.change.ChangeReply.TheVariants as change_reply
 use Rattle.zcalls.specs.declared.reply.PartReply.{PartReply}
+use Rattle.zcalls.specs.declared.reply.PartReply.TheVariants.{Created, Deleted, Set, Checked}
 use Rattle.zcalls.specs.declared.reply.Reply.{Reply}
 use Rattle.zcalls.specs.declared.reply.Reply.TheVariants as reply
-use Rattle.zcalls.specs.Part.{part_step, is_gone}
-use Rattle.zcalls.specs.Multi.{Run, and_then, run}
-use Rattle.zcalls.specs.Step.{step, update_result, part_result, multi_result, granted_timeout, tick_result, is_exhausted}
+use Rattle.zcalls.specs.Change.{part_reply_of}
+use Rattle.zcalls.specs.Part.{create_step, delete_step, set_step, check_step, part_step, told_as_part, create_refusals, delete_refusals, made_path, is_sequential, owner_of, unless_refused, on_version, has_other_version, with_node_set, is_gone}
+use Rattle.zcalls.specs.Multi.{Run, behind, and_then, run}
+use Rattle.zcalls.specs.Step.{step, update_result, change_result, multi_result, granted_timeout, tick_result, is_exhausted}
 use Rattle.zcalls.specs.CallRuns.{after_calls, Done, and_done, parts_done, where_done, update_done, call_done, calls_done, through}
 
 -- what is kept by the parts that calls do and by each node that goes, is kept by all calls: a call of a session does no
 -- part, and what it takes away goes node by node
 module _ {S : Type 0} (next : S → Part → PartReply → S) (Inv : S → Nodes → Type 0) where
   -- what a part leaves, where it was done
-  abbrev pub Leaves : S → Part → Result (Tree × PartReply) Refusal → Type 0
-  Leaves s part (Err refusal) = Unit {0}
-  Leaves s part (Ok (u, answer)) = Inv (next s part answer) u.nodes
+  abbrev pub LeavesDone : S → Part → Result (Tree × PartReply) Refusal → Type 0
+  LeavesDone s part (Err refusal) = Unit {0}
+  LeavesDone s part (Ok (u, answer)) = Inv (next s part answer) u.nodes
+
+  told_unless : (s : S) (part : Part) (o : Option Refusal) (did : Tree × ChangeReply)
+      → (o ≡ None → Inv (next s part (part_reply_of did.1)) did.0.nodes) → LeavesDone s part (told_as_part (unless_refused o did))
+  told_unless s part (Some refusal) did left = tt
+  told_unless s part None did left = left refl
+
+  -- what a create, a delete, a set and a check leave
+  pub create-leaves : (s : S) (t : Tree) (client : ℕ) (create : ToCreate) → let made = made_path t.nodes create.kind create.path in
+      (first_that_holds (create_refusals t client create) ≡ None → Inv (next s (part_of.Create create) (Created made)) (with_node t made create.bytes (owner_of create.kind) (is_sequential create.kind)).nodes)
+      → LeavesDone s (part_of.Create create) (part_step t client (part_of.Create create))
+  unfolding create_step
+  create-leaves s t client create left =
+      let made = made_path t.nodes create.kind create.path in
+      told_unless s (part_of.Create create) (first_that_holds (create_refusals t client create)) (with_node t made create.bytes (owner_of create.kind) (is_sequential create.kind), change_reply.Created made) left
+
+  pub delete-leaves : (s : S) (t : Tree) (client : ℕ) (delete : ToDelete)
+      → Inv (next s (part_of.Delete delete) Deleted) (without_node t delete.path).nodes → LeavesDone s (part_of.Delete delete) (part_step t client (part_of.Delete delete))
+  unfolding delete_step
+  delete-leaves s t client delete left = told_unless s (part_of.Delete delete) (first_that_holds (delete_refusals t.nodes delete)) (without_node t delete.path, change_reply.Deleted) (λ e. left)
+
+  pub set-leaves : (s : S) (t : Tree) (client : ℕ) (set : ToSet)
+      → ((stat : Stat) → Inv (next s (part_of.SetData set) (Set stat)) (with_data_at t set.path set.bytes).nodes) → LeavesDone s (part_of.SetData set) (part_step t client (part_of.SetData set))
+  unfolding set_step
+  set-leaves s t client set left = by (finite.get t.nodes set.path) refl
+    where
+      by : (o : Option Node) → finite.get t.nodes set.path ≡ o → LeavesDone s (part_of.SetData set) (told_as_part (on_version set.version o (λ n. with_node_set t set.path (with_data set.bytes (t.zxid + 1) t.time n))))
+      by None e = tt
+      by (Some n) e = on (has_other_version set.version n)
+        where
+          on : (b : Bool) → LeavesDone s (part_of.SetData set) (told_as_part (if b then Err BadVersion else Ok (with_node_set t set.path (with_data set.bytes (t.zxid + 1) t.time n))))
+          on true = tt
+          on false =
+              let new = with_data set.bytes (t.zxid + 1) t.time n in
+              let stat = stat_of (finite.insert t.nodes set.path new) set.path new in
+              subst (λ o. Inv (next s (part_of.SetData set) (Set stat)) (option_map_or (λ n. finite.insert t.nodes set.path (with_data set.bytes (t.zxid + 1) t.time n)) o t.nodes)) e (left stat)
+
+  pub check-leaves : (s : S) (t : Tree) (client : ℕ) (check : ToCheck)
+      → Inv (next s (part_of.Check check) Checked) t.nodes → LeavesDone s (part_of.Check check) (part_step t client (part_of.Check check))
+  unfolding check_step
+  check-leaves s t client check left = by (finite.get t.nodes check.path)
+    where
+      by : (o : Option Node) → LeavesDone s (part_of.Check check) (on_version check.version o (λ n. (t, Checked)))
+      by None = tt
+      by (Some n) = on (has_other_version check.version n)
+        where
+          on : (b : Bool) → LeavesDone s (part_of.Check check) (if b then Err BadVersion else Ok (t, Checked))
+          on true = tt
+          on false = left
 
   -- what a run leaves, where it was done, after these parts
   abbrev RunLeaves : S → List Done → Run → Type 0
@@ -35,33 +95,30 @@ module _ {S : Type 0} (next : S → Part → PartReply → S) (Inv : S → Nodes
   through-append s [] second = refl
   through-append s (done ∷ first) second = through-append (next s done.0 done.1) first second
 
-  module _ (keeps : (s : S) (t : Tree) (client : ℕ) (part : Part) → Inv s t.nodes → Leaves s part (part_step t client part)) (drops : (s : S) (t : Tree) (path : Path) → Inv s t.nodes → Inv s (without_node t path).nodes) where
-    single : (s : S) (t : Tree) (client : ℕ) (part : Part) → Inv s t.nodes → Inv (through next s (parts_done t client (part ∷ []))) (part_result t (part_step t client part)).0.nodes
-    unfolding parts_done
-    single s t client part inv = by (part_step t client part) (keeps s t client part inv)
-      where
-        by : (did : Result (Tree × PartReply) Refusal) → Leaves s part did → Inv (through next s (and_done part did (λ u. []))) (part_result t did).0.nodes
-        by (Err refusal) left = inv
-        by (Ok (u, answer)) left = left
+  module _ (keeps : (s : S) (t : Tree) (client : ℕ) (part : Part) → Inv s t.nodes → LeavesDone s part (part_step t client part)) (drops : (s : S) (t : Tree) (path : Path) → Inv s t.nodes → Inv s (without_node t path).nodes) where
+    single : (s : S) (t : Tree) (part : Part) (did : Result (Tree × ChangeReply) Refusal) → LeavesDone s part (told_as_part did) → Inv s t.nodes
+        → Inv (through next s (and_done part (told_as_part did) (λ u. []))) (change_result t did).0.nodes
+    single s t part (Err refusal) left inv = inv
+    single s t part (Ok (u, answer)) left inv = left
 
-    runs : (parts : List Part) (s : S) (t : Tree) (client : ℕ) (replies : List PartReply) → Inv s t.nodes → RunLeaves s (parts_done t client parts) (run t client replies parts)
+    runs : (parts : List Part) (s : S) (t : Tree) (client : ℕ) → Inv s t.nodes → RunLeaves s (parts_done t client parts) (run t client parts)
     unfolding parts_done run
-    runs [] s t client replies inv = inv
-    runs (part ∷ parts) s t client replies inv =
-        by (part_step t client part) (keeps s t client part inv) (λ u answer left. runs parts (next s part answer) u client (replies ++ answer ∷ []) left)
+    runs [] s t client inv = inv
+    runs (part ∷ parts) s t client inv =
+        by (part_step t client part) (keeps s t client part inv) (λ u answer left. runs parts (next s part answer) u client left)
       where
-        by : (did : Result (Tree × PartReply) Refusal) → Leaves s part did
-            → ((u : Tree) (answer : PartReply) → Inv (next s part answer) u.nodes → RunLeaves (next s part answer) (parts_done u client parts) (run u client (replies ++ answer ∷ []) parts))
-            → RunLeaves s (and_done part did (λ u. parts_done u client parts)) (and_then did (length replies + 1) (λ u answer. run u client (replies ++ answer ∷ []) parts))
+        by : (did : Result (Tree × PartReply) Refusal) → LeavesDone s part did
+            → ((u : Tree) (answer : PartReply) → Inv (next s part answer) u.nodes → RunLeaves (next s part answer) (parts_done u client parts) (run u client parts))
+            → RunLeaves s (and_done part did (λ u. parts_done u client parts)) (and_then did (λ u. run u client parts))
         by (Err refusal) left more = tt
-        by (Ok (u, answer)) left more = on (run u client (replies ++ answer ∷ []) parts) (more u answer left)
+        by (Ok (u, answer)) left more = on (run u client parts) (more u answer left)
           where
-            on : (did : Run) → RunLeaves (next s part answer) (parts_done u client parts) did → RunLeaves s ((part, answer) ∷ parts_done u client parts) did
-            on (Err stopped) h = tt
+            on : (did : Run) → RunLeaves (next s part answer) (parts_done u client parts) did → RunLeaves s ((part, answer) ∷ parts_done u client parts) (behind answer did)
+            on (Err (number, refusal)) h = tt
             on (Ok (v, all)) h = h
 
-    several : (s : S) (t : Tree) (client : ℕ) (parts : List Part) → Inv s t.nodes → Inv (through next s (where_done (run t client [] parts) (parts_done t client parts))) (multi_result t (run t client [] parts)).0.nodes
-    several s t client parts inv = by (run t client [] parts) (runs parts s t client [] inv)
+    several : (s : S) (t : Tree) (client : ℕ) (parts : List Part) → Inv s t.nodes → Inv (through next s (where_done (run t client parts) (parts_done t client parts))) (multi_result t (run t client parts)).0.nodes
+    several s t client parts inv = by (run t client parts) (runs parts s t client inv)
       where
         by : (did : Run) → RunLeaves s (parts_done t client parts) did → Inv (through next s (where_done did (parts_done t client parts))) (multi_result t did).0.nodes
         by (Err (number, refusal)) left = inv
@@ -85,9 +142,10 @@ module _ {S : Type 0} (next : S → Part → PartReply → S) (Inv : S → Nodes
     ticks s t (id ∷ ids) inv = all_ended-keeps (id ∷ ids) s t inv
 
     update : (s : S) (t : Tree) (client : ℕ) (u : Update) → Inv s t.nodes → Inv (through next s (update_done t client u)) (update_result t client u).0.nodes
-    update s t client (Create create) inv = single s t client (part_of.Create create) inv
-    update s t client (Delete delete) inv = single s t client (part_of.Delete delete) inv
-    update s t client (SetData set) inv = single s t client (part_of.SetData set) inv
+    unfolding parts_done
+    update s t client (Create create) inv = single s t (part_of.Create create) (create_step t client create) (keeps s t client (part_of.Create create) inv) inv
+    update s t client (Delete delete) inv = single s t (part_of.Delete delete) (delete_step t delete) (keeps s t client (part_of.Delete delete) inv) inv
+    update s t client (SetData set) inv = single s t (part_of.SetData set) (set_step t set) (keeps s t client (part_of.SetData set) inv) inv
     update s t client (Multi parts) inv = several s t client parts inv
     update s t client (Open ticks) inv =
         either s t (reply.Refused TooManySessions) (with_next_zxid (with_session t client (granted_timeout ticks)), reply.Opened (t.zxid + 1) (granted_timeout ticks)) (nat_le 1024 (finite.len t.sessions)) inv inv

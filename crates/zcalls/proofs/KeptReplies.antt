@@ -6,7 +6,7 @@ use Rattle.std.specs.FinMap.{FinMap, get, insert, get-insert, get-empty}
 use Rattle.zcalls.specs.declared.call.Entry.{Entry}
 use Rattle.zcalls.specs.declared.reply.Reply.{Reply}
 use Rattle.zcalls.specs.Kept.{Kept, KeptState, PlainStep, nothing_kept, entry_by, entry_step}
-use Rattle.zcalls.specs.KeptRows.{counting, keeping, answers}
+use Rattle.zcalls.specs.support.Rows.{counting, keeping, answers}
 
 -- a reply that is kept for a client is that client's, and no other's
 pub kept_insert : (kept : FinMap nat_cmp Kept) (client : ℕ) (reply : Kept) (other : ℕ)

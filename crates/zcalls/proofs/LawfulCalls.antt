@@ -1,5 +1,5 @@
 -- After any calls from the opening the tree is lawful, and its sessions' ids are those of changes that were made.
-use Rattle.std.proofs.Common.{◌≡◌, ◌<◌, ◌≤◌, ℕ, ◌+◌, Bool, true, false, if◌then◌else◌, List, [], ◌∷◌, ◌++◌, length, Some, Result, Ok, Err, refl, sym, subst, arith}
+use Rattle.std.proofs.Common.{◌≡◌, ◌<◌, ◌≤◌, ℕ, ◌+◌, Bool, true, false, if◌then◌else◌, List, [], ◌∷◌, Some, Result, Ok, Err, refl, sym, subst, arith}
 use Rattle.std.specs.Prelude.{nat_le}
 use Rattle.std.specs.Option.{option_map_or}
 use Rattle.std.specs.FinMap as finite
@@ -15,12 +15,13 @@ use Rattle.zcalls.specs.declared.call.Update.{Update}
 use Rattle.zcalls.specs.declared.call.Update.TheVariants.{Create, Delete, SetData, Multi, Open, Ping, Close, Tick}
 use Rattle.zcalls.specs.declared.refusal.Refusal.{Refusal}
 use Rattle.zcalls.specs.declared.refusal.Refusal.TheVariants.{SessionGone, TooManySessions, Exhausted}
-use Rattle.zcalls.specs.declared.reply.PartReply.{PartReply}
 use Rattle.zcalls.specs.declared.reply.Reply.{Reply}
 use Rattle.zcalls.specs.declared.reply.Reply.TheVariants as reply
-use Rattle.zcalls.specs.Part.{create_part, delete_part, set_part, part_step, is_gone}
-use Rattle.zcalls.specs.Multi.{Run, and_then, run}
-use Rattle.zcalls.specs.Step.{step, update_result, part_result, multi_result, granted_timeout, tick_result, is_exhausted}
+use Rattle.zcalls.specs.Part.{create_step, delete_step, set_step, is_gone}
+use Rattle.zcalls.specs.declared.change.Change.TheVariants as change
+use Rattle.zcalls.specs.declared.change.ChangeReply.{ChangeReply}
+use Rattle.zcalls.specs.Multi.{Run, run}
+use Rattle.zcalls.specs.Step.{step, update_result, change_result, multi_result, granted_timeout, tick_result, is_exhausted}
 use Rattle.zcalls.specs.Bounds.{IsGranted}
 use Rattle.zcalls.specs.CallRuns.{after_calls}
 use Rattle.zcalls.specs.SessionLaws.{TreesAreLawful}
@@ -28,33 +29,21 @@ use Rattle.zcalls.proofs.Bounds.{granted_more, no_sessions}
 use Rattle.zcalls.proofs.Owners.{is_own}
 use Rattle.zcalls.proofs.Ends.{ended-ends, all_ended-ends}
 use Rattle.zcalls.proofs.Timed.{put-granted, granted-least, granted-most}
-use Rattle.zcalls.proofs.LawfulParts.{IsGood, LeavesGood, create-good, delete-good, set-good, part-good}
+use Rattle.zcalls.proofs.LawfulParts.{IsGood, change-good, part-good}
+use Rattle.zcalls.proofs.Leaving.{Leaves, run-leaves}
 
--- what a run leaves, where all its parts were done
-abbrev RunGood : Run → Type 0
-RunGood (Err stopped) = Unit {0}
-RunGood (Ok (u, replies)) = IsGood u
-
-and_then-good : (did : Result (Tree × PartReply) Refusal) (number : ℕ) (go_on : Tree → PartReply → Run) → LeavesGood did → ((u : Tree) (reply : PartReply) → IsGood u → RunGood (go_on u reply)) → RunGood (and_then did number go_on)
-and_then-good (Err refusal) number go_on good each = tt
-and_then-good (Ok (u, reply)) number go_on good each = each u reply good
-
-run-good : (parts : List Part) (t : Tree) (client : ℕ) (replies : List PartReply) → IsGood t → RunGood (run t client replies parts)
-unfolding run
-run-good [] t client replies good = good
-run-good (part ∷ parts) t client replies good =
-    and_then-good (part_step t client part) (length replies + 1) (λ u reply. run u client (replies ++ reply ∷ []) parts)
-    (part-good t client part good) (λ u reply good. run-good parts u client (replies ++ reply ∷ []) good)
+run-good : (parts : List Part) (t : Tree) (client : ℕ) → IsGood t → Leaves IsGood (run t client parts)
+run-good parts t client good = run-leaves IsGood part-good parts t client good
 
 -- a change counted
 raised-good : (t : Tree) → IsGood t → IsGood (with_next_zxid t)
 raised-good t good = (lawful_raised t good.0, λ id s e. granted_more t.zxid (t.zxid + 1) id s (omega arith) (good.1 id s e))
 
-alone-good : (t : Tree) (part : Result (Tree × PartReply) Refusal) → IsGood t → LeavesGood part → IsGood (part_result t part).0
+alone-good : (t : Tree) (did : Result (Tree × ChangeReply) Refusal) → IsGood t → Leaves IsGood did → IsGood (change_result t did).0
 alone-good t (Err refusal) good left = good
 alone-good t (Ok (u, done)) good left = raised-good u left
 
-together-good : (t : Tree) (did : Run) → IsGood t → RunGood did → IsGood (multi_result t did).0
+together-good : (t : Tree) (did : Run) → IsGood t → Leaves IsGood did → IsGood (multi_result t did).0
 together-good t (Err (number, refusal)) good left = good
 together-good t (Ok (u, replies)) good left = raised-good u left
 
@@ -101,10 +90,10 @@ ticked-good t ids is good = by ids (subst (λ ids. IsLawful (with_next_tick (wit
         raised-good (with_next_tick (without_sessions t (id ∷ ids))) (lawful, λ q x e. subst (λ zxid. IsGranted zxid q x) (sym ends.zxid) (good.1 q x (ends.sessions q x e)))
 
 changed-good : (t : Tree) (client : ℕ) (update : Update) → IsGood t → IsGood (update_result t client update).0
-changed-good t client (Create create) good = alone-good t (create_part t client create) good (create-good t client create good)
-changed-good t client (Delete delete) good = alone-good t (delete_part t delete) good (delete-good t delete good)
-changed-good t client (SetData set) good = alone-good t (set_part t set) good (set-good t set good)
-changed-good t client (Multi parts) good = together-good t (run t client [] parts) good (run-good parts t client [] good)
+changed-good t client (Create create) good = alone-good t (create_step t client create) good (change-good t client (change.Create create) good)
+changed-good t client (Delete delete) good = alone-good t (delete_step t delete) good (change-good t client (change.Delete delete) good)
+changed-good t client (SetData set) good = alone-good t (set_step t set) good (change-good t client (change.SetData set) good)
+changed-good t client (Multi parts) good = together-good t (run t client parts) good (run-good parts t client good)
 changed-good t client (Open ticks) good =
     either t (reply.Refused TooManySessions) (with_next_zxid (with_session t client (granted_timeout ticks)), reply.Opened (t.zxid + 1) (granted_timeout ticks)) (nat_le 1024 (finite.len t.sessions)) good
     (λ left. opened-good t client (granted_timeout ticks) (granted-least ticks) (granted-most ticks) (few (finite.len t.sessions) left) good)

@@ -2,6 +2,7 @@ pub mod Paths
 pub mod Tables
 pub mod Told
 pub mod Owners
+pub mod Leaving
 pub mod Runs
 pub mod NodesAlone
 pub mod Bounds
@@ -12,6 +13,9 @@ pub mod InOrder
 pub mod Taking
 pub mod KeptReplies
 pub mod Retries
+pub mod Among
+pub mod Acting
+pub mod ActedLogs
 pub mod Zxids
 pub mod LawfulParts
 pub mod LawfulCalls

@@ -11,20 +11,21 @@ use Rattle.ztree.specs.Tree.{Tree, Sessions, opening_tree, with_next_zxid}
 use Rattle.ztree.specs.Sessions.{new_session, with_session, renewed_session, with_renewed_session, without_session, due_sessions}
 use Rattle.ztree.proofs.Maps.{same_or_other, get-insert-here, get-insert-elsewhere, get-remove-elsewhere}
 use Rattle.ztree.proofs.Ending.{sessions-due_ended}
-use Rattle.zcalls.specs.declared.call.Part.TheVariants as part_of
+use Rattle.zcalls.specs.declared.change.Change.TheVariants as change
+use Rattle.zcalls.specs.declared.change.ChangeReply.{ChangeReply}
 use Rattle.zcalls.specs.declared.call.Update.{Update}
 use Rattle.zcalls.specs.declared.call.Update.TheVariants.{Create, Delete, SetData, Multi, Open, Ping, Close, Tick}
 use Rattle.zcalls.specs.declared.refusal.Refusal.{Refusal}
 use Rattle.zcalls.specs.declared.refusal.Refusal.TheVariants.{SessionGone, TooManySessions, Exhausted}
-use Rattle.zcalls.specs.declared.reply.PartReply.{PartReply}
 use Rattle.zcalls.specs.declared.reply.Reply.TheVariants as reply
-use Rattle.zcalls.specs.Part.{create_part, delete_part, set_part, is_gone}
+use Rattle.zcalls.specs.Part.{create_step, delete_step, set_step, is_gone}
 use Rattle.zcalls.specs.Multi.{Run, run}
-use Rattle.zcalls.specs.Step.{step, update_result, part_result, multi_result, granted_timeout, tick_result, is_exhausted}
-use Rattle.zcalls.specs.Bounds.{ChangesNodesAlone}
+use Rattle.zcalls.specs.Step.{step, update_result, change_result, multi_result, granted_timeout, tick_result, is_exhausted}
+use Rattle.zcalls.specs.support.Alone.{ChangesNodesAlone}
 use Rattle.zcalls.specs.CallRuns.{after_calls, is_success}
 use Rattle.zcalls.specs.SessionLaws.{NeverCloses, one_if_tick, ticks_in, if_not_due, LivesItsTimeout}
-use Rattle.zcalls.proofs.NodesAlone.{LeavesAlone, RunAlone, part-alone, run-alone}
+use Rattle.zcalls.proofs.NodesAlone.{change-alone, run-alone}
+use Rattle.zcalls.proofs.Leaving.{Leaves}
 use Rattle.zcalls.proofs.Owners.{is_own}
 use Rattle.zcalls.proofs.Taking.{changes_take_one_zxid}
 use Rattle.zcalls.proofs.Ends.{ended-ends, all_ended-ends}
@@ -48,20 +49,20 @@ module _ (client timeout id : ℕ) where
 
   -- a change of the nodes alone
   same : (k : ℕ) (t u : Tree) → ChangesNodesAlone t u → In k t → In k u
-  same k t u part_result is =
+  same k t u alone is =
       record {
         session = is.session;
-        there = ap (λ (m : Sessions). finite.get m id) part_result.sessions ∙ is.there;
+        there = ap (λ (m : Sessions). finite.get m id) alone.sessions ∙ is.there;
         client = is.client;
         timeout = is.timeout;
-        later = rw part_result.time is.later;
+        later = rw alone.time is.later;
       }
 
-  alone-in : (k : ℕ) (t : Tree) (part : Result (Tree × PartReply) Refusal) → LeavesAlone t part → In k t → In k (part_result t part).0
+  alone-in : (k : ℕ) (t : Tree) (did : Result (Tree × ChangeReply) Refusal) → Leaves (ChangesNodesAlone t) did → In k t → In k (change_result t did).0
   alone-in k t (Err refusal) left is = is
   alone-in k t (Ok (u, done)) left is = let there = same k t u left is in record { session = there.session; there = there.there; client = there.client; timeout = there.timeout; later = there.later }
 
-  together-in : (k : ℕ) (t : Tree) (did : Run) → RunAlone t did → In k t → In k (multi_result t did).0
+  together-in : (k : ℕ) (t : Tree) (did : Run) → Leaves (ChangesNodesAlone t) did → In k t → In k (multi_result t did).0
   together-in k t (Err (number, refusal)) left is = is
   together-in k t (Ok (u, replies)) left is = let there = same k t u left is in record { session = there.session; there = there.there; client = there.client; timeout = there.timeout; later = there.later }
 
@@ -159,10 +160,10 @@ module _ (client timeout id : ℕ) where
   -- one call, where the session has more ticks left than this call and so many more
   module _ (t : Tree) (caller k : ℕ) (short : k < timeout) (another : id ≢ t.zxid + 1) where
     changed-in : (update : Update) → is_exhausted t update ≡ false → (caller ≡ client → update ≡ Close id → ⊥) → In (one_if_tick t caller update + k) t → In k (update_result t caller update).0
-    changed-in (Create create) left never is = alone-in k t (create_part t caller create) (part-alone t caller (part_of.Create create)) (fewer _ k t (omega arith) is)
-    changed-in (Delete delete) left never is = alone-in k t (delete_part t delete) (part-alone t caller (part_of.Delete delete)) (fewer _ k t (omega arith) is)
-    changed-in (SetData set) left never is = alone-in k t (set_part t set) (part-alone t caller (part_of.SetData set)) (fewer _ k t (omega arith) is)
-    changed-in (Multi parts) left never is = together-in k t (run t caller [] parts) (run-alone parts t caller []) (fewer _ k t (omega arith) is)
+    changed-in (Create create) left never is = alone-in k t (create_step t caller create) (change-alone t caller (change.Create create)) (fewer _ k t (omega arith) is)
+    changed-in (Delete delete) left never is = alone-in k t (delete_step t delete) (change-alone t caller (change.Delete delete)) (fewer _ k t (omega arith) is)
+    changed-in (SetData set) left never is = alone-in k t (set_step t set) (change-alone t caller (change.SetData set)) (fewer _ k t (omega arith) is)
+    changed-in (Multi parts) left never is = together-in k t (run t caller parts) (run-alone parts t caller) (fewer _ k t (omega arith) is)
     changed-in (Open ticks) left never is = opened-in k t caller (granted_timeout ticks) (nat_le 1024 (finite.len t.sessions)) another (fewer _ k t (omega arith) is)
     changed-in (Ping session) left never is = pinged-in k t session (is_gone t.sessions caller session) short (fewer _ k t (omega arith) is)
     changed-in (Close session) left never is =

@@ -1,37 +1,31 @@
 -- No sequential name is made twice beneath a node while it lives.
-use Rattle.std.proofs.Common.{◌≡◌, ◌≢◌, ℕ, ◌+◌, ◌<◌, ◌≤◌, Bool, true, false, cond, if◌then◌else◌, ◌&&◌, List, [], ◌∷◌, Option, Some, None, Ok, Err, refl, sym, ap, subst, ◌∙◌, arith}
+use Rattle.std.proofs.Common.{◌≡◌, ◌≢◌, ℕ, ◌+◌, ◌<◌, ◌≤◌, Bool, true, false, cond, if◌then◌else◌, ◌&&◌, List, [], ◌∷◌, Some, refl, sym, ap, subst, ◌∙◌, arith}
 use Rattle.std.specs.FinMap as finite
 use Rattle.std.specs.FinMap.{get-insert}
 use Rattle.std.specs.List.{AllByRecursion, IsDistinct}
 use Rattle.std.specs.Option.{option_map_or}
-use Rattle.zpath.specs.First.{first_that_holds}
-use Rattle.zpath.specs.Numbered.{numbered}
+use Rattle.zpath.specs.Numbered.{numbered_path}
 use Rattle.zpath.proofs.First.{no_test_holds}
 use Rattle.zpath.proofs.Sequence.{tells_numbers_apart}
 use Rattle.ztree.specs.declared.node.Node.{Node}
-use Rattle.ztree.specs.Tree.{Tree, Nodes, Path, opening_tree, new_node, parent_of, has_node, with_child, without_child, with_data, stat_of, with_node, without_node, with_data_at}
+use Rattle.ztree.specs.Tree.{Tree, Nodes, Path, opening_tree, new_node, parent_of, has_node, with_child, without_child, with_data, with_node, without_node, with_data_at}
 use Rattle.ztree.proofs.Sorted.{paths_total}
 use Rattle.zcalls.specs.declared.call.Create.{Create as ToCreate}
-use Rattle.zcalls.specs.declared.call.Expected.{Expected}
 use Rattle.zcalls.specs.declared.call.Part.{Part}
 use Rattle.zcalls.specs.declared.call.Part.TheVariants.{Create, Delete, SetData, Check}
-use Rattle.zcalls.specs.declared.refusal.Refusal.{Refusal}
-use Rattle.zcalls.specs.declared.refusal.Refusal.TheVariants.{BadVersion}
-use Rattle.zcalls.specs.declared.reply.PartReply.{PartReply}
-use Rattle.zcalls.specs.declared.reply.PartReply.TheVariants.{Created, Deleted, Set, Checked}
-use Rattle.zcalls.specs.Part.{part_step, create_part, delete_part, set_part, check_part, create_refusals, delete_refusals, made_path, counter_at, is_sequential, owner_of, unless_refused, on_version, has_other_version}
+use Rattle.zcalls.specs.Part.{part_step, create_refusals, made_path, counter_at, is_sequential, owner_of}
 use Rattle.zcalls.specs.CallRuns.{is_same, numbered_since, NumbersDiffer}
 use Rattle.zcalls.proofs.Bounds.{unspent}
 use Rattle.zcalls.proofs.Paths.{not_root, parent_of-made}
 use Rattle.zcalls.proofs.Tables.{node_there, is_there}
-use Rattle.zcalls.proofs.Folds.{Leaves, kept_by_calls}
+use Rattle.zcalls.proofs.Folds.{LeavesDone, create-leaves, delete-leaves, set-leaves, check-leaves, kept_by_calls}
 use Rattle.zcalls.proofs.Traced.{traced, remained, same_of, one_path}
 
 -- the path was made with a number below the bound
 record IsGiven (bound : ℕ) (path : Path) : Type 0 where
   pub asked : Path
   pub number : ℕ
-  pub is : path ≡ numbered asked number
+  pub is : path ≡ numbered_path asked number
   pub below : asked ≢ []
   pub small : number < bound
   pub short : number < 10000000000
@@ -45,15 +39,15 @@ given_more (path ∷ made) low high more all =
     )
 
 -- a number that was not given yet makes another path
-another : (asked : Path) (number : ℕ) (made : List Path) → asked ≢ [] → number < 10000000000 → AllByRecursion (IsGiven number) made → AllByRecursion (λ path. is_same (numbered asked number) path ≡ false) made
+another : (asked : Path) (number : ℕ) (made : List Path) → asked ≢ [] → number < 10000000000 → AllByRecursion (IsGiven number) made → AllByRecursion (λ path. is_same (numbered_path asked number) path ≡ false) made
 another asked number [] below short all = tt
-another asked number (path ∷ made) below short all = (by (is_same (numbered asked number) path) refl, another asked number made below short all.1)
+another asked number (path ∷ made) below short all = (by (is_same (numbered_path asked number) path) refl, another asked number made below short all.1)
   where
-    by : (b : Bool) → is_same (numbered asked number) path ≡ b → b ≡ false
+    by : (b : Bool) → is_same (numbered_path asked number) path ≡ b → b ≡ false
     by false e = refl
     by true e =
         let here = all.0 in
-        let same = tells_numbers_apart asked here.asked number here.number below here.below short here.short (one_path (numbered asked number) path e ∙ here.is) in
+        let same = tells_numbers_apart asked here.asked number here.number below here.below short here.short (one_path (numbered_path asked number) path e ∙ here.is) in
         absurd (omega (arith, same, here.small))
 
 both : (a b : Bool) → (a && b) ≡ true → (a ≡ true) × (b ≡ true)
@@ -93,15 +87,6 @@ module _ (above : Path) where
           let same = same_of (λ (n : Node). n.seq) f (λ m. refl) (is_same above at) n from.before from.is in
           subst (λ seq. AllByRecursion (IsGiven seq) made) (sym same) (inv.1 from.before from.there)
 
-  on_version-leaves : (made : List Path) (part : Part) (expected : Expected) (o : Option Node) (act : Node → Tree × PartReply)
-      → ((n : Node) → Leaves (numbered_since above) HasNumbers made part (Ok (act n))) → Leaves (numbered_since above) HasNumbers made part (on_version expected o act)
-  on_version-leaves made part expected None act each = tt
-  on_version-leaves made part expected (Some n) act each = by (has_other_version expected n)
-    where
-      by : (b : Bool) → Leaves (numbered_since above) HasNumbers made part (if b then Err BadVersion else Ok (act n))
-      by true = tt
-      by false = each n
-
   -- a create that was done
   module _ (made : List Path) (t : Tree) (create : ToCreate) (inv : HasNumbers made t.nodes)
       (below : create.path ≢ []) (there : has_node t.nodes (parent_of create.path) ≡ true)
@@ -135,13 +120,13 @@ module _ (above : Path) where
         let m = node.0 in
         let here : finite.get t.nodes above ≡ Some m = ap (finite.get t.nodes) at ∙ node.1 in
         let few = left m node.1 numbers in
-        let is : path ≡ numbered create.path m.seq =
-        ap (λ b. if b then numbered create.path (counter_at t.nodes (parent_of create.path)) else create.path) numbers
-        ∙ ap (λ o. numbered create.path (option_map_or (λ (n : Node). n.seq) o 0)) node.1 in
+        let is : path ≡ numbered_path create.path m.seq =
+        ap (λ b. if b then numbered_path create.path (counter_at t.nodes (parent_of create.path)) else create.path) numbers
+        ∙ ap (λ o. numbered_path create.path (option_map_or (λ (n : Node). n.seq) o 0)) node.1 in
         let apart = another create.path m.seq made below (omega (arith, few)) (inv.1 m here) in
         ((subst (λ p. AllByRecursion (λ q. is_same p q ≡ false) made) (sym is) apart, inv.0), each m here is few)
       where
-        each : (m : Node) → finite.get t.nodes above ≡ Some m → path ≡ numbered create.path m.seq → m.seq ≤ 2147483647
+        each : (m : Node) → finite.get t.nodes above ≡ Some m → path ≡ numbered_path create.path m.seq → m.seq ≤ 2147483647
             → (n : Node) → finite.get after.nodes above ≡ Some n → AllByRecursion (IsGiven n.seq) (path ∷ made)
         each m here is few n e =
             let from = traced (finite.insert t.nodes path new) (parent_of path) (with_child (t.zxid + 1) sequential) above n e in
@@ -163,35 +148,17 @@ module _ (above : Path) where
     created false other true e = let parts = both sequential (is_same above (parent_of path)) e in grows other parts.0 parts.1
     created false other false e = stays other
 
-  create-numbers : (made : List Path) (t : Tree) (client : ℕ) (create : ToCreate) → HasNumbers made t.nodes → Leaves (numbered_since above) HasNumbers made (Create create) (create_part t client create)
-  unfolding create_part
-  create-numbers made t client create inv = by (first_that_holds (create_refusals t client create)) refl
-    where
-      by : (o : Option Refusal) → first_that_holds (create_refusals t client create) ≡ o
-          → Leaves (numbered_since above) HasNumbers made (Create create)
-          (unless_refused o (with_node t (made_path t.nodes create.kind create.path) create.bytes (owner_of create.kind) (is_sequential create.kind), Created (made_path t.nodes create.kind create.path)))
-      by (Some refusal) e = tt
-      by None e =
-          let tests = no_test_holds (create_refusals t client create) e in
-          let path = made_path t.nodes create.kind create.path in
-          created made t create inv (not_root create.path tests.1.0) (is_there (has_node t.nodes (parent_of create.path)) tests.1.1.0)
-          (unspent t.nodes (parent_of create.path) (is_sequential create.kind) tests.1.1.1.1.0)
-          (is_same above path) refl (is_sequential create.kind && is_same above (parent_of path)) refl
-
-  part-numbers : (made : List Path) (t : Tree) (client : ℕ) (part : Part) → HasNumbers made t.nodes → Leaves (numbered_since above) HasNumbers made part (part_step t client part)
-  unfolding delete_part set_part check_part
-  part-numbers made t client (Create create) inv = create-numbers made t client create inv
-  part-numbers made t client (Delete delete) inv = by (first_that_holds (delete_refusals t.nodes delete))
-    where
-      by : (o : Option Refusal) → Leaves (numbered_since above) HasNumbers made (Delete delete) (unless_refused o (without_node t delete.path, Deleted))
-      by (Some refusal) = tt
-      by None = dropped-numbers made t delete.path inv
-  part-numbers made t client (SetData set) inv =
-      on_version-leaves made (SetData set) set.version (finite.get t.nodes set.path)
-      (λ n. (with_data_at t set.path set.bytes, Set (stat_of (with_data_at t set.path set.bytes).nodes set.path (with_data set.bytes (t.zxid + 1) t.time n))))
-      (λ n. written-numbers made t set.path set.bytes inv)
-  part-numbers made t client (Check check) inv =
-      on_version-leaves made (Check check) check.version (finite.get t.nodes check.path) (λ n. (t, Checked)) (λ n. inv)
+  part-numbers : (made : List Path) (t : Tree) (client : ℕ) (part : Part) → HasNumbers made t.nodes → LeavesDone (numbered_since above) HasNumbers made part (part_step t client part)
+  part-numbers made t client (Create create) inv =
+      create-leaves (numbered_since above) HasNumbers made t client create
+      (λ e. let tests = no_test_holds (create_refusals t client create) e in
+      let path = made_path t.nodes create.kind create.path in
+      created made t create inv (not_root create.path tests.1.0) (is_there (has_node t.nodes (parent_of create.path)) tests.1.1.0)
+      (unspent t.nodes (parent_of create.path) (is_sequential create.kind) tests.1.1.1.1.0)
+      (is_same above path) refl (is_sequential create.kind && is_same above (parent_of path)) refl)
+  part-numbers made t client (Delete delete) inv = delete-leaves (numbered_since above) HasNumbers made t client delete (dropped-numbers made t delete.path inv)
+  part-numbers made t client (SetData set) inv = set-leaves (numbered_since above) HasNumbers made t client set (λ stat. written-numbers made t set.path set.bytes inv)
+  part-numbers made t client (Check check) inv = check-leaves (numbered_since above) HasNumbers made t client check inv
 
 pub numbers_differ : NumbersDiffer
 unfolding IsDistinct

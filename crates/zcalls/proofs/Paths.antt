@@ -4,7 +4,7 @@ use Rattle.std.specs.Prelude.{nat_le, nat_lt, ◌==◌}
 use Rattle.std.specs.List.{list_any, AllByRecursion}
 use Rattle.std.proofs.lemmas.Bool.Decides.{nat_tests}
 use Rattle.zpath.specs.Grammar.{IsName, IsPath, is_long, text_of}
-use Rattle.zpath.specs.Numbered.{numbered, is_over}
+use Rattle.zpath.specs.Numbered.{numbered_path, is_over}
 use Rattle.ztree.specs.Tree.{Path, Name, Nodes, parent_of}
 use Rattle.ztree.proofs.Nodes.{parent_of-front}
 use Rattle.zcalls.specs.declared.call.Kind.{Kind}
@@ -40,13 +40,13 @@ pub less_than : (m n : ℕ) → n < m → nat_le m n ≡ false
 less_than m n h = grind (arith, nat_tests)
 
 -- a counter's digits change the last name alone
-pub parent_of-numbered : (path : Path) (counter : ℕ) → parent_of (numbered path counter) ≡ parent_of path
+pub parent_of-numbered : (path : Path) (counter : ℕ) → parent_of (numbered_path path counter) ≡ parent_of path
 parent_of-numbered [] counter = refl
 parent_of-numbered (n ∷ []) counter = refl
 parent_of-numbered (n ∷ m ∷ []) counter = refl
 parent_of-numbered (n ∷ m ∷ k ∷ path) counter = ap (λ p. n ∷ p) (parent_of-numbered (m ∷ k ∷ path) counter)
 
-pub numbered-below_root : (path : Path) (counter : ℕ) → path ≢ [] → numbered path counter ≢ []
+pub numbered-below_root : (path : Path) (counter : ℕ) → path ≢ [] → numbered_path path counter ≢ []
 numbered-below_root [] counter below e = below refl
 numbered-below_root (n ∷ []) counter below e = cc
 numbered-below_root (n ∷ m ∷ path) counter below e = cc

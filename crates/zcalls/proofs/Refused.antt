@@ -10,35 +10,34 @@ use Rattle.zcalls.specs.declared.call.Update.{Update}
 use Rattle.zcalls.specs.declared.call.Update.TheVariants.{Create, Delete, SetData, Multi, Open, Ping, Close, Tick}
 use Rattle.zcalls.specs.declared.refusal.Refusal.{Refusal}
 use Rattle.zcalls.specs.declared.refusal.Refusal.TheVariants.{SessionGone, TooManySessions, Exhausted}
-use Rattle.zcalls.specs.declared.reply.PartReply.{PartReply}
-use Rattle.zcalls.specs.declared.reply.PartReply.TheVariants as part_reply
+use Rattle.zcalls.specs.declared.change.ChangeReply.{ChangeReply}
+use Rattle.zcalls.specs.declared.change.ChangeReply.TheVariants.{Created, Deleted, Set}
+use Rattle.zcalls.specs.Change.{reply_of}
 use Rattle.zcalls.specs.declared.reply.Reply.{Reply}
 use Rattle.zcalls.specs.declared.reply.Reply.TheVariants as reply
-use Rattle.zcalls.specs.Part.{create_part, delete_part, set_part, is_gone}
+use Rattle.zcalls.specs.Part.{create_step, delete_step, set_step, is_gone}
 use Rattle.zcalls.specs.Multi.{Run, run}
-use Rattle.zcalls.specs.Step.{step, query_reply, update_result, part_result, multi_result, reply_of, granted_timeout, open_result, session_result, tick_result, is_exhausted, on_node}
+use Rattle.zcalls.specs.Step.{step, query_reply, update_result, change_result, multi_result, granted_timeout, open_result, session_result, tick_result, is_exhausted, on_node}
 use Rattle.zcalls.specs.Laws.{RefusedChangesNothing, RefusedMultiChangesNothing, CountsTheNames}
 
--- no part that was done answers a refusal
-done_is_not_refused : (done : PartReply) (refusal : Refusal) → reply_of done ≡ reply.Refused refusal → ⊥
-done_is_not_refused (part_reply.Created path) refusal e = cc
-done_is_not_refused part_reply.Deleted refusal e = cc
-done_is_not_refused (part_reply.Set stat) refusal e = cc
-done_is_not_refused part_reply.Checked refusal e = cc
+-- no change that was done answers a refusal
+done_is_not_refused : (did : ChangeReply) (refusal : Refusal) → reply_of did ≡ reply.Refused refusal → ⊥
+done_is_not_refused (Created path) refusal e = cc
+done_is_not_refused Deleted refusal e = cc
+done_is_not_refused (Set stat) refusal e = cc
 
-done_is_no_multi : (done : PartReply) (number : ℕ) (refusal : Refusal) → reply_of done ≡ reply.MultiRefused number refusal → ⊥
-done_is_no_multi (part_reply.Created path) number refusal e = cc
-done_is_no_multi part_reply.Deleted number refusal e = cc
-done_is_no_multi (part_reply.Set stat) number refusal e = cc
-done_is_no_multi part_reply.Checked number refusal e = cc
+done_is_no_multi : (did : ChangeReply) (number : ℕ) (refusal : Refusal) → reply_of did ≡ reply.MultiRefused number refusal → ⊥
+done_is_no_multi (Created path) number refusal e = cc
+done_is_no_multi Deleted number refusal e = cc
+done_is_no_multi (Set stat) number refusal e = cc
 
-alone-refused : (t : Tree) (part : Result (Tree × PartReply) Refusal) (refusal : Refusal) → (part_result t part).1 ≡ reply.Refused refusal → (part_result t part).0 ≡ t
+alone-refused : (t : Tree) (did : Result (Tree × ChangeReply) Refusal) (refusal : Refusal) → (change_result t did).1 ≡ reply.Refused refusal → (change_result t did).0 ≡ t
 alone-refused t (Err why) refusal e = refl
-alone-refused t (Ok (u, done)) refusal e = absurd (done_is_not_refused done refusal e)
+alone-refused t (Ok (u, did)) refusal e = absurd (done_is_not_refused did refusal e)
 
-alone-no_multi : (t : Tree) (part : Result (Tree × PartReply) Refusal) (number : ℕ) (refusal : Refusal) → (part_result t part).1 ≡ reply.MultiRefused number refusal → (part_result t part).0 ≡ t
+alone-no_multi : (t : Tree) (did : Result (Tree × ChangeReply) Refusal) (number : ℕ) (refusal : Refusal) → (change_result t did).1 ≡ reply.MultiRefused number refusal → (change_result t did).0 ≡ t
 alone-no_multi t (Err why) number refusal e = refl
-alone-no_multi t (Ok (u, done)) number refusal e = absurd (done_is_no_multi done number refusal e)
+alone-no_multi t (Ok (u, did)) number refusal e = absurd (done_is_no_multi did number refusal e)
 
 together-refused : (t : Tree) (did : Run) (refusal : Refusal) → (multi_result t did).1 ≡ reply.Refused refusal → (multi_result t did).0 ≡ t
 together-refused t (Err (number, why)) refusal e = refl
@@ -80,20 +79,20 @@ tick_is_no_multi t [] number refusal e = cc
 tick_is_no_multi t (id ∷ ids) number refusal e = cc
 
 changed-refused : (t : Tree) (client : ℕ) (update : Update) (refusal : Refusal) → (update_result t client update).1 ≡ reply.Refused refusal → (update_result t client update).0 ≡ t
-changed-refused t client (Create create) refusal e = alone-refused t (create_part t client create) refusal e
-changed-refused t client (Delete delete) refusal e = alone-refused t (delete_part t delete) refusal e
-changed-refused t client (SetData set) refusal e = alone-refused t (set_part t set) refusal e
-changed-refused t client (Multi parts) refusal e = together-refused t (run t client [] parts) refusal e
+changed-refused t client (Create create) refusal e = alone-refused t (create_step t client create) refusal e
+changed-refused t client (Delete delete) refusal e = alone-refused t (delete_step t delete) refusal e
+changed-refused t client (SetData set) refusal e = alone-refused t (set_step t set) refusal e
+changed-refused t client (Multi parts) refusal e = together-refused t (run t client parts) refusal e
 changed-refused t client (Open ticks) refusal e = with_session-refused t client (granted_timeout ticks) refusal e
 changed-refused t client (Ping session) refusal e = on_session-refused t client session (with_renewed_session t session, reply.Pinged) refusal (λ e. cc) e
 changed-refused t client (Close session) refusal e = on_session-refused t client session (with_next_zxid (without_session t session), reply.Closed) refusal (λ e. cc) e
 changed-refused t client Tick refusal e = absurd (tick_is_not_refused t (due_sessions t.sessions (t.time + 1)) refusal e)
 
 changed-no_multi : (t : Tree) (client : ℕ) (update : Update) (number : ℕ) (refusal : Refusal) → (update_result t client update).1 ≡ reply.MultiRefused number refusal → (update_result t client update).0 ≡ t
-changed-no_multi t client (Create create) number refusal e = alone-no_multi t (create_part t client create) number refusal e
-changed-no_multi t client (Delete delete) number refusal e = alone-no_multi t (delete_part t delete) number refusal e
-changed-no_multi t client (SetData set) number refusal e = alone-no_multi t (set_part t set) number refusal e
-changed-no_multi t client (Multi parts) number refusal e = together-no_multi t (run t client [] parts) number refusal e
+changed-no_multi t client (Create create) number refusal e = alone-no_multi t (create_step t client create) number refusal e
+changed-no_multi t client (Delete delete) number refusal e = alone-no_multi t (delete_step t delete) number refusal e
+changed-no_multi t client (SetData set) number refusal e = alone-no_multi t (set_step t set) number refusal e
+changed-no_multi t client (Multi parts) number refusal e = together-no_multi t (run t client parts) number refusal e
 changed-no_multi t client (Open ticks) number refusal e = absurd (with_session-no_multi t client (granted_timeout ticks) number refusal e)
 changed-no_multi t client (Ping session) number refusal e = absurd (on_session-no_multi t client session (with_renewed_session t session, reply.Pinged) number refusal (λ e. cc) e)
 changed-no_multi t client (Close session) number refusal e = absurd (on_session-no_multi t client session (with_next_zxid (without_session t session), reply.Closed) number refusal (λ e. cc) e)

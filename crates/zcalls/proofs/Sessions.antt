@@ -11,19 +11,21 @@ use Rattle.ztree.specs.Tree.{Tree, Sessions, with_next_zxid}
 use Rattle.ztree.specs.Sessions.{new_session, with_session, renewed_session, with_renewed_session, without_session, without_sessions, due_sessions}
 use Rattle.ztree.proofs.Maps.{none_some, same_or_other, get-insert-here, get-insert-elsewhere, get-remove-elsewhere}
 use Rattle.ztree.proofs.Ending.{sessions-due_ended}
-use Rattle.zcalls.specs.declared.call.Part.TheVariants as part_of
+use Rattle.zcalls.specs.declared.change.Change.TheVariants as change
+use Rattle.zcalls.specs.declared.change.ChangeReply.{ChangeReply}
 use Rattle.zcalls.specs.declared.call.Update.{Update}
 use Rattle.zcalls.specs.declared.call.Update.TheVariants.{Create, Delete, SetData, Multi, Open, Ping, Close, Tick}
 use Rattle.zcalls.specs.declared.refusal.Refusal.{Refusal}
 use Rattle.zcalls.specs.declared.refusal.Refusal.TheVariants.{SessionGone, TooManySessions, Exhausted}
-use Rattle.zcalls.specs.declared.reply.PartReply.{PartReply}
 use Rattle.zcalls.specs.declared.reply.Reply.{Reply}
 use Rattle.zcalls.specs.declared.reply.Reply.TheVariants as reply
-use Rattle.zcalls.specs.Part.{create_part, delete_part, set_part, is_gone}
+use Rattle.zcalls.specs.Part.{create_step, delete_step, set_step, is_gone}
 use Rattle.zcalls.specs.Multi.{Run, run}
-use Rattle.zcalls.specs.Step.{step, update_result, part_result, multi_result, granted_timeout, open_result, tick_result, is_exhausted}
+use Rattle.zcalls.specs.Step.{step, update_result, change_result, multi_result, granted_timeout, open_result, tick_result, is_exhausted}
 use Rattle.zcalls.specs.SessionLaws.{IsOwnClose, IsItsTick, EndsOnlySo, if_not_due, TickEndsTheDue, IsFresh, OpenAndPingRenew}
-use Rattle.zcalls.proofs.NodesAlone.{LeavesAlone, RunAlone, part-alone, run-alone}
+use Rattle.zcalls.specs.support.Alone.{ChangesNodesAlone}
+use Rattle.zcalls.proofs.NodesAlone.{change-alone, run-alone}
+use Rattle.zcalls.proofs.Leaving.{Leaves}
 use Rattle.zcalls.proofs.Owners.{is_own}
 
 -- a call that is refused where a test holds
@@ -31,11 +33,11 @@ abbrev pub or_refused : Tree → Refusal → Tree × Reply → Bool → Tree × 
 or_refused t why did b = if b then (t, reply.Refused why) else did
 
 -- a call of one part, and a multi, leave the sessions
-pub alone-sessions : (t : Tree) (part : Result (Tree × PartReply) Refusal) → LeavesAlone t part → (part_result t part).0.sessions ≡ t.sessions
+pub alone-sessions : (t : Tree) (did : Result (Tree × ChangeReply) Refusal) → Leaves (ChangesNodesAlone t) did → (change_result t did).0.sessions ≡ t.sessions
 alone-sessions t (Err refusal) left = refl
 alone-sessions t (Ok (u, done)) left = left.sessions
 
-pub together-sessions : (t : Tree) (did : Run) → RunAlone t did → (multi_result t did).0.sessions ≡ t.sessions
+pub together-sessions : (t : Tree) (did : Run) → Leaves (ChangesNodesAlone t) did → (multi_result t did).0.sessions ≡ t.sessions
 together-sessions t (Err (number, refusal)) left = refl
 together-sessions t (Ok (u, replies)) left = left.sessions
 
@@ -108,10 +110,10 @@ module _ (t : Tree) (client id : ℕ) (s : Session) (there : finite.get t.sessio
       inr (refl, left, is_due (t.time + 1) (nat_le s.deadline (t.time + 1)) refl told)
 
   changed-ends : (update : Update) → is_exhausted t update ≡ false → finite.get (update_result t client update).0.sessions id ≡ None → Ends update
-  changed-ends (Create create) left gone = absurd (not_ended _ (alone-sessions t (create_part t client create) (part-alone t client (part_of.Create create))) gone)
-  changed-ends (Delete delete) left gone = absurd (not_ended _ (alone-sessions t (delete_part t delete) (part-alone t client (part_of.Delete delete))) gone)
-  changed-ends (SetData set) left gone = absurd (not_ended _ (alone-sessions t (set_part t set) (part-alone t client (part_of.SetData set))) gone)
-  changed-ends (Multi parts) left gone = absurd (not_ended _ (together-sessions t (run t client [] parts) (run-alone parts t client [])) gone)
+  changed-ends (Create create) left gone = absurd (not_ended _ (alone-sessions t (create_step t client create) (change-alone t client (change.Create create))) gone)
+  changed-ends (Delete delete) left gone = absurd (not_ended _ (alone-sessions t (delete_step t delete) (change-alone t client (change.Delete delete))) gone)
+  changed-ends (SetData set) left gone = absurd (not_ended _ (alone-sessions t (set_step t set) (change-alone t client (change.SetData set))) gone)
+  changed-ends (Multi parts) left gone = absurd (not_ended _ (together-sessions t (run t client parts) (run-alone parts t client)) gone)
   changed-ends (Open ticks) left gone = opened-ends (granted_timeout ticks) (Open ticks) (nat_le 1024 (finite.len t.sessions)) gone
   changed-ends (Ping session) left gone = pinged-ends session (Ping session) (is_gone t.sessions client session) gone
   changed-ends (Close session) left gone = closed-ends session (is_gone t.sessions client session) refl gone

@@ -5,20 +5,23 @@ use Rattle.std.specs.FinMap as finite
 use Rattle.std.proofs.lemmas.Bool.Decides.{nat_tests}
 use Rattle.ztree.specs.Tree.{Tree, with_next_zxid}
 use Rattle.ztree.specs.Sessions.{with_session, with_renewed_session, without_session, without_sessions, due_sessions, with_next_tick}
-use Rattle.zcalls.specs.declared.call.Part.TheVariants as part_of
+use Rattle.zcalls.specs.declared.change.Change.TheVariants as change
+use Rattle.zcalls.specs.declared.change.ChangeReply.{ChangeReply}
+use Rattle.zcalls.specs.declared.change.ChangeReply.TheVariants.{Created, Deleted, Set}
+use Rattle.zcalls.specs.Change.{reply_of}
+use Rattle.zcalls.specs.support.Alone.{ChangesNodesAlone}
 use Rattle.zcalls.specs.declared.call.Update.{Update}
 use Rattle.zcalls.specs.declared.call.Update.TheVariants.{Create, Delete, SetData, Multi, Open, Ping, Close, Tick}
 use Rattle.zcalls.specs.declared.refusal.Refusal.{Refusal}
 use Rattle.zcalls.specs.declared.refusal.Refusal.TheVariants.{SessionGone, TooManySessions, Exhausted}
-use Rattle.zcalls.specs.declared.reply.PartReply.{PartReply}
-use Rattle.zcalls.specs.declared.reply.PartReply.TheVariants.{Created, Deleted, Set, Checked}
 use Rattle.zcalls.specs.declared.reply.Reply.{Reply}
 use Rattle.zcalls.specs.declared.reply.Reply.TheVariants as reply
-use Rattle.zcalls.specs.Part.{create_part, delete_part, set_part, is_gone}
+use Rattle.zcalls.specs.Part.{create_step, delete_step, set_step, is_gone}
 use Rattle.zcalls.specs.Multi.{Run, run}
-use Rattle.zcalls.specs.Step.{step, update_result, part_result, multi_result, reply_of, granted_timeout, tick_result, is_exhausted}
+use Rattle.zcalls.specs.Step.{step, update_result, change_result, multi_result, granted_timeout, tick_result, is_exhausted}
 use Rattle.zcalls.specs.CallRuns.{is_change, ChangesTakeOneZxid}
-use Rattle.zcalls.proofs.NodesAlone.{LeavesAlone, RunAlone, part-alone, run-alone}
+use Rattle.zcalls.proofs.NodesAlone.{change-alone, run-alone}
+use Rattle.zcalls.proofs.Leaving.{Leaves}
 use Rattle.zcalls.proofs.Ends.{ended-ends, all_ended-ends}
 
 -- what a call did, and how many zxids it took
@@ -41,17 +44,16 @@ either : (t : Tree) (why : Reply) (did : Tree × Reply) (b : Bool) → is_change
 either t why did true isnt takes = unchanged t t why isnt refl
 either t why did false isnt takes = takes
 
-reply_of-changes : (done : PartReply) → is_change (reply_of done) ≡ true
+reply_of-changes : (did : ChangeReply) → is_change (reply_of did) ≡ true
 reply_of-changes (Created path) = refl
 reply_of-changes Deleted = refl
 reply_of-changes (Set stat) = refl
-reply_of-changes Checked = refl
 
-alone-takes : (t : Tree) (part : Result (Tree × PartReply) Refusal) → LeavesAlone t part → Takes t (part_result t part)
+alone-takes : (t : Tree) (did : Result (Tree × ChangeReply) Refusal) → Leaves (ChangesNodesAlone t) did → Takes t (change_result t did)
 alone-takes t (Err refusal) left = unchanged t t (reply.Refused refusal) refl refl
-alone-takes t (Ok (u, done)) left = changes t u (reply_of done) (reply_of-changes done) left.zxid
+alone-takes t (Ok (u, did)) left = changes t u (reply_of did) (reply_of-changes did) left.zxid
 
-together-takes : (t : Tree) (did : Run) → RunAlone t did → Takes t (multi_result t did)
+together-takes : (t : Tree) (did : Run) → Leaves (ChangesNodesAlone t) did → Takes t (multi_result t did)
 together-takes t (Err (number, refusal)) left = unchanged t t (reply.MultiRefused number refusal) refl refl
 together-takes t (Ok (u, replies)) left = changes t u (reply.Multi replies) refl left.zxid
 
@@ -62,10 +64,10 @@ ticked-takes t (id ∷ ids) =
     changes t (with_next_tick (without_sessions t (id ∷ ids))) (reply.Ticked (t.time + 1) (length (id ∷ ids))) some (all_ended-ends (id ∷ ids) t).zxid
 
 changed-takes : (t : Tree) (client : ℕ) (update : Update) → Takes t (update_result t client update)
-changed-takes t client (Create create) = alone-takes t (create_part t client create) (part-alone t client (part_of.Create create))
-changed-takes t client (Delete delete) = alone-takes t (delete_part t delete) (part-alone t client (part_of.Delete delete))
-changed-takes t client (SetData set) = alone-takes t (set_part t set) (part-alone t client (part_of.SetData set))
-changed-takes t client (Multi parts) = together-takes t (run t client [] parts) (run-alone parts t client [])
+changed-takes t client (Create create) = alone-takes t (create_step t client create) (change-alone t client (change.Create create))
+changed-takes t client (Delete delete) = alone-takes t (delete_step t delete) (change-alone t client (change.Delete delete))
+changed-takes t client (SetData set) = alone-takes t (set_step t set) (change-alone t client (change.SetData set))
+changed-takes t client (Multi parts) = together-takes t (run t client parts) (run-alone parts t client)
 changed-takes t client (Open ticks) =
     let timeout = granted_timeout ticks in
     either t (reply.Refused TooManySessions) (with_next_zxid (with_session t client timeout), reply.Opened (t.zxid + 1) timeout) (nat_le 1024 (finite.len t.sessions)) refl

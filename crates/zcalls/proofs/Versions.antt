@@ -1,22 +1,16 @@
 -- A node's version counts its sets.
-use Rattle.std.proofs.Common.{◌≡◌, ℕ, ◌+◌, Bool, true, false, cond, if◌then◌else◌, List, [], Option, Some, None, Ok, Err, refl, sym, ap, ◌∙◌}
+use Rattle.std.proofs.Common.{◌≡◌, ℕ, ◌+◌, Bool, true, false, cond, if◌then◌else◌, List, [], Some, None, refl, sym, ap, ◌∙◌}
 use Rattle.std.specs.FinMap as finite
 use Rattle.std.specs.FinMap.{get-insert, get-empty}
-use Rattle.zpath.specs.First.{first_that_holds}
 use Rattle.zpath.specs.Grammar.{path_cmp}
 use Rattle.ztree.specs.declared.node.Node.{Node}
-use Rattle.ztree.specs.Tree.{Tree, Nodes, Path, opening_tree, new_node, parent_of, with_child, without_child, with_data, stat_of, with_node, without_node, with_data_at}
+use Rattle.ztree.specs.Tree.{Tree, Nodes, Path, opening_tree, new_node, parent_of, with_child, without_child, with_data, with_node, without_node, with_data_at}
 use Rattle.ztree.proofs.Sorted.{paths_total}
-use Rattle.zcalls.specs.declared.call.Expected.{Expected}
 use Rattle.zcalls.specs.declared.call.Part.{Part}
 use Rattle.zcalls.specs.declared.call.Part.TheVariants.{Create, Delete, SetData, Check}
-use Rattle.zcalls.specs.declared.refusal.Refusal.{Refusal}
-use Rattle.zcalls.specs.declared.refusal.Refusal.TheVariants.{BadVersion}
-use Rattle.zcalls.specs.declared.reply.PartReply.{PartReply}
-use Rattle.zcalls.specs.declared.reply.PartReply.TheVariants.{Created, Deleted, Set, Checked}
-use Rattle.zcalls.specs.Part.{part_step, create_part, delete_part, set_part, check_part, create_refusals, delete_refusals, made_path, is_sequential, owner_of, unless_refused, on_version, has_other_version}
+use Rattle.zcalls.specs.Part.{part_step, made_path, is_sequential, owner_of}
 use Rattle.zcalls.specs.CallRuns.{is_same, sets_since, VersionCountsSets}
-use Rattle.zcalls.proofs.Folds.{Leaves, kept_by_calls}
+use Rattle.zcalls.proofs.Folds.{LeavesDone, create-leaves, delete-leaves, set-leaves, check-leaves, kept_by_calls}
 use Rattle.zcalls.proofs.Traced.{traced, remained, same_of}
 
 module _ (path : Path) where
@@ -56,33 +50,13 @@ module _ (path : Path) where
       by f one_more m is true now = ap (λ (n : Node). n.version) now ∙ one_more m ∙ ap (λ v. v + 1) is
       by f one_more m is false now = ap (λ (n : Node). n.version) now ∙ is
 
-  on_version-leaves : (sets : ℕ) (part : Part) (expected : Expected) (o : Option Node) (act : Node → Tree × PartReply)
-      → ((n : Node) → Leaves (sets_since path) HasVersion sets part (Ok (act n))) → Leaves (sets_since path) HasVersion sets part (on_version expected o act)
-  on_version-leaves sets part expected None act each = tt
-  on_version-leaves sets part expected (Some n) act each = by (has_other_version expected n)
-    where
-      by : (b : Bool) → Leaves (sets_since path) HasVersion sets part (if b then Err BadVersion else Ok (act n))
-      by true = tt
-      by false = each n
-
-  unless_refused-leaves : (sets : ℕ) (part : Part) (o : Option Refusal) (did : Tree × PartReply) → Leaves (sets_since path) HasVersion sets part (Ok did) → Leaves (sets_since path) HasVersion sets part (unless_refused o did)
-  unless_refused-leaves sets part (Some refusal) did left = tt
-  unless_refused-leaves sets part None did left = left
-
-  part-counts : (sets : ℕ) (t : Tree) (client : ℕ) (part : Part) → HasVersion sets t.nodes → Leaves (sets_since path) HasVersion sets part (part_step t client part)
-  unfolding create_part delete_part set_part check_part
+  part-counts : (sets : ℕ) (t : Tree) (client : ℕ) (part : Part) → HasVersion sets t.nodes → LeavesDone (sets_since path) HasVersion sets part (part_step t client part)
   part-counts sets t client (Create create) inv =
-      let made = made_path t.nodes create.kind create.path in
-      unless_refused-leaves sets (Create create) (first_that_holds (create_refusals t client create)) (with_node t made create.bytes (owner_of create.kind) (is_sequential create.kind), Created made)
-      (added-counts sets t made create.bytes (owner_of create.kind) (is_sequential create.kind) inv)
-  part-counts sets t client (Delete delete) inv =
-      unless_refused-leaves sets (Delete delete) (first_that_holds (delete_refusals t.nodes delete)) (without_node t delete.path, Deleted) (dropped-counts sets t delete.path inv)
-  part-counts sets t client (SetData set) inv =
-      on_version-leaves sets (SetData set) set.version (finite.get t.nodes set.path)
-      (λ n. (with_data_at t set.path set.bytes, Set (stat_of (with_data_at t set.path set.bytes).nodes set.path (with_data set.bytes (t.zxid + 1) t.time n))))
-      (λ n. written-counts sets t set.path set.bytes inv)
-  part-counts sets t client (Check check) inv =
-      on_version-leaves sets (Check check) check.version (finite.get t.nodes check.path) (λ n. (t, Checked)) (λ n. inv)
+      create-leaves (sets_since path) HasVersion sets t client create
+      (λ e. added-counts sets t (made_path t.nodes create.kind create.path) create.bytes (owner_of create.kind) (is_sequential create.kind) inv)
+  part-counts sets t client (Delete delete) inv = delete-leaves (sets_since path) HasVersion sets t client delete (dropped-counts sets t delete.path inv)
+  part-counts sets t client (SetData set) inv = set-leaves (sets_since path) HasVersion sets t client set (λ stat. written-counts sets t set.path set.bytes inv)
+  part-counts sets t client (Check check) inv = check-leaves (sets_since path) HasVersion sets t client check inv
 
   opening-counts : HasVersion 0 opening_tree.nodes
   opening-counts n e = by (is_same path []) (sym (get-insert paths_total finite.empty [] (new_node [] 0 0 0) path) ∙ e)

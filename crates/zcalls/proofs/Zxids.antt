@@ -1,54 +1,31 @@
 -- The zxids of a tree's nodes are those of changes that were made.
-use Rattle.std.proofs.Common.{◌≡◌, ℕ, ◌+◌, Bool, true, false, if◌then◌else◌, List, [], ◌∷◌, ◌++◌, length, Option, Some, None, Result, Ok, Err, refl, sym, ap, subst, ◌∙◌, lit<, arith}
+use Rattle.std.proofs.Common.{◌≡◌, ℕ, ◌+◌, Bool, true, false, if◌then◌else◌, List, [], ◌∷◌, Result, Ok, Err, refl, sym, ap, subst, ◌∙◌, lit<, arith}
 use Rattle.std.specs.Prelude.{nat_le}
 use Rattle.std.specs.FinMap as finite
-use Rattle.zpath.specs.First.{first_that_holds}
-use Rattle.ztree.specs.declared.node.Node.{Node}
 use Rattle.ztree.specs.Lawful.{AllNodes}
 use Rattle.ztree.specs.Sessions.{with_session, with_renewed_session, without_nodes, without_session, without_sessions, due_sessions, with_next_tick}
-use Rattle.ztree.specs.Tree.{Tree, Path, ephemerals, opening_tree, new_node, parent_of, with_child, without_child, with_data, stat_of, with_node, without_node, with_data_at, with_next_zxid}
-use Rattle.zcalls.specs.declared.call.Create.{Create as ToCreate}
-use Rattle.zcalls.specs.declared.call.Delete.{Delete as ToDelete}
-use Rattle.zcalls.specs.declared.call.SetData.{SetData as ToSet}
-use Rattle.zcalls.specs.declared.call.Check.{Check as ToCheck}
-use Rattle.zcalls.specs.declared.call.Expected.{Expected}
+use Rattle.ztree.specs.Tree.{Tree, Path, ephemerals, opening_tree, new_node, parent_of, with_child, without_child, with_data, with_node, without_node, with_data_at, with_next_zxid}
 use Rattle.zcalls.specs.declared.call.Part.{Part}
-use Rattle.zcalls.specs.declared.call.Part.TheVariants as part_of
 use Rattle.zcalls.specs.declared.call.Update.{Update}
 use Rattle.zcalls.specs.declared.call.Update.TheVariants.{Create, Delete, SetData, Multi, Open, Ping, Close, Tick}
 use Rattle.zcalls.specs.declared.refusal.Refusal.{Refusal}
-use Rattle.zcalls.specs.declared.refusal.Refusal.TheVariants.{BadVersion, SessionGone, TooManySessions, Exhausted}
-use Rattle.zcalls.specs.declared.reply.PartReply.{PartReply}
-use Rattle.zcalls.specs.declared.reply.PartReply.TheVariants.{Created, Deleted, Set, Checked}
+use Rattle.zcalls.specs.declared.refusal.Refusal.TheVariants.{SessionGone, TooManySessions, Exhausted}
 use Rattle.zcalls.specs.declared.reply.Reply.{Reply}
 use Rattle.zcalls.specs.declared.reply.Reply.TheVariants as reply
-use Rattle.zcalls.specs.Part.{create_part, delete_part, set_part, check_part, part_step, create_refusals, delete_refusals, made_path, is_sequential, owner_of, is_gone, unless_refused, on_version, has_other_version}
-use Rattle.zcalls.specs.Multi.{Run, and_then, run}
-use Rattle.zcalls.specs.Step.{step, update_result, part_result, multi_result, granted_timeout, tick_result, is_exhausted}
+use Rattle.zcalls.specs.Part.{change_step, create_step, delete_step, set_step, part_step, made_path, is_sequential, owner_of, is_gone}
+use Rattle.zcalls.specs.declared.change.Change.{Change}
+use Rattle.zcalls.specs.declared.change.Change.TheVariants as change
+use Rattle.zcalls.specs.declared.change.ChangeReply.{ChangeReply}
+use Rattle.zcalls.specs.Multi.{Run, run}
+use Rattle.zcalls.specs.Step.{step, update_result, change_result, multi_result, granted_timeout, tick_result, is_exhausted}
 use Rattle.zcalls.specs.CallRuns.{after_calls, IsOlder, ZxidsRise}
+use Rattle.zcalls.proofs.Leaving.{Leaves, create_step-leaves, delete_step-leaves, set_step-leaves, part_step-leaves, run-leaves}
 use Rattle.zcalls.proofs.Taking.{changes_take_one_zxid}
 use Rattle.zcalls.proofs.Bounds.{all_insert, all_remove, all_changed, no_nodes}
 
 -- every zxid of the tree's nodes is that of a change up to the next
 abbrev IsDated : ℕ → Tree → Type 0
 IsDated zxid t = (t.zxid ≡ zxid) × AllNodes (IsOlder (zxid + 2)) t.nodes
-
--- what a part leaves, where it was done
-abbrev LeavesDated : ℕ → Result (Tree × PartReply) Refusal → Type 0
-LeavesDated zxid (Err refusal) = Unit {0}
-LeavesDated zxid (Ok (u, reply)) = IsDated zxid u
-
-unless_dated : (zxid : ℕ) (o : Option Refusal) (did : Tree × PartReply) → IsDated zxid did.0 → LeavesDated zxid (unless_refused o did)
-unless_dated zxid (Some refusal) did dated = tt
-unless_dated zxid None did dated = dated
-
-on_version-dated : (zxid : ℕ) (expected : Expected) (o : Option Node) (act : Node → Tree × PartReply) → ((n : Node) → IsDated zxid (act n).0) → LeavesDated zxid (on_version expected o act)
-on_version-dated zxid expected None act each = tt
-on_version-dated zxid expected (Some n) act each = by (has_other_version expected n)
-  where
-    by : (b : Bool) → LeavesDated zxid (if b then Err BadVersion else Ok (act n))
-    by true = tt
-    by false = each n
 
 added-dated : (zxid : ℕ) (t : Tree) (path : Path) (bytes : List ℕ) (owner : ℕ) (sequential : Bool) → IsDated zxid t → IsDated zxid (with_node t path bytes owner sequential)
 added-dated zxid t path bytes owner sequential dated =
@@ -80,50 +57,21 @@ written-dated zxid t path bytes dated =
           (λ n e. let old = dated.1 path n e in record { czxid = old.czxid; mzxid = omega (arith, same); pzxid = old.pzxid }),
     )
 
-create-dated : (zxid : ℕ) (t : Tree) (client : ℕ) (create : ToCreate) → IsDated zxid t → LeavesDated zxid (create_part t client create)
-unfolding create_part
-create-dated zxid t client create dated =
-    let made = made_path t.nodes create.kind create.path in
-    unless_dated zxid (first_that_holds (create_refusals t client create)) (with_node t made create.bytes (owner_of create.kind) (is_sequential create.kind), Created made)
-    (added-dated zxid t made create.bytes (owner_of create.kind) (is_sequential create.kind) dated)
+change-dated : (zxid : ℕ) (t : Tree) (client : ℕ) (change : Change) → IsDated zxid t → Leaves (IsDated zxid) (change_step t client change)
+change-dated zxid t client (change.Create create) dated =
+    create_step-leaves (IsDated zxid) t client create
+    (λ e. added-dated zxid t (made_path t.nodes create.kind create.path) create.bytes (owner_of create.kind) (is_sequential create.kind) dated)
+change-dated zxid t client (change.Delete delete) dated = delete_step-leaves (IsDated zxid) t delete (λ e. dropped-dated zxid t delete.path dated)
+change-dated zxid t client (change.SetData set) dated = set_step-leaves (IsDated zxid) t set (written-dated zxid t set.path set.bytes dated)
 
-delete-dated : (zxid : ℕ) (t : Tree) (delete : ToDelete) → IsDated zxid t → LeavesDated zxid (delete_part t delete)
-unfolding delete_part
-delete-dated zxid t delete dated =
-    unless_dated zxid (first_that_holds (delete_refusals t.nodes delete)) (without_node t delete.path, Deleted) (dropped-dated zxid t delete.path dated)
+part-dated : (zxid : ℕ) (t : Tree) (client : ℕ) (part : Part) → IsDated zxid t → Leaves (IsDated zxid) (part_step t client part)
+part-dated zxid t client part dated =
+    part_step-leaves (IsDated zxid) t client part
+    (λ create. change-dated zxid t client (change.Create create) dated) (λ delete. change-dated zxid t client (change.Delete delete) dated)
+    (λ set. change-dated zxid t client (change.SetData set) dated) dated
 
-set-dated : (zxid : ℕ) (t : Tree) (set : ToSet) → IsDated zxid t → LeavesDated zxid (set_part t set)
-unfolding set_part
-set-dated zxid t set dated =
-    on_version-dated zxid set.version (finite.get t.nodes set.path)
-    (λ n. (with_data_at t set.path set.bytes, Set (stat_of (with_data_at t set.path set.bytes).nodes set.path (with_data set.bytes (t.zxid + 1) t.time n))))
-    (λ n. written-dated zxid t set.path set.bytes dated)
-
-check-dated : (zxid : ℕ) (t : Tree) (check : ToCheck) → IsDated zxid t → LeavesDated zxid (check_part t check)
-unfolding check_part
-check-dated zxid t check dated = on_version-dated zxid check.version (finite.get t.nodes check.path) (λ n. (t, Checked)) (λ n. dated)
-
-part-dated : (zxid : ℕ) (t : Tree) (client : ℕ) (part : Part) → IsDated zxid t → LeavesDated zxid (part_step t client part)
-part-dated zxid t client (part_of.Create create) dated = create-dated zxid t client create dated
-part-dated zxid t client (part_of.Delete delete) dated = delete-dated zxid t delete dated
-part-dated zxid t client (part_of.SetData set) dated = set-dated zxid t set dated
-part-dated zxid t client (part_of.Check check) dated = check-dated zxid t check dated
-
--- what a run leaves, where all its parts were done
-abbrev RunDated : ℕ → Run → Type 0
-RunDated zxid (Err stopped) = Unit {0}
-RunDated zxid (Ok (u, replies)) = IsDated zxid u
-
-and_then-dated : (zxid : ℕ) (did : Result (Tree × PartReply) Refusal) (number : ℕ) (go_on : Tree → PartReply → Run) → LeavesDated zxid did → ((u : Tree) (reply : PartReply) → IsDated zxid u → RunDated zxid (go_on u reply)) → RunDated zxid (and_then did number go_on)
-and_then-dated zxid (Err refusal) number go_on dated each = tt
-and_then-dated zxid (Ok (u, reply)) number go_on dated each = each u reply dated
-
-run-dated : (zxid : ℕ) (parts : List Part) (t : Tree) (client : ℕ) (replies : List PartReply) → IsDated zxid t → RunDated zxid (run t client replies parts)
-unfolding run
-run-dated zxid [] t client replies dated = dated
-run-dated zxid (part ∷ parts) t client replies dated =
-    and_then-dated zxid (part_step t client part) (length replies + 1) (λ u reply. run u client (replies ++ reply ∷ []) parts)
-    (part-dated zxid t client part dated) (λ u reply dated. run-dated zxid parts u client (replies ++ reply ∷ []) dated)
+run-dated : (zxid : ℕ) (parts : List Part) (t : Tree) (client : ℕ) → IsDated zxid t → Leaves (IsDated zxid) (run t client parts)
+run-dated zxid parts t client dated = run-leaves (IsDated zxid) (part-dated zxid) parts t client dated
 
 -- between two calls, every zxid of a node is that of a change that was made
 abbrev IsSettled : Tree → Type 0
@@ -149,11 +97,11 @@ either : (t : Tree) (why : Reply) (did : Tree × Reply) (b : Bool) → IsSettled
 either t why did true is done = is
 either t why did false is done = done
 
-alone-settled : (t : Tree) (part : Result (Tree × PartReply) Refusal) → IsSettled t → LeavesDated t.zxid part → IsSettled (part_result t part).0
+alone-settled : (t : Tree) (part : Result (Tree × ChangeReply) Refusal) → IsSettled t → Leaves (IsDated t.zxid) part → IsSettled (change_result t part).0
 alone-settled t (Err refusal) is dated = is
 alone-settled t (Ok (u, done)) is dated = settled t u dated
 
-together-settled : (t : Tree) (did : Run) → IsSettled t → RunDated t.zxid did → IsSettled (multi_result t did).0
+together-settled : (t : Tree) (did : Run) → IsSettled t → Leaves (IsDated t.zxid) did → IsSettled (multi_result t did).0
 together-settled t (Err (number, refusal)) is dated = is
 together-settled t (Ok (u, replies)) is dated = settled t u dated
 
@@ -163,10 +111,10 @@ ticked-settled t (id ∷ ids) is = settled t (with_next_tick (without_sessions t
 
 -- what a call leaves is settled
 changed-settled : (t : Tree) (client : ℕ) (update : Update) → IsSettled t → IsSettled (update_result t client update).0
-changed-settled t client (Create create) is = alone-settled t (create_part t client create) is (create-dated t.zxid t client create (later t is))
-changed-settled t client (Delete delete) is = alone-settled t (delete_part t delete) is (delete-dated t.zxid t delete (later t is))
-changed-settled t client (SetData set) is = alone-settled t (set_part t set) is (set-dated t.zxid t set (later t is))
-changed-settled t client (Multi parts) is = together-settled t (run t client [] parts) is (run-dated t.zxid parts t client [] (later t is))
+changed-settled t client (Create create) is = alone-settled t (create_step t client create) is (change-dated t.zxid t client (change.Create create) (later t is))
+changed-settled t client (Delete delete) is = alone-settled t (delete_step t delete) is (change-dated t.zxid t client (change.Delete delete) (later t is))
+changed-settled t client (SetData set) is = alone-settled t (set_step t set) is (change-dated t.zxid t client (change.SetData set) (later t is))
+changed-settled t client (Multi parts) is = together-settled t (run t client parts) is (run-dated t.zxid parts t client (later t is))
 changed-settled t client (Open ticks) is =
     either t (reply.Refused TooManySessions) (with_next_zxid (with_session t client (granted_timeout ticks)), reply.Opened (t.zxid + 1) (granted_timeout ticks)) (nat_le 1024 (finite.len t.sessions)) is
     (settled t (with_session t client (granted_timeout ticks)) (later t is))

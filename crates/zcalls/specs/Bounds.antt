@@ -1,6 +1,8 @@
 -- The bounds on the numbers of a tree, so that none of them can grow too large.
-use Rattle.std.specs.Prelude.{◌≡◌, ℕ, ◌+◌, ◌*◌, ◌^◌, ◌<◌, ◌≤◌}
+use Rattle.std.specs.Prelude.{ℕ, ◌+◌, ◌*◌, ◌<◌, ◌≤◌}
 use Rattle.ztree.specs.Tree.{Tree}
+use Rattle.ztree.specs.declared.limits.TheConstants.{ZXID_BOUND, TICK_BOUND}
+use Rattle.zcalls.specs.declared.limits.TheConstants.{MAX_COUNTER, MIN_TIMEOUT, MAX_TIMEOUT, MAX_RAISES}
 use Rattle.ztree.specs.Lawful.{AllNodes, AllSessions}
 use Rattle.ztree.specs.declared.node.Node.{Node}
 use Rattle.ztree.specs.declared.session.Session.{Session}
@@ -9,23 +11,17 @@ use Rattle.ztree.specs.declared.session.Session.{Session}
 pub record IsWithin (raises : ℕ) (n : Node) : Type 0 where
   pub version : n.version ≤ raises
   pub cversion : n.cversion ≤ raises
-  pub seq : n.seq ≤ 2147483648
+  pub seq : n.seq ≤ MAX_COUNTER + 1
 
 -- a session's id is the number of a change that was made, and its timeout is one that is granted
 pub record IsGranted (zxid id : ℕ) (s : Session) : Type 0 where
   pub before : id ≤ zxid
-  pub least : 2 ≤ s.timeout
-  pub most : s.timeout ≤ 20
+  pub least : MIN_TIMEOUT ≤ s.timeout
+  pub most : s.timeout ≤ MAX_TIMEOUT
 
 -- every number of the tree leaves room for one more change: each change raises a node's at most 4,096 times
 pub record IsBounded (t : Tree) : Type 0 where
-  pub zxid : t.zxid < 2 ^ 40
-  pub time : t.time < 2 ^ 40
-  pub counters : AllNodes (IsWithin (4096 * t.zxid)) t.nodes
+  pub zxid : t.zxid < ZXID_BOUND
+  pub time : t.time < TICK_BOUND
+  pub counters : AllNodes (IsWithin (MAX_RAISES * t.zxid)) t.nodes
   pub sessions : AllSessions (IsGranted t.zxid) t.sessions
-
--- of two trees only the nodes differ: the number of the last change, the clock and the sessions are the same
-pub record ChangesNodesAlone (t u : Tree) : Type 0 where
-  pub zxid : u.zxid ≡ t.zxid
-  pub time : u.time ≡ t.time
-  pub sessions : u.sessions ≡ t.sessions

@@ -100,7 +100,7 @@ abbrev pub update_done : Tree → ℕ → Update → List Done
 update_done t client (Create create) = parts_done t client (part_of.Create create ∷ [])
 update_done t client (Delete delete) = parts_done t client (part_of.Delete delete ∷ [])
 update_done t client (SetData set) = parts_done t client (part_of.SetData set ∷ [])
-update_done t client (Multi parts) = where_done (run t client [] parts) (parts_done t client parts)
+update_done t client (Multi parts) = where_done (run t client parts) (parts_done t client parts)
 update_done t client (Open ticks) = []
 update_done t client (Ping session) = []
 update_done t client (Close session) = []

@@ -3,7 +3,7 @@
 -- Van Renesse and Schneider, "Chain Replication for Supporting High Throughput and Availability" (OSDI 2004),
 -- section 2: a client can't tell a lost request from a lost reply, and asks again. The numbers of a client's calls,
 -- from 1 on, and that one reply is kept, are this project's profile.
-use Rattle.std.specs.Prelude.{ℕ, Option, None, Some, if◌then◌else◌, nat_lt, ◌==◌}
+use Rattle.std.specs.Prelude.{ℕ, List, [], ◌∷◌, Option, None, Some, if◌then◌else◌, nat_lt, ◌==◌}
 use Rattle.std.specs.Ordering.{nat_cmp}
 use Rattle.std.specs.FinMap as finite
 use Rattle.std.specs.FinMap.{FinMap, get, insert}
@@ -48,8 +48,8 @@ kept_reply number None = None
 kept_reply number (Some kept) = if number == kept.number then Some kept.reply else None
 
 -- an entry acts: its update is done by the plain step, and its number and reply are kept
-abbrev pub acted : {P : Type 0} → PlainStep P → KeptState P → Entry → KeptState P × Option Reply
-acted step s entry =
+abbrev pub act_result : {P : Type 0} → PlainStep P → KeptState P → Entry → KeptState P × Option Reply
+act_result step s entry =
     let did = step s.plain entry.client entry.update in
     (record { plain = did.0; kept = insert s.kept entry.client (record { number = entry.number; reply = did.1 }) }, Some did.1)
 
@@ -57,8 +57,13 @@ acted step s entry =
 -- that reply, and any other gives none; what doesn't act changes nothing
 abbrev pub entry_by : {P : Type 0} → PlainStep P → KeptState P → Entry → Option Kept → KeptState P × Option Reply
 entry_by step s entry kept =
-    if nat_lt (last_of kept) entry.number then acted step s entry else (s, kept_reply entry.number kept)
+    if nat_lt (last_of kept) entry.number then act_result step s entry else (s, kept_reply entry.number kept)
 
 -- the entry step
 unfoldable pub entry_step : {P : Type 0} → PlainStep P → KeptState P → Entry → KeptState P × Option Reply
 entry_step step s entry = entry_by step s entry (get s.kept entry.client)
+
+-- a state after more entries, one after the other, where each does this
+abbrev pub after_entries : {S : Type 0} → (S → Entry → S × Option Reply) → S → List Entry → S
+after_entries apply s [] = s
+after_entries apply s (entry ∷ entries) = after_entries apply (apply s entry).0 entries

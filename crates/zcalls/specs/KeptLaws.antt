@@ -1,11 +1,62 @@
--- What holds of the entry step, over all plain states with kept replies.
-use Rattle.std.specs.Prelude.{◌≡◌, Some}
+-- What holds of the entry step, over any plain step and all plain states with kept replies: each is the contract of a
+-- function in `src/laws.rt`.
+use Rattle.std.specs.Prelude.{◌≡◌, ◌<◌, ◌≤◌, ℕ, List, [], ◌∷◌, ◌++◌, Some}
+use Rattle.std.specs.FinMap.{get}
 use Rattle.zcalls.specs.declared.call.Entry.{Entry}
 use Rattle.zcalls.specs.declared.reply.Reply.{Reply}
-use Rattle.zcalls.specs.Kept.{KeptState, PlainStep, entry_step}
+use Rattle.zcalls.specs.Kept.{Plain, PlainStep, KeptState, nothing_kept, last_of, entry_step, after_entries}
+use Rattle.zcalls.specs.Lists.{Among, NoTwo}
+use Rattle.zcalls.specs.Operation.{Operation, AreOneUpdate}
+use Rattle.zcalls.specs.Acts.{acts_from, acts_of, after_log}
+
+-- the number of a client's last call that acted; 0 where none did
+abbrev pub last_number : {P : Type 0} → KeptState P → ℕ → ℕ
+last_number s client = last_of (get s.kept client)
+
+-- where nothing is kept, an entry of a number from 1 on acts by the plain step
+abbrev pub FirstEntriesAct : {P : Type 0} → PlainStep P → Type 0
+FirstEntriesAct {P} step =
+    (p : P) (e : Entry) → 0 < e.number
+    → ((entry_step step (nothing_kept p) e).0.plain ≡ (step p e.client e.update).0)
+    × ((entry_step step (nothing_kept p) e).1 ≡ Some (step p e.client e.update).1)
 
 -- an entry that had a reply has it again when it comes again, and then changes nothing
 abbrev pub RetryChangesNothing : {P : Type 0} → PlainStep P → Type 0
 RetryChangesNothing {P} step =
     (s : KeptState P) (e : Entry) (reply : Reply)
     → (entry_step step s e).1 ≡ Some reply → entry_step step (entry_step step s e).0 e ≡ ((entry_step step s e).0, Some reply)
+
+-- over any entries, the number of a client's last call that acted never falls
+abbrev pub KeptNumbersRise : {P : Type 0} → PlainStep P → Type 0
+KeptNumbersRise {P} step =
+    (s : KeptState P) (entries : List Entry) (client : ℕ)
+    → last_number s client ≤ last_number (after_entries (entry_step step) s entries) client
+
+-- an entry whose number isn't above its client's last one changes nothing
+abbrev pub LowNumbersChangeNothing : {P : Type 0} → PlainStep P → Type 0
+LowNumbersChangeNothing {P} step =
+    (s : KeptState P) (e : Entry) → e.number ≤ last_number s e.client → (entry_step step s e).0 ≡ s
+
+-- over any entries, no call acts twice
+abbrev pub NoCallActsTwice : {P : Type 0} → PlainStep P → Type 0
+NoCallActsTwice {P} step = (s : KeptState P) (entries : List Entry) → NoTwo AreOneUpdate (acts_from step s entries)
+
+-- the list has this call of a client, with this reply
+abbrev pub HasReply : List (Operation × Reply) → ℕ → ℕ → Reply → Type 0
+HasReply acts client number reply =
+    (o : Operation) × (o.client ≡ client) × (o.number ≡ number) × Among (o, reply) acts
+
+-- after any log, a reply that an entry has is that of its call when it acted, in the log or now
+abbrev pub RepliesAreOfActs : {P : Type 0} → Plain P → Type 0
+RepliesAreOfActs plain =
+    (log : List Entry) (e : Entry) (reply : Reply)
+    → (entry_step plain.update (after_log plain log) e).1 ≡ Some reply
+    → HasReply (acts_of plain (log ++ e ∷ [])) e.client e.number reply
+
+-- the reply of a call that acted is given again after any entries, until a number of its client above it acts
+abbrev pub RepliesStayUntilTheNext : {P : Type 0} → PlainStep P → Type 0
+RepliesStayUntilTheNext {P} step =
+    (s : KeptState P) (e : Entry) (entries : List Entry) (reply : Reply)
+    → (entry_step step s e).1 ≡ Some reply
+    → last_number (after_entries (entry_step step) (entry_step step s e).0 entries) e.client ≤ e.number
+    → (entry_step step (after_entries (entry_step step) (entry_step step s e).0 entries) e).1 ≡ Some reply

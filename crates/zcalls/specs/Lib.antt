@@ -1,11 +1,15 @@
+pub mod Change
 pub mod Part
 pub mod Multi
 pub mod Step
 pub mod Kept
 pub mod PlainTree
+pub mod Lists
+pub mod Operation
+pub mod Acts
 pub mod KeptLaws
-pub mod KeptRows
 pub mod Bounds
 pub mod Laws
 pub mod CallRuns
 pub mod SessionLaws
+pub mod support

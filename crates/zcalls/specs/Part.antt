@@ -1,14 +1,16 @@
--- The part step: one operation of a change, on the plain tree.
+-- The change step and the part step: one operation on the plain tree.
 -- ZooKeeper Programmer's Guide, "ZNodes", "Ephemeral Nodes", "Sequence Nodes -- Unique Naming" and "Time in ZooKeeper";
 -- the order of refusals and the limits are this project's profile.
-use Rattle.std.specs.Prelude.{ℕ, ◌+◌, Bool, true, false, not, ◌&&◌, List, [], ◌∷◌, ◌++◌, length, Option, None, Some, Result, Ok, Err, if◌then◌else◌, nat_lt, nat_le, ◌==◌}
+use Rattle.std.specs.Prelude.{ℕ, ◌+◌, Bool, true, false, not, ◌&&◌, List, [], ◌∷◌, length, Option, None, Some, Result, Ok, Err, if◌then◌else◌, nat_lt, nat_le, ◌==◌}
 use Rattle.std.specs.Option.{option_map_or}
 use Rattle.std.specs.FinMap as finite
 use Rattle.zpath.specs.First.{first_that_holds}
-use Rattle.zpath.specs.Numbered.{numbered, is_over}
-use Rattle.ztree.specs.Tree.{Tree, Nodes, Sessions, Path, parent_of, has_node, children, stat_of, with_node, without_node, with_data_at, with_data}
+use Rattle.zpath.specs.Numbered.{numbered_path, is_over}
+use Rattle.ztree.specs.Tree.{Tree, Nodes, Sessions, Path, parent_of, has_node, children, stat_of, with_node, without_node, with_data}
 use Rattle.ztree.specs.declared.node.Node.{Node}
 use Rattle.ztree.specs.declared.session.Session.{Session}
+use Rattle.ztree.specs.declared.limits.TheConstants.{MAX_NODES}
+use Rattle.zcalls.specs.declared.limits.TheConstants.{MAX_COUNTER}
 use Rattle.zcalls.specs.declared.call.Kind.{Kind}
 use Rattle.zcalls.specs.declared.call.Kind.TheVariants.{Persistent, PersistentSequential, Ephemeral, EphemeralSequential}
 use Rattle.zcalls.specs.declared.call.Expected.{Expected}
@@ -18,11 +20,16 @@ use Rattle.zcalls.specs.declared.call.Delete.{Delete}
 use Rattle.zcalls.specs.declared.call.SetData.{SetData}
 use Rattle.zcalls.specs.declared.call.Check.{Check}
 use Rattle.zcalls.specs.declared.call.Part.{Part}
-use Rattle.zcalls.specs.declared.call.Part.TheVariants as part_of
+use Rattle.zcalls.specs.declared.call.Part.TheVariants as part
+use Rattle.zcalls.specs.declared.change.Change.{Change}
+use Rattle.zcalls.specs.declared.change.Change.TheVariants as change
+use Rattle.zcalls.specs.declared.change.ChangeReply.{ChangeReply}
+use Rattle.zcalls.specs.declared.change.ChangeReply.TheVariants.{Created, Deleted, Set}
 use Rattle.zcalls.specs.declared.refusal.Refusal.{Refusal}
 use Rattle.zcalls.specs.declared.refusal.Refusal.TheVariants.{NoNode, NodeExists, NotEmpty, BadVersion, NoChildrenForEphemerals, SessionGone, SequenceFull, PathLimit, RootFixed, Full}
 use Rattle.zcalls.specs.declared.reply.PartReply.{PartReply}
-use Rattle.zcalls.specs.declared.reply.PartReply.TheVariants.{Created, Deleted, Set, Checked}
+use Rattle.zcalls.specs.declared.reply.PartReply.TheVariants.{Checked}
+use Rattle.zcalls.specs.Change.{part_reply_of}
 
 -- the path is the root's
 abbrev pub is_root : Path → Bool
@@ -44,7 +51,7 @@ has_other_version (Exactly version) n = not (n.version == version)
 
 -- the last number of a node's counter was given
 abbrev pub is_spent : Node → Bool
-is_spent n = nat_lt 2147483647 n.seq
+is_spent n = nat_lt MAX_COUNTER n.seq
 
 -- the kind takes a number of the parent's counter
 abbrev pub is_sequential : Kind → Bool
@@ -77,14 +84,7 @@ counter_at nodes path = option_map_or (λ n. n.seq) (finite.get nodes path) 0
 
 -- the path of the node that a create makes
 abbrev pub made_path : Nodes → Kind → Path → Path
-made_path nodes kind path = if is_sequential kind then numbered path (counter_at nodes (parent_of path)) else path
-
--- when a create has no path for its node
-abbrev pub name_refusals : Nodes → Kind → Path → List (Bool × Refusal)
-name_refusals nodes kind path =
-    (is_sequential kind && node_has is_spent nodes (parent_of path), SequenceFull)
-    ∷ (is_over (made_path nodes kind path), PathLimit)
-    ∷ []
+made_path nodes kind path = if is_sequential kind then numbered_path path (counter_at nodes (parent_of path)) else path
 
 -- when a client's create is refused, in the order of the tests
 abbrev pub create_refusals : Tree → ℕ → Create → List (Bool × Refusal)
@@ -93,9 +93,10 @@ create_refusals t client create =
     ∷ (is_root create.path, NodeExists)
     ∷ (not (has_node t.nodes (parent_of create.path)), NoNode)
     ∷ (node_has is_owned t.nodes (parent_of create.path), NoChildrenForEphemerals)
-    ∷ name_refusals t.nodes create.kind create.path
-    ++ (has_node t.nodes (made_path t.nodes create.kind create.path), NodeExists)
-    ∷ (nat_le 4096 (finite.len t.nodes), Full)
+    ∷ (is_sequential create.kind && node_has is_spent t.nodes (parent_of create.path), SequenceFull)
+    ∷ (is_over (made_path t.nodes create.kind create.path), PathLimit)
+    ∷ (has_node t.nodes (made_path t.nodes create.kind create.path), NodeExists)
+    ∷ (nat_le MAX_NODES (finite.len t.nodes), Full)
     ∷ []
 
 -- when a delete is refused, in the order of the tests
@@ -117,29 +118,48 @@ abbrev pub on_version : {A : Type 0} → Expected → Option Node → (Node → 
 on_version expected None act = Err NoNode
 on_version expected (Some n) act = if has_other_version expected n then Err BadVersion else Ok (act n)
 
+-- a tree with this node at a path, and what is told of it
+abbrev pub with_node_set : Tree → Path → Node → Tree × ChangeReply
+with_node_set t path n =
+    let nodes = finite.insert t.nodes path n in
+    (record t { nodes = nodes }, Set (stat_of nodes path n))
+
 -- a client's create makes one node, beneath a parent that is there and no session owns
-unfoldable pub create_part : Tree → ℕ → Create → Result (Tree × PartReply) Refusal
-create_part t client create =
+unfoldable pub create_step : Tree → ℕ → Create → Result (Tree × ChangeReply) Refusal
+create_step t client create =
     let made = made_path t.nodes create.kind create.path in
-    unless_refused (first_that_holds (create_refusals t client create)) (with_node t made create.bytes (owner_of create.kind) (is_sequential create.kind), Created made)
+    unless_refused (first_that_holds (create_refusals t client create))
+    (with_node t made create.bytes (owner_of create.kind) (is_sequential create.kind), Created made)
 
 -- a delete takes one node away, beneath which there is none
-unfoldable pub delete_part : Tree → Delete → Result (Tree × PartReply) Refusal
-delete_part t delete = unless_refused (first_that_holds (delete_refusals t.nodes delete)) (without_node t delete.path, Deleted)
+unfoldable pub delete_step : Tree → Delete → Result (Tree × ChangeReply) Refusal
+delete_step t delete =
+    unless_refused (first_that_holds (delete_refusals t.nodes delete)) (without_node t delete.path, Deleted)
 
 -- a set writes one node's data, and tells its stat after it
-unfoldable pub set_part : Tree → SetData → Result (Tree × PartReply) Refusal
-set_part t set =
+unfoldable pub set_step : Tree → SetData → Result (Tree × ChangeReply) Refusal
+set_step t set =
     on_version set.version (finite.get t.nodes set.path)
-    (λ n. (with_data_at t set.path set.bytes, Set (stat_of (with_data_at t set.path set.bytes).nodes set.path (with_data set.bytes (t.zxid + 1) t.time n))))
+    (λ n. with_node_set t set.path (with_data set.bytes (t.zxid + 1) t.time n))
 
 -- a check changes nothing
-unfoldable pub check_part : Tree → Check → Result (Tree × PartReply) Refusal
-check_part t check = on_version check.version (finite.get t.nodes check.path) (λ n. (t, Checked))
+unfoldable pub check_step : Tree → Check → Result (Tree × PartReply) Refusal
+check_step t check = on_version check.version (finite.get t.nodes check.path) (λ n. (t, Checked))
+
+-- the change step, for a client
+abbrev pub change_step : Tree → ℕ → Change → Result (Tree × ChangeReply) Refusal
+change_step t client (change.Create create) = create_step t client create
+change_step t client (change.Delete delete) = delete_step t delete
+change_step t client (change.SetData set) = set_step t set
+
+-- what a change did, told as by a part
+abbrev pub told_as_part : Result (Tree × ChangeReply) Refusal → Result (Tree × PartReply) Refusal
+told_as_part (Err refusal) = Err refusal
+told_as_part (Ok (t, did)) = Ok (t, part_reply_of did)
 
 -- the part step, for a client
 abbrev pub part_step : Tree → ℕ → Part → Result (Tree × PartReply) Refusal
-part_step t client (part_of.Create create) = create_part t client create
-part_step t client (part_of.Delete delete) = delete_part t delete
-part_step t client (part_of.SetData set) = set_part t set
-part_step t client (part_of.Check check) = check_part t check
+part_step t client (part.Create create) = told_as_part (create_step t client create)
+part_step t client (part.Delete delete) = told_as_part (delete_step t delete)
+part_step t client (part.SetData set) = told_as_part (set_step t set)
+part_step t client (part.Check check) = check_step t check

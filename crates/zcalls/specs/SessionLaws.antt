@@ -1,4 +1,4 @@
--- What holds of sessions: each is the contract of a function in `src/session_laws.rt`.
+-- What holds of sessions: each is the contract of a function in `src/laws.rt`.
 -- ZooKeeper Programmer's Guide, "ZooKeeper Sessions" and "Ephemeral Nodes".
 use Rattle.std.specs.Prelude.{◌≡◌, ℕ, ◌<◌, ◌≤◌, ◌+◌, ◌⊎◌, false, not, List, [], ◌∷◌, length, Option, None, Some, IsSome, if◌then◌else◌, nat_le, ◌==◌}
 use Rattle.std.specs.Option.{option_and_then}

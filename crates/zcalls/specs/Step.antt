@@ -2,22 +2,24 @@
 -- specification: the service as it would be if one machine did one call after the other.
 -- ZooKeeper Programmer's Guide, "ZooKeeper Sessions" (a timeout is at least 2 ticks and at most 20) and "Ephemeral
 -- Nodes"; whose a session is, and the limits, are this project's profile.
-use Rattle.std.specs.Prelude.{ℕ, ◌+◌, ◌-◌, ◌^◌, Bool, Option, None, Some, Result, Ok, Err, if◌then◌else◌, nat_le, nat_lt, ◌||◌, false, List, [], ◌∷◌, length, codes}
+use Rattle.std.specs.Prelude.{ℕ, ◌+◌, ◌-◌, Bool, Option, None, Some, Result, Ok, Err, if◌then◌else◌, nat_le, nat_lt, ◌||◌, false, List, [], ◌∷◌, length, codes}
 use Rattle.std.specs.FinMap as finite
-use Rattle.ztree.specs.Tree.{Tree, Path, children, stat_of, with_next_zxid}
+use Rattle.ztree.specs.Tree.{Tree, children, stat_of, with_next_zxid}
 use Rattle.ztree.specs.Sessions.{with_session, with_renewed_session, without_session, without_sessions, due_sessions, with_next_tick}
 use Rattle.ztree.specs.declared.node.Node.{Node}
+use Rattle.ztree.specs.declared.limits.TheConstants.{MAX_SESSIONS, ZXID_BOUND, TICK_BOUND}
+use Rattle.zcalls.specs.declared.limits.TheConstants.{MIN_TIMEOUT, MAX_TIMEOUT}
 use Rattle.zcalls.specs.declared.call.Update.{Update}
 use Rattle.zcalls.specs.declared.call.Update.TheVariants.{Create, Delete, SetData, Multi, Open, Ping, Close, Tick}
 use Rattle.zcalls.specs.declared.call.Query.{Query}
 use Rattle.zcalls.specs.declared.call.Query.TheVariants as query
 use Rattle.zcalls.specs.declared.refusal.Refusal.{Refusal}
 use Rattle.zcalls.specs.declared.refusal.Refusal.TheVariants.{NoNode, NodeExists, NotEmpty, BadVersion, NoChildrenForEphemerals, SessionGone, SequenceFull, PathLimit, RootFixed, Full, TooManySessions, Exhausted}
-use Rattle.zcalls.specs.declared.reply.PartReply.{PartReply}
-use Rattle.zcalls.specs.declared.reply.PartReply.TheVariants as part_reply
+use Rattle.zcalls.specs.declared.change.ChangeReply.{ChangeReply}
 use Rattle.zcalls.specs.declared.reply.Reply.{Reply}
 use Rattle.zcalls.specs.declared.reply.Reply.TheVariants as reply
-use Rattle.zcalls.specs.Part.{create_part, delete_part, set_part, is_gone}
+use Rattle.zcalls.specs.Change.{reply_of}
+use Rattle.zcalls.specs.Part.{create_step, delete_step, set_step, is_gone}
 use Rattle.zcalls.specs.Multi.{Run, run}
 
 -- the word for a refusal
@@ -38,20 +40,13 @@ refusal_name Exhausted = codes "Exhausted"
 -- no further change has a number, or no further tick; a ping takes neither
 abbrev pub is_exhausted : Tree → Update → Bool
 is_exhausted t (Ping session) = false
-is_exhausted t Tick = nat_le (2 ^ 40 - 1) t.zxid || nat_le (2 ^ 40 - 1) t.time
-is_exhausted t update = nat_le (2 ^ 40 - 1) t.zxid
+is_exhausted t Tick = nat_le (ZXID_BOUND - 1) t.zxid || nat_le (TICK_BOUND - 1) t.time
+is_exhausted t update = nat_le (ZXID_BOUND - 1) t.zxid
 
--- the reply to a call of one part; no call is a check alone
-abbrev pub reply_of : PartReply → Reply
-reply_of (part_reply.Created path) = reply.Created path
-reply_of part_reply.Deleted = reply.Deleted
-reply_of (part_reply.Set stat) = reply.Set stat
-reply_of part_reply.Checked = reply.Multi []
-
--- a change of one part: refused, it leaves the tree; done, it takes the next number
-abbrev pub part_result : Tree → Result (Tree × PartReply) Refusal → Tree × Reply
-part_result t (Err refusal) = (t, reply.Refused refusal)
-part_result t (Ok (u, done)) = (with_next_zxid u, reply_of done)
+-- a change of one node: refused, it leaves the tree; done, it takes the next number
+abbrev pub change_result : Tree → Result (Tree × ChangeReply) Refusal → Tree × Reply
+change_result t (Err refusal) = (t, reply.Refused refusal)
+change_result t (Ok (u, did)) = (with_next_zxid u, reply_of did)
 
 -- a multi: refused in one part, it leaves the very same tree; done, it takes one number for all
 abbrev pub multi_result : Tree → Run → Tree × Reply
@@ -60,12 +55,15 @@ multi_result t (Ok (u, replies)) = (with_next_zxid u, reply.Multi replies)
 
 -- the timeout that is given to a session that asks for so many ticks: the nearer of 2 and 20 where it is outside
 abbrev pub granted_timeout : ℕ → ℕ
-granted_timeout ticks = if nat_lt ticks 2 then 2 else if nat_lt 20 ticks then 20 else ticks
+granted_timeout ticks =
+    if nat_lt ticks MIN_TIMEOUT then MIN_TIMEOUT else
+    if nat_lt MAX_TIMEOUT ticks then MAX_TIMEOUT else
+    ticks
 
 -- a client opens a session; its id is the number of this change
 abbrev pub open_result : Tree → ℕ → ℕ → Tree × Reply
 open_result t client timeout =
-    if nat_le 1024 (finite.len t.sessions) then (t, reply.Refused TooManySessions) else
+    if nat_le MAX_SESSIONS (finite.len t.sessions) then (t, reply.Refused TooManySessions) else
     (with_next_zxid (with_session t client timeout), reply.Opened (t.zxid + 1) timeout)
 
 -- what a client does to a session of its own; to every other client the session is gone
@@ -77,16 +75,20 @@ abbrev pub tick_result : Tree → List ℕ → Tree × Reply
 tick_result t [] = (with_next_tick t, reply.Ticked (t.time + 1) 0)
 tick_result t (id ∷ ids) = (with_next_zxid (with_next_tick (without_sessions t (id ∷ ids))), reply.Ticked (t.time + 1) (length (id ∷ ids)))
 
+-- the sessions whose deadline the next tick reaches
+abbrev pub due_next : Tree → List ℕ
+due_next t = due_sessions t.sessions (t.time + 1)
+
 -- an update of a client, while there is a next number
 abbrev pub update_result : Tree → ℕ → Update → Tree × Reply
-update_result t client (Create create) = part_result t (create_part t client create)
-update_result t client (Delete delete) = part_result t (delete_part t delete)
-update_result t client (SetData set) = part_result t (set_part t set)
-update_result t client (Multi parts) = multi_result t (run t client [] parts)
+update_result t client (Create create) = change_result t (create_step t client create)
+update_result t client (Delete delete) = change_result t (delete_step t delete)
+update_result t client (SetData set) = change_result t (set_step t set)
+update_result t client (Multi parts) = multi_result t (run t client parts)
 update_result t client (Open ticks) = open_result t client (granted_timeout ticks)
 update_result t client (Ping session) = session_result t client session (with_renewed_session t session, reply.Pinged)
 update_result t client (Close session) = session_result t client session (with_next_zxid (without_session t session), reply.Closed)
-update_result t client Tick = tick_result t (due_sessions t.sessions (t.time + 1))
+update_result t client Tick = tick_result t (due_next t)
 
 -- an update of a client: the tree after it, and the reply
 unfoldable pub step : Tree → ℕ → Update → Tree × Reply

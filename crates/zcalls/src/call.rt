@@ -1,8 +1,9 @@
 //! Calls.
 
+use crate::call_number::CallNumber;
 use crate::multi::Multi;
 use zpath::Path;
-use ztree::{ClientId, Data};
+use ztree::{ClientId, Data, SessionId};
 
 /// How a node is made.
 #[derive(Clone, Copy, Debug, PartialEq, Eq)]
@@ -13,10 +14,10 @@ pub enum Kind {
     PersistentSequential,
     /// It belongs to the session of this id, goes when the session ends, and has the name that the
     /// call gives.
-    Ephemeral(u64),
+    Ephemeral(SessionId),
     /// It belongs to the session of this id, goes when the session ends, and its name ends in ten
     /// digits of its parent's counter.
-    EphemeralSequential(u64),
+    EphemeralSequential(SessionId),
 }
 
 impl Kind {
@@ -39,7 +40,7 @@ impl Kind {
     {
         match self {
             Kind::Persistent | Kind::PersistentSequential => 0,
-            Kind::Ephemeral(session) | Kind::EphemeralSequential(session) => session,
+            Kind::Ephemeral(session) | Kind::EphemeralSequential(session) => session.number(),
         }
     }
 }
@@ -120,9 +121,9 @@ pub enum Update {
     /// Opens a session of the client that calls, which asks for a timeout of so many ticks.
     Open(u64),
     /// Keeps the client's session of this id alive.
-    Ping(u64),
+    Ping(SessionId),
     /// Ends the client's session of this id.
-    Close(u64),
+    Close(SessionId),
     /// Raises the clock by one tick, which ends each session whose deadline it reaches.
     Tick,
 }
@@ -153,8 +154,8 @@ pub enum Call {
 pub struct Entry {
     /// Who asks.
     pub client: ClientId,
-    /// The client's number of the call, from 1 on.
-    pub number: u64,
+    /// The client's number of the call.
+    pub number: CallNumber,
     /// What is asked for.
     pub update: Update,
 }

@@ -1,7 +1,8 @@
 //! The call number.
 
-ghost use Rattle.std.specs.Prelude.{◌≡◌, ◌<◌, ◌≤◌, ◌^◌, IfNone, IfSome};
+ghost use Rattle.std.specs.Prelude.{◌≡◌, ◌<◌, ◌≤◌, IfNone, IfSome};
 
+use crate::limits::MAX_CALL_NUMBER;
 use std::marker::Model;
 
 /// The number of a client's call: its first has 1, and each next one more. It is below 2^62.
@@ -11,13 +12,14 @@ pub struct CallNumber {
 }
 
 impl Model for CallNumber {
-    ghost use Rattle.std.specs.Prelude.{ℕ, ◌<◌, ◌^◌};
+    ghost use Rattle.std.specs.Prelude.{ℕ, ◌≤◌};
+    ghost use Rattle.zcalls.specs.declared.limits.TheConstants.{MAX_CALL_NUMBER};
 
     ghost Value = { ℕ };
 
     ghost view = { λ n. n.number };
 
-    ghost invariant = { λ n. n.number < 2 ^ 62 };
+    ghost invariant = { λ n. n.number ≤ MAX_CALL_NUMBER };
 
     ghost inverse = { λ n. record { number = n } };
 }
@@ -25,10 +27,10 @@ impl Model for CallNumber {
 impl CallNumber {
     /// The one of that number; none from 2^62 on.
     pub fn new(number: u64) -> Option<CallNumber>
-        ensures same { IfSome result (λ n. (n ≡ number) × (number < 2 ^ 62)) }
-        ensures none { IfNone result (2 ^ 62 ≤ number) }
+        ensures same { IfSome result (λ n. (n ≡ number) × (number ≤ MAX_CALL_NUMBER)) }
+        ensures none { IfNone result (MAX_CALL_NUMBER < number) }
     {
-        if number < 1 << 62 {
+        if number <= MAX_CALL_NUMBER {
             Some(CallNumber { number })
         } else {
             None
@@ -38,7 +40,7 @@ impl CallNumber {
     /// Its number.
     pub fn number(self) -> u64
         ensures same { result ≡ self }
-        ensures small { result < 2 ^ 62 }
+        ensures small { result ≤ MAX_CALL_NUMBER }
     {
         self.number
     }

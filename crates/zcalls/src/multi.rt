@@ -1,10 +1,8 @@
 //! The parts of a multi.
 
 use crate::call::Part;
+use crate::limits::MAX_PARTS;
 use std::marker::Model;
-
-/// The most parts of one multi. The limit is this project's profile.
-pub const MAX_PARTS: usize = 64;
 
 /// The parts of a multi, 1 to 64, in their order.
 #[derive(Drop)]
@@ -15,12 +13,14 @@ pub struct Multi {
 impl Model for Multi {
     ghost use Rattle.std.specs.Prelude.{ℕ, List, ◌≤◌, ◌<◌, length};
     ghost use Rattle.zcalls.specs.declared.call.Part.{Part};
+    ghost use Rattle.zcalls.specs.declared.limits.TheConstants.{MAX_PARTS};
 
     ghost Value = { List Part };
 
     ghost view = { λ multi. multi.parts.items };
 
-    ghost invariant = { λ multi. (0 < length multi.parts.items) × (length multi.parts.items ≤ 64) };
+    ghost invariant = { λ multi. (0 < length multi.parts.items)
+        × (length multi.parts.items ≤ MAX_PARTS) };
 }
 
 impl Multi {
@@ -30,7 +30,8 @@ impl Multi {
     pub fn new(parts: Vec<Part>) -> Result<Multi, Vec<Part>>
         ensures multi { IfOk result (λ multi. multi ≡ parts.items) }
         ensures back { IfErr result (λ back. back ≡ parts) }
-        ensures limits { IfErr result (λ _. (length parts.items ≡ 0) ⊎ (64 < length parts.items)) }
+        ensures limits { IfErr result
+            (λ _. (length parts.items ≡ 0) ⊎ (MAX_PARTS < length parts.items)) }
     {
         if parts.is_empty() || parts.len() > MAX_PARTS {
             Err(parts)
@@ -39,10 +40,19 @@ impl Multi {
         }
     }
 
+    /// The parts in their order.
+    pub fn as_slice(&self) -> &[Part]
+        ensures parts { result.now ≡ self.now }
+        ensures some { 0 < length self.now }
+        ensures few { length self.now ≤ 64 }
+    {
+        &self.parts
+    }
+
     /// The parts.
     pub fn into_parts(self) -> Vec<Part>
         ensures parts { result.items ≡ self }
-        ensures few { length self ≤ 64 }
+        ensures few { length self ≤ MAX_PARTS }
     {
         self.parts
     }

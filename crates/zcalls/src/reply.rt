@@ -2,9 +2,8 @@
 
 use crate::listed::{Names, Replies};
 use crate::refusal::Refusal;
-use std::alloc::Global;
 use zpath::Path;
-use ztree::{Data, Stat};
+use ztree::{Data, SessionId, Stat};
 
 /// What one part of a change did.
 #[derive(Drop)]
@@ -31,7 +30,7 @@ pub enum Reply {
     /// All parts of a multi were done, and did this.
     Multi(Replies),
     /// A session was opened: its id, and the timeout that it was given, in ticks.
-    Opened(u64, u64),
+    Opened(SessionId, u64),
     /// The session lives for its timeout from now.
     Pinged,
     /// The session was ended.
@@ -48,21 +47,4 @@ pub enum Reply {
     Refused(Refusal),
     /// The multi was refused, since this part of it, counted from 1, was.
     MultiRefused(usize, Refusal),
-}
-
-impl PartReply {
-    ghost use Rattle.std.specs.Prelude.{◌≡◌};
-    ghost use Rattle.zcalls.specs.Step.{reply_of};
-
-    /// The reply to a call of this one part. No call is a check alone.
-    pub fn into_reply(self, alloc: Global) -> Reply
-        ensures { result ≡ reply_of self }
-    {
-        match self {
-            PartReply::Created(path) => Reply::Created(path),
-            PartReply::Deleted => Reply::Deleted,
-            PartReply::Set(stat) => Reply::Set(stat),
-            PartReply::Checked => Reply::Multi(Replies::new(Vec::new(alloc))),
-        }
-    }
 }

@@ -1,1 +1,3 @@
 pub mod Projection
+pub mod Cases
+pub mod Tables

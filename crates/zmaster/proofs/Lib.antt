@@ -1,1 +1,5 @@
 pub mod Projection
+pub mod Numbers
+pub mod Cases
+pub mod Bounds
+pub mod Tables

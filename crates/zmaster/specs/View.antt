@@ -1,13 +1,13 @@
 -- The view of the master: what it knows of the chain.
 -- Van Renesse and Schneider, "Chain Replication for Supporting High Throughput and Availability" (OSDI 2004),
 -- section 3; epochs, and that no server's number is used again, are this project's profile.
-use Rattle.std.specs.Prelude.{ℕ, Bool, false, not, Option, None, Some, List, [], ◌∷◌, ◌==◌, map, filter}
+use Rattle.std.specs.Prelude.{ℕ, Bool, false, not, Option, None, Some, List, [], ◌∷◌, ◌==◌, nat_lt, if◌then◌else◌, map, filter}
 use Rattle.std.specs.List.{list_any, range_with_len, last_or}
 use Rattle.zserver.specs.View.{Neighbour}
 
 -- what the master knows: the chain from the head down, each member with the epoch of its pair with the one before it; the
--- member that has no state yet; the numbers of servers that were ever used; the last epoch that it gave; and how many
--- clients there are, with numbers from 0
+-- member that has no state yet; the numbers of servers that were ever used, a rising list; the last epoch that it gave; and
+-- how many clients there are, with numbers from 0
 pub record MasterView : Type 0 where
   pub chain : List Neighbour
   pub joining : Option ℕ
@@ -29,6 +29,14 @@ opening_master servers clients =
 -- the number is one of these
 abbrev pub is_among : ℕ → List ℕ → Bool
 is_among s numbers = list_any (λ number. number == s) numbers
+
+-- a rising list of numbers with this one in its place, once
+abbrev pub with_number : ℕ → List ℕ → List ℕ
+with_number s [] = s ∷ []
+with_number s (number ∷ numbers) =
+    if number == s then number ∷ numbers else
+    if nat_lt s number then s ∷ number ∷ numbers else
+    number ∷ with_number s numbers
 
 -- the members of the chain, from the head down
 abbrev pub members : MasterView → List ℕ

@@ -2,10 +2,18 @@
 
 ghost use Rattle.zserver.specs.Machine.{kept_tree};
 ghost use Rattle.zmaster.specs.Laws.{TableKeepsLogs, JoinKeepsLogs};
+ghost use Rattle.zmaster.specs.Laws.{OpeningIsBounded, MessagesKeepBounds, JoinsKeepBounds};
 
 /// The master does the same among servers with logs as among servers with the trees that the logs lead
 /// to.
 pub fn master_looks_at_no_machine()
     ensures table { TableKeepsLogs kept_tree }
     ensures join { JoinKeepsLogs kept_tree }
+{}
+
+/// Whatever the master hears, the epochs that it gives are at most three for each number that was used.
+pub fn epochs_are_few()
+    ensures opening { OpeningIsBounded }
+    ensures messages { MessagesKeepBounds kept_tree }
+    ensures joins { JoinsKeepBounds kept_tree }
 {}

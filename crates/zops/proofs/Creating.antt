@@ -7,22 +7,23 @@ use Rattle.ztree.specs.Tree.{Tree, Nodes, Path, parent_of, has_node, with_node}
 use Rattle.zcalls.specs.declared.call.Create.{Create}
 use Rattle.zcalls.specs.declared.refusal.Refusal.{Refusal}
 use Rattle.zcalls.specs.declared.refusal.Refusal.TheVariants.{NodeExists, Full}
-use Rattle.zcalls.specs.declared.reply.PartReply.TheVariants.{Created}
-use Rattle.zops.specs.declared.part.Stop.{Stop}
-use Rattle.zops.specs.declared.part.Stop.TheVariants.{Refused, Memory}
-use Rattle.zcalls.specs.Part.{create_part, create_refusals, name_refusals, made_path, unless_refused, is_root, is_owned, is_sequential, owner_of, has_no_owner, node_has}
-use Rattle.zops.specs.Stops.{IsStop, IsStopped}
+use Rattle.zcalls.specs.declared.change.ChangeReply.TheVariants.{Created}
+use Rattle.zops.specs.declared.stop.Stop.{Stop}
+use Rattle.zops.specs.declared.stop.Stop.TheVariants.{Refused, Memory}
+use Rattle.zcalls.specs.Part.{create_step, create_refusals, made_path, unless_refused, is_root, is_owned, is_sequential, owner_of, has_no_owner, node_has}
+use Rattle.zops.specs.support.Stops.{IsStop, IsFirst}
+use Rattle.zops.specs.support.Names.{name_refusals}
 use Rattle.zcalls.proofs.Tables.{first_of_both, second_of_both}
 
-pub created-refused : (t : Tree) (client : ℕ) (create : Create) (refusal : Refusal) → first_that_holds (create_refusals t client create) ≡ Some refusal → create_part t client create ≡ Err refusal
-unfolding create_part
+pub created-refused : (t : Tree) (client : ℕ) (create : Create) (refusal : Refusal) → first_that_holds (create_refusals t client create) ≡ Some refusal → create_step t client create ≡ Err refusal
+unfolding create_step
 created-refused t client create refusal e =
     let made = made_path t.nodes create.kind create.path in
     ap (λ o. unless_refused o (with_node t made create.bytes (owner_of create.kind) (is_sequential create.kind), Created made)) e
 
 pub created-done : (t : Tree) (client : ℕ) (create : Create) → first_that_holds (create_refusals t client create) ≡ None
-    → create_part t client create ≡ Ok (with_node t (made_path t.nodes create.kind create.path) create.bytes (owner_of create.kind) (is_sequential create.kind), Created (made_path t.nodes create.kind create.path))
-unfolding create_part
+    → create_step t client create ≡ Ok (with_node t (made_path t.nodes create.kind create.path) create.bytes (owner_of create.kind) (is_sequential create.kind), Created (made_path t.nodes create.kind create.path))
+unfolding create_step
 created-done t client create e =
     let made = made_path t.nodes create.kind create.path in
     ap (λ o. unless_refused o (with_node t made create.bytes (owner_of create.kind) (is_sequential create.kind), Created made)) e
@@ -34,13 +35,13 @@ place_refusals nodes create =
 
 -- a create whose owner is there, below the root, beneath a node that no session owns
 module _ (t : Tree) (client : ℕ) (create : Create) (owned : has_no_owner t.sessions client create.kind ≡ false) (root : is_root create.path ≡ false) (there : has_node t.nodes (parent_of create.path) ≡ true) (unowned : node_has is_owned t.nodes (parent_of create.path) ≡ false) where
-  pub unnamed : (refusal : Refusal) → first_that_holds (name_refusals t.nodes create.kind create.path) ≡ Some refusal → first_that_holds (create_refusals t client create) ≡ Some refusal
-  unnamed refusal e = rw (owned, root, there, unowned) (first_of_both (name_refusals t.nodes create.kind create.path) (place_refusals t.nodes create) refusal e)
+  pub unnamed : (refusal : Refusal) → first_that_holds (name_refusals t create.kind create.path) ≡ Some refusal → first_that_holds (create_refusals t client create) ≡ Some refusal
+  unnamed refusal e = rw (owned, root, there, unowned) (first_of_both (name_refusals t create.kind create.path) (place_refusals t.nodes create) refusal e)
 
-  named : first_that_holds (name_refusals t.nodes create.kind create.path) ≡ None → first_that_holds (create_refusals t client create) ≡ first_that_holds (place_refusals t.nodes create)
-  named e = rw (owned, root, there, unowned) (second_of_both (name_refusals t.nodes create.kind create.path) (place_refusals t.nodes create) e)
+  named : first_that_holds (name_refusals t create.kind create.path) ≡ None → first_that_holds (create_refusals t client create) ≡ first_that_holds (place_refusals t.nodes create)
+  named e = rw (owned, root, there, unowned) (second_of_both (name_refusals t create.kind create.path) (place_refusals t.nodes create) e)
 
-  module _ (made : Path) (is_made : made ≡ made_path t.nodes create.kind create.path) (allowed : first_that_holds (name_refusals t.nodes create.kind create.path) ≡ None) where
+  module _ (made : Path) (is_made : made ≡ made_path t.nodes create.kind create.path) (allowed : first_that_holds (name_refusals t create.kind create.path) ≡ None) where
     pub taken : has_node t.nodes made ≡ true → first_that_holds (create_refusals t client create) ≡ Some NodeExists
     taken here = named allowed ∙ rw (sym (ap (has_node t.nodes) is_made) ∙ here) refl
 
@@ -52,6 +53,6 @@ module _ (t : Tree) (client : ℕ) (create : Create) (owned : has_no_owner t.ses
 
 -- where a create finds no name, it is refused for that
 pub nameless : (t : Tree) (client : ℕ) (create : Create) → has_no_owner t.sessions client create.kind ≡ false → is_root create.path ≡ false → has_node t.nodes (parent_of create.path) ≡ true → node_has is_owned t.nodes (parent_of create.path) ≡ false
-    → (stop : Stop) → IsStopped (first_that_holds (name_refusals t.nodes create.kind create.path)) stop → IsStop (create_part t client create) stop
+    → (stop : Stop) → IsFirst (first_that_holds (name_refusals t create.kind create.path)) stop → IsStop (create_step t client create) stop
 nameless t client create owned root there unowned Memory h = tt
 nameless t client create owned root there unowned (Refused refusal) h = created-refused t client create refusal (unnamed t client create owned root there unowned refusal h)

@@ -1,3 +1,2 @@
-pub mod Stops
 pub mod Machine
-pub mod Sound
+pub mod support

@@ -1,7 +1,8 @@
 -- The machine: what it stands for, and what an entry makes of it.
 use Rattle.std.specs.Prelude.{ℕ, ◌+◌, Bool, Option, Some, refl}
 use Rattle.std.specs.Coded.{Coded, code_by, coded×, coded_ℕ, coded_bool}
-use Rattle.ztree.specs.Tree.{Tree, coded_tree}
+use Rattle.ztree.specs.Tree.{Tree}
+use Rattle.ztree.specs.support.Codes.{coded_tree}
 use Rattle.ztree.specs.Tree as tree
 use Rattle.zcalls.specs.declared.call.Entry.{Entry}
 use Rattle.zcalls.specs.declared.reply.Reply.{Reply}

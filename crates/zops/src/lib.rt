@@ -5,23 +5,21 @@
 //! both are defined in `specs/Step.antt`, without a word of how the machine keeps its tree.
 #![tactic(auto)]
 
+mod change;
+pub mod limits;
 mod machine;
 mod owner;
 mod part;
 mod query;
 mod run;
 mod session_calls;
-#[cfg(test)]
-mod session_tests;
-#[cfg(test)]
-mod testing;
-#[cfg(test)]
-mod tests;
+mod stop;
 mod update;
 
-pub use machine::{MAX_APPLIED, Machine};
+pub use limits::MAX_APPLIED;
+pub use machine::Machine;
 pub use zcalls::{
-    Call, CallNumber, Check, Create, Delete, Entry, Expected, Kind, MAX_PARTS, Multi, Names, Part,
-    PartReply, Query, Refusal, Replies, Reply, SetData, Update,
+    Call, CallNumber, Change, ChangeReply, Check, Create, Delete, Entry, Expected, Kind, MAX_PARTS,
+    Multi, Names, Part, PartReply, Query, Refusal, Replies, Reply, SetData, Update,
 };
-pub use zstore::{ClientId, Data, Stat};
+pub use ztree::{ClientId, Data, SessionId, Stat, Zxid};

@@ -1,6 +1,7 @@
 //! The machine.
 
-ghost use Rattle.std.specs.Prelude.{◌≡◌, ◌<◌, ◌-◌, ◌^◌, IfOk, OnOk, OnErr, IsErr, true, false};
+ghost use Rattle.zops.specs.declared.limits.TheConstants.{MAX_APPLIED};
+ghost use Rattle.std.specs.Prelude.{◌≡◌, ◌<◌, ◌≤◌, IfOk, OnOk, OnErr, IsErr, true, false};
 
 use crate::query::answer;
 use crate::update::update;
@@ -9,9 +10,6 @@ use std::marker::Model;
 use zcalls::{Entry, Query, Reply};
 use zpath::Memory;
 use zstore::Store;
-
-/// The most entries that a machine applies. The limit is this project's profile.
-pub const MAX_APPLIED: u64 = (1 << 62) - 1;
 
 /// One machine: the tree, and the calls on it. After it met want of memory in `apply`, it answers
 /// `Memory` for good, and its tree is never shown again.
@@ -30,9 +28,15 @@ impl Model for Machine {
 
     ghost coded = { coded_machine_view };
 
-    ghost use Rattle.zops.specs.Sound.{IsSound};
+    ghost use Rattle.zops.specs.support.Ready.{IsSound};
 
-    ghost view = { λ m. record { state = record { tree = m.store.tree; applied = m.applied }; is_broken = m.is_broken } };
+    ghost view = { λ m. record {
+      state = record {
+        tree = m.store.tree;
+        applied = m.applied;
+      };
+      is_broken = m.is_broken;
+    } };
 
     ghost invariant = { λ m. IsSound m.store m.applied };
 }
@@ -40,15 +44,20 @@ impl Model for Machine {
 impl Machine {
     ghost use Rattle.zcalls.specs.Step.{query_reply};
     ghost use Rattle.zops.specs.Machine.{opening_machine, entry_result};
-    ghost use Rattle.ztree.specs.Lawful.{IsLawful};
+    ghost use Rattle.ztree.specs.Lawful.{IsLawful, HasPaths};
+    ghost use Rattle.zcalls.specs.Bounds.{IsBounded};
 
     /// A machine with the opening tree.
     pub fn new(alloc: Global) -> Result<Machine, Memory>
-        ensures opening { IfOk result (λ m. m ≡ record { state = opening_machine; is_broken = false }) }
+        ensures opening { IfOk result (λ m. m
+            ≡ record { state = opening_machine; is_broken = false }) }
         ensures lawful { IfOk result (λ m. IsLawful m.state.tree) }
+        ensures paths { IfOk result (λ m. HasPaths m.state.tree.nodes) }
+        ensures bounded { IfOk result (λ m. IsBounded m.state.tree) }
     {
         let store = Store::new(alloc)?;
         store.keeps_lawful();
+        store.keeps_paths();
         Ok(Machine {
             alloc,
             store,
@@ -60,7 +69,7 @@ impl Machine {
     /// How many entries were applied, the refused ones among them.
     pub fn applied(&self) -> u64
         ensures applied { result ≡ self.now.state.applied }
-        ensures few { result < 2 ^ 62 }
+        ensures few { result ≤ MAX_APPLIED }
         ensures lawful { IsLawful self.now.state.tree }
     {
         self.store.keeps_lawful();
@@ -71,12 +80,15 @@ impl Machine {
     /// answers `Memory` for good.
     #[tactic(auto, unfolding(crate::specs::Machine::entry_result))]
     pub fn apply(&mut self, entry: Entry) -> Result<Option<Reply>, Memory>
-        requires { self.old.state.applied < 2 ^ 62 - 1 }
-        ensures ok { IfOk result (λ reply. (self.new.state, reply) ≡ entry_result self.old.state entry) }
+        requires { self.old.state.applied < MAX_APPLIED }
+        ensures ok { IfOk result (λ reply. (self.new.state, reply)
+            ≡ entry_result self.old.state entry) }
         ensures sound { OnOk result ((self.old.is_broken ≡ false) × (self.new.is_broken ≡ false)) }
         ensures broken { OnErr result (self.new.is_broken ≡ true) }
         ensures stays { self.old.is_broken ≡ true → IsErr result }
         ensures lawful { OnOk result (IsLawful self.new.state.tree) }
+        ensures paths { OnOk result (HasPaths self.new.state.tree.nodes) }
+        ensures bounded { OnOk result (IsBounded self.new.state.tree) }
     {
         if self.is_broken {
             return Err(Memory);
@@ -85,6 +97,7 @@ impl Machine {
             Ok(reply) => {
                 self.applied += 1;
                 self.store.keeps_lawful();
+                self.store.keeps_paths();
                 Ok(Some(reply))
             }
             Err(memory) => {
@@ -99,11 +112,14 @@ impl Machine {
         ensures ok { IfOk result (λ reply. reply ≡ query_reply self.now.state.tree query.now) }
         ensures broken { self.now.is_broken ≡ true → IsErr result }
         ensures lawful { OnOk result (IsLawful self.now.state.tree) }
+        ensures paths { OnOk result (HasPaths self.now.state.tree.nodes) }
+        ensures bounded { OnOk result (IsBounded self.now.state.tree) }
     {
         if self.is_broken {
             Err(Memory)
         } else {
             self.store.keeps_lawful();
+            self.store.keeps_paths();
             answer(self.alloc, &self.store, query)
         }
     }

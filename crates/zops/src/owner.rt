@@ -4,10 +4,11 @@ ghost use Rattle.std.specs.Prelude.{◌≡◌};
 ghost use Rattle.zcalls.specs.Part.{is_gone, has_no_owner};
 
 use zcalls::Kind;
-use zstore::{ClientId, Store};
+use zstore::Store;
+use ztree::{ClientId, SessionId};
 
 /// Whether the session is gone to this client: it isn't there, or is another client's.
-pub(crate) fn is_gone(store: &Store, client: ClientId, session: u64) -> bool
+pub(crate) fn is_gone(store: &Store, client: ClientId, session: SessionId) -> bool
     ensures { result ≡ is_gone store.now.tree.sessions client session }
 {
     match store.session(session) {

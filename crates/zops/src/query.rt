@@ -17,7 +17,7 @@ pub(crate) fn answer(alloc: Global, store: &Store, query: &Query) -> Result<Repl
     match query {
         Query::GetData(path) => get_data(alloc, store, path),
         Query::Exists(path) => Ok(exists(store, path)),
-        Query::GetChildren(path) => get_children(alloc, store, path),
+        Query::GetChildren(path) => get_children(store, path),
     }
 }
 
@@ -30,7 +30,7 @@ fn get_data(alloc: Global, store: &Store, path: &Path) -> Result<Reply, Memory>
         return Ok(Reply::Refused(Refusal::NoNode));
     };
     let (Some(node), Some(stat)) = (store.node(id), store.stat(id)) else {
-        return Ok(Reply::Refused(Refusal::NoNode));
+        unreachable!();
     };
     Ok(Reply::Data(node.bytes.copied(alloc)?, stat))
 }
@@ -45,18 +45,18 @@ fn exists(store: &Store, path: &Path) -> Reply
     };
     match store.stat(id) {
         Some(stat) => Reply::Exists(stat),
-        None => Reply::Refused(Refusal::NoNode),
+        None => unreachable!(),
     }
 }
 
 // The names of the children of the node at a path.
 #[tactic(auto, unfolding(zcalls::specs::Step::query_reply))]
-fn get_children(alloc: Global, store: &Store, path: &Path) -> Result<Reply, Memory>
+fn get_children(store: &Store, path: &Path) -> Result<Reply, Memory>
     ensures { IfOk result (λ reply. reply ≡ query_reply store.now.tree (GetChildren path.now)) }
 {
     let Some(id) = store.find(path) else {
         return Ok(Reply::Refused(Refusal::NoNode));
     };
-    let names = store.children(alloc, id)?;
+    let names = store.children(id)?;
     Ok(Reply::Children(Names::new(names)))
 }

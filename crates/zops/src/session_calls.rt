@@ -3,21 +3,19 @@
 ghost use Rattle.std.specs.Prelude.{◌≡◌, ◌<◌, ◌+◌, ◌≤◌, ◌^◌, IfOk, OnOk, OnErr};
 ghost use Rattle.ztree.specs.Sessions.{with_renewed_session, without_session, without_sessions, due_sessions};
 ghost use Rattle.ztree.specs.Tree.{with_next_zxid};
-ghost use Rattle.zcalls.specs.Bounds.{IsBounded};
-ghost use Rattle.zcalls.specs.Step.{granted_timeout, open_result, session_result, tick_result};
+ghost use Rattle.ztree.specs.declared.limits.TheConstants.{TICK_BOUND};
+ghost use Rattle.zops.specs.support.Ready.{IsSteady, IsReady, StaysBounded, Leaves};
+ghost use Rattle.zcalls.specs.Step.{granted_timeout, due_next, tick_result, update_result};
+ghost use Rattle.zcalls.specs.declared.call.Update.TheVariants.{Open, Ping, Close};
 ghost use Rattle.zcalls.specs.declared.reply.Reply.TheVariants as reply;
 
 use crate::owner::is_gone;
-use std::alloc::Global;
+use zcalls::limits::{MAX_TIMEOUT, MIN_TIMEOUT};
 use zcalls::{Refusal, Reply};
 use zpath::Memory;
-use zstore::{ClientId, MAX_SESSIONS, Store};
-
-// The least timeout that is given, in ticks. It is ZooKeeper's.
-const MIN_TIMEOUT: u64 = 2;
-
-// The greatest timeout that is given, in ticks. It is ZooKeeper's.
-const MAX_TIMEOUT: u64 = 20;
+use zstore::Store;
+use ztree::limits::MAX_SESSIONS;
+use ztree::{ClientId, SessionId};
 
 // The timeout that is given to who asks for so many ticks.
 fn granted(ticks: u64) -> u64
@@ -34,13 +32,10 @@ fn granted(ticks: u64) -> u64
 
 /// Opens a session of a client, who asks for a timeout of so many ticks.
 pub(crate) fn open(store: &mut Store, client: ClientId, ticks: u64) -> Result<Reply, Memory>
-    requires bounded { IsBounded store.old.tree }
-    requires zxid { store.old.tree.zxid + 1 < 2 ^ 40 }
-    requires given { store.old.given < 2 ^ 127 }
-    ensures done { IfOk result (λ reply. (store.new.tree, reply) ≡ open_result store.old.tree client (granted_timeout ticks)) }
-    ensures given { store.new.given ≤ store.old.given + 1 }
-    ensures bounded { OnOk result (IsBounded store.new.tree) }
-    ensures same { OnErr result (store.new ≡ store.old) }
+    requires { IsReady store.old }
+    ensures done { IfOk result (λ reply. (store.new.tree, reply)
+        ≡ update_result store.old.tree client (Open ticks)) }
+    ensures left { Leaves result store.old store.new }
 {
     if store.sessions() >= MAX_SESSIONS {
         return Ok(Reply::Refused(Refusal::TooManySessions));
@@ -48,15 +43,14 @@ pub(crate) fn open(store: &mut Store, client: ClientId, ticks: u64) -> Result<Re
     let timeout = granted(ticks);
     store.open_session(client, timeout)?;
     store.raise();
-    Ok(Reply::Opened(store.zxid(), timeout))
+    Ok(Reply::Opened(SessionId::of(store.zxid()), timeout))
 }
 
 /// Keeps a client's session alive.
-pub(crate) fn ping(store: &mut Store, client: ClientId, session: u64) -> Reply
-    requires bounded { IsBounded store.old.tree }
-    ensures done { (store.new.tree, result) ≡ session_result store.old.tree client session (with_renewed_session store.old.tree session, reply.Pinged) }
-    ensures given { store.new.given ≡ store.old.given }
-    ensures bounded { IsBounded store.new.tree }
+pub(crate) fn ping(store: &mut Store, client: ClientId, session: SessionId) -> Reply
+    requires { IsSteady store.old }
+    ensures done { (store.new.tree, result) ≡ update_result store.old.tree client (Ping session) }
+    ensures left { StaysBounded store.old store.new }
 {
     if is_gone(store, client, session) {
         return Reply::Refused(Refusal::SessionGone);
@@ -66,12 +60,10 @@ pub(crate) fn ping(store: &mut Store, client: ClientId, session: u64) -> Reply
 }
 
 /// Ends a client's session.
-pub(crate) fn close(store: &mut Store, client: ClientId, session: u64) -> Reply
-    requires bounded { IsBounded store.old.tree }
-    requires zxid { store.old.tree.zxid + 1 < 2 ^ 40 }
-    ensures done { (store.new.tree, result) ≡ session_result store.old.tree client session (with_next_zxid (without_session store.old.tree session), reply.Closed) }
-    ensures given { store.new.given ≡ store.old.given }
-    ensures bounded { IsBounded store.new.tree }
+pub(crate) fn close(store: &mut Store, client: ClientId, session: SessionId) -> Reply
+    requires { IsReady store.old }
+    ensures done { (store.new.tree, result) ≡ update_result store.old.tree client (Close session) }
+    ensures left { StaysBounded store.old store.new }
 {
     if is_gone(store, client, session) {
         return Reply::Refused(Refusal::SessionGone);
@@ -83,10 +75,9 @@ pub(crate) fn close(store: &mut Store, client: ClientId, session: u64) -> Reply
 }
 
 // Ends the sessions that the next tick reaches, by the next change.
-fn end_all(store: &mut Store, ids: Vec<u64>)
-    requires due { ids.items ≡ due_sessions store.old.tree.sessions (store.old.tree.time + 1) }
-    requires bounded { IsBounded store.old.tree }
-    requires zxid { store.old.tree.zxid + 1 < 2 ^ 40 }
+fn end_all(store: &mut Store, ids: Vec<SessionId>)
+    requires due { ids.items ≡ due_next store.old.tree }
+    requires ready { IsReady store.old }
     ensures tree { store.new.tree ≡ without_sessions store.old.tree ids.items }
     ensures given { store.new.given ≡ store.old.given }
 {
@@ -98,17 +89,15 @@ fn end_all(store: &mut Store, ids: Vec<u64>)
 
 /// Raises the clock by one tick, which ends the sessions whose deadline it reaches. Only to find
 /// these takes memory, and it comes first.
-pub(crate) fn tick(alloc: Global, store: &mut Store) -> Result<Reply, Memory>
-    requires bounded { IsBounded store.old.tree }
-    requires zxid { store.old.tree.zxid + 1 < 2 ^ 40 }
-    requires time { store.old.tree.time + 1 < 2 ^ 40 }
-    ensures done { IfOk result (λ reply. (store.new.tree, reply) ≡ tick_result store.old.tree (due_sessions store.old.tree.sessions (store.old.tree.time + 1))) }
-    ensures given { store.new.given ≡ store.old.given }
-    ensures bounded { OnOk result (IsBounded store.new.tree) }
-    ensures same { OnErr result (store.new ≡ store.old) }
+pub(crate) fn tick(store: &mut Store) -> Result<Reply, Memory>
+    requires ready { IsReady store.old }
+    requires time { store.old.tree.time + 1 < TICK_BOUND }
+    ensures done { IfOk result (λ reply. (store.new.tree, reply)
+        ≡ tick_result store.old.tree (due_next store.old.tree)) }
+    ensures left { Leaves result store.old store.new }
 {
     store.keeps_lawful();
-    let due = store.due(alloc, store.now() + 1)?;
+    let due = store.due(store.now() + 1)?;
     let ended = due.len();
     end_all(store, due);
     store.advance();

@@ -7,6 +7,7 @@ use Rattle.std.proofs.lemmas.List.{same_from_push}
 use Rattle.std.proofs.lemmas.List.Folds.{list_any-append}
 use Rattle.std.proofs.lemmas.Nat.{div_below}
 use Rattle.std.proofs.lemmas.Slice.Eq.{bytes_eq-Decides}
+use Rattle.zpath.specs.declared.limits.TheConstants.{COUNTER_DIGITS, MAX_NAME_LEN}
 use Rattle.zpath.specs.Grammar.{is_name_byte, has_bad_byte, IsName}
 use Rattle.zpath.specs.Numbered.{digits}
 
@@ -17,8 +18,8 @@ length-digits (suc width) number =
     omega (arith, length-append (digits width (number / 10)) ((48 + number % 10) ∷ []), length-digits width (number / 10))
 
 -- so a name grows by as many bytes
-pub length-numbered_name : (name : List ℕ) (counter : ℕ) → length (name ++ digits 10 counter) ≡ length name + 10
-length-numbered_name name counter = length-append name (digits 10 counter) ∙ ap (λ more. length name + more) (length-digits 10 counter)
+pub length-numbered_name : (name : List ℕ) (counter : ℕ) → length (name ++ digits COUNTER_DIGITS counter) ≡ length name + COUNTER_DIGITS
+length-numbered_name name counter = length-append name (digits COUNTER_DIGITS counter) ∙ ap (λ more. length name + more) (length-digits COUNTER_DIGITS counter)
 
 -- digits may stand in a name
 has_bad_byte-digits : (width number : ℕ) → has_bad_byte (digits width number) ≡ false
@@ -38,18 +39,18 @@ bytes_eq-longer text other longer = at (bytes_eq text other) refl
     at true is = let same = ap length ((bytes_eq-Decides text other).0 is) in absurd (omega arith)
     at false is = refl
 
--- a name with ten digits after it is a name, unless it is too long
-pub IsName-numbered : (name : List ℕ) (counter : ℕ) → IsName name → length name ≤ 245 → IsName (name ++ digits 10 counter)
+-- a name with a counter after it is a name, unless it is too long
+pub IsName-numbered : (name : List ℕ) (counter : ℕ) → IsName name → length name + COUNTER_DIGITS ≤ MAX_NAME_LEN → IsName (name ++ digits COUNTER_DIGITS counter)
 IsName-numbered name counter is short =
     let long = length-numbered_name name counter in
-    let one_dot = bytes_eq-longer (name ++ digits 10 counter) (codes ".") (omega arith) in
-    let two_dots = bytes_eq-longer (name ++ digits 10 counter) (codes "..") (omega arith) in
+    let one_dot = bytes_eq-longer (name ++ digits COUNTER_DIGITS counter) (codes ".") (omega arith) in
+    let two_dots = bytes_eq-longer (name ++ digits COUNTER_DIGITS counter) (codes "..") (omega arith) in
     record {
       filled = omega arith;
       no_dots = rw (one_dot, two_dots) refl;
       visible =
-          list_any-append (λ byte. not (is_name_byte byte)) name (digits 10 counter)
-          ∙ rw (is.visible, has_bad_byte-digits 10 counter) refl;
+          list_any-append (λ byte. not (is_name_byte byte)) name (digits COUNTER_DIGITS counter)
+          ∙ rw (is.visible, has_bad_byte-digits COUNTER_DIGITS counter) refl;
       short = omega arith;
     }
 

@@ -3,6 +3,7 @@ use Rattle.std.proofs.Common.{◌≡◌, ℕ, ◌<◌, ◌≤◌, Bool, true, fa
 use Rattle.std.specs.List.{list_any, AllByRecursion, All}
 use Rattle.std.proofs.lemmas.Bool.Decides.{nat_tests}
 use Rattle.std.proofs.lemmas.List.Elements.{All-nil, All-cons}
+use Rattle.zpath.specs.declared.limits.TheConstants.{MAX_NAME_LEN}
 use Rattle.zpath.specs.Grammar.{is_name_byte, is_empty, is_dots, has_bad_byte, is_long, IsName}
 
 both_false : (a b : Bool) → (a || b) ≡ false → (a ≡ false) × (b ≡ false)
@@ -40,7 +41,7 @@ names_from_tests (name ∷ names) passes =
       filled = filled_from_test name filled.0;
       no_dots = no_dots.0;
       visible = visible.0;
-      short = at_most 255 (length name) short.0;
+      short = at_most MAX_NAME_LEN (length name) short.0;
     } in
     (is_name, names_from_tests names (record { filled = filled.1; no_dots = no_dots.1; visible = visible.1; short = short.1 }))
 
@@ -49,7 +50,7 @@ tests_from_names [] are = record { filled = refl; no_dots = refl; visible = refl
 tests_from_names (name ∷ names) are =
     let more = tests_from_names names are.1 in
     let filled : is_empty name ≡ false = let some = are.0.filled in grind (arith, nat_tests) in
-    let short : is_long name ≡ false = not_above 255 (length name) are.0.short in
+    let short : is_long name ≡ false = not_above MAX_NAME_LEN (length name) are.0.short in
     record {
       filled = rw filled more.filled;
       no_dots = rw are.0.no_dots more.no_dots;

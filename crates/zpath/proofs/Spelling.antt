@@ -1,10 +1,11 @@
 -- A text without a fault spells a path, and the text of a path has no fault.
-use Rattle.std.proofs.Common.{◌≡◌, ℕ, ◌<◌, Bool, true, false, eqb, ltb, not, List, [], ◌∷◌, ◌++◌, length, Some, None, refl, sym, ap, ◌∙◌, arith}
+use Rattle.std.proofs.Common.{◌≡◌, ℕ, ◌<◌, Bool, true, false, eqb, not, List, [], ◌∷◌, ◌++◌, length, Some, None, refl, sym, ap, ◌∙◌, arith}
 use Rattle.std.specs.List.{flat_map}
 use Rattle.std.proofs.lemmas.Bool.Decides.{nat_tests}
 use Rattle.zpath.specs.declared.fault.PathFault.TheVariants.{NotAbsolute}
-use Rattle.zpath.specs.Grammar.{is_empty, is_reserved, IsPath, segment_of, text_of}
-use Rattle.zpath.specs.Faults.{parts_of, parts_if_any, names_of, is_absolute, text_tests, fault_of}
+use Rattle.zpath.specs.declared.limits.TheConstants.{MAX_TEXT_LEN, MAX_DEPTH}
+use Rattle.zpath.specs.Grammar.{is_empty, is_long_text, is_deep, is_reserved, IsPath, segment_of, text_of}
+use Rattle.zpath.specs.Faults.{parts_of, names_of, is_absolute, text_tests, fault_of}
 use Rattle.zpath.proofs.First.{no_test_holds, first_that_holds-none}
 use Rattle.zpath.proofs.NameTests.{PassesTests, names_from_tests, tests_from_names, at_most, not_above}
 use Rattle.zpath.proofs.Splits.{spelled-parts_of, parts_of-spelled}
@@ -14,8 +15,8 @@ pub record HasNoFault (text : List ℕ) : Type 0 where
   pub filled : is_empty text ≡ false
   pub absolute : not (is_absolute text) ≡ false
   pub names : PassesTests (names_of text)
-  pub short : ltb 1024 (length text) ≡ false
-  pub shallow : ltb 32 (length (names_of text)) ≡ false
+  pub short : is_long_text text ≡ false
+  pub shallow : is_deep (names_of text) ≡ false
   pub unreserved : is_reserved (names_of text) ≡ false
 
 no_fault : (text : List ℕ) → fault_of text ≡ None → HasNoFault text
@@ -60,23 +61,23 @@ path_from_text text none =
     let spelled : text_of (names_of text) ≡ text = rw begins.1 (text_of-names_of begins.0) in (
       record {
         names = names_from_tests (names_of text) has.names;
-        short = rw spelled (at_most 1024 (length text) has.short);
-        shallow = at_most 32 (length (names_of text)) has.shallow;
+        short = rw spelled (at_most MAX_TEXT_LEN (length text) has.short);
+        shallow = at_most MAX_DEPTH (length (names_of text)) has.shallow;
         unreserved = has.unreserved;
       },
       sym spelled,
     )
 
 -- a name is something to cut
-parts_if_any-name : (name : List ℕ) (more : List ℕ) → 0 < length name → parts_if_any (name ++ more) ≡ parts_of (name ++ more)
-parts_if_any-name [] more some = absurd (omega arith)
-parts_if_any-name (byte ∷ name) more some = refl
+names_of-name : (name : List ℕ) (more : List ℕ) → 0 < length name → names_of (47 ∷ (name ++ more)) ≡ parts_of (name ++ more)
+names_of-name [] more some = absurd (omega arith)
+names_of-name (byte ∷ name) more some = refl
 
 -- the names of a path's text are the path
 pub names_of-text_of : (path : List (List ℕ)) → IsPath path → names_of (text_of path) ≡ path
 names_of-text_of [] is = refl
 names_of-text_of (name ∷ names) is =
-    parts_if_any-name name (flat_map segment_of names) is.names.0.filled ∙ parts_of-spelled name names is.names
+    names_of-name name (flat_map segment_of names) is.names.0.filled ∙ parts_of-spelled name names is.names
 
 -- the text of a path begins with a slash
 begins-text_of : (path : List (List ℕ)) → (rest : List ℕ) × (text_of path ≡ 47 ∷ rest)
@@ -97,8 +98,8 @@ text_has_no_fault path is =
       filled = absolute.0;
       absolute = absolute.1;
       names = rw names (tests_from_names path is.names);
-      short = not_above 1024 (length (text_of path)) is.short;
-      shallow = rw names (not_above 32 (length path) is.shallow);
+      short = not_above MAX_TEXT_LEN (length (text_of path)) is.short;
+      shallow = rw names (not_above MAX_DEPTH (length path) is.shallow);
       unreserved = rw names is.unreserved;
     })
 

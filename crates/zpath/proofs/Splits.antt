@@ -6,7 +6,7 @@ use Rattle.std.proofs.lemmas.List.Elements.{All-from_get_or}
 use Rattle.std.proofs.lemmas.List.Splits.{slice_split_at, slice_split_first, slice_split_none}
 use Rattle.std.proofs.lemmas.Str.Pattern.{IsSplitOnceResult, split_once_first, split_parts}
 use Rattle.zpath.specs.Grammar.{IsName, segment_of}
-use Rattle.zpath.specs.Faults.{parts_of, parts_if_any}
+use Rattle.zpath.specs.Faults.{parts_of, names_of}
 use Rattle.zpath.proofs.NameTests.{no_slash}
 
 -- what stands between separators
@@ -35,10 +35,10 @@ parts_of-cut bytes found pair says is = split-cut 47 (lit< tt) bytes found says 
 pub parts_of-uncut : (bytes : List ℕ) (found : Option (Bor (List ℕ) × Bor (List ℕ))) → IsSplitOnceResult 47 bytes found → found ≡ None → parts_of bytes ≡ bytes ∷ []
 parts_of-uncut bytes found says is = split-uncut 47 (lit< tt) bytes found says is
 
--- where there are bytes, there are parts
-pub parts_if_any-some : (bytes : List ℕ) → (length bytes == 0) ≡ false → parts_if_any bytes ≡ parts_of bytes
-parts_if_any-some [] some = cc
-parts_if_any-some (byte ∷ bytes) some = refl
+-- where there are bytes behind the slash, there are parts
+pub names_of-some : (bytes : List ℕ) → (length bytes == 0) ≡ false → names_of (47 ∷ bytes) ≡ parts_of bytes
+names_of-some [] some = cc
+names_of-some (byte ∷ bytes) some = refl
 
 -- the parts between slashes spell the text
 pub spelled-parts_of : (bytes : List ℕ) → flat_map segment_of (parts_of bytes) ≡ 47 ∷ bytes

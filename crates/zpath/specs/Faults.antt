@@ -1,25 +1,21 @@
 -- Which fault a text has, and a path that is to have one more name. The rules are those of the grammar; the faults'
 -- names and their order are this project's own profile.
-use Rattle.std.specs.Prelude.{ℕ, Bool, false, not, ◌==◌, nat_lt, List, [], ◌∷◌, ◌++◌, length, codes, Option}
+use Rattle.std.specs.Prelude.{◌≡◌, ◌⊎◌, ℕ, Bool, false, not, ◌==◌, List, [], ◌∷◌, ◌++◌, codes, Option, Some}
 use Rattle.std.specs.List.{list_any, slice_split}
 use Rattle.zpath.specs.declared.fault.PathFault.{PathFault}
 use Rattle.zpath.specs.declared.fault.PathFault.TheVariants.{Empty, NotAbsolute, EmptyName, DotName, BadByte, NameTooLong, PathTooLong, TooDeep, Reserved, Memory}
 use Rattle.zpath.specs.First.{first_that_holds}
-use Rattle.zpath.specs.Grammar.{is_empty, is_dots, has_bad_byte, is_long, is_reserved, text_of}
+use Rattle.zpath.specs.Grammar.{is_empty, is_dots, has_bad_byte, is_long, is_long_text, is_deep, is_reserved, text_of}
 
 -- what stands between slashes
 abbrev pub parts_of : List ℕ → List (List ℕ)
 parts_of bytes = slice_split (λ byte. byte == 47) bytes
 
--- what stands between slashes, and nothing where there are no bytes
-abbrev pub parts_if_any : List ℕ → List (List ℕ)
-parts_if_any [] = []
-parts_if_any (byte ∷ bytes) = parts_of (byte ∷ bytes)
-
--- the names that a text spells after its first byte: none at the root
+-- the names that a text spells after its first byte: none where nothing follows it
 abbrev pub names_of : List ℕ → List (List ℕ)
 names_of [] = []
-names_of (slash ∷ rest) = parts_if_any rest
+names_of (slash ∷ []) = []
+names_of (slash ∷ byte ∷ rest) = parts_of (byte ∷ rest)
 
 -- the first byte is a slash
 abbrev pub is_absolute : List ℕ → Bool
@@ -35,8 +31,8 @@ text_tests text =
     ∷ (list_any is_dots (names_of text), DotName)
     ∷ (list_any has_bad_byte (names_of text), BadByte)
     ∷ (list_any is_long (names_of text), NameTooLong)
-    ∷ (nat_lt 1024 (length text), PathTooLong)
-    ∷ (nat_lt 32 (length (names_of text)), TooDeep)
+    ∷ (is_long_text text, PathTooLong)
+    ∷ (is_deep (names_of text), TooDeep)
     ∷ (is_reserved (names_of text), Reserved)
     ∷ []
 
@@ -47,14 +43,18 @@ fault_of text = first_that_holds (text_tests text)
 -- the tests of a path that is to have one more name
 abbrev pub child_tests : List (List ℕ) → List ℕ → List (Bool × PathFault)
 child_tests path name =
-    (nat_lt 1024 (length (text_of (path ++ name ∷ []))), PathTooLong)
-    ∷ (nat_lt 32 (length (path ++ name ∷ [])), TooDeep)
+    (is_long_text (text_of (path ++ name ∷ [])), PathTooLong)
+    ∷ (is_deep (path ++ name ∷ []), TooDeep)
     ∷ (is_reserved (path ++ name ∷ []), Reserved)
     ∷ []
 
 -- why a path can't have one more name
 unfoldable pub child_fault : List (List ℕ) → List ℕ → Option PathFault
 child_fault path name = first_that_holds (child_tests path name)
+
+-- the fault is the expected one, or memory ran out
+abbrev pub IsMemoryOr : Option PathFault → PathFault → Type 0
+IsMemoryOr expected fault = (fault ≡ Memory) ⊎ (expected ≡ Some fault)
 
 -- the word for a fault
 abbrev pub fault_name : PathFault → List ℕ

@@ -1,12 +1,13 @@
 -- What a path is: a list of names, each a list of bytes. The ZooKeeper Programmer's Guide, section "The ZooKeeper
 -- Data Model", has absolute paths, no control characters, no `.` or `..` alone, and the word `zookeeper` reserved.
--- Visible ASCII alone and the limits of 255 bytes, 1,024 bytes and 32 names are this project's own profile.
+-- Visible ASCII alone and the limits are this project's own profile.
 use Rattle.std.specs.Prelude.{◌≡◌, ℕ, ◌<◌, ◌≤◌, Bool, false, ◌&&◌, ◌||◌, not, ◌==◌, nat_le, nat_lt, List, [], ◌∷◌, length, codes}
 use Rattle.std.specs.List.{list_any, flat_map, AllByRecursion}
 use Rattle.std.specs.Str.{bytes_eq}
 use Rattle.std.specs.declared.cmp.Ordering.{Ordering}
 use Rattle.std.specs.Ordering.{nat_cmp}
 use Rattle.std.specs.Cmp.Lexicographic.{slice_cmp}
+use Rattle.zpath.specs.declared.limits.TheConstants.{MAX_NAME_LEN, MAX_TEXT_LEN, MAX_DEPTH}
 
 -- a visible byte that is no slash
 abbrev pub is_name_byte : ℕ → Bool
@@ -24,21 +25,29 @@ is_dots name = bytes_eq name (codes ".") || bytes_eq name (codes "..")
 abbrev pub has_bad_byte : List ℕ → Bool
 has_bad_byte name = list_any (λ byte. not (is_name_byte byte)) name
 
--- the name has more than 255 bytes
+-- the name has more bytes than a name may have
 abbrev pub is_long : List ℕ → Bool
-is_long name = nat_lt 255 (length name)
+is_long name = nat_lt MAX_NAME_LEN (length name)
+
+-- the text has more bytes than a path's text may have
+abbrev pub is_long_text : List ℕ → Bool
+is_long_text text = nat_lt MAX_TEXT_LEN (length text)
+
+-- there are more names than a path may have
+abbrev pub is_deep : List (List ℕ) → Bool
+is_deep names = nat_lt MAX_DEPTH (length names)
 
 -- the first name is `zookeeper`, which the service keeps for itself
 abbrev pub is_reserved : List (List ℕ) → Bool
 is_reserved [] = false
 is_reserved (name ∷ names) = bytes_eq name (codes "zookeeper")
 
--- 1 to 255 visible bytes without a slash, and neither `.` nor `..`
+-- one visible byte or more without a slash, not too many, and neither `.` nor `..`
 pub record IsName (name : List ℕ) : Type 0 where
   pub filled : 0 < length name
   pub no_dots : is_dots name ≡ false
   pub visible : has_bad_byte name ≡ false
-  pub short : length name ≤ 255
+  pub short : length name ≤ MAX_NAME_LEN
 
 -- a name after its slash
 abbrev pub segment_of : List ℕ → List ℕ
@@ -49,12 +58,16 @@ abbrev pub text_of : List (List ℕ) → List ℕ
 text_of [] = 47 ∷ []
 text_of (name ∷ names) = flat_map segment_of (name ∷ names)
 
--- at most 32 names in a text of at most 1,024 bytes, the first of them not reserved
+-- names, not too many, in a text that is not too long, the first of them not reserved
 pub record IsPath (path : List (List ℕ)) : Type 0 where
   pub names : AllByRecursion IsName path
-  pub short : length (text_of path) ≤ 1024
-  pub shallow : length path ≤ 32
+  pub short : length (text_of path) ≤ MAX_TEXT_LEN
+  pub shallow : length path ≤ MAX_DEPTH
   pub unreserved : is_reserved path ≡ false
+
+-- some path has this text
+abbrev pub IsTextOfPath : List ℕ → Type 0
+IsTextOfPath text = (path : List (List ℕ)) × IsPath path × (text ≡ text_of path)
 
 -- names are ordered by their bytes
 abbrev pub name_cmp : List ℕ → List ℕ → Ordering

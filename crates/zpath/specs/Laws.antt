@@ -1,8 +1,9 @@
 -- What holds of the definitions themselves, so that a text and its path can stand for one another.
-use Rattle.std.specs.Prelude.{◌≡◌, ◌≢◌, ◌↔◌, ℕ, ◌<◌, false, List, [], None}
-use Rattle.zpath.specs.Grammar.{IsPath, text_of}
+use Rattle.std.specs.Prelude.{◌≡◌, ◌≢◌, ◌↔◌, ℕ, ◌<◌, ◌^◌, false, List, [], None}
+use Rattle.zpath.specs.declared.limits.TheConstants.{COUNTER_DIGITS}
+use Rattle.zpath.specs.Grammar.{IsPath, text_of, IsTextOfPath}
 use Rattle.zpath.specs.Faults.{fault_of}
-use Rattle.zpath.specs.Numbered.{numbered, is_over, numbered_fault}
+use Rattle.zpath.specs.Numbered.{numbered_path, is_over, numbered_fault}
 
 -- two paths with the same text are the same path
 abbrev pub SpellsOnePath : Type 0
@@ -10,16 +11,17 @@ SpellsOnePath = (left right : List (List ℕ)) → IsPath left → IsPath right 
 
 -- a text has no fault exactly if it is the text of a path
 abbrev pub IsFaultless : Type 0
-IsFaultless = (text : List ℕ) → (fault_of text ≡ None) ↔ ((path : List (List ℕ)) × IsPath path × (text ≡ text_of path))
+IsFaultless = (text : List ℕ) → (fault_of text ≡ None) ↔ IsTextOfPath text
 
--- two paths below the root that end with different counters of at most ten digits are different paths, whatever names
--- were asked for
+-- two paths below the root that end with different counters, none with more digits than are shown, are different paths,
+-- whatever names were asked for
 abbrev pub TellsNumbersApart : Type 0
 TellsNumbersApart =
-    (left right : List (List ℕ)) (a b : ℕ) → left ≢ [] → right ≢ [] → a < 10000000000 → b < 10000000000 →
-    numbered left a ≡ numbered right b → a ≡ b
+    (left right : List (List ℕ)) (a b : ℕ) → left ≢ [] → right ≢ [] → a < 10 ^ COUNTER_DIGITS → b < 10 ^ COUNTER_DIGITS →
+    numbered_path left a ≡ numbered_path right b → a ≡ b
 
 -- a counter's digits are refused exactly if the path with them is over a limit
 abbrev pub RefusesWhatIsOver : Type 0
 RefusesWhatIsOver =
-    (path : List (List ℕ)) (counter : ℕ) → (numbered_fault path counter ≡ None) ↔ (is_over (numbered path counter) ≡ false)
+    (path : List (List ℕ)) (counter : ℕ) →
+    (numbered_fault path counter ≡ None) ↔ (is_over (numbered_path path counter) ≡ false)

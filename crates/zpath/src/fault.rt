@@ -5,11 +5,11 @@ ghost use Rattle.zpath.specs.declared.fault.PathFault.TheVariants.{Memory};
 
 use crate::memory;
 use std::alloc::{AllocError, AllocFailed};
-use std::error::Error;
 use std::fmt;
+use thiserror::Error;
 
 /// Why a text is refused: its first fault in this order, each looked for in the whole text.
-#[derive(Clone, Copy, Debug, PartialEq, Eq)]
+#[derive(Clone, Copy, Debug, PartialEq, Eq, Error)]
 pub enum PathFault {
     /// The text has no bytes.
     Empty,
@@ -21,15 +21,15 @@ pub enum PathFault {
     DotName,
     /// A byte of a name is not in `0x21..=0x7E`.
     BadByte,
-    /// A name has more than 255 bytes.
+    /// A name has more than `MAX_NAME_LEN` bytes.
     NameTooLong,
-    /// The text has more than 1,024 bytes.
+    /// The text has more than `MAX_TEXT_LEN` bytes.
     PathTooLong,
-    /// There are more than 32 names.
+    /// There are more than `MAX_DEPTH` names.
     TooDeep,
     /// The first name is `zookeeper`.
     Reserved,
-    /// Nothing is wrong with the text: there is no memory for its path.
+    /// Nothing is wrong with the text: its path ran out of memory.
     Memory,
 }
 
@@ -54,8 +54,6 @@ impl fmt::Display for PathFault {
         })
     }
 }
-
-impl Error for PathFault {}
 
 impl From<AllocError> for PathFault {
     ghost from_gives = { λ _ fault. fault ≡ Memory };

@@ -8,15 +8,16 @@
 
 mod fault;
 pub mod laws;
+mod limits;
 mod memory;
 mod name;
 mod numbered;
 mod path;
+mod rows;
 mod scan;
-#[cfg(test)]
-mod tests;
 
 pub use fault::PathFault;
+pub use limits::{COUNTER_DIGITS, MAX_DEPTH, MAX_NAME_LEN, MAX_TEXT_LEN};
 pub use memory::Memory;
 pub use name::Name;
 pub use path::Path;

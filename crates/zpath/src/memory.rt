@@ -1,4 +1,4 @@
-//! The want of memory, as every layer answers it.
+//! Out of memory, as every layer answers it.
 
 use std::alloc::{AllocError, AllocFailed};
 use thiserror::Error;

@@ -1,11 +1,13 @@
 //! One name of a path.
 
-ghost use Rattle.std.specs.Prelude.{◌≡◌, ◌≤◌, ◌++◌, length, Some, IfOk, refl, nat_eq};
+ghost use Rattle.std.specs.Prelude.{◌≡◌, ◌≤◌, ◌+◌, ◌++◌, length, Some, IfOk, refl, nat_eq};
 ghost use Rattle.std.specs.Cmp;
 ghost use Rattle.std.specs.Cmp.Lexicographic.{pointwise, nat_list_cmp_total, nat_list_eq_equiv, texts_po, texts_ties};
 ghost use Rattle.zpath.specs.Grammar.{name_cmp};
 ghost use Rattle.zpath.specs.Numbered.{digits};
+ghost use Rattle.zpath.specs.declared.limits.TheConstants.{COUNTER_DIGITS, MAX_NAME_LEN};
 
+use crate::limits::COUNTER_DIGITS;
 use crate::memory::Memory;
 use crate::numbered::push_digits;
 use std::alloc::Global;
@@ -13,7 +15,7 @@ use std::cmp::Ordering;
 use std::fmt;
 use std::marker::Model;
 
-/// A name: 1 to 255 visible bytes without a slash, and neither `.` nor `..`.
+/// A name: 1 to `MAX_NAME_LEN` visible bytes without a slash, and neither `.` nor `..`.
 ///
 /// Names are got from a path that was parsed, and are ordered by their bytes.
 #[derive(Debug, Drop)]
@@ -36,7 +38,7 @@ impl Name {
     ghost use Rattle.zpath.specs.Grammar.{IsName};
 
     /// The name with this text.
-    pub(crate) fn from_tested(alloc: Global, text: &str) -> Result<Name, Memory>
+    pub(crate) fn from_text(alloc: Global, text: &str) -> Result<Name, Memory>
         requires { IsName text.now }
         ensures { IfOk result (λ name. name ≡ text.now) }
     {
@@ -45,13 +47,13 @@ impl Name {
         })
     }
 
-    /// The name with a counter's ten digits after it.
+    /// The name with a counter's digits after it.
     pub(crate) fn numbered(&self, alloc: Global, counter: u64) -> Result<Name, Memory>
-        requires { length self.now ≤ 245 }
-        ensures { IfOk result (λ name. name ≡ self.now ++ digits 10 counter) }
+        requires { length self.now + COUNTER_DIGITS ≤ MAX_NAME_LEN }
+        ensures { IfOk result (λ name. name ≡ self.now ++ digits COUNTER_DIGITS counter) }
     {
         let mut text = String::from_str(alloc, self.text.as_str())?;
-        push_digits(&mut text, 10, counter)?;
+        push_digits(&mut text, COUNTER_DIGITS, counter)?;
         Ok(Name { text })
     }
 

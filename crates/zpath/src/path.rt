@@ -4,8 +4,8 @@ ghost use Rattle.std.specs.Prelude.{◌≡◌, ◌≢◌, ◌⊎◌, ◌++◌, �
 ghost use Rattle.std.specs.Cmp;
 ghost use Rattle.std.specs.Cmp.Lexicographic.{pointwise, nat_list_cmp_total, nat_list_eq_equiv, texts_ties, lists_total, lists_equiv, lists_ties};
 ghost use Rattle.zpath.specs.Grammar.{name_cmp, path_cmp};
-ghost use Rattle.zpath.specs.Faults.{fault_of, child_fault};
-ghost use Rattle.zpath.specs.Numbered.{numbered, is_over, numbered_fault};
+ghost use Rattle.zpath.specs.Faults.{fault_of, child_fault, IsMemoryOr};
+ghost use Rattle.zpath.specs.Numbered.{numbered_path, is_over, numbered_fault};
 
 use crate::fault::PathFault;
 use crate::memory::Memory;
@@ -36,7 +36,7 @@ impl Model for Path {
 }
 
 impl Path {
-    ghost use Rattle.zpath.specs.Grammar.{IsPath, text_of};
+    ghost use Rattle.zpath.specs.Grammar.{IsPath, IsTextOfPath, text_of};
 
     /// The root, which has no name. Nothing is allocated.
     pub fn root(alloc: Global) -> Path
@@ -51,10 +51,10 @@ impl Path {
     pub fn parse(alloc: Global, text: &str) -> Result<Path, PathFault>
         ensures found { IfOk result (λ path. IsPath path × (text.now ≡ text_of path)) }
         // No text of a path is refused, unless memory runs out.
-        ensures only { IfErr result (λ fault. (path : List (List ℕ)) → IsPath path → text.now ≡ text_of path → fault ≡ PathFault.Memory) }
-        ensures fault { IfErr result (λ fault. (fault ≡ PathFault.Memory) ⊎ (fault_of text.now ≡ Some fault)) }
+        ensures only { IfErr result (λ fault. IsTextOfPath text.now → fault ≡ PathFault.Memory) }
+        ensures fault { IfErr result (IsMemoryOr (fault_of text.now)) }
     {
-        let rest = scan::tested(text)?;
+        let rest = scan::faultless_rest(text)?;
         let names = scan::names_after(alloc, rest)?;
         Ok(Path { names })
     }
@@ -70,7 +70,8 @@ impl Path {
     /// The last name; none at the root.
     pub fn name(&self) -> Option<&Name>
         ensures root { IfNone result (self.now ≡ []) }
-        ensures last { IfSome result (λ name. (front : List (List ℕ)) × (self.now ≡ front ++ name.now ∷ [])) }
+        ensures last { IfSome result (λ name.
+            (front : List (List ℕ)) × (self.now ≡ front ++ name.now ∷ [])) }
     {
         self.names.last()
     }
@@ -79,7 +80,8 @@ impl Path {
     pub fn parent(&self, alloc: Global) -> Result<Option<Path>, Memory>
         ensures root { IfOk result (λ parent. IfNone parent (self.now ≡ [])) }
         ensures path { IsPath self.now }
-        ensures front { IfOk result (λ parent. IfSome parent (λ front. (name : List ℕ) × (self.now ≡ front ++ name ∷ []))) }
+        ensures front { IfOk result (λ parent. IfSome parent (λ front.
+            (name : List ℕ) × (self.now ≡ front ++ name ∷ []))) }
     {
         let Some((_, front)) = self.names.split_last() else {
             return Ok(None);
@@ -92,35 +94,35 @@ impl Path {
     pub fn child(&self, alloc: Global, name: &Name) -> Result<Path, PathFault>
         ensures child { IfOk result (λ child. IsPath child × (child ≡ self.now ++ name.now ∷ [])) }
         ensures only { OnOk result (child_fault self.now name.now ≡ None) }
-        ensures fault { IfErr result (λ fault. (fault ≡ PathFault.Memory) ⊎ (child_fault self.now name.now ≡ Some fault)) }
+        ensures fault { IfErr result (IsMemoryOr (child_fault self.now name.now)) }
     {
         if let Some(fault) = scan::child_fault(&self.names, name) {
             return Err(fault);
         }
-        let mut names = copied(alloc, &self.names)?;
-        names.push(name.copied(alloc)?)?;
+        let names = with_last(alloc, &self.names, name.copied(alloc)?)?;
         Ok(Path { names })
     }
 
-    /// The path with a counter's ten digits after its last name, as a sequential node is named ("n-" and 1 give
-    /// "n-0000000001"; ZooKeeper Programmer's Guide, "Sequence Nodes -- Unique Naming"), or why there is none.
-    /// Of a counter with more digits the last ten are taken.
+    /// The path with a counter's `COUNTER_DIGITS` digits after its last name, as a sequential node is named ("n-" and 1
+    /// give "n-0000000001"; ZooKeeper Programmer's Guide, "Sequence Nodes -- Unique Naming"), or why there is none.
+    /// Of a counter with more digits the last ones are taken.
     pub fn numbered(&self, alloc: Global, counter: u64) -> Result<Path, PathFault>
         requires below_root { self.now ≢ [] }
-        ensures numbered { IfOk result (λ path. IsPath path × (path ≡ numbered self.now counter)) }
+        ensures numbered { IfOk result (λ path.
+            IsPath path × (path ≡ numbered_path self.now counter)) }
         ensures fits { OnOk result (numbered_fault self.now counter ≡ None) }
-        ensures within { OnOk result (is_over (numbered self.now counter) ≡ false) }
-        ensures fault { IfErr result (λ fault. (fault ≡ PathFault.Memory) ⊎ (numbered_fault self.now counter ≡ Some fault)) }
-        ensures over { IfErr result (λ fault. (fault ≡ PathFault.Memory) ⊎ (is_over (numbered self.now counter) ≡ true)) }
+        ensures within { OnOk result (is_over (numbered_path self.now counter) ≡ false) }
+        ensures fault { IfErr result (IsMemoryOr (numbered_fault self.now counter)) }
+        ensures over { IfErr result (λ fault.
+            (fault ≡ PathFault.Memory) ⊎ (is_over (numbered_path self.now counter) ≡ true)) }
     {
         let Some((last, front)) = self.names.split_last() else {
-            return Ok(Path::root(alloc));
+            unreachable!()
         };
         if let Some(fault) = numbered::numbered_fault(front, last) {
             return Err(fault);
         }
-        let mut names = copied(alloc, front)?;
-        names.push(last.numbered(alloc, counter)?)?;
+        let names = with_last(alloc, front, last.numbered(alloc, counter)?)?;
         Ok(Path { names })
     }
 
@@ -131,6 +133,14 @@ impl Path {
         let names = copied(alloc, &self.names)?;
         Ok(Path { names })
     }
+}
+
+fn with_last(alloc: Global, front: &[Name], last: Name) -> Result<Vec<Name>, Memory>
+    ensures { IfOk result (λ names. names.items ≡ front.now ++ last ∷ []) }
+{
+    let mut names = copied(alloc, front)?;
+    names.push(last)?;
+    Ok(names)
 }
 
 fn copied(alloc: Global, names: &[Name]) -> Result<Vec<Name>, Memory>

@@ -2,12 +2,14 @@
 //!
 //! `rest` is what follows the first slash of a text.
 
-ghost use Rattle.std.specs.Prelude.{◌≡◌, ◌∷◌, [], ◌++◌, ◌<◌, ◌≤◌, ◌+◌, Some, None, IfOk, IfErr, length};
+ghost use Rattle.std.specs.Prelude.{◌≡◌, ◌∷◌, [], ◌++◌, ◌<◌, ◌≤◌, ◌+◌, Some, None, IfOk, IfErr, OnOk, length};
 ghost use Rattle.std.specs.List.{AllByRecursion, list_any, sum_by};
 ghost use Rattle.zpath.specs.Grammar.{IsName, IsPath, is_empty, is_dots, has_bad_byte, is_long, is_reserved, text_of};
 ghost use Rattle.zpath.specs.Faults.{parts_of, names_of, fault_of, child_fault};
+ghost use Rattle.zpath.specs.declared.limits.TheConstants.{MAX_TEXT_LEN};
 
 use crate::fault::PathFault;
+use crate::limits::{MAX_DEPTH, MAX_NAME_LEN, MAX_TEXT_LEN};
 use crate::memory::Memory;
 use crate::name::Name;
 use std::alloc::Global;
@@ -46,7 +48,7 @@ fn has_bad_name(rest: &str) -> bool
 fn has_long_name(rest: &str) -> bool
     ensures { result ≡ list_any is_long (parts_of rest.now) }
 {
-    rest.split('/').any(|name| name.len() > 255)
+    rest.split('/').any(|name| name.len() > MAX_NAME_LEN)
 }
 
 fn count_names(rest: &str) -> usize
@@ -79,9 +81,9 @@ fn names_fault(text: &str, rest: &str) -> Option<PathFault>
         Some(PathFault::BadByte)
     } else if has_long_name(rest) {
         Some(PathFault::NameTooLong)
-    } else if text.len() > 1024 {
+    } else if text.len() > MAX_TEXT_LEN {
         Some(PathFault::PathTooLong)
-    } else if count_names(rest) > 32 {
+    } else if count_names(rest) > MAX_DEPTH {
         Some(PathFault::TooDeep)
     } else if is_reserved(rest) {
         Some(PathFault::Reserved)
@@ -92,7 +94,7 @@ fn names_fault(text: &str, rest: &str) -> Option<PathFault>
 
 /// What follows the first slash of a text without a fault, or the text's first fault.
 #[tactic(auto, unfolding(crate::specs::Faults::fault_of))]
-pub(crate) fn tested(text: &str) -> Result<&str, PathFault>
+pub(crate) fn faultless_rest(text: &str) -> Result<&str, PathFault>
     ensures ok { IfOk result (λ rest. (fault_of text.now ≡ None) × (text.now ≡ 47 ∷ rest.now)) }
     ensures err { IfErr result (λ fault. fault_of text.now ≡ Some fault) }
 {
@@ -122,16 +124,24 @@ pub(crate) fn names_after(alloc: Global, rest: &str) -> Result<Vec<Name>, Memory
     }
     let mut left = rest;
     while let Some((name, more)) = left.split_once('/') {
-        names.push(Name::from_tested(alloc, name)?)?;
+        push_name(alloc, &mut names, name)?;
         left = more;
     }
-    names.push(Name::from_tested(alloc, left)?)?;
+    push_name(alloc, &mut names, left)?;
     Ok(names)
+}
+
+fn push_name(alloc: Global, names: &mut Vec<Name>, text: &str) -> Result<(), Memory>
+    requires { IsName text.now }
+    ensures { OnOk result (names.new.items ≡ names.old.items ++ text.now ∷ []) }
+{
+    names.push(Name::from_text(alloc, text)?)?;
+    Ok(())
 }
 
 // The length of the names, each after its slash.
 fn text_len(names: &[Name]) -> usize
-    requires { sum_by (λ name. length name + 1) names.now ≤ 1024 }
+    requires { sum_by (λ name. length name + 1) names.now ≤ MAX_TEXT_LEN }
     ensures { result ≡ sum_by (λ name. length name + 1) names.now }
 {
     names.iter().map(|name| name.as_str().len() + 1).sum()
@@ -159,9 +169,9 @@ pub(crate) fn child_fault(path: &[Name], name: &Name) -> Option<PathFault>
     requires { IsPath path.now }
     ensures { result ≡ child_fault path.now name.now }
 {
-    if child_len(path, name) > 1024 {
+    if child_len(path, name) > MAX_TEXT_LEN {
         Some(PathFault::PathTooLong)
-    } else if path.len() + 1 > 32 {
+    } else if path.len() + 1 > MAX_DEPTH {
         Some(PathFault::TooDeep)
     } else if is_reserved_child(path, name) {
         Some(PathFault::Reserved)

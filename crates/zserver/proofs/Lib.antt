@@ -1,3 +1,5 @@
 pub mod Fields
 pub mod Projection
 pub mod Answering
+pub mod Cases
+pub mod Tables

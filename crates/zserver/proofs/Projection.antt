@@ -10,8 +10,8 @@ use Rattle.zserver.specs.declared.process.Process.{Process}
 use Rattle.zserver.specs.declared.process.Process.TheVariants.{Master, Server, Client}
 use Rattle.zserver.specs.Machine.{Does, after_entries, replay, log_of}
 use Rattle.zserver.specs.View.{ServerView, Neighbour, Transfer, MessageOf}
-use Rattle.zserver.specs.Table.{Taken, ignored, is_neighbour, has_room, acks, answers, forwards, above, accept, takes_submit, takes_query, takes_update, takes_ack, takes_snapshot, takes_new_pred, takes_new_succ, becomes_head, becomes_tail, takes}
-use Rattle.zserver.specs.Homomorphism.{IsHomomorphism, message_with, posts_with, view_with, taken_with}
+use Rattle.zserver.specs.Table.{ServerResult, no_effect, is_neighbour, has_room, ack_posts, answer_posts, forward_post, entries_above, accept_result, submit_row, query_row, update_row, ack_row, snapshot_row, new_pred_row, new_succ_row, become_head_row, become_tail_row, server_step}
+use Rattle.zserver.specs.support.Homomorphism.{IsHomomorphism, message_with, posts_with, view_with, server_result_with}
 use Rattle.zserver.proofs.Fields.{view_of}
 
 -- the machine after one more entry
@@ -32,41 +32,41 @@ log_stands_for_machine does =
 module _ {M N : Type 0} {d : Does M} {e : Does N} (h : M → N) (same : IsHomomorphism d e h) where
   -- replies and acknowledgements name no machine
   answers_with : (entry : Entry) (reply : Option Reply) (pred : Option Neighbour) (n : ℕ)
-      → posts_with h (answers entry reply ++ acks pred n) ≡ answers entry reply ++ acks pred n
+      → posts_with h (answer_posts entry reply ++ ack_posts pred n) ≡ answer_posts entry reply ++ ack_posts pred n
   answers_with entry None None n = refl
   answers_with entry None (Some pred) n = refl
   answers_with entry (Some reply) None n = refl
   answers_with entry (Some reply) (Some pred) n = refl
 
-  acks_with : (pred : Option Neighbour) (n : ℕ) → posts_with h (acks pred n) ≡ acks pred n
+  acks_with : (pred : Option Neighbour) (n : ℕ) → posts_with h (ack_posts pred n) ≡ ack_posts pred n
   acks_with None n = refl
   acks_with (Some pred) n = refl
 
   -- nor do forwarded entries
-  forwards_with : (succ : Neighbour) (sent : List (ℕ × Entry)) → posts_with h (map (forwards succ) sent) ≡ map (forwards succ) sent
+  forwards_with : (succ : Neighbour) (sent : List (ℕ × Entry)) → posts_with h (map (forward_post succ) sent) ≡ map (forward_post succ) sent
   forwards_with succ [] = refl
-  forwards_with succ (first ∷ sent) = ap (λ posts. forwards succ first ∷ posts) (forwards_with succ sent)
+  forwards_with succ (first ∷ sent) = ap (λ posts. forward_post succ first ∷ posts) (forwards_with succ sent)
 
   -- a condition is the same on both sides
-  if_with : (b : Bool) (x y : Taken M) (x' y' : Taken N) → x' ≡ taken_with h x → y' ≡ taken_with h y
-      → (if b then x' else y') ≡ taken_with h (if b then x else y)
+  if_with : (b : Bool) (x y : ServerResult M) (x' y' : ServerResult N) → x' ≡ server_result_with h x → y' ≡ server_result_with h y
+      → (if b then x' else y') ≡ server_result_with h (if b then x else y)
   if_with true x y x' y' p q = p
   if_with false x y x' y' p q = q
 
   -- a server without successor, after an entry that made this of its machine
-  processed : List (ℕ × Entry) → Option Neighbour → ℕ → Entry → N × Option Reply → Taken N
+  processed : List (ℕ × Entry) → Option Neighbour → ℕ → Entry → N × Option Reply → ServerResult N
   processed sent pred n entry did =
-      (record { machine = Some did.0; last = n; sent = sent; pred = pred; succ = None }, answers entry did.1 ++ acks pred n)
+      (record { machine = Some did.0; last = n; sent = sent; pred = pred; succ = None }, answer_posts entry did.1 ++ ack_posts pred n)
 
   -- the same with one
-  forwarded : List (ℕ × Entry) → Option Neighbour → Neighbour → ℕ → Entry → N × Option Reply → Taken N
+  forwarded : List (ℕ × Entry) → Option Neighbour → Neighbour → ℕ → Entry → N × Option Reply → ServerResult N
   forwarded sent pred succ n entry did =
-      (record { machine = Some did.0; last = n; sent = sent ++ (n, entry) ∷ []; pred = pred; succ = Some succ }, forwards succ (n, entry) ∷ [])
+      (record { machine = Some did.0; last = n; sent = sent ++ (n, entry) ∷ []; pred = pred; succ = Some succ }, forward_post succ (n, entry) ∷ [])
 
   -- what is accepted
   accept_with : (machine : Option M) (last : ℕ) (sent : List (ℕ × Entry)) (pred succ : Option Neighbour) (m : M) (n : ℕ) (entry : Entry)
-      → accept e (view_with h (view_of machine last sent pred succ)) (h m) n entry ≡ taken_with h (accept d (view_of machine last sent pred succ) m n entry)
-  unfolding accept processed forwarded
+      → accept_result e (view_with h (view_of machine last sent pred succ)) (h m) n entry ≡ server_result_with h (accept_result d (view_of machine last sent pred succ) m n entry)
+  unfolding accept_result processed forwarded
   accept_with machine last sent pred None m n entry =
       ap (processed sent pred n entry) (same.apply m entry)
       ∙ (λ i. (record { machine = Some (h (d.apply m entry).0); last = n; sent = sent; pred = pred; succ = None }, sym (answers_with entry (d.apply m entry).1 pred n) i))
@@ -74,94 +74,94 @@ module _ {M N : Type 0} {d : Does M} {e : Does N} (h : M → N) (same : IsHomomo
 
   -- one row after the other
   submit_with : (machine : Option M) (last : ℕ) (sent : List (ℕ × Entry)) (pred succ : Option Neighbour) (c number : ℕ) (update : Update)
-      → takes_submit e (view_with h (view_of machine last sent pred succ)) c number update
-      ≡ taken_with h (takes_submit d (view_of machine last sent pred succ) c number update)
-  unfolding takes_submit
+      → submit_row e (view_with h (view_of machine last sent pred succ)) c number update
+      ≡ server_result_with h (submit_row d (view_of machine last sent pred succ) c number update)
+  unfolding submit_row
   submit_with None last sent pred succ c number update = refl
   submit_with (Some m) last sent (Some pred) succ c number update = refl
   submit_with (Some m) last sent None succ c number update =
       let v : ServerView M = view_of (Some m) last sent None succ in
       let entry : Entry = record { client = c; number = number; update = update } in
-      if_with (has_room v) (accept d v m (last + 1) entry) (ignored v) (accept e (view_with h v) (h m) (last + 1) entry) (ignored (view_with h v))
+      if_with (has_room v) (accept_result d v m (last + 1) entry) (no_effect v) (accept_result e (view_with h v) (h m) (last + 1) entry) (no_effect (view_with h v))
       (accept_with (Some m) last sent None succ m (last + 1) entry) refl
 
   query_with : (machine : Option M) (last : ℕ) (sent : List (ℕ × Entry)) (pred succ : Option Neighbour) (c number : ℕ) (query : Query)
-      → takes_query e (view_with h (view_of machine last sent pred succ)) c number query
-      ≡ taken_with h (takes_query d (view_of machine last sent pred succ) c number query)
-  unfolding takes_query
+      → query_row e (view_with h (view_of machine last sent pred succ)) c number query
+      ≡ server_result_with h (query_row d (view_of machine last sent pred succ) c number query)
+  unfolding query_row
   query_with None last sent pred succ c number query = refl
   query_with (Some m) last sent pred (Some succ) c number query = refl
   query_with (Some m) last sent pred None c number query = λ i. (view_of (Some (h m)) last sent pred None, (Client c, message.Answer number (same.ask m query i)) ∷ [])
 
   update_with : (machine : Option M) (last : ℕ) (sent : List (ℕ × Entry)) (pred succ : Option Neighbour) (p epoch n : ℕ) (entry : Entry)
-      → takes_update e (view_with h (view_of machine last sent pred succ)) p epoch n entry
-      ≡ taken_with h (takes_update d (view_of machine last sent pred succ) p epoch n entry)
-  unfolding takes_update
+      → update_row e (view_with h (view_of machine last sent pred succ)) p epoch n entry
+      ≡ server_result_with h (update_row d (view_of machine last sent pred succ) p epoch n entry)
+  unfolding update_row
   update_with None last sent pred succ p epoch n entry = refl
   update_with (Some m) last sent pred succ p epoch n entry =
       let v : ServerView M = view_of (Some m) last sent pred succ in
       let w : ServerView N = view_with h v in
-      let did : Taken M = accept d v m n entry in
-      let does : Taken N = accept e w (h m) n entry in
+      let did : ServerResult M = accept_result d v m n entry in
+      let does : ServerResult N = accept_result e w (h m) n entry in
       if_with (is_neighbour pred p epoch)
-      (if n == last + 1 then if has_room v then did else ignored v else ignored v) (ignored v)
-      (if n == last + 1 then if has_room v then does else ignored w else ignored w) (ignored w)
+      (if n == last + 1 then if has_room v then did else no_effect v else no_effect v) (no_effect v)
+      (if n == last + 1 then if has_room v then does else no_effect w else no_effect w) (no_effect w)
       (if_with (n == last + 1)
-      (if has_room v then did else ignored v) (ignored v)
-      (if has_room v then does else ignored w) (ignored w)
-      (if_with (has_room v) did (ignored v) does (ignored w) (accept_with (Some m) last sent pred succ m n entry) refl) refl) refl
+      (if has_room v then did else no_effect v) (no_effect v)
+      (if has_room v then does else no_effect w) (no_effect w)
+      (if_with (has_room v) did (no_effect v) does (no_effect w) (accept_with (Some m) last sent pred succ m n entry) refl) refl) refl
 
-  ack_with : (v : ServerView M) (t epoch n : ℕ) → takes_ack (view_with h v) t epoch n ≡ taken_with h (takes_ack v t epoch n)
-  unfolding takes_ack
+  ack_with : (v : ServerView M) (t epoch n : ℕ) → ack_row (view_with h v) t epoch n ≡ server_result_with h (ack_row v t epoch n)
+  unfolding ack_row
   ack_with v t epoch n =
       let w : ServerView N = view_with h v in
       if_with (is_neighbour v.succ t epoch)
-      (record v { sent = above n v.sent }, acks v.pred n) (ignored v)
-      (record w { sent = above n v.sent }, acks v.pred n) (ignored w)
-      (λ i. (record w { sent = above n v.sent }, sym (acks_with v.pred n) i)) refl
+      (record v { sent = entries_above n v.sent }, ack_posts v.pred n) (no_effect v)
+      (record w { sent = entries_above n v.sent }, ack_posts v.pred n) (no_effect w)
+      (λ i. (record w { sent = entries_above n v.sent }, sym (acks_with v.pred n) i)) refl
 
   snapshot_with : (machine : Option M) (last : ℕ) (sent : List (ℕ × Entry)) (pred succ : Option Neighbour) (p epoch : ℕ) (transfer : Transfer M)
-      → takes_snapshot (view_with h (view_of machine last sent pred succ)) p epoch (record { last = transfer.last; machine = h transfer.machine })
-      ≡ taken_with h (takes_snapshot (view_of machine last sent pred succ) p epoch transfer)
-  unfolding takes_snapshot
+      → snapshot_row (view_with h (view_of machine last sent pred succ)) p epoch (record { last = transfer.last; machine = h transfer.machine })
+      ≡ server_result_with h (snapshot_row (view_of machine last sent pred succ) p epoch transfer)
+  unfolding snapshot_row
   snapshot_with (Some m) last sent pred succ p epoch transfer = refl
   snapshot_with None last sent pred succ p epoch transfer =
       let v : ServerView M = view_of None last sent pred succ in
       let w : ServerView N = view_with h v in
       if_with (is_neighbour pred p epoch)
-      (view_of (Some transfer.machine) transfer.last [] pred succ, (Server p, message.Ack epoch transfer.last) ∷ (Master, message.Joined epoch) ∷ []) (ignored v)
-      (view_of (Some (h transfer.machine)) transfer.last [] pred succ, (Server p, message.Ack epoch transfer.last) ∷ (Master, message.Joined epoch) ∷ []) (ignored w)
+      (view_of (Some transfer.machine) transfer.last [] pred succ, (Server p, message.Ack epoch transfer.last) ∷ (Master, message.Joined epoch) ∷ []) (no_effect v)
+      (view_of (Some (h transfer.machine)) transfer.last [] pred succ, (Server p, message.Ack epoch transfer.last) ∷ (Master, message.Joined epoch) ∷ []) (no_effect w)
       refl refl
 
   new_pred_with : (machine : Option M) (last : ℕ) (sent : List (ℕ × Entry)) (pred succ : Option Neighbour) (epoch p : ℕ)
-      → takes_new_pred (view_with h (view_of machine last sent pred succ)) epoch p ≡ taken_with h (takes_new_pred (view_of machine last sent pred succ) epoch p)
-  unfolding takes_new_pred
+      → new_pred_row (view_with h (view_of machine last sent pred succ)) epoch p ≡ server_result_with h (new_pred_row (view_of machine last sent pred succ) epoch p)
+  unfolding new_pred_row
   new_pred_with None last sent pred succ epoch p = refl
   new_pred_with (Some m) last sent pred succ epoch p = refl
 
   new_succ_with : (machine : Option M) (last : ℕ) (sent : List (ℕ × Entry)) (pred succ : Option Neighbour) (epoch t : ℕ) (has : Option ℕ)
-      → takes_new_succ (view_with h (view_of machine last sent pred succ)) epoch t has
-      ≡ taken_with h (takes_new_succ (view_of machine last sent pred succ) epoch t has)
-  unfolding takes_new_succ
+      → new_succ_row (view_with h (view_of machine last sent pred succ)) epoch t has
+      ≡ server_result_with h (new_succ_row (view_of machine last sent pred succ) epoch t has)
+  unfolding new_succ_row
   new_succ_with None last sent pred succ epoch t has = refl
   new_succ_with (Some m) last sent pred succ epoch t None = refl
   new_succ_with (Some m) last sent pred succ epoch t (Some n) =
-      λ i. (view_of (Some (h m)) last sent pred (Some (t, epoch)), sym (forwards_with (t, epoch) (above n sent)) i)
+      λ i. (view_of (Some (h m)) last sent pred (Some (t, epoch)), sym (forwards_with (t, epoch) (entries_above n sent)) i)
 
   new_tail_with : (machine : Option M) (last : ℕ) (sent : List (ℕ × Entry)) (pred succ : Option Neighbour)
-      → becomes_tail (view_with h (view_of machine last sent pred succ)) ≡ taken_with h (becomes_tail (view_of machine last sent pred succ))
-  unfolding becomes_tail
+      → become_tail_row (view_with h (view_of machine last sent pred succ)) ≡ server_result_with h (become_tail_row (view_of machine last sent pred succ))
+  unfolding become_tail_row
   new_tail_with None last sent pred succ = refl
   new_tail_with (Some m) last sent pred succ = λ i. (view_of (Some (h m)) last [] pred None, sym (acks_with pred last) i)
 
-  new_head_with : (v : ServerView M) → becomes_head (view_with h v) ≡ taken_with h (becomes_head v)
-  unfolding becomes_head
+  new_head_with : (v : ServerView M) → become_head_row (view_with h v) ≡ server_result_with h (become_head_row v)
+  unfolding become_head_row
   new_head_with v = refl
 
   -- the table
   pub table_with : (v : ServerView M) (from : Process) (m : MessageOf M)
-      → takes e (view_with h v) from (message_with h m) ≡ taken_with h (takes d v from m)
-  unfolding takes
+      → server_step e (view_with h v) from (message_with h m) ≡ server_result_with h (server_step d v from m)
+  unfolding server_step
   table_with v (Client c) (message.Submit number update) = submit_with v.machine v.last v.sent v.pred v.succ c number update
   table_with v (Client c) (message.Query number query) = query_with v.machine v.last v.sent v.pred v.succ c number query
   table_with v (Server p) (message.Update epoch n entry) = update_with v.machine v.last v.sent v.pred v.succ p epoch n entry

@@ -5,7 +5,7 @@ use Rattle.zserver.specs.declared.message.Message.TheVariants as message
 use Rattle.zserver.specs.declared.process.Process.{Process}
 use Rattle.zserver.specs.Machine.{Does}
 use Rattle.zserver.specs.View.{ServerView, MessageOf, is_tail}
-use Rattle.zserver.specs.Table.{takes}
+use Rattle.zserver.specs.Table.{server_step}
 
 -- the message answers a call
 abbrev pub is_answer : {M : Type 0} → MessageOf M → Bool
@@ -16,4 +16,4 @@ is_answer m = false
 abbrev pub OnlyTailsAnswer : {M : Type 0} → Does M → Type 0
 OnlyTailsAnswer {M} does =
     (v : ServerView M) (from : Process) (m : MessageOf M)
-    → list_any (λ post. is_answer post.1) (takes does v from m).1 ≡ true → is_tail v ≡ true
+    → list_any (λ post. is_answer post.1) (server_step does v from m).1 ≡ true → is_tail v ≡ true

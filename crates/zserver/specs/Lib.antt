@@ -1,6 +1,5 @@
 pub mod Machine
 pub mod View
 pub mod Table
-pub mod Homomorphism
 pub mod Laws
-pub mod Rows
+pub mod support

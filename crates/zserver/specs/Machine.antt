@@ -3,12 +3,13 @@
 -- Van Renesse and Schneider, "Chain Replication for Supporting High Throughput and Availability" (OSDI 2004),
 -- sections 2 and 3. A copy of a machine is its value.
 use Rattle.std.specs.Prelude.{Option, List, [], ◌∷◌, ◌++◌}
-use Rattle.ztree.specs.Tree.{Tree, opening_tree}
+use Rattle.ztree.specs.Tree.{Tree}
 use Rattle.zcalls.specs.declared.call.Entry.{Entry}
 use Rattle.zcalls.specs.declared.call.Query.{Query}
 use Rattle.zcalls.specs.declared.reply.Reply.{Reply}
-use Rattle.zcalls.specs.Step.{step, query_reply}
-use Rattle.zcalls.specs.Kept.{KeptState, nothing_kept, entry_step}
+use Rattle.zcalls.specs.Kept as kept
+use Rattle.zcalls.specs.Kept.{Plain, KeptState, nothing_kept, entry_step}
+use Rattle.zcalls.specs.PlainTree.{plain_tree}
 
 -- what a machine does: where it starts, what an entry makes of it and the reply or none, and its reply to a query
 pub record Does (M : Type 0) : Type 0 where
@@ -16,14 +17,22 @@ pub record Does (M : Type 0) : Type 0 where
   pub apply : M → Entry → M × Option Reply
   pub ask : M → Query → Reply
 
--- the plain tree with kept replies: entries act by the entry step over the plain step, and queries are asked of the tree
+-- a plain service with kept replies: entries act by the entry step over its updates, and queries are asked of its state
+abbrev pub machine_of : {P : Type 0} → Plain P → Does (KeptState P)
+machine_of plain =
+    record {
+      start = nothing_kept plain.opening;
+      apply = entry_step plain.update;
+      ask = λ s query. plain.ask s.plain query;
+    }
+
+-- the plain tree with kept replies
 abbrev pub kept_tree : Does (KeptState Tree)
-kept_tree = record { start = nothing_kept opening_tree; apply = entry_step step; ask = λ s query. query_reply s.plain query }
+kept_tree = machine_of plain_tree
 
 -- a machine after more entries, one after the other
 abbrev pub after_entries : {M : Type 0} → Does M → M → List Entry → M
-after_entries does m [] = m
-after_entries does m (entry ∷ entries) = after_entries does (does.apply m entry).0 entries
+after_entries does m entries = kept.after_entries does.apply m entries
 
 -- a machine after a log, from its start
 abbrev pub replay : {M : Type 0} → Does M → List Entry → M

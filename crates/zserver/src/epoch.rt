@@ -1,7 +1,8 @@
 //! The epoch of two neighbours.
 
-ghost use Rattle.std.specs.Prelude.{◌≡◌, ◌<◌, ◌≤◌, ◌^◌, IfNone, IfSome};
+ghost use Rattle.std.specs.Prelude.{◌≡◌, ◌<◌, ◌≤◌, IfNone, IfSome};
 
+use crate::limits::MAX_EPOCH;
 use std::marker::Model;
 
 /// The epoch of a pair of neighbours in the chain: the master gives each pair that it makes a number
@@ -13,24 +14,25 @@ pub struct Epoch {
 }
 
 impl Model for Epoch {
-    ghost use Rattle.std.specs.Prelude.{ℕ, ◌<◌, ◌^◌};
+    ghost use Rattle.std.specs.Prelude.{ℕ, ◌≤◌};
+    ghost use Rattle.zserver.specs.declared.limits.TheConstants.{MAX_EPOCH};
 
     ghost Value = { ℕ };
 
     ghost view = { λ n. n.number };
 
-    ghost invariant = { λ n. n.number < 2 ^ 62 };
+    ghost invariant = { λ n. n.number ≤ MAX_EPOCH };
 
     ghost inverse = { λ n. record { number = n } };
 }
 
 impl Epoch {
-    /// The one of that number; none from 2^62 on.
+    /// The one of that number; none above `MAX_EPOCH`.
     pub fn new(number: u64) -> Option<Epoch>
-        ensures same { IfSome result (λ n. (n ≡ number) × (number < 2 ^ 62)) }
-        ensures none { IfNone result (2 ^ 62 ≤ number) }
+        ensures same { IfSome result (λ n. (n ≡ number) × (number ≤ MAX_EPOCH)) }
+        ensures none { IfNone result (MAX_EPOCH < number) }
     {
-        if number < 1 << 62 {
+        if number <= MAX_EPOCH {
             Some(Epoch { number })
         } else {
             None
@@ -40,7 +42,7 @@ impl Epoch {
     /// Its number.
     pub fn number(self) -> u64
         ensures same { result ≡ self }
-        ensures small { result < 2 ^ 62 }
+        ensures small { result ≤ MAX_EPOCH }
     {
         self.number
     }

@@ -1,7 +1,8 @@
 //! The log number.
 
-ghost use Rattle.std.specs.Prelude.{◌≡◌, ◌<◌, ◌≤◌, ◌^◌, IfNone, IfSome};
+ghost use Rattle.std.specs.Prelude.{◌≡◌, ◌<◌, ◌≤◌, IfNone, IfSome};
 
+use crate::limits::MAX_LOG_NUMBER;
 use std::marker::Model;
 
 /// The number of an entry in the log of a server, from 1 on; 0 stands before the first. It is below
@@ -12,24 +13,25 @@ pub struct LogNumber {
 }
 
 impl Model for LogNumber {
-    ghost use Rattle.std.specs.Prelude.{ℕ, ◌<◌, ◌^◌};
+    ghost use Rattle.std.specs.Prelude.{ℕ, ◌≤◌};
+    ghost use Rattle.zserver.specs.declared.limits.TheConstants.{MAX_LOG_NUMBER};
 
     ghost Value = { ℕ };
 
     ghost view = { λ n. n.number };
 
-    ghost invariant = { λ n. n.number < 2 ^ 62 };
+    ghost invariant = { λ n. n.number ≤ MAX_LOG_NUMBER };
 
     ghost inverse = { λ n. record { number = n } };
 }
 
 impl LogNumber {
-    /// The one of that number; none from 2^62 on.
+    /// The one of that number; none above `MAX_LOG_NUMBER`.
     pub fn new(number: u64) -> Option<LogNumber>
-        ensures same { IfSome result (λ n. (n ≡ number) × (number < 2 ^ 62)) }
-        ensures none { IfNone result (2 ^ 62 ≤ number) }
+        ensures same { IfSome result (λ n. (n ≡ number) × (number ≤ MAX_LOG_NUMBER)) }
+        ensures none { IfNone result (MAX_LOG_NUMBER < number) }
     {
-        if number < 1 << 62 {
+        if number <= MAX_LOG_NUMBER {
             Some(LogNumber { number })
         } else {
             None
@@ -39,7 +41,7 @@ impl LogNumber {
     /// Its number.
     pub fn number(self) -> u64
         ensures same { result ≡ self }
-        ensures small { result < 2 ^ 62 }
+        ensures small { result ≤ MAX_LOG_NUMBER }
     {
         self.number
     }

@@ -14,7 +14,10 @@ use Rattle.zworld.specs.declared.event.Event.{Event}
 use Rattle.zworld.specs.declared.event.Event.TheVariants.{Begin, Retry, Take, Ignore, Fail, Join}
 use Rattle.zworld.specs.Links.{Links, put, without_front, is_same, addressed}
 use Rattle.zworld.specs.World.{World, at}
-use Rattle.zworld.specs.Events.{front_is, is_request, has_failed, is_enabled, answered, server_does, client_does, takes, takes_front, acts, happens, run}
+use Rattle.zworld.specs.Events.{front_is, is_request, has_failed, is_enabled, with_answer, server_does, client_does, process_step, front_step, acts, happens, run}
+use Rattle.zworld.specs.declared.outcome.Outcome.{Outcome}
+use Rattle.zworld.specs.declared.outcome.Outcome.TheVariants.{Acted, Stopped, Unheard}
+use Rattle.zworld.specs.Reading.{is_query, read_delivery, is_delivery, is_fitting, read}
 use Rattle.zworld.specs.Alike.{IsAlike}
 
 -- the links agree where it matters in the world
@@ -32,10 +35,10 @@ front_agrees : {M : Type 0} (v : World M) (links others : Links M) (sender taker
 front_agrees v links others sender taker agree from to alive = ap (λ link. if is_same from sender && is_same to taker then drop 1 link else link) (agree from to alive)
 
 -- an answer that is told keeps worlds alike
-answered_alike : {M : Type 0} (v w : World M) (c : ℕ) (reply : Option (ℕ × Reply)) → IsAlike v w → IsAlike (answered v c reply) (answered w c reply)
+answered_alike : {M : Type 0} (v w : World M) (c : ℕ) (reply : Option (ℕ × Reply)) → IsAlike v w → IsAlike (with_answer v c reply) (with_answer w c reply)
 answered_alike v w c None alike = alike
 answered_alike v w c (Some reply) alike = record {
-  rest = ap (λ u. answered u c (Some reply)) alike.rest;
+  rest = ap (λ u. with_answer u c (Some reply)) alike.rest;
   servers = alike.servers;
   links = alike.links;
 }
@@ -79,18 +82,18 @@ module _ {M : Type 0} (machine : Does M) (v : World M) (others : ℕ → ServerV
 
   -- what a taker that has not failed does
   takes_alike : (from to : Process) (message : MessageOf M) → has_failed v to ≡ false
-      → IsAlike (takes machine (popped from to) from to message) (takes machine (other_popped from to) from to message)
+      → IsAlike (process_step machine (popped from to) from to message) (process_step machine (other_popped from to) from to message)
   takes_alike from Master message alive = record {
     rest = refl;
     servers = same_views;
     links = put_agrees v _ _ Master _ (front_agrees v _ _ from Master agree);
   }
   takes_alike from (Server s) message alive =
-      let did : ServerView M → ServerView M × List (Post M) = λ view. server.takes machine view from message in
+      let did : ServerView M → ServerView M × List (Post M) = λ view. server.server_step machine view from message in
       subst (λ view. IsAlike (server_does (popped from (Server s)) s (did (v.servers s))) (server_does (other_popped from (Server s)) s (did view)))
       (same_views s alive) (server_does_alike from s (did (v.servers s)))
   takes_alike from (Client c) message alive =
-      let took : client.Taken M = client.takes (v.clients c) from message in
+      let took : client.ClientResult M = client.client_step (v.clients c) from message in
       answered_alike (client_does (popped from (Client c)) c took.0 took.1) (client_does (other_popped from (Client c)) c took.0 took.1) c took.2
       (record { rest = refl; servers = same_views; links = put_agrees v _ _ (Client c) _ (front_agrees v _ _ from (Client c) agree) })
 
@@ -100,7 +103,7 @@ module _ {M : Type 0} (machine : Does M) (v : World M) (others : ℕ → ServerV
 
   -- a front that is taken, by what the link has in both
   takes_front_alike : (from to : Process) (link : List (MessageOf M)) → has_failed v to ≡ false
-      → IsAlike (takes_front machine v from to link) (takes_front machine other from to link)
+      → IsAlike (front_step machine v from to link) (front_step machine other from to link)
   takes_front_alike from to [] alive = as_they_are
   takes_front_alike from to (message ∷ more) alive = takes_alike from to message alive
 
@@ -121,7 +124,7 @@ module _ {M : Type 0} (machine : Does M) (v : World M) (others : ℕ → ServerV
   acts_alike (Retry c) enabled = record { rest = refl; servers = same_views; links = put_agrees v _ _ (Client c) _ agree }
   acts_alike (Take from to) enabled =
       let alive = not_failed _ (has_failed v to) enabled in
-      subst (λ link. IsAlike (takes_front machine v from to (v.links from to)) (takes_front machine other from to link)) (agree from to alive)
+      subst (λ link. IsAlike (front_step machine v from to (v.links from to)) (front_step machine other from to link)) (agree from to alive)
       (takes_front_alike from to (v.links from to) alive)
   acts_alike (Ignore from to) enabled = record { rest = refl; servers = same_views; links = front_agrees v _ _ from to agree }
   acts_alike (Fail s) enabled = record {
@@ -162,3 +165,55 @@ stay_alike machine v w (event ∷ events) alike =
     stay_alike machine (happens machine v event) (happens machine w event) events
     (subst (λ u. IsAlike (happens machine v event) (happens machine u event)) (sym alike.rest)
     (happens_alike machine v w.servers w.links alike.servers alike.links event))
+
+-- a world is like itself
+pub alike_itself : {M : Type 0} (w : World M) → IsAlike w w
+alike_itself w = record { rest = refl; servers = λ s alive. refl; links = λ from to alive. refl }
+
+-- who failed in one failed in the other
+same_failed : {M : Type 0} (u v : World M) → IsAlike u v → (to : Process) → has_failed u to ≡ has_failed v to
+same_failed u v alike to = ap (λ x. has_failed x to) (sym alike.rest)
+
+pub alike_through : {M : Type 0} (u v w : World M) → IsAlike u v → IsAlike v w → IsAlike u w
+alike_through {M} u v w first second = record {
+  rest = second.rest ∙ ap (λ (x : World M). record x { servers = w.servers; links = w.links }) first.rest;
+  servers = λ s alive. first.servers s alive ∙ second.servers s (sym (same_failed u v first (Server s)) ∙ alive);
+  links = λ from to alive. first.links from to alive ∙ second.links from to (sym (same_failed u v first to) ∙ alive);
+}
+
+-- a choice of equal things, where its test passes in both
+same_choice : {A : Type 0} (b c : Bool) (x y z : A) → b ≡ c → (b ≡ true → x ≡ y) → (if b then x else z) ≡ (if c then y else z)
+same_choice true true x y z same equal = equal refl
+same_choice false false x y z same equal = refl
+same_choice true false x y z same equal = absurd (true≢false same)
+same_choice false true x y z same equal = absurd (true≢false (sym same))
+
+-- an enabled delivery has one front in both
+same_link : {M : Type 0} (v w : World M) → IsAlike v w → (from to : Process) → is_enabled v (Take from to) ≡ true → v.links from to ≡ w.links from to
+same_link v w alike from to enabled = alike.links from to (not_failed _ (has_failed v to) enabled)
+
+-- an event reads alike
+pub read_alike : {M : Type 0} (machine : Does M) (v w : World M) (event : Event) (outcome : Outcome) → IsAlike v w → read v event outcome ≡ read w event outcome
+read_alike machine v w (Take from (Server s)) outcome alike =
+    same_choice _ _ _ _ (Take from (Server s)) (have_the_same_enabled machine v w (Take from (Server s)) alike)
+    (λ enabled. ap (λ link. read_delivery from s (front_is is_query link) outcome) (same_link v w alike from (Server s) enabled))
+read_alike machine v w event outcome alike = refl
+
+-- both tests of a delivery
+same_both : (b c x y : Bool) → b ≡ c → (b ≡ true → x ≡ y) → (b && x) ≡ (c && y)
+same_both true true x y same equal = equal refl
+same_both false false x y same equal = refl
+same_both true false x y same equal = absurd (true≢false same)
+same_both false true x y same equal = absurd (true≢false (sym same))
+
+delivery_alike : {M : Type 0} (machine : Does M) (v w : World M) (event : Event) (test : MessageOf M → Bool) → IsAlike v w → is_delivery v event test ≡ is_delivery w event test
+delivery_alike machine v w (Take from (Server s)) test alike =
+    same_both _ _ _ _ (have_the_same_enabled machine v w (Take from (Server s)) alike)
+    (λ enabled. ap (front_is test) (same_link v w alike from (Server s) enabled))
+delivery_alike machine v w event test alike = refl
+
+-- and can have the same outcomes
+pub outcomes_alike : {M : Type 0} (machine : Does M) (v w : World M) (event : Event) (outcome : Outcome) → IsAlike v w → is_fitting v event outcome ≡ is_fitting w event outcome
+outcomes_alike machine v w event Acted alike = refl
+outcomes_alike machine v w event Stopped alike = delivery_alike machine v w event (λ message. not (is_query message)) alike
+outcomes_alike machine v w event Unheard alike = delivery_alike machine v w event is_query alike

@@ -8,11 +8,13 @@ use Rattle.zcalls.specs.declared.call.Call.TheVariants.{Query}
 use Rattle.zcalls.specs.declared.reply.Reply.{Reply}
 use Rattle.zcalls.specs.Step.{query_reply}
 use Rattle.zworld.specs.declared.history.CallEvent.TheVariants.{Begin, Answer}
-use Rattle.zworld.specs.Lists.{Among}
+use Rattle.zcalls.specs.Lists.{Among}
 use Rattle.std.specs.Prelude.{◌⊎◌}
-use Rattle.zworld.specs.History.{History, Operation, IsUpdate, IsAnswered, EndsBefore}
+use Rattle.zcalls.specs.Operation.{Operation}
+use Rattle.zworld.specs.History.{History, IsUpdate, IsAnswered, EndsBefore}
 use Rattle.zworld.specs.LegalOrder.{IsReplayed}
-use Rattle.zworld.specs.PlainTree.{plain_tree, IsExplained}
+use Rattle.zcalls.specs.PlainTree.{plain_tree}
+use Rattle.zworld.specs.PlainTree.{service_of, IsExplained}
 
 -- the order of no calls explains silence
 pub silence : IsExplained []
@@ -45,7 +47,7 @@ module _ (query : Question) where
   seen = Begin 1 1 (Query query) ∷ Answer 1 1 (query_reply opening_tree query) ∷ []
 
   -- the answer is the replay's
-  replayed : (c n : ℕ) (reply : Reply) → Among (Answer c n reply) seen → IsReplayed plain_tree (asked ∷ []) c n reply
+  replayed : (c n : ℕ) (reply : Reply) → Among (Answer c n reply) seen → IsReplayed (service_of plain_tree) (asked ∷ []) c n reply
   unfolding asked seen
   replayed c n reply (inl e) = absurd (begin_is_no_answer _ _ _ _ _ _ e)
   replayed c n reply (inr (inl e)) =

@@ -6,3 +6,6 @@ pub mod Tables
 pub mod Alike
 pub mod Settling
 pub mod LogWorlds
+pub mod FirstUpdate
+pub mod Learning
+pub mod Fitting

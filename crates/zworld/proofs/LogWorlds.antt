@@ -10,10 +10,10 @@ use Rattle.zserver.specs.declared.process.Process.TheVariants.{Master, Server, C
 use Rattle.zserver.specs.Machine.{Does}
 use Rattle.zserver.specs.View.{ServerView, Neighbour, MessageOf, Post, spare, opening_server}
 use Rattle.zserver.specs.Table as server
-use Rattle.zserver.specs.Homomorphism.{IsHomomorphism, message_with, posts_with, view_with, taken_with}
+use Rattle.zserver.specs.support.Homomorphism.{IsHomomorphism, message_with, posts_with, view_with, server_result_with}
 use Rattle.zserver.proofs.Projection.{table_with}
 use Rattle.zmaster.specs.Table as master
-use Rattle.zmaster.specs.Laws.{taken_with as master_with}
+use Rattle.zmaster.specs.Laws.{master_result_with as master_with}
 use Rattle.zmaster.proofs.Projection.{table_with as master_takes_with, join_with as joins_with}
 use Rattle.zclient.specs.View.{ClientView}
 use Rattle.zclient.specs.Table as client
@@ -22,10 +22,10 @@ use Rattle.zworld.specs.declared.event.Event.{Event}
 use Rattle.zworld.specs.declared.event.Event.TheVariants.{Begin, Retry, Take, Ignore, Fail, Join}
 use Rattle.zworld.specs.declared.history.CallEvent.TheVariants as call_event
 use Rattle.zworld.specs.Links.{Links, put, without_front, is_same, addressed}
-use Rattle.zworld.specs.World.{World, at, opening}
-use Rattle.zworld.specs.Events.{front_is, is_request, has_failed, is_enabled, takes, takes_front, acts, happens, run}
-use Rattle.zworld.specs.Events.{server_does, master_does, client_does, answered, client_took, client_began}
-use Rattle.zworld.specs.LogWorld.{world_with}
+use Rattle.zworld.specs.World.{World, at, opening_world}
+use Rattle.zworld.specs.Events.{front_is, is_request, has_failed, is_enabled, process_step, front_step, acts, happens, run}
+use Rattle.zworld.specs.Events.{server_does, master_does, client_does, with_answer, client_took, client_began}
+use Rattle.zworld.specs.support.LogWorld.{world_with}
 
 module _ {M N : Type 0} (h : M → N) where
   -- links with mapped messages
@@ -72,20 +72,20 @@ module _ {M N : Type 0} (h : M → N) where
   at_if true new old = refl
   at_if false new old = refl
 
-  server_does_with : (w : World M) (s : ℕ) (did : server.Taken M) → server_does (world_with h w) s (taken_with h did) ≡ world_with h (server_does w s did)
+  server_does_with : (w : World M) (s : ℕ) (did : server.ServerResult M) → server_does (world_with h w) s (server_result_with h did) ≡ world_with h (server_does w s did)
   server_does_with w s did = λ i. record (world_with h w) {
     servers = λ t. at_if (t == s) did.0 (w.servers t) i;
     links = λ from to. put_with w.links (Server s) did.1 from to i;
   }
 
-  master_does_with : (w : World M) (did : master.Taken M) → master_does (world_with h w) (master_with h did) ≡ world_with h (master_does w did)
+  master_does_with : (w : World M) (did : master.MasterResult M) → master_does (world_with h w) (master_with h did) ≡ world_with h (master_does w did)
   master_does_with w did = λ i. record (world_with h w) { master = did.0; links = λ from to. put_with w.links Master did.1 from to i }
 
   client_does_with : (w : World M) (c : ℕ) (view : ClientView) (posts : List (Post M))
       → client_does (world_with h w) c view (posts_with h posts) ≡ world_with h (client_does w c view posts)
   client_does_with w c view posts = λ i. record (world_with h w) { clients = at c view w.clients; links = λ from to. put_with w.links (Client c) posts from to i }
 
-  answered_with : (w : World M) (c : ℕ) (reply : Option (ℕ × Reply)) → answered (world_with h w) c reply ≡ world_with h (answered w c reply)
+  answered_with : (w : World M) (c : ℕ) (reply : Option (ℕ × Reply)) → with_answer (world_with h w) c reply ≡ world_with h (with_answer w c reply)
   answered_with w c None = refl
   answered_with w c (Some reply) = refl
 
@@ -130,34 +130,34 @@ module _ {M N : Type 0} (h : M → N) where
 
   module _ {d : Does M} {e : Does N} (same : IsHomomorphism d e h) where
     -- a message is taken
-    takes_with : (w : World M) (from to : Process) (m : MessageOf M) → takes e (world_with h w) from to (message_with h m) ≡ world_with h (takes d w from to m)
-    takes_with w from Master m = ap (master_does (world_with h w)) (master_takes_with h w.master from m) ∙ master_does_with w (master.takes w.master from m)
+    takes_with : (w : World M) (from to : Process) (m : MessageOf M) → process_step e (world_with h w) from to (message_with h m) ≡ world_with h (process_step d w from to m)
+    takes_with w from Master m = ap (master_does (world_with h w)) (master_takes_with h w.master from m) ∙ master_does_with w (master.master_step w.master from m)
     takes_with w from (Server s) m =
-        ap (server_does (world_with h w) s) (table_with h same (w.servers s) from m) ∙ server_does_with w s (server.takes d (w.servers s) from m)
+        ap (server_does (world_with h w) s) (table_with h same (w.servers s) from m) ∙ server_does_with w s (server.server_step d (w.servers s) from m)
     takes_with w from (Client c) m =
-        let did : client.Taken M = client.takes (w.clients c) from m in
+        let did : client.ClientResult M = client.client_step (w.clients c) from m in
         ap (client_took (world_with h w) c) (client_takes_with h (w.clients c) from m)
-        ∙ ap (λ u. answered u c did.2) (client_does_with w c did.0 did.1) ∙ answered_with (client_does w c did.0 did.1) c did.2
+        ∙ ap (λ u. with_answer u c did.2) (client_does_with w c did.0 did.1) ∙ answered_with (client_does w c did.0 did.1) c did.2
 
     takes_front_with : (w : World M) (from to : Process) (link : List (MessageOf M))
-        → takes_front e (world_with h w) from to (map (message_with h) link) ≡ world_with h (takes_front d w from to link)
+        → front_step e (world_with h w) from to (map (message_with h) link) ≡ world_with h (front_step d w from to link)
     takes_front_with w from to [] = refl
     takes_front_with w from to (m ∷ more) =
-        ap (λ u. takes e u from to (message_with h m)) (popped_with w from to) ∙ takes_with (record w { links = without_front w.links from to }) from to m
+        ap (λ u. process_step e u from to (message_with h m)) (popped_with w from to) ∙ takes_with (record w { links = without_front w.links from to }) from to m
 
     -- what an event does
     acts_with : (w : World M) (event : Event) → acts e (world_with h w) event ≡ world_with h (acts d w event)
     acts_with w (Begin c call) =
-        let did : ClientView × List (Post M) = client.begins (w.clients c) call in
+        let did : ClientView × List (Post M) = client.begin_step (w.clients c) call in
         ap (client_began (world_with h w) c call) (begins_with h (w.clients c) call)
         ∙ ap (λ (u : World N). record u { history = w.history ++ call_event.Begin c did.0.number call ∷ [] }) (client_does_with w c did.0 did.1)
     acts_with w (Retry c) =
-        ap (client_does (world_with h w) c (w.clients c)) (retries_with h (w.clients c)) ∙ client_does_with w c (w.clients c) (client.retries (w.clients c))
+        ap (client_does (world_with h w) c (w.clients c)) (retries_with h (w.clients c)) ∙ client_does_with w c (w.clients c) (client.retry_posts (w.clients c))
     acts_with w (Take from to) = takes_front_with w from to (w.links from to)
     acts_with w (Ignore from to) = popped_with w from to
     acts_with w (Fail s) =
         λ i. record (world_with h w) { failed = at s true w.failed; links = λ from to. put_with w.links (Server s) ((Master, message.Gone) ∷ []) from to i }
-    acts_with w (Join s) = ap (master_does (world_with h w)) (joins_with h w.master s) ∙ master_does_with w (master.joins w.master s)
+    acts_with w (Join s) = ap (master_does (world_with h w)) (joins_with h w.master s) ∙ master_does_with w (master.join_step w.master s)
 
     -- where it can happen
     happens_if : (b : Bool) (w acted : World M) (acted' : World N) → acted' ≡ world_with h acted
@@ -191,10 +191,10 @@ module _ {M N : Type 0} (h : M → N) where
         (view_if (nat_lt servers s) spare _ spare _ refl
         (ap (λ start. record { machine = Some start; last = 0; sent = []; pred = before s; succ = behind servers s }) (sym same.start)))
 
-    pub opening_with : (servers clients : ℕ) → opening e servers clients ≡ world_with h (opening d servers clients)
-    opening_with servers clients = λ i. record (opening e servers clients) { servers = λ s. opening_server_with servers s i }
+    pub opening_with : (servers clients : ℕ) → opening_world e servers clients ≡ world_with h (opening_world d servers clients)
+    opening_with servers clients = λ i. record (opening_world e servers clients) { servers = λ s. opening_server_with servers s i }
 
 -- a run from the opening is the mapped one
 pub runs_with : {M N : Type 0} (h : M → N) {d : Does M} {e : Does N} (same : IsHomomorphism d e h) (servers clients : ℕ) (events : List Event)
-    → run e (opening e servers clients) events ≡ world_with h (run d (opening d servers clients) events)
-runs_with h {d} {e} same servers clients events = ap (λ w. run e w events) (opening_with h same servers clients) ∙ run_with h same (opening d servers clients) events
+    → run e (opening_world e servers clients) events ≡ world_with h (run d (opening_world d servers clients) events)
+runs_with h {d} {e} same servers clients events = ap (λ w. run e w events) (opening_with h same servers clients) ∙ run_with h same (opening_world d servers clients) events

@@ -7,11 +7,13 @@ use Rattle.zcalls.specs.declared.reply.Reply.{Reply}
 use Rattle.zcalls.specs.declared.reply.Reply.TheVariants.{Exists}
 use Rattle.zworld.specs.declared.history.CallEvent.{CallEvent}
 use Rattle.zworld.specs.declared.history.CallEvent.TheVariants.{Begin, Answer}
-use Rattle.zworld.specs.Lists.{Among, ComesBefore}
-use Rattle.zworld.specs.History.{Operation, IsUpdate, HasBegun, IsAnswered, EndsBefore}
-use Rattle.zworld.specs.LegalOrder.{IsSameCall, IsReplayed}
-use Rattle.zworld.specs.Counter.{counter, create, made, counted}
-use Rattle.zworld.specs.OrderRows.{Explains, told, true_order, first_create, lost_create, lost_exists, last_exists, strange_create}
+use Rattle.zcalls.specs.Lists.{Among, ComesBefore}
+use Rattle.zcalls.specs.Operation.{Operation}
+use Rattle.zworld.specs.History.{IsUpdate, HasBegun, IsAnswered, EndsBefore}
+use Rattle.zcalls.specs.Operation.{IsSameCall}
+use Rattle.zworld.specs.LegalOrder.{IsReplayed}
+use Rattle.zworld.specs.support.Counter.{counter, create, name_reply, count_reply}
+use Rattle.zworld.specs.support.OrderRows.{Explains, history_with, true_order, first_create, lost_create, lost_exists, last_exists, strange_create}
 use Rattle.zworld.proofs.Among.{each_among}
 
 -- a beginning is no answer
@@ -27,7 +29,7 @@ one_beginner : (c n c' n' : ℕ) (call call' : Call) → Begin c n call ≡ Begi
 one_beginner c n c' n' call call' e = cc
 
 -- an update's reply is no query's
-made_is_no_count : (m n : ℕ) → made m ≡ counted n → ⊥
+made_is_no_count : (m n : ℕ) → name_reply m ≡ count_reply n → ⊥
 made_is_no_count m n e = cc
 
 -- what is told of an answer, and nothing of a beginning
@@ -36,15 +38,15 @@ AtAnswer P (Begin c n call) = Unit {0}
 AtAnswer P (Answer c n reply) = P c n reply
 
 -- the two answers of the history are replayed
-are_replayed : (c n : ℕ) (reply : Reply) → Among (Answer c n reply) (told 2) → IsReplayed counter true_order c n reply
+are_replayed : (c n : ℕ) (reply : Reply) → Among (Answer c n reply) (history_with 2) → IsReplayed counter true_order c n reply
 unfolding AtAnswer
 are_replayed c n reply among =
-    each_among (AtAnswer (IsReplayed counter true_order)) (told 2)
+    each_among (AtAnswer (IsReplayed counter true_order)) (history_with 2)
     (tt, (tt, (tt, ((first_create, refl, refl, inl refl), (tt, ((last_exists, refl, refl, inr (inr (inl refl))), tt))))))
     (Answer c n reply) among
 
 -- nothing but client 1's call ends before another begins, and that is client 2's
-ends_before : (a b : Operation) → EndsBefore (told 2) a b → (a.client ≡ 1) × (b.client ≡ 2)
+ends_before : (a b : Operation) → EndsBefore (history_with 2) a b → (a.client ≡ 1) × (b.client ≡ 2)
 ends_before a b (reply, inl p) = absurd (begin_is_no_answer _ _ _ _ _ _ p.0)
 ends_before a b (reply, inr (inl p)) = absurd (begin_is_no_answer _ _ _ _ _ _ p.0)
 ends_before a b (reply, inr (inr (inl p))) = absurd (begin_is_no_answer _ _ _ _ _ _ p.0)
@@ -56,9 +58,9 @@ ends_before a b (reply, inr (inr (inr (inr (inr (inl p)))))) = absurd p.1
 ends_before a b (reply, inr (inr (inr (inr (inr (inr p)))))) = absurd p
 
 -- client 1's call stands before client 2's, and nothing else ends before another begins
-in_time : (a : Operation) → Among a true_order → (b : Operation) → Among b true_order → EndsBefore (told 2) a b → ComesBefore a b true_order
-in_time = each_among (λ a. (b : Operation) → Among b true_order → EndsBefore (told 2) a b → ComesBefore a b true_order) true_order (
-  each_among (λ b. EndsBefore (told 2) first_create b → ComesBefore first_create b true_order) true_order (
+in_time : (a : Operation) → Among a true_order → (b : Operation) → Among b true_order → EndsBefore (history_with 2) a b → ComesBefore a b true_order
+in_time = each_among (λ a. (b : Operation) → Among b true_order → EndsBefore (history_with 2) a b → ComesBefore a b true_order) true_order (
+  each_among (λ b. EndsBefore (history_with 2) first_create b → ComesBefore first_create b true_order) true_order (
     (λ ends. absurd (omega (arith, (ends_before first_create first_create ends).1))),
     (
       (λ ends. absurd (omega (arith, (ends_before first_create lost_create ends).1))),
@@ -74,21 +76,21 @@ in_time = each_among (λ a. (b : Operation) → Among b true_order → EndsBefor
 -- the order that explains the history
 pub explained : Explains 2 2 true_order
 explained = record {
-  begun = each_among (HasBegun (told 2)) true_order (inl refl, (inr (inl refl), (inr (inr (inr (inr (inl refl)))), tt)));
+  begun = each_among (HasBegun (history_with 2)) true_order (inl refl, (inr (inl refl), (inr (inr (inr (inr (inl refl)))), tt)));
   once = (
     each_among (λ o. IsSameCall first_create o → ⊥) (lost_create ∷ last_exists ∷ []) ((λ same. omega (arith, same.0)), ((λ same. omega (arith, same.0)), tt)),
     (each_among (λ o. IsSameCall lost_create o → ⊥) (last_exists ∷ []) ((λ same. omega (arith, same.0)), tt), (λ o among. absurd among, tt)),
   );
   answered = are_replayed;
-  unanswered = each_among (λ o. IsUpdate o.call ⊎ IsAnswered (told 2) o) true_order
-      (inl tt, (inl tt, (inr (counted 2, inr (inr (inr (inr (inr (inl refl)))))), tt)));
+  unanswered = each_among (λ o. IsUpdate o.call ⊎ IsAnswered (history_with 2) o) true_order
+      (inl tt, (inl tt, (inr (count_reply 2, inr (inr (inr (inr (inr (inl refl)))))), tt)));
   in_time = λ a b ends among_a among_b. in_time a among_a b among_b ends;
   lawful = (omega arith, (omega arith, (omega arith, (omega arith, tt))));
 }
 
 -- without client 2's call its answer isn't replayed
 pub left_out : Explains 2 2 (first_create ∷ lost_create ∷ []) → ⊥
-left_out legal = elim ((legal.answered 2 1 (counted 2) (inr (inr (inr (inr (inr (inl refl))))))).3) [
+left_out legal = elim ((legal.answered 2 1 (count_reply 2) (inr (inr (inr (inr (inr (inl refl))))))).3) [
   | inl e ↦ made_is_no_count _ _ (ap (λ p. p.1) e)
   | inr (inl e) ↦ made_is_no_count _ _ (ap (λ p. p.1) e)
   | inr (inr e) ↦ e
@@ -104,7 +106,7 @@ pub query_unanswered : Explains 2 2 (first_create ∷ lost_create ∷ lost_exist
 unfolding AtAnswer
 query_unanswered legal = elim (legal.unanswered lost_exists (inr (inr (inl refl)))) [
   | inl e ↦ e
-  | inr e ↦ each_among (AtAnswer (λ c n reply. c ≡ 4 → ⊥)) (told 2)
+  | inr e ↦ each_among (AtAnswer (λ c n reply. c ≡ 4 → ⊥)) (history_with 2)
       (tt, (tt, (tt, ((λ is. omega (arith, is)), (tt, ((λ is. omega (arith, is)), tt)))))) (Answer 4 1 e.0) e.1 refl
 ]
 
@@ -112,7 +114,7 @@ query_unanswered legal = elim (legal.unanswered lost_exists (inr (inr (inl refl)
 pub not_begun : Explains 2 2 (first_create ∷ strange_create ∷ last_exists ∷ []) → ⊥
 unfolding AtBeginning
 not_begun legal =
-    each_among (AtBeginning (λ c n call. c ≡ 5 → ⊥)) (told 2)
+    each_among (AtBeginning (λ c n call. c ≡ 5 → ⊥)) (history_with 2)
     ((λ is. omega (arith, is)), ((λ is. omega (arith, is)), ((λ is. omega (arith, is)), (tt, ((λ is. omega (arith, is)), (tt, tt))))))
     (Begin 5 1 create) (legal.begun strange_create (inr (inl refl))) refl
 
@@ -121,12 +123,12 @@ one_stat : (s t : Stat) → Exists s ≡ Exists t → s ≡ t
 one_stat s t e = cc
 
 -- equal replies tell one count
-one_count : (m n : ℕ) → counted m ≡ counted n → m ≡ n
+one_count : (m n : ℕ) → count_reply m ≡ count_reply n → m ≡ n
 one_count m n e = ap (λ s. s.children) (one_stat _ _ e)
 
 -- the replay counts two, and not one
 pub wrong_reply : Explains 2 1 true_order → ⊥
-wrong_reply legal = elim ((legal.answered 2 1 (counted 1) (inr (inr (inr (inr (inr (inl refl))))))).3) [
+wrong_reply legal = elim ((legal.answered 2 1 (count_reply 1) (inr (inr (inr (inr (inr (inl refl))))))).3) [
   | inl e ↦ made_is_no_count _ _ (ap (λ p. p.1) e)
   | inr (inl e) ↦ made_is_no_count _ _ (ap (λ p. p.1) e)
   | inr (inr (inl e)) ↦ omega (arith, one_count _ _ (ap (λ p. p.1) e))
@@ -135,7 +137,7 @@ wrong_reply legal = elim ((legal.answered 2 1 (counted 1) (inr (inr (inr (inr (i
 
 -- client 1 was answered before client 2 began, so its call comes first
 pub against_time : Explains 2 0 (last_exists ∷ first_create ∷ []) → ⊥
-against_time legal = elim (legal.in_time first_create last_exists (made 0, inr (inr (inr (inl (refl, inl refl))))) (inr (inl refl)) (inl refl)) [
+against_time legal = elim (legal.in_time first_create last_exists (name_reply 0, inr (inr (inr (inl (refl, inl refl))))) (inr (inl refl)) (inl refl)) [
   | inl e ↦ omega (arith, ap (λ o. o.client) e.0)
   | inr (inl e) ↦ e.1
   | inr (inr e) ↦ e

@@ -3,19 +3,21 @@ use Rattle.std.proofs.Common.{◌≡◌, ℕ, List, [], ◌∷◌, inl, inr, ref
 use Rattle.std.specs.Prelude.{◌⊎◌}
 use Rattle.zcalls.specs.declared.reply.Reply.{Reply}
 use Rattle.zworld.specs.declared.history.CallEvent.TheVariants.{Begin, Answer}
-use Rattle.zworld.specs.Lists.{Among}
-use Rattle.zworld.specs.History.{History, Operation, HasBegun, IsUpdate, IsAnswered, EndsBefore}
-use Rattle.zworld.specs.LegalOrder.{IsLegalOrder, IsSameCall, IsReplayed}
-use Rattle.zworld.specs.Counter.{counter, create, made}
-use Rattle.zworld.specs.RunRows.{seen, two_updates}
-use Rattle.zworld.specs.OrderRows.{ExplainsTheRun, first_down, second_down}
+use Rattle.zcalls.specs.Lists.{Among}
+use Rattle.zcalls.specs.Operation.{Operation}
+use Rattle.zworld.specs.History.{History, HasBegun, IsUpdate, IsAnswered, EndsBefore}
+use Rattle.zcalls.specs.Operation.{IsSameCall}
+use Rattle.zworld.specs.LegalOrder.{IsLegalOrder, IsReplayed}
+use Rattle.zworld.specs.support.Counter.{counter, create, name_reply}
+use Rattle.zworld.specs.support.RunRows.{seen, two_updates}
+use Rattle.zworld.specs.support.OrderRows.{ExplainsTheRun, first_down, second_down}
 use Rattle.zworld.proofs.Among.{each_among}
 use Rattle.zworld.proofs.Tables.{all_tables}
 use Rattle.zworld.proofs.OrderRows.{AtAnswer, begin_is_no_answer}
 
 -- the history of the run
 abbrev history : History
-history = Begin 0 1 create ∷ Begin 1 1 create ∷ Answer 1 1 (made 1) ∷ Answer 0 1 (made 0) ∷ []
+history = Begin 0 1 create ∷ Begin 1 1 create ∷ Answer 1 1 (name_reply 1) ∷ Answer 0 1 (name_reply 0) ∷ []
 
 is_history : history ≡ seen 3 two_updates
 unfolding all_tables
@@ -56,13 +58,13 @@ pub explains_the_run : ExplainsTheRun order
 explains_the_run = subst (λ seen. IsLegalOrder (λ state. Unit {0}) counter seen order) is_history explains
 
 -- two replies that name one node
-one_name : (a b : ℕ) → made a ≡ made b → a ≡ b
+one_name : (a b : ℕ) → name_reply a ≡ name_reply b → a ≡ b
 one_name a b e = cc
 
 -- the other order gives both the wrong name
 no_other : IsLegalOrder (λ state. Unit {0}) counter history (second_down ∷ first_down ∷ []) → ⊥
 no_other legal =
-    let found = legal.answered 0 1 (made 0) (inr (inr (inr (inl refl)))) in
+    let found = legal.answered 0 1 (name_reply 0) (inr (inr (inr (inl refl)))) in
     elim (found.3) [
       | inl e ↦ omega (arith, found.1, ap (λ p. p.0.client) e)
       | inr (inl e) ↦ omega (arith, one_name _ _ (ap (λ p. p.1) e))

@@ -9,7 +9,9 @@ use Rattle.zserver.specs.declared.process.Process.{Process}
 use Rattle.zserver.specs.Machine.{kept_tree}
 use Rattle.zworld.specs.declared.event.Event.{Event}
 use Rattle.zworld.specs.World.{World}
+use Rattle.zworld.specs.declared.outcome.Outcome.{Outcome}
 use Rattle.zworld.specs.Events.{has_failed, is_enabled, run}
+use Rattle.zworld.specs.Reading.{read, is_fitting}
 
 -- the worlds are alike
 pub record IsAlike {M : Type 0} (v w : World M) : Type 0 where
@@ -27,3 +29,18 @@ HaveTheSameEnabled = (v w : World (KeptState Tree)) (event : Event) → IsAlike 
 -- worlds that are alike stay so, whatever happens to both
 abbrev pub StayAlike : Type 0
 StayAlike = (v w : World (KeptState Tree)) (events : List Event) → IsAlike v w → IsAlike (run kept_tree v events) (run kept_tree w events)
+
+-- an event reads alike in worlds that are alike, and can have the same outcomes
+abbrev pub ReadAlike : Type 0
+ReadAlike = (v w : World (KeptState Tree)) (event : Event) (outcome : Outcome) → IsAlike v w → read v event outcome ≡ read w event outcome
+
+abbrev pub HaveTheSameOutcomes : Type 0
+HaveTheSameOutcomes =
+    (v w : World (KeptState Tree)) (event : Event) (outcome : Outcome) → IsAlike v w → is_fitting v event outcome ≡ is_fitting w event outcome
+
+-- a world is like itself, and what is like a world that is like a third one is like that one
+abbrev pub AreAlikeThemselves : Type 0
+AreAlikeThemselves = (w : World (KeptState Tree)) → IsAlike w w
+
+abbrev pub AlikeIsTransitive : Type 0
+AlikeIsTransitive = (u v w : World (KeptState Tree)) → IsAlike u v → IsAlike v w → IsAlike u w

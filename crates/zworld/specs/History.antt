@@ -1,22 +1,17 @@
 -- The history of a run: what callers see of it, calls that begin and answers that are taken, in the order of events.
 -- Herlihy and Wing, "Linearizability: A Correctness Condition for Concurrent Objects" (TOPLAS 1990), section 2.
-use Rattle.std.specs.Prelude.{ℕ, List}
+use Rattle.std.specs.Prelude.{List}
 use Rattle.zcalls.specs.declared.call.Call.{Call}
 use Rattle.zcalls.specs.declared.call.Call.TheVariants.{Update, Query}
 use Rattle.zcalls.specs.declared.reply.Reply.{Reply}
 use Rattle.zworld.specs.declared.history.CallEvent.{CallEvent}
 use Rattle.zworld.specs.declared.history.CallEvent.TheVariants.{Begin, Answer}
-use Rattle.zworld.specs.Lists.{Among, ComesBefore}
+use Rattle.zcalls.specs.Lists.{Among, ComesBefore}
+use Rattle.zcalls.specs.Operation.{Operation}
 
 -- calls that begin and answers that are taken, the first event first
 abbrev pub History : Type 0
 History = List CallEvent
-
--- one call of one client, under the client's number of it
-pub record Operation : Type 0 where
-  pub client : ℕ
-  pub number : ℕ
-  pub call : Call
 
 -- the call may change something
 abbrev pub IsUpdate : Call → Type 0

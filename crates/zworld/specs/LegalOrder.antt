@@ -6,8 +6,9 @@ use Rattle.std.specs.List.{AllByRecursion}
 use Rattle.zcalls.specs.declared.call.Call.{Call}
 use Rattle.zcalls.specs.declared.reply.Reply.{Reply}
 use Rattle.zworld.specs.declared.history.CallEvent.TheVariants.{Answer}
-use Rattle.zworld.specs.Lists.{Among, ComesBefore, NoTwo}
-use Rattle.zworld.specs.History.{History, Operation, IsUpdate, HasBegun, IsAnswered, EndsBefore}
+use Rattle.zcalls.specs.Lists.{Among, ComesBefore, NoTwo}
+use Rattle.zcalls.specs.Operation.{Operation, IsSameCall}
+use Rattle.zworld.specs.History.{History, IsUpdate, HasBegun, IsAnswered, EndsBefore}
 
 -- a service that does one call after the other: its first state, and what a client's call does to it and is answered
 pub record Service (P : Type 0) : Type 0 where
@@ -15,22 +16,18 @@ pub record Service (P : Type 0) : Type 0 where
   pub step : P → ℕ → Call → P × Reply
 
 -- what the service does at an operation, and answers
-abbrev pub does : {P : Type 0} → Service P → P → Operation → P × Reply
-does service p o = service.step p o.client o.call
+abbrev pub operation_step : {P : Type 0} → Service P → P → Operation → P × Reply
+operation_step service p o = service.step p o.client o.call
 
 -- the operations one after the other from a state, each with the reply that it gets
 abbrev pub replies_from : {P : Type 0} → Service P → P → List Operation → List (Operation × Reply)
 replies_from service p [] = []
-replies_from service p (o ∷ os) = (o, (does service p o).1) ∷ replies_from service (does service p o).0 os
+replies_from service p (o ∷ os) = (o, (operation_step service p o).1) ∷ replies_from service (operation_step service p o).0 os
 
 -- the states on the way, the first and the last among them
 abbrev pub states_from : {P : Type 0} → Service P → P → List Operation → List P
 states_from service p [] = p ∷ []
-states_from service p (o ∷ os) = p ∷ states_from service (does service p o).0 os
-
--- the two are one call: the same client has one number for them
-abbrev pub IsSameCall : Operation → Operation → Type 0
-IsSameCall a b = (a.client ≡ b.client) × (a.number ≡ b.number)
+states_from service p (o ∷ os) = p ∷ states_from service (operation_step service p o).0 os
 
 -- the order has the answered call of that client and number, and its replay gives this reply
 abbrev pub IsReplayed : {P : Type 0} → Service P → List Operation → ℕ → ℕ → Reply → Type 0

@@ -1,4 +1,3 @@
-pub mod Lists
 pub mod History
 pub mod LegalOrder
 pub mod PlainTree
@@ -7,13 +6,6 @@ pub mod World
 pub mod Events
 pub mod Reading
 pub mod Settle
-pub mod SettleLaws
-pub mod LogWorld
 pub mod Alike
-pub mod Counter
-pub mod OrderRows
-pub mod RunRows
-pub mod RepairRows
-pub mod JoinRows
-pub mod SettleRows
-pub mod ScenarioRows
+pub mod Laws
+pub mod support

@@ -1,7 +1,7 @@
 -- The reading of a list of events: what each event came to, where processes can want memory. A server that finds none
 -- for a message stops, and that delivery reads as its failure; a query for which it finds none is lost.
 -- Want of memory as a failure is this project's profile.
-use Rattle.std.specs.Prelude.{◌≡◌, ℕ, Bool, true, false, if◌then◌else◌, List, [], ◌∷◌}
+use Rattle.std.specs.Prelude.{◌≡◌, ℕ, Bool, true, false, ◌&&◌, not, if◌then◌else◌, List, [], ◌∷◌}
 use Rattle.zserver.specs.declared.message.Message.TheVariants as message
 use Rattle.zserver.specs.declared.process.Process.{Process}
 use Rattle.zserver.specs.declared.process.Process.TheVariants.{Server}
@@ -9,14 +9,10 @@ use Rattle.zserver.specs.Machine.{Does}
 use Rattle.zserver.specs.View.{MessageOf}
 use Rattle.zworld.specs.declared.event.Event.{Event}
 use Rattle.zworld.specs.declared.event.Event.TheVariants.{Take, Ignore, Fail}
+use Rattle.zworld.specs.declared.outcome.Outcome.{Outcome}
+use Rattle.zworld.specs.declared.outcome.Outcome.TheVariants.{Acted, Stopped, Unheard}
 use Rattle.zworld.specs.World.{World}
 use Rattle.zworld.specs.Events.{front_is, is_enabled, happens}
-
--- what became of a delivery: the taker acted, it stopped for memory, or it found no memory for a query
-pub data Outcome : Type 0 where
-  Acted : Outcome
-  Stopped : Outcome
-  Unheard : Outcome
 
 -- a query of a client
 abbrev pub is_query : {M : Type 0} → MessageOf M → Bool
@@ -28,6 +24,17 @@ abbrev pub read_delivery : Process → ℕ → Bool → Outcome → Event
 read_delivery from s true Unheard = Ignore from (Server s)
 read_delivery from s false Stopped = Fail s
 read_delivery from s of_query outcome = Take from (Server s)
+
+-- the event is a delivery to a server, it can happen, and the message passes the test
+abbrev pub is_delivery : {M : Type 0} → World M → Event → (MessageOf M → Bool) → Bool
+is_delivery w (Take from (Server s)) test = is_enabled w (Take from (Server s)) && front_is test (w.links from (Server s))
+is_delivery w event test = false
+
+-- the event can have the outcome: a server stops at all but a query, and a query alone is unheard
+abbrev pub is_fitting : {M : Type 0} → World M → Event → Outcome → Bool
+is_fitting w event Acted = true
+is_fitting w event Stopped = is_delivery w event (λ message. not (is_query message))
+is_fitting w event Unheard = is_delivery w event is_query
 
 -- an event as it is read: only a delivery to a server, where it is enabled, can be read as anything but itself
 abbrev pub read : {M : Type 0} → World M → Event → Outcome → Event

@@ -5,28 +5,31 @@
 use Rattle.std.specs.Prelude.{ℕ, zero, suc, ◌-◌, Bool, true, false, ◌&&◌, ◌||◌, not, nat_lt, ◌==◌, if◌then◌else◌}
 use Rattle.std.specs.Prelude.{List, [], ◌∷◌, ◌++◌, map, flat_map, drop}
 use Rattle.std.specs.List.{range_with_len, list_any}
+use Rattle.zserver.specs.declared.limits.TheConstants.{MAX_SERVERS}
 use Rattle.zserver.specs.declared.process.Process.{Process}
 use Rattle.zserver.specs.declared.process.Process.TheVariants.{Master, Server, Client}
 use Rattle.zserver.specs.Machine.{Does}
 use Rattle.zworld.specs.declared.event.Event.{Event}
 use Rattle.zworld.specs.declared.event.Event.TheVariants.{Retry, Take}
+use Rattle.zworld.specs.declared.outcome.Outcome.{Outcome}
+use Rattle.zworld.specs.declared.outcome.Outcome.TheVariants.{Acted}
 use Rattle.zworld.specs.declared.settled.Settled.{Settled}
 use Rattle.zworld.specs.declared.settled.Settled.TheVariants.{Quiet, Limit}
 use Rattle.zworld.specs.World.{World}
 use Rattle.zworld.specs.Events.{is_enabled, happens}
-use Rattle.zworld.specs.Reading.{Outcome, Acted, read}
+use Rattle.zworld.specs.Reading.{read}
 
 -- the processes in order: the master, the servers, the clients, each by number
 abbrev pub processes : ℕ → List Process
-processes client_count = Master ∷ map Server (range_with_len 1 8) ++ map Client (range_with_len 0 client_count)
+processes client_count = Master ∷ map Server (range_with_len 1 MAX_SERVERS) ++ map Client (range_with_len 0 client_count)
 
 -- a delivery on each link, in the order of (from, to)
 abbrev pub deliveries : ℕ → List Event
 deliveries client_count = flat_map (λ from. map (λ to. Take from to) (processes client_count)) (processes client_count)
 
 -- a retry of each client, by number
-abbrev pub retries : ℕ → List Event
-retries client_count = map Retry (range_with_len 0 client_count)
+abbrev pub retry_events : ℕ → List Event
+retry_events client_count = map Retry (range_with_len 0 client_count)
 
 -- how far settling has come: the world, the events done, as they were read, how many more may be done, and what will
 -- become of each of them (where nothing is told, the taker acts)
@@ -42,8 +45,8 @@ next_outcome [] = Acted
 next_outcome (outcome ∷ outcomes) = outcome
 
 -- one more event is done
-abbrev pub does : {M : Type 0} → Does M → Settling M → Event → Settling M
-does machine s event =
+abbrev pub with_event : {M : Type 0} → Does M → Settling M → Event → Settling M
+with_event machine s event =
     record {
       world = happens machine s.world event;
       events = s.events ++ event ∷ [];
@@ -52,14 +55,14 @@ does machine s event =
     }
 
 -- an event is done, as it is read, if it is enabled and one more may be done
-abbrev pub tries : {M : Type 0} → Does M → Settling M → Event → Settling M
-tries machine s event =
-    if nat_lt 0 s.left && is_enabled s.world event then does machine s (read s.world event (next_outcome s.outcomes)) else s
+abbrev pub with_try : {M : Type 0} → Does M → Settling M → Event → Settling M
+with_try machine s event =
+    if nat_lt 0 s.left && is_enabled s.world event then with_event machine s (read s.world event (next_outcome s.outcomes)) else s
 
 -- events in turn, each tried when its turn comes
-abbrev pub tries_each : {M : Type 0} → Does M → Settling M → List Event → Settling M
-tries_each machine s [] = s
-tries_each machine s (event ∷ events) = tries_each machine (tries machine s event) events
+abbrev pub with_tries : {M : Type 0} → Does M → Settling M → List Event → Settling M
+with_tries machine s [] = s
+with_tries machine s (event ∷ events) = with_tries machine (with_try machine s event) events
 
 -- no more may be done, or no message can be taken
 abbrev pub is_over : {M : Type 0} → Settling M → List Event → Bool
@@ -69,17 +72,17 @@ is_over s deliveries = s.left == 0 || not (list_any (is_enabled s.world) deliver
 abbrev pub passes : {M : Type 0} → Does M → List Event → ℕ → Settling M → Settling M
 passes machine deliveries zero s = s
 passes machine deliveries (suc more) s =
-    elim (is_over s deliveries) [ true ↦ s | false ↦ passes machine deliveries more (tries_each machine s deliveries) ]
+    elim (is_over s deliveries) [ true ↦ s | false ↦ passes machine deliveries more (with_tries machine s deliveries) ]
 
 -- settling before anything is done
-abbrev pub settling : {M : Type 0} → World M → ℕ → List Outcome → Settling M
-settling w limit outcomes = record { world = w; events = []; left = limit; outcomes = outcomes }
+abbrev pub opening_settling : {M : Type 0} → World M → ℕ → List Outcome → Settling M
+opening_settling w limit outcomes = record { world = w; events = []; left = limit; outcomes = outcomes }
 
 -- settling with a limit: passes, one retry of each client with an outstanding call, and passes again
 abbrev pub settle : {M : Type 0} → Does M → World M → ℕ → List Outcome → Settling M
 settle machine w limit outcomes =
-    passes machine (deliveries w.client_count) limit
-    (tries_each machine (passes machine (deliveries w.client_count) limit (settling w limit outcomes)) (retries w.client_count))
+    passes machine (deliveries w.master.clients) limit
+    (with_tries machine (passes machine (deliveries w.master.clients) limit (opening_settling w limit outcomes)) (retry_events w.master.clients))
 
 -- how it ended: at the limit as soon as so many events were done, also where nothing would have been left
 abbrev pub settled : {M : Type 0} → Settling M → Settled

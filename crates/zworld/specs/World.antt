@@ -9,8 +9,8 @@ use Rattle.zclient.specs.View.{ClientView, opening_client}
 use Rattle.zworld.specs.History.{History}
 use Rattle.zworld.specs.Links.{Links}
 
--- the views of servers and clients by their numbers, the master's view, the servers that have failed, the messages under
--- way, what callers saw, and how many clients there are
+-- the views of servers and clients by their numbers, the master's view, which knows how many clients there are, the servers
+-- that have failed, the messages under way, and what callers saw
 pub record World (M : Type 0) : Type 0 where
   pub servers : ℕ → ServerView M
   pub clients : ℕ → ClientView
@@ -18,7 +18,6 @@ pub record World (M : Type 0) : Type 0 where
   pub failed : ℕ → Bool
   pub links : Links M
   pub history : History
-  pub client_count : ℕ
 
 -- a family with one value replaced
 abbrev pub at : {V : Type 0} → ℕ → V → (ℕ → V) → ℕ → V
@@ -26,13 +25,12 @@ at n v family m = if m == n then v else family m
 
 -- the opening: the chain is s1, s2, .. up to the number of servers, neighbours have epoch 0, all other servers are spare,
 -- every client knows the first as head and the last as tail; nobody has failed and no message is under way
-abbrev pub opening : {M : Type 0} → Does M → ℕ → ℕ → World M
-opening machine server_count client_count = record {
+abbrev pub opening_world : {M : Type 0} → Does M → ℕ → ℕ → World M
+opening_world machine server_count client_count = record {
   servers = opening_server machine server_count;
-  clients = λ c. opening_client server_count;
+  clients = opening_client server_count client_count;
   master = opening_master server_count client_count;
   failed = λ s. false;
   links = λ from to. [];
   history = [];
-  client_count = client_count;
 }

@@ -1,16 +1,40 @@
-use Rattle.std.proofs.Common.{◌≡◌, ◌+◌, ◌*◌, [], ◌∷◌, ◌++◌, ◌<◌, ◌^◌, Err, length, ap, sym, subst, ◌∙◌, arith}
+use Rattle.std.proofs.Common.{◌≡◌, ◌+◌, ◌*◌, [], ◌∷◌, ◌++◌, ◌<◌, ◌^◌, Err, length, refl, ap, sym, subst, ◌∙◌, arith}
 use Rattle.std.proofs.lemmas.List.{length-append, nil_from_length}
+use Rattle.zcalls.specs.support.Alone.{ChangesNodesAlone}
 use Rattle.zcalls.specs.Multi.{run}
-use Rattle.zcalls.proofs.Bounds.{IsRoomy, part_roomy, within_more, has_room}
-use Rattle.zcalls.proofs.NodesAlone.{LeavesAlone, part-alone, alone_then}
-use Rattle.zcalls.proofs.Runs.{run-part, run-refused, run-end}
+use Rattle.zcalls.proofs.Bounds.{IsWithinAll, part_roomy, within_more, has_room}
+use Rattle.zcalls.proofs.Leaving.{Leaves}
+use Rattle.zcalls.proofs.NodesAlone.{alone_itself, part-alone, alone_then}
+use Rattle.zcalls.proofs.Runs.{behind_all, run-start, run-part, run-refused, run-end}
 use Rattle.zops.proofs.run.run.Goals as goal
 
-pub part-requires-clause-counters : goal.part-requires-clause-counters
-part-requires-clause-counters c path n e =
+pub loop-wanted-init : goal.loop-wanted-init
+loop-wanted-init c =
+    let t = c.args.store.now.tree in
+    let all = c.into_iter-wanted-iterator.ensures.into_iter_gives.0 in
+    let none = c.new-replies.ensures.items in
+    let no_length = ap length none in
+    let length_all = ap length all in
+    record {
+      ran = run-start (run t c.args.client c.args.parts.items) ∙ (λ i. behind_all (sym none i) (run t c.args.client (sym all i)));
+      within = λ path n e. within_more _ _ n (omega arith) (c.requires.ready.steady.bounded.counters path n e);
+      stays = alone_itself t;
+      count = omega (arith, no_length, length_all);
+      given = omega arith;
+    }
+
+pub part-requires : goal.part-requires
+part-requires c =
     let here = c.loop-wanted.invariant in
-    let few : 4096 * c.args.store.now.tree.zxid + length c.loop-wanted.replies.items + 1 < 2 ^ 62 = omega (arith, here.count, c.requires.few, c.requires.zxid) in
-    has_room (4096 * c.args.store.now.tree.zxid + length c.loop-wanted.replies.items) n few (here.within path n e)
+    let bounded = c.requires.ready.steady.bounded in
+    let few : 4096 * c.args.store.now.tree.zxid + length c.loop-wanted.replies.items + 1 < 2 ^ 62 = omega (arith, here.count, c.requires.few, bounded.zxid) in
+    record {
+      ready = record {
+        counters = λ path n e. has_room (4096 * c.args.store.now.tree.zxid + length c.loop-wanted.replies.items) n few (here.within path n e);
+        zxid = rw here.stays.zxid c.requires.ready.zxid;
+        given = let left = c.requires.ready.steady.given in let more = here.given in omega (arith, here.count, c.requires.few, left, more);
+      };
+    }
 
 pub loop-wanted-preserved : goal.loop-wanted-preserved
 loop-wanted-preserved c =
@@ -21,29 +45,29 @@ loop-wanted-preserved c =
     let rest = c.next.new.self.rest.items in
     let replies = c.loop-wanted.replies.items in
     let steps = c.in-Some.ensures.steps.0 in
-    let did = c.in-Ok.ensures.done in
+    let did = c.in-Ok.ensures.done.step_is in
     let pushed : c.push.new.self.items ≡ replies ++ c.in-Ok.reply ∷ [] = c.in_ok-push-in-Ok.ensures.items in
     let longer : length c.push.new.self.items ≡ length replies + 1 = ap length pushed ∙ length-append replies (c.in-Ok.reply ∷ []) in
     let shorter = ap length steps in
-    let roomy = subst (IsRoomy _ before) did (part_roomy _ before c.args.client wanted here.within) in
-    let alone = subst (LeavesAlone before) did (part-alone before c.args.client wanted) in
+    let roomy = subst (Leaves (IsWithinAll _)) did (part_roomy _ before c.args.client wanted here.within) in
+    let alone = subst (Leaves (ChangesNodesAlone before)) did (part-alone before c.args.client wanted) in
     record {
       ran = here.ran
-          ∙ ap (run before c.args.client replies) steps
+          ∙ ap (λ parts. behind_all replies (run before c.args.client parts)) steps
           ∙ run-part before c.part.new.store.tree c.args.client replies wanted rest c.in-Ok.reply did
-          ∙ ap (λ replies. run c.part.new.store.tree c.args.client replies rest) (sym pushed);
+          ∙ ap (λ replies. behind_all replies (run c.part.new.store.tree c.args.client rest)) (sym pushed);
       within = λ path n e. within_more _ _ n (omega (arith, longer)) (roomy path n e);
       stays = alone_then old before c.part.new.store.tree here.stays alone;
       count = omega (arith, longer, shorter, here.count);
-      given = let one = c.in-Ok.ensures.given in omega (arith, longer, one, here.given);
+      given = let one = c.in-Ok.ensures.done.given in omega (arith, longer, one, here.given);
     }
 
 pub returns-in-Err-Refused-clause-stopped : goal.returns-in-Err-Refused-clause-stopped
 returns-in-Err-Refused-clause-stopped c =
     let here = c.loop-wanted.invariant in
-    let stopped = rw c.in-Err-Refused.field-0-is at c.in-Err-Refused.ensures.stopped in
+    let stopped = rw c.in-Err-Refused.field-0-is at c.in-Err-Refused.ensures.stopped.says in
     here.ran
-    ∙ ap (run c.loop-wanted.store.tree c.args.client c.loop-wanted.replies.items) c.in-Some.ensures.steps.0
+    ∙ ap (λ parts. behind_all c.loop-wanted.replies.items (run c.loop-wanted.store.tree c.args.client parts)) c.in-Some.ensures.steps.0
     ∙ run-refused c.loop-wanted.store.tree c.args.client c.loop-wanted.replies.items c.in-Some.wanted c.next.new.self.rest.items _ stopped
     ∙ rw c.in-Err-Refused.field-0-is (λ i. Err (sym (c.len.ensures ∙ c.loop-wanted.replies.ok.0) i + 1, c.in-Err-Refused.refusal))
 
@@ -51,4 +75,15 @@ pub returns-clause-done : goal.returns-clause-done
 returns-clause-done c =
     let here = c.loop-wanted.invariant in
     let ended : c.loop-wanted.wanted-iterator.rest.items ≡ [] = nil_from_length c.loop-wanted.wanted-iterator.rest.items (sym c.loop-wanted.wanted-iterator.rest.ok.0 ∙ c.in-None.ensures.steps.0) in
-    here.ran ∙ ap (run c.loop-wanted.store.tree c.args.client c.loop-wanted.replies.items) ended ∙ run-end c.loop-wanted.store.tree c.args.client c.loop-wanted.replies.items
+    here.ran ∙ ap (λ parts. behind_all c.loop-wanted.replies.items (run c.loop-wanted.store.tree c.args.client parts)) ended ∙ run-end c.loop-wanted.store.tree c.args.client c.loop-wanted.replies.items
+
+pub returns-clause-stays : goal.returns-clause-stays
+returns-clause-stays c =
+    let here = c.loop-wanted.invariant in
+    let few = c.requires.few in
+    let count = here.count in
+    record {
+      alone = here.stays;
+      within = λ path n e. within_more _ _ n (omega (arith, few, count)) (here.within path n e);
+      given = let more = here.given in omega (arith, few, count, more);
+    }

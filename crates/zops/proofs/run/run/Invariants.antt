@@ -1,12 +1,14 @@
-use Rattle.std.proofs.Common.{◌≡◌, ◌+◌, ◌*◌, ◌≤◌, length, []}
+use Rattle.std.proofs.Common.{◌≡◌, ◌+◌, ◌*◌, ◌≤◌, length}
+use Rattle.zcalls.specs.Bounds.{IsWithin}
+use Rattle.zcalls.specs.support.Alone.{ChangesNodesAlone}
 use Rattle.zcalls.specs.Multi.{run}
+use Rattle.zcalls.proofs.Runs.{behind_all}
 use Rattle.ztree.specs.Lawful.{AllNodes}
-use Rattle.zcalls.specs.Bounds.{IsWithin, ChangesNodesAlone}
 use Rattle.zops.proofs.run.run.Given as goal
 
 abbrev pub invariant-loop-wanted : goal.invariant-loop-wanted
 invariant-loop-wanted l = record {
-  ran : run l.initial.store.tree l.fn.client [] l.fn.parts.items ≡ run l.store.tree l.fn.client l.replies.items l.wanted-iterator.rest.items;
+  ran : run l.initial.store.tree l.fn.client l.fn.parts.items ≡ behind_all l.replies.items (run l.store.tree l.fn.client l.wanted-iterator.rest.items);
   within : AllNodes (IsWithin (4096 * l.initial.store.tree.zxid + length l.replies.items)) l.store.tree.nodes;
   stays : ChangesNodesAlone l.initial.store.tree l.store.tree;
   count : length l.replies.items + length l.wanted-iterator.rest.items ≡ length l.fn.parts.items;

@@ -1,5 +1,5 @@
 use Rattle.std.proofs.Common.{◌+◌, ◌*◌, refl, ap, sym, subst, ◌∙◌, arith}
-use Rattle.ztree.specs.Tree.{Tree}
+use Rattle.ztree.specs.Tree.{Tree, parent_of}
 use Rattle.ztree.specs.Sessions.{without_sessions}
 use Rattle.zcalls.proofs.Ends.{RoomForEnds, AreLive, room_before, ended-room, few_ephemerals, ended-ends, due_live}
 use Rattle.zops.proofs.session_calls.end_all.Goals as goal
@@ -10,18 +10,18 @@ loop-id-init c =
     let all = c.into_iter-id-iterator.ensures.into_iter_gives.0 in
     record {
       did = ap (without_sessions t) (sym all);
-      room = room_before (4096 * t.zxid) t.nodes c.requires.bounded.counters c.keeps_lawful.ensures.few_nodes;
+      room = room_before (4096 * t.zxid) t.nodes c.requires.ready.steady.bounded.counters c.keeps_lawful.ensures.few_nodes;
       zxid = refl;
       live = subst (AreLive t.sessions) (sym (all ∙ c.requires.due)) (due_live t.sessions (t.time + 1));
       given = refl;
     }
 
 pub end_session-requires-clause-counters : goal.end_session-requires-clause-counters
-end_session-requires-clause-counters c path n e =
-    let room = (c.loop-id.invariant.room path n e).cversion in
-    let owned = few_ephemerals c.loop-id.store.tree.nodes c.in-Some.id in
-    let few = c.requires.zxid in
-    omega (arith, room, owned, few)
+end_session-requires-clause-counters c path n e owned parent found =
+    let room = (c.loop-id.invariant.room (parent_of path) parent found).cversion in
+    let gone = few_ephemerals c.loop-id.store.tree.nodes c.in-Some.id in
+    let few = c.requires.ready.zxid in
+    omega (arith, room, gone, few)
 
 pub loop-id-preserved : goal.loop-id-preserved
 loop-id-preserved c =

@@ -1,4 +1,4 @@
-use Rattle.std.proofs.Common.{ap, sym, subst, ◌∙◌}
+use Rattle.std.proofs.Common.{ap, sym, subst, ◌∙◌, arith}
 use Rattle.ztree.specs.Tree.{with_next_zxid}
 use Rattle.ztree.specs.Sessions.{with_session}
 use Rattle.zcalls.specs.Bounds.{IsBounded}
@@ -6,9 +6,12 @@ use Rattle.zcalls.specs.Step.{granted_timeout}
 use Rattle.zcalls.proofs.Timed.{opened_bounded, granted-least, granted-most}
 use Rattle.zops.proofs.session_calls.open.Goals as goal
 
-pub returns-clause-bounded : goal.returns-clause-bounded
-returns-clause-bounded c =
+pub returns-clause-left : goal.returns-clause-left
+returns-clause-left c =
     let t = c.args.store.now.tree in
     let ticks = c.args.ticks in
     let now = c.raise.ensures.tree ∙ ap with_next_zxid c.in_ok-open_session.ensures.tree ∙ ap (λ timeout. with_next_zxid (with_session t c.args.client timeout)) c.granted-timeout.ensures in
-    subst IsBounded (sym now) (opened_bounded t c.args.client (granted_timeout ticks) c.requires.bounded c.requires.zxid (granted-least ticks) (granted-most ticks))
+    record {
+      bounded = subst IsBounded (sym now) (opened_bounded t c.args.client (granted_timeout ticks) c.requires.steady.bounded c.requires.zxid (granted-least ticks) (granted-most ticks));
+      given = let same = c.raise.ensures.same.1 in let more = c.in_ok-open_session.ensures.same.1 in omega (arith, same, more);
+    }

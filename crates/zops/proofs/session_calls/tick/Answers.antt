@@ -24,14 +24,17 @@ advance-requires-clause-ticks c = rw (c.end_all.ensures.tree, (all_ended-ends c.
 pub raise-requires : goal.raise-requires
 raise-requires c =
     let t = c.args.store.now.tree in
-    rw (c.advance.ensures.tree, c.end_all.ensures.tree, (all_ended-ends c.in_ok-due.due.items t).zxid) c.requires.zxid
+    rw (c.advance.ensures.tree, c.end_all.ensures.tree, (all_ended-ends c.in_ok-due.due.items t).zxid) c.requires.ready.zxid
 
-pub returns-clause-bounded : goal.returns-clause-bounded
-returns-clause-bounded c =
+pub returns-clause-left : goal.returns-clause-left
+returns-clause-left c =
     let t = c.args.store.now.tree in
     let ids = c.in_ok-due.due.items in
     let now = c.raise.ensures.tree ∙ ap (λ (u : Tree). with_next_zxid u) (c.advance.ensures.tree ∙ ap with_next_tick c.end_all.ensures.tree) in
-    subst IsBounded (sym now) (ticked_bounded t ids c.requires.bounded c.keeps_lawful.ensures c.requires.zxid c.requires.time)
+    record {
+      bounded = subst IsBounded (sym now) (ticked_bounded t ids c.requires.ready.steady.bounded c.keeps_lawful.ensures c.requires.ready.zxid c.requires.time);
+      given = let a = c.raise.ensures.same.1 in let b = c.advance.ensures.same.1 in let d = c.end_all.ensures.given in omega (arith, a, b, d);
+    }
 
 pub returns-clause-done : goal.returns-clause-done
 returns-clause-done c =

@@ -1,4 +1,4 @@
-use Rattle.std.proofs.Common.{sym, subst, lit<, arith}
+use Rattle.std.proofs.Common.{sym, subst, arith}
 use Rattle.zcalls.specs.Bounds.{IsBounded}
 use Rattle.zcalls.proofs.Bounds.{opening_bounded}
 use Rattle.zops.proofs.machine.Machine.new.Goals as goal
@@ -6,6 +6,9 @@ use Rattle.zops.proofs.machine.Machine.new.Goals as goal
 pub invariant_of-result : goal.invariant_of-result
 invariant_of-result c = record {
   bounded = subst IsBounded (sym c.in_ok-store.ensures.opening) opening_bounded;
-  applied_few = lit< tt;
+  applied_few = omega arith;
   given_few = omega (arith, c.in_ok-store.ensures.given);
 }
+
+pub returns-clause-bounded : goal.returns-clause-bounded
+returns-clause-bounded c = subst IsBounded (sym c.in_ok-store.ensures.opening) opening_bounded

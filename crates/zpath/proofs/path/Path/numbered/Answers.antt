@@ -1,6 +1,7 @@
 use Rattle.std.proofs.Common.{◌≡◌, ◌∷◌, ◌++◌, [], Some, None, sym, ap, ◌∙◌, rules}
+use Rattle.zpath.specs.declared.limits.TheConstants.{COUNTER_DIGITS}
 use Rattle.zpath.specs.Grammar.{IsPath}
-use Rattle.zpath.specs.Numbered.{digits, numbered, numbered_fault}
+use Rattle.zpath.specs.Numbered.{digits, numbered_path, numbered_fault}
 use Rattle.zpath.proofs.Sequence.{numbered_last, last_fits, IsPath-numbered, is_over-fits, is_over-fault}
 use Rattle.zpath.proofs.path.Path.numbered.Goals as goal
 
@@ -20,17 +21,17 @@ numbered-requires c =
     sym (c.numbered_fault.ensures c.args.counter) ∙ c.in_default-numbered_fault.is in
     last_fits c.in-Some.front.now c.in-Some.last.now c.args.counter (rw split at path) none
 
-is_split : (c : goal.In_ok-push) → c.args.self.now ≡ c.in-Some.front.now ++ c.in-Some.last.now ∷ []
+is_split : (c : goal.In_ok-names) → c.args.self.now ≡ c.in-Some.front.now ++ c.in-Some.last.now ∷ []
 is_split c = search rules
 
-has_no_fault : (c : goal.In_ok-push) → numbered_fault c.args.self.now c.args.counter ≡ None
+has_no_fault : (c : goal.In_ok-names) → numbered_fault c.args.self.now c.args.counter ≡ None
 has_no_fault c =
     ap (λ path. numbered_fault path c.args.counter) (is_split c) ∙ sym (c.numbered_fault.ensures c.args.counter) ∙ c.in_default-numbered_fault.is
 
-is_made : (c : goal.In_ok-push) → c.push.new.self.items ≡ c.in-Some.front.now ++ (c.in-Some.last.now ++ digits 10 c.args.counter) ∷ []
+is_made : (c : goal.In_ok-names) → c.in_ok-names.names.items ≡ c.in-Some.front.now ++ (c.in-Some.last.now ++ digits COUNTER_DIGITS c.args.counter) ∷ []
 is_made c = search rules
 
-is_path : (c : goal.In_ok-push) → IsPath c.push.new.self.items
+is_path : (c : goal.In_ok-names) → IsPath c.in_ok-names.names.items
 is_path c =
     let path : IsPath c.args.self.now = rw (← c.self.view_is) c.self.invariant in
     rw (is_made c) (IsPath-numbered c.in-Some.front.now c.in-Some.last.now c.args.counter (rw (is_split c) at path) (rw (is_split c) at (has_no_fault c)))
@@ -40,7 +41,7 @@ invariant_of-result c = is_path c
 
 pub returns-clause-numbered : goal.returns-clause-numbered
 returns-clause-numbered c =
-    (is_path c, is_made c ∙ sym (numbered_last c.in-Some.front.now c.in-Some.last.now c.args.counter) ∙ ap (λ path. numbered path c.args.counter) (sym (is_split c)))
+    (is_path c, is_made c ∙ sym (numbered_last c.in-Some.front.now c.in-Some.last.now c.args.counter) ∙ ap (λ path. numbered_path path c.args.counter) (sym (is_split c)))
 
 pub returns-clause-within : goal.returns-clause-within
 returns-clause-within c = is_over-fits c.args.self.now c.args.counter (has_no_fault c)

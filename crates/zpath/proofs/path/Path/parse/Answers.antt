@@ -7,8 +7,8 @@ use Rattle.zpath.proofs.path.Path.parse.Goals as goal
 pub returns-in_err-rest-clause-only : goal.returns-in_err-rest-clause-only
 returns-in_err-rest-clause-only c =
     let p = err_from_is_err_and c.from_residual.result c.from_residual.ensures.1 in
-    rw (p.1) (λ path is_path spelled.
-    let none = ap fault_of spelled ∙ text_has_no_fault path is_path in
+    rw (p.1) (λ path.
+    let none = ap fault_of path.2 ∙ text_has_no_fault path.0 path.1 in
     let fault = c.in_err-rest.ensures.err in
     cc)
 

@@ -1,0 +1,3 @@
+pub mod ClientMessages
+pub mod ClientSteps
+pub mod Events

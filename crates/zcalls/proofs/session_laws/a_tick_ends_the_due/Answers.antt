@@ -1,5 +1,0 @@
-use Rattle.zcalls.proofs.Sessions.{tick_ends_the_due}
-use Rattle.zcalls.proofs.session_laws.a_tick_ends_the_due.Goals as goal
-
-pub returns : goal.returns
-returns c = tick_ends_the_due

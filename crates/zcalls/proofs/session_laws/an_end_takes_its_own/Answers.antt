@@ -1,5 +1,0 @@
-use Rattle.ztree.proofs.Ending.{has_node-ended}
-use Rattle.zcalls.proofs.session_laws.an_end_takes_its_own.Goals as goal
-
-pub returns : goal.returns
-returns c = has_node-ended

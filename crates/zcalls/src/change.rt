@@ -1,0 +1,88 @@
+//! A change of one node: what is asked for, and what it did.
+
+use crate::call::{Create, Delete, Part, SetData, Update};
+use crate::reply::{PartReply, Reply};
+use zpath::Path;
+use ztree::Stat;
+
+/// A change of one node. By itself it is an update, and in a multi a part.
+#[derive(Drop)]
+pub enum Change {
+    /// Makes a node.
+    Create(Create),
+    /// Takes a node away.
+    Delete(Delete),
+    /// Writes a node's data.
+    SetData(SetData),
+}
+
+/// What a change of one node did.
+#[derive(Drop)]
+pub enum ChangeReply {
+    /// It made the node at this path.
+    Created(Path),
+    /// It took the node away.
+    Deleted,
+    /// It wrote the data of a node, of which this is told now.
+    Set(Stat),
+}
+
+impl From<Change> for Update {
+    ghost use Rattle.std.specs.Prelude.{◌≡◌};
+    ghost use Rattle.zcalls.specs.Change.{update_of};
+
+    ghost from_gives = { λ change update. update ≡ update_of change };
+
+    fn from(change: Change) -> Update {
+        match change {
+            Change::Create(wanted) => Update::Create(wanted),
+            Change::Delete(wanted) => Update::Delete(wanted),
+            Change::SetData(wanted) => Update::SetData(wanted),
+        }
+    }
+}
+
+impl From<Change> for Part {
+    ghost use Rattle.std.specs.Prelude.{◌≡◌};
+    ghost use Rattle.zcalls.specs.Change.{part_of};
+
+    ghost from_gives = { λ change part. part ≡ part_of change };
+
+    fn from(change: Change) -> Part {
+        match change {
+            Change::Create(wanted) => Part::Create(wanted),
+            Change::Delete(wanted) => Part::Delete(wanted),
+            Change::SetData(wanted) => Part::SetData(wanted),
+        }
+    }
+}
+
+impl From<ChangeReply> for Reply {
+    ghost use Rattle.std.specs.Prelude.{◌≡◌};
+    ghost use Rattle.zcalls.specs.Change.{reply_of};
+
+    ghost from_gives = { λ did reply. reply ≡ reply_of did };
+
+    fn from(did: ChangeReply) -> Reply {
+        match did {
+            ChangeReply::Created(path) => Reply::Created(path),
+            ChangeReply::Deleted => Reply::Deleted,
+            ChangeReply::Set(stat) => Reply::Set(stat),
+        }
+    }
+}
+
+impl From<ChangeReply> for PartReply {
+    ghost use Rattle.std.specs.Prelude.{◌≡◌};
+    ghost use Rattle.zcalls.specs.Change.{part_reply_of};
+
+    ghost from_gives = { λ did reply. reply ≡ part_reply_of did };
+
+    fn from(did: ChangeReply) -> PartReply {
+        match did {
+            ChangeReply::Created(path) => PartReply::Created(path),
+            ChangeReply::Deleted => PartReply::Deleted,
+            ChangeReply::Set(stat) => PartReply::Set(stat),
+        }
+    }
+}

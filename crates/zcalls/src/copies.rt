@@ -1,0 +1,230 @@
+//! Copies: each value of a call or a reply, once more. Only want of memory refuses one.
+
+ghost use Rattle.std.specs.Prelude.{◌≡◌, IfOk};
+
+use crate::call::{Call, Check, Create, Delete, Entry, Part, Query, SetData, Update};
+use crate::listed::{Names, Replies};
+use crate::multi::Multi;
+use crate::reply::{PartReply, Reply};
+use std::alloc::Global;
+use zpath::{Memory, Name};
+
+impl Create {
+    /// The same wish once more.
+    pub fn copied(&self, alloc: Global) -> Result<Create, Memory>
+        ensures { IfOk result (λ copy. copy ≡ self.now) }
+    {
+        Ok(Create {
+            path: self.path.copied(alloc)?,
+            kind: self.kind,
+            bytes: self.bytes.copied(alloc)?,
+        })
+    }
+}
+
+impl Delete {
+    /// The same wish once more.
+    pub fn copied(&self, alloc: Global) -> Result<Delete, Memory>
+        ensures { IfOk result (λ copy. copy ≡ self.now) }
+    {
+        Ok(Delete {
+            path: self.path.copied(alloc)?,
+            version: self.version,
+        })
+    }
+}
+
+impl SetData {
+    /// The same wish once more.
+    pub fn copied(&self, alloc: Global) -> Result<SetData, Memory>
+        ensures { IfOk result (λ copy. copy ≡ self.now) }
+    {
+        Ok(SetData {
+            path: self.path.copied(alloc)?,
+            bytes: self.bytes.copied(alloc)?,
+            version: self.version,
+        })
+    }
+}
+
+impl Check {
+    /// The same wish once more.
+    pub fn copied(&self, alloc: Global) -> Result<Check, Memory>
+        ensures { IfOk result (λ copy. copy ≡ self.now) }
+    {
+        Ok(Check {
+            path: self.path.copied(alloc)?,
+            version: self.version,
+        })
+    }
+}
+
+impl Part {
+    /// The same part once more.
+    pub fn copied(&self, alloc: Global) -> Result<Part, Memory>
+        ensures { IfOk result (λ copy. copy ≡ self.now) }
+    {
+        match self {
+            Part::Create(wanted) => Ok(Part::Create(wanted.copied(alloc)?)),
+            Part::Delete(wanted) => Ok(Part::Delete(wanted.copied(alloc)?)),
+            Part::SetData(wanted) => Ok(Part::SetData(wanted.copied(alloc)?)),
+            Part::Check(wanted) => Ok(Part::Check(wanted.copied(alloc)?)),
+        }
+    }
+}
+
+impl Multi {
+    /// The same parts once more.
+    pub fn copied(&self, alloc: Global) -> Result<Multi, Memory>
+        ensures { IfOk result (λ copy. copy ≡ self.now) }
+    {
+        let parts = copied_parts(alloc, self.as_slice())?;
+        match Multi::new(parts) {
+            Ok(multi) => Ok(multi),
+            Err(_) => unreachable!(),
+        }
+    }
+}
+
+fn copied_parts(alloc: Global, parts: &[Part]) -> Result<Vec<Part>, Memory>
+    ensures { IfOk result (λ copy. copy.items ≡ parts.now) }
+{
+    let mut copy = Vec::new(alloc);
+    for part in parts {
+        copy.push(part.copied(alloc)?)?;
+    }
+    Ok(copy)
+}
+
+impl Update {
+    /// The same update once more.
+    pub fn copied(&self, alloc: Global) -> Result<Update, Memory>
+        ensures { IfOk result (λ copy. copy ≡ self.now) }
+    {
+        match self {
+            Update::Create(wanted) => Ok(Update::Create(wanted.copied(alloc)?)),
+            Update::Delete(wanted) => Ok(Update::Delete(wanted.copied(alloc)?)),
+            Update::SetData(wanted) => Ok(Update::SetData(wanted.copied(alloc)?)),
+            Update::Multi(multi) => Ok(Update::Multi(multi.copied(alloc)?)),
+            Update::Open(timeout) => Ok(Update::Open(*timeout)),
+            Update::Ping(session) => Ok(Update::Ping(*session)),
+            Update::Close(session) => Ok(Update::Close(*session)),
+            Update::Tick => Ok(Update::Tick),
+        }
+    }
+}
+
+impl Query {
+    /// The same query once more.
+    pub fn copied(&self, alloc: Global) -> Result<Query, Memory>
+        ensures { IfOk result (λ copy. copy ≡ self.now) }
+    {
+        match self {
+            Query::GetData(path) => Ok(Query::GetData(path.copied(alloc)?)),
+            Query::Exists(path) => Ok(Query::Exists(path.copied(alloc)?)),
+            Query::GetChildren(path) => Ok(Query::GetChildren(path.copied(alloc)?)),
+        }
+    }
+}
+
+impl Call {
+    /// The same call once more.
+    pub fn copied(&self, alloc: Global) -> Result<Call, Memory>
+        ensures { IfOk result (λ copy. copy ≡ self.now) }
+    {
+        match self {
+            Call::Update(update) => Ok(Call::Update(update.copied(alloc)?)),
+            Call::Query(query) => Ok(Call::Query(query.copied(alloc)?)),
+        }
+    }
+}
+
+impl Entry {
+    /// The same entry once more.
+    pub fn copied(&self, alloc: Global) -> Result<Entry, Memory>
+        ensures { IfOk result (λ copy. copy ≡ self.now) }
+    {
+        Ok(Entry {
+            client: self.client,
+            number: self.number,
+            update: self.update.copied(alloc)?,
+        })
+    }
+}
+
+impl PartReply {
+    /// The same reply once more.
+    pub fn copied(&self, alloc: Global) -> Result<PartReply, Memory>
+        ensures { IfOk result (λ copy. copy ≡ self.now) }
+    {
+        match self {
+            PartReply::Created(path) => Ok(PartReply::Created(path.copied(alloc)?)),
+            PartReply::Deleted => Ok(PartReply::Deleted),
+            PartReply::Set(stat) => Ok(PartReply::Set(*stat)),
+            PartReply::Checked => Ok(PartReply::Checked),
+        }
+    }
+}
+
+impl Replies {
+    /// The same replies once more.
+    pub fn copied(&self, alloc: Global) -> Result<Replies, Memory>
+        ensures { IfOk result (λ copy. copy ≡ self.now) }
+    {
+        let replies = copied_replies(alloc, self.as_slice())?;
+        Ok(Replies::new(replies))
+    }
+}
+
+fn copied_replies(alloc: Global, replies: &[PartReply]) -> Result<Vec<PartReply>, Memory>
+    ensures { IfOk result (λ copy. copy.items ≡ replies.now) }
+{
+    let mut copy = Vec::new(alloc);
+    for reply in replies {
+        copy.push(reply.copied(alloc)?)?;
+    }
+    Ok(copy)
+}
+
+impl Names {
+    /// The same names once more.
+    pub fn copied(&self, alloc: Global) -> Result<Names, Memory>
+        ensures { IfOk result (λ copy. copy ≡ self.now) }
+    {
+        let names = copied_names(alloc, self.as_slice())?;
+        Ok(Names::new(names))
+    }
+}
+
+fn copied_names(alloc: Global, names: &[Name]) -> Result<Vec<Name>, Memory>
+    ensures { IfOk result (λ copy. copy.items ≡ names.now) }
+{
+    let mut copy = Vec::new(alloc);
+    for name in names {
+        copy.push(name.copied(alloc)?)?;
+    }
+    Ok(copy)
+}
+
+impl Reply {
+    /// The same reply once more.
+    pub fn copied(&self, alloc: Global) -> Result<Reply, Memory>
+        ensures { IfOk result (λ copy. copy ≡ self.now) }
+    {
+        match self {
+            Reply::Created(path) => Ok(Reply::Created(path.copied(alloc)?)),
+            Reply::Deleted => Ok(Reply::Deleted),
+            Reply::Set(stat) => Ok(Reply::Set(*stat)),
+            Reply::Multi(replies) => Ok(Reply::Multi(replies.copied(alloc)?)),
+            Reply::Opened(session, timeout) => Ok(Reply::Opened(*session, *timeout)),
+            Reply::Pinged => Ok(Reply::Pinged),
+            Reply::Closed => Ok(Reply::Closed),
+            Reply::Ticked(tick, ended) => Ok(Reply::Ticked(*tick, *ended)),
+            Reply::Data(bytes, stat) => Ok(Reply::Data(bytes.copied(alloc)?, *stat)),
+            Reply::Exists(stat) => Ok(Reply::Exists(*stat)),
+            Reply::Children(names) => Ok(Reply::Children(names.copied(alloc)?)),
+            Reply::Refused(refusal) => Ok(Reply::Refused(*refusal)),
+            Reply::MultiRefused(part, refusal) => Ok(Reply::MultiRefused(*part, *refusal)),
+        }
+    }
+}

@@ -1,0 +1,9 @@
+-- The opening, and the steps that events are made of.
+pub mod Commits
+pub mod Drops
+pub mod Opening
+pub mod Puts
+pub mod Sends
+pub mod ServerSteps
+pub mod Takes
+pub mod Views

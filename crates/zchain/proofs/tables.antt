@@ -1,0 +1,5 @@
+-- What the rows of the tables keep of a view and of what they put.
+pub mod Everywhere
+pub mod Lasts
+pub mod OtherPosts
+pub mod RowViews

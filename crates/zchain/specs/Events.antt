@@ -1,0 +1,10 @@
+-- What it is that an event keeps a run sound.
+use Rattle.zworld.specs.declared.event.Event.{Event}
+use Rattle.zcalls.specs.PlainTree.{plain_tree}
+use Rattle.zchain.specs.Last.{LastsAreLengths}
+use Rattle.zchain.specs.Account.{Account, next_account}
+use Rattle.zchain.specs.Sound.{IsSound, IsSoundAfter}
+
+-- the event keeps a run sound, and what is committed
+abbrev pub KeepsSound : Event → Type 0
+KeepsSound event = (t : Account) → LastsAreLengths t.world → IsSound plain_tree t → IsSoundAfter plain_tree t (next_account plain_tree t event)

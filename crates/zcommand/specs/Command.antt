@@ -1,0 +1,15 @@
+-- What a run of the program comes to, told by what its devices did.
+use Rattle.std.specs.Prelude.{ℕ, ◌⊎◌, List, [], ◌∷◌, ◌++◌}
+use Rattle.zscript.specs.Device.{SourceRun, SinkRun, Failed, TookBeginning}
+use Rattle.zscript.specs.Outcome.{IsCutBy, play_fault_text}
+use Rattle.zscript.specs.declared.fault.PlayFault.{PlayFault}
+
+-- A line went to a device; or a beginning of it, and the device failed.
+abbrev pub IsTold : SinkRun → List ℕ → Type 0
+IsTold faults line =
+    faults.took (line ++ 10 ∷ []) ⊎ (TookBeginning faults.took (line ++ 10 ∷ []) × Failed faults.failed)
+
+-- A fault ended the run, and was told.
+abbrev pub IsCutAndTold : SourceRun → SinkRun → SinkRun → Type 0
+IsCutAndTold source sink faults =
+    (fault : PlayFault) × IsCutBy source sink fault × IsTold faults (play_fault_text fault)

@@ -1,0 +1,78 @@
+//! A run of the program, without its devices.
+
+ghost use Rattle.std.specs.Prelude.{◌≡◌, ◌≤◌, [], codes};
+ghost use Rattle.zscript.specs.Device.{source_run, sink_run};
+ghost use Rattle.zscript.specs.Outcome.{IsPlayed};
+ghost use Rattle.zcommand.specs.Words.{words_fault_text, words_fault_status};
+ghost use Rattle.zcommand.specs.Command.{IsTold, IsCutAndTold};
+
+use crate::fault::WordsFault;
+use crate::order::Settings;
+use crate::words::settings;
+use std::alloc::Global;
+use zscript::{Sink, Source, play, write_all};
+
+/// Does what the words ask for, says of a fault on `faults` what it is, and answers the exit status.
+///
+/// The status is 0 where the script was played to its end, 1 after a device's fault or want of memory, and
+/// 2 where the words are not understood. Where `faults` fails nothing else changes.
+pub fn command<S: Source, K: Sink, F: Sink>(
+    alloc: Global,
+    words: &[&str],
+    source: &mut S,
+    sink: &mut K,
+    faults: &mut F,
+) -> u8
+    ensures status { result ≤ 2 }
+
+    // All was played, and nothing was said.
+    ensures played { result ≡ 0 → IsPlayed
+        (source_run S.gave S.failed S.has_ended source.old source.new)
+        (sink_run K.took K.failed sink.old sink.new) }
+    ensures silent { result ≡ 0 → F.took faults.old [] faults.new }
+
+    // A fault ended the run, and was told.
+    ensures cut { result ≡ 1 → IsCutAndTold
+        (source_run S.gave S.failed S.has_ended source.old source.new)
+        (sink_run K.took K.failed sink.old sink.new)
+        (sink_run F.took F.failed faults.old faults.new) }
+
+    // The words are not understood, and nothing was read or written.
+    ensures idle { result ≡ 2 → (source.new ≡ source.old) × (sink.new ≡ sink.old) }
+    ensures refused { result ≡ 2 → IsTold
+        (sink_run F.took F.failed faults.old faults.new) (codes "zk: bad words") }
+{
+    let Settings::Script(servers) = match settings(alloc, words) {
+        Ok(settings) => settings,
+        Err(fault) => return refuse(fault, faults),
+    };
+    match play(alloc, source, sink, servers) {
+        Ok(()) => 0,
+        Err(fault) => {
+            tell(faults, fault.text());
+            1
+        }
+    }
+}
+
+/// Says why there are no words to do, and answers the exit status.
+pub fn refuse<F: Sink>(fault: WordsFault, faults: &mut F) -> u8
+    ensures status { result ≡ words_fault_status fault }
+    ensures told { IsTold
+        (sink_run F.took F.failed faults.old faults.new) (words_fault_text fault) }
+{
+    tell(faults, fault.text());
+    fault.status()
+}
+
+// Writes a line. Only a fault of the device ends it early.
+fn tell<F: Sink>(faults: &mut F, text: &str)
+    ensures { IsTold (sink_run F.took F.failed faults.old faults.new) text.now }
+{
+    let Ok(()) = write_all(faults, text.as_bytes()) else {
+        return;
+    };
+    let Ok(()) = write_all(faults, b"\n") else {
+        return;
+    };
+}

@@ -1,0 +1,3 @@
+pub mod acts
+pub mod lists
+pub mod order

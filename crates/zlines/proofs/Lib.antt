@@ -1,0 +1,8 @@
+pub mod LongLine
+pub mod Numerals
+pub mod OneNumeral
+pub mod LeftOver
+pub mod Spacing
+pub mod PartsShape
+pub mod PartsCount
+pub mod Prefixes

@@ -1,0 +1,61 @@
+-- The texts of replies: this project's own profile. Data in them is base64 by RFC 4648, section 4.
+use Rattle.std.specs.Prelude.{ℕ, List, [], ◌∷◌, ◌++◌, length, codes}
+use Rattle.std.specs.Fmt.{decimal}
+use Rattle.std.specs.List.{flat_map}
+use Rattle.zpath.specs.Grammar.{text_of}
+use Rattle.ztree.specs.declared.node.Stat.{Stat}
+use Rattle.zcalls.specs.declared.reply.Reply.{Reply}
+use Rattle.zcalls.specs.declared.reply.Reply.TheVariants.{Created, Deleted, Set, Multi, Opened, Pinged, Closed, Ticked, Data, Exists, Children, Refused, MultiRefused}
+use Rattle.zcalls.specs.declared.reply.PartReply.{PartReply}
+use Rattle.zcalls.specs.declared.reply.PartReply.TheVariants as part
+use Rattle.zcalls.specs.Step.{refusal_name}
+use Rattle.zlines.specs.LineWords.{data_text}
+
+-- the ten numbers of a stat, in the order of the text
+abbrev pub numbers_of : Stat → List ℕ
+numbers_of s =
+    s.czxid ∷ s.mzxid ∷ s.pzxid ∷ s.ctime ∷ s.mtime ∷ s.version ∷ s.cversion ∷ s.owner ∷ s.length ∷ s.children ∷ []
+
+-- each number in decimal, after a space
+abbrev pub spaced_number : ℕ → List ℕ
+spaced_number n = 32 ∷ decimal n
+
+-- the numbers of a stat, each after a space
+abbrev pub stat_text : Stat → List ℕ
+stat_text s = flat_map spaced_number (numbers_of s)
+
+-- what one part of a multi did
+abbrev pub part_text : PartReply → List ℕ
+part_text (part.Created path) = text_of path
+part_text part.Deleted = codes "deleted"
+part_text (part.Set stat) = codes "stat" ++ stat_text stat
+part_text part.Checked = codes "checked"
+
+-- what a further part did
+abbrev pub next_part_text : PartReply → List ℕ
+next_part_text reply = codes " ; " ++ part_text reply
+
+-- what the parts of a multi did
+abbrev pub parts_text : List PartReply → List ℕ
+parts_text [] = []
+parts_text (reply ∷ replies) = part_text reply ++ flat_map next_part_text replies
+
+-- a name, after a space
+abbrev pub spaced_name : List ℕ → List ℕ
+spaced_name name = 32 ∷ name
+
+-- the line of a reply
+abbrev pub reply_text : Reply → List ℕ
+reply_text (Created path) = codes "ok " ++ text_of path
+reply_text Deleted = codes "ok deleted"
+reply_text (Set stat) = codes "ok stat" ++ stat_text stat
+reply_text (Multi replies) = codes "ok multi " ++ parts_text replies
+reply_text (Opened session timeout) = codes "ok session " ++ decimal session ++ codes " timeout " ++ decimal timeout
+reply_text Pinged = codes "ok pinged"
+reply_text Closed = codes "ok closed"
+reply_text (Ticked time ended) = codes "ok tick " ++ decimal time ++ codes " ended " ++ decimal ended
+reply_text (Data bytes stat) = codes "ok data " ++ data_text bytes ++ codes " stat" ++ stat_text stat
+reply_text (Exists stat) = codes "ok stat" ++ stat_text stat
+reply_text (Children names) = codes "ok " ++ decimal (length names) ++ flat_map spaced_name names
+reply_text (Refused refusal) = codes "no " ++ refusal_name refusal
+reply_text (MultiRefused number refusal) = codes "no multi " ++ decimal number ++ 32 ∷ refusal_name refusal

@@ -1,0 +1,94 @@
+-- The shape of a part, and of a multi: what is looked at before any path or data is.
+-- Words are taken from the left, as many as the verb wants, so that `;` can stand where a path or data is wanted.
+use Rattle.std.specs.Prelude.{ℕ, zero, suc, nat_eq, List, [], ◌∷◌, drop, codes, Option, None, Some, if◌then◌else◌}
+use Rattle.std.specs.Option.{option_map}
+use Rattle.std.specs.List.{starts_with}
+use Rattle.std.specs.Str.{bytes_eq}
+use Rattle.zcalls.specs.declared.call.Kind.{Kind}
+use Rattle.zcalls.specs.declared.call.Kind.TheVariants.{Persistent, PersistentSequential, Ephemeral, EphemeralSequential}
+use Rattle.zcalls.specs.declared.call.Expected.{Expected}
+use Rattle.zcalls.specs.declared.call.Expected.TheVariants.{Any, Exactly}
+use Rattle.zlines.specs.declared.part_words.PartWords.{PartWords}
+use Rattle.zlines.specs.declared.part_words.PartWords.TheVariants.{Change, Check}
+use Rattle.zlines.specs.declared.part_words.ChangeWords.{ChangeWords}
+use Rattle.zlines.specs.declared.part_words.ChangeWords.TheVariants.{Create, Delete, SetData}
+use Rattle.zlines.specs.LineWords.{Word, number_of}
+
+-- how a node of a session is to be made: `e:` or `es:`, and the session's number
+abbrev pub owned_kind_of : Word → Option Kind
+owned_kind_of word =
+    if starts_with nat_eq word (codes "e:") then option_map Ephemeral (number_of (drop 2 word)) else
+    if starts_with nat_eq word (codes "es:") then option_map EphemeralSequential (number_of (drop 3 word)) else
+    None
+
+-- how a node is to be made
+unfoldable pub kind_of : Word → Option Kind
+kind_of word =
+    if bytes_eq word (codes "p") then Some Persistent else
+    if bytes_eq word (codes "ps") then Some PersistentSequential else
+    owned_kind_of word
+
+-- the version that a call is meant for
+abbrev pub version_of : Word → Option Expected
+version_of word = if bytes_eq word (codes "any") then Some Any else option_map Exactly (number_of word)
+
+-- something, and the words behind it
+abbrev pub Shape : Type 0 → Type 0
+Shape A = Option (A × List Word)
+
+-- create PATH KIND DATA
+abbrev pub create_shape : List Word → Shape ChangeWords
+create_shape (path ∷ (kind ∷ (bytes ∷ words))) = option_map (λ kind. (Create path kind bytes, words)) (kind_of kind)
+create_shape words = None
+
+-- delete PATH VERSION
+abbrev pub delete_shape : List Word → Shape ChangeWords
+delete_shape (path ∷ (version ∷ words)) = option_map (λ version. (Delete path version, words)) (version_of version)
+delete_shape words = None
+
+-- set PATH VERSION DATA
+abbrev pub set_shape : List Word → Shape ChangeWords
+set_shape (path ∷ (version ∷ (bytes ∷ words))) =
+    option_map (λ version. (SetData path version bytes, words)) (version_of version)
+set_shape words = None
+
+-- check PATH VERSION
+abbrev pub check_shape : List Word → Shape PartWords
+check_shape (path ∷ (version ∷ words)) = option_map (λ version. (Check path version, words)) (version_of version)
+check_shape words = None
+
+-- a verb that changes a node, and the words that it wants
+abbrev pub change_shape : Word → List Word → Shape ChangeWords
+change_shape verb words =
+    if bytes_eq verb (codes "create") then create_shape words else
+    if bytes_eq verb (codes "delete") then delete_shape words else
+    if bytes_eq verb (codes "set") then set_shape words else
+    None
+
+-- a change as a part of a multi
+abbrev pub as_part : Shape ChangeWords → Shape PartWords
+as_part shape = option_map (λ (change, words). (Change change, words)) shape
+
+-- a verb of a part, and the words that it wants
+abbrev pub part_shape : Word → List Word → Shape PartWords
+part_shape verb words =
+    if bytes_eq verb (codes "check") then check_shape words else as_part (change_shape verb words)
+
+-- something, where no word is left behind it
+abbrev pub lone_shape : {A : Type 0} → Shape A → Option A
+lone_shape None = None
+lone_shape (Some (shape, [])) = Some shape
+lone_shape (Some (shape, word ∷ words)) = None
+
+-- a part, and what the words behind it come to, where `;` stands between
+abbrev pub and_parts : Shape PartWords → (List Word → Option (List PartWords)) → Option (List PartWords)
+and_parts None next = None
+and_parts (Some (part, [])) next = Some (part ∷ [])
+and_parts (Some (part, word ∷ words)) next =
+    if bytes_eq word (codes ";") then option_map (λ parts. part ∷ parts) (next words) else None
+
+-- the parts that some words come to: at least one, and at most so many
+unfoldable pub parts_shape : ℕ → List Word → Option (List PartWords)
+parts_shape zero words = None
+parts_shape (suc room) [] = None
+parts_shape (suc room) (verb ∷ words) = and_parts (part_shape verb words) (parts_shape room)

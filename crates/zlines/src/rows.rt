@@ -1,0 +1,99 @@
+//! Worked rows of the definitions: each clause is one, and the bodies do nothing.
+
+ghost use Rattle.std.specs.Prelude.{◌≡◌, [], ◌∷◌, ◌++◌, Some, None, Ok, Err, codes};
+ghost use Rattle.zpath.specs.declared.fault.PathFault.TheVariants.{NotAbsolute};
+ghost use Rattle.zcalls.specs.declared.call.Kind.TheVariants.{Persistent, Ephemeral, EphemeralSequential};
+ghost use Rattle.zcalls.specs.declared.call.Update.TheVariants.{Create, Open, Ping, Close, Tick};
+ghost use Rattle.zcalls.specs.declared.call.Query.TheVariants.{GetData};
+ghost use Rattle.zcalls.specs.declared.call.Call.TheVariants.{Update, Query};
+ghost use Rattle.zcalls.specs.declared.refusal.Refusal.TheVariants.{NoNode};
+ghost use Rattle.zcalls.specs.declared.reply.Reply.TheVariants.{Created, Opened, Ticked, Refused};
+ghost use Rattle.zlines.specs.declared.request.LineFault.TheVariants.{BadLine, BadPath, BadData};
+ghost use Rattle.zlines.specs.LineWords.{number_of, client_of, data_of, data_text};
+ghost use Rattle.zlines.specs.Request.{request_of};
+ghost use Rattle.zlines.specs.Shape.{kind_of};
+ghost use Rattle.zlines.specs.Reply.{reply_text, stat_text};
+
+/// Worked rows of the words: numbers, clients and data.
+#[tactic(auto, unfolding(crate::specs::Shape::kind_of, base64::proofs::OnLiterals::base64_on_literals))]
+pub fn words()
+    ensures zero { number_of (codes "0") ≡ Some 0 }
+    ensures leading_zero { number_of (codes "01") ≡ None }
+    ensures plus { number_of (codes "+1") ≡ None }
+    ensures no_digit { number_of (codes "") ≡ None }
+    ensures most { number_of (codes "4611686018427387903") ≡ Some 4611686018427387903 }
+    ensures too_large { number_of (codes "4611686018427387904") ≡ None }
+    ensures last_client { client_of (codes "31") ≡ Some 31 }
+    ensures no_client { client_of (codes "32") ≡ None }
+    ensures clock { client_of (codes "0") ≡ Some 0 }
+    ensures owned { kind_of (codes "e:0") ≡ Some (Ephemeral 0) }
+    ensures owned_sequential { kind_of (codes "es:12") ≡ Some (EphemeralSequential 12) }
+    ensures no_session { kind_of (codes "e:") ≡ None }
+    ensures loose_session { kind_of (codes "e:01") ≡ None }
+    ensures other_kind { kind_of (codes "e") ≡ None }
+    ensures no_bytes { data_of (codes "-") ≡ Some [] }
+    ensures two_bytes { data_of (codes "aGk=") ≡ Some (104 ∷ 105 ∷ []) }
+    ensures no_padding { data_of (codes "aGk") ≡ None }
+    ensures loose_bits { data_of (codes "aGl=") ≡ None }
+    ensures empty_word { data_of [] ≡ None }
+    ensures shown { data_text (104 ∷ 105 ∷ []) ≡ codes "aGk=" }
+    ensures none_shown { data_text [] ≡ codes "-" }
+{}
+
+/// Worked rows of the lines: what each asks for, or why it asks for nothing.
+#[tactic(auto, unfolding(crate::specs::Request::request_of, crate::specs::Shape::kind_of, crate::specs::Shape::parts_shape, zpath::specs::Faults::fault_of, base64::proofs::OnLiterals::base64_on_literals))]
+pub fn lines()
+    ensures unknown { request_of (codes "1 multi") ≡ Err BadLine }
+    ensures empty { request_of (codes "") ≡ Err BadLine }
+    ensures double_space { request_of (codes "1  get /") ≡ Err BadLine }
+    ensures control { request_of (49 ∷ 32 ∷ 103 ∷ 101 ∷ 116 ∷ 32 ∷ 47 ∷ 13 ∷ []) ≡ Err BadLine }
+    ensures clock_alone { request_of (codes "0 get a") ≡ Err BadLine }
+    ensures tick_alone { request_of (codes "1 tick") ≡ Err BadLine }
+    ensures one_tick { request_of (codes "0 tick 1") ≡ Err BadLine }
+    ensures tick { request_of (codes "0 tick") ≡ Ok (record { client = 0; call = Update Tick }) }
+    ensures open_nothing { request_of (codes "1 open 0")
+        ≡ Ok (record { client = 1; call = Update (Open 0) }) }
+    ensures open_too_much { request_of (codes "1 open 4611686018427387904") ≡ Err BadLine }
+    ensures ping { request_of (codes "2 ping 7")
+        ≡ Ok (record { client = 2; call = Update (Ping 7) }) }
+    ensures close { request_of (codes "2 close 7")
+        ≡ Ok (record { client = 2; call = Update (Close 7) }) }
+    ensures close_two { request_of (codes "2 close 7 8") ≡ Err BadLine }
+    ensures session_first { request_of (codes "1 create a e: aGk") ≡ Err BadLine }
+    ensures relative { request_of (codes "1 get a") ≡ Err (BadPath NotAbsolute) }
+    ensures no_padding { request_of (codes "1 create /a p aGk") ≡ Err BadData }
+    ensures path_first { request_of (codes "1 create a p aGk") ≡ Err (BadPath NotAbsolute) }
+    ensures kind_first { request_of (codes "1 create a x aGk") ≡ Err BadLine }
+    ensures mark_is_a_word { request_of (codes "1 multi create ; p -") ≡ Err (BadPath NotAbsolute) }
+    ensures mark_is_data { request_of (codes "1 multi create /a p ; ; check /a any") ≡ Err BadData }
+    ensures mark_ends { request_of (codes "1 multi check /a any ;") ≡ Err BadLine }
+    ensures lone_check { request_of (codes "1 check /a any") ≡ Err BadLine }
+    ensures get { request_of (codes "1 get /a")
+        ≡ Ok (record { client = 1; call = Query (GetData ((97 ∷ []) ∷ [])) }) }
+    ensures create { request_of (codes "31 create / p -")
+        ≡ Ok (record {
+          client = 31;
+          call = Update (Create (record { path = []; kind = Persistent; bytes = [] }));
+        }) }
+{}
+
+/// Worked rows of the texts of replies.
+pub fn replies()
+    ensures refused { reply_text (Refused NoNode) ≡ codes "no NoNode" }
+    ensures opened { reply_text (Opened 1 2) ≡ codes "ok session 1 timeout 2" }
+    ensures ticked { reply_text (Ticked 2 1) ≡ codes "ok tick 2 ended 1" }
+    ensures created { reply_text (Created ((97 ∷ []) ∷ (98 ∷ []) ∷ [])) ≡ codes "ok /a/b" }
+    ensures stat { stat_text (record {
+      czxid = 1;
+      mzxid = 1;
+      pzxid = 1;
+      ctime = 0;
+      mtime = 0;
+      version = 0;
+      cversion = 0;
+      owner = 0;
+      length = 2;
+      children = 0;
+    })
+        ≡ codes " 1 1 1 0 0 0 0 0 2 0" }
+{}

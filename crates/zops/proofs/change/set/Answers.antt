@@ -1,0 +1,32 @@
+use Rattle.std.proofs.Common.{Ok, ap, sym, refl, ◌∙◌, arith}
+use Rattle.std.specs.FinMap as finite
+use Rattle.ztree.specs.Tree.{stat_at}
+use Rattle.zcalls.specs.declared.change.ChangeReply.TheVariants.{Set}
+use Rattle.zcalls.specs.Part.{set_step}
+use Rattle.zcalls.proofs.Tables.{absent-on_version, stale-on_version, node_there}
+use Rattle.zcalls.proofs.Told.{set_step-done}
+use Rattle.zops.proofs.change.set.Goals as goal
+
+pub returns-in_default-clause-stopped : goal.returns-in_default-clause-stopped
+unfolding set_step
+returns-in_default-clause-stopped c = record { says = absent-on_version c.args.set.version _ _ (sym c.in_default.ensures.node); same = refl }
+
+pub returns-then-has_other_version-clause-stopped : goal.returns-then-has_other_version-clause-stopped
+unfolding set_step
+returns-then-has_other_version-clause-stopped c =
+    let other = sym (c.has_other_version.ensures c.args.set.path c.in-Some.ensures.found) ∙ c.if-has_other_version.true in
+    record { says = stale-on_version c.args.set.version _ _ other; same = refl }
+
+pub returns-clause-done : goal.returns-clause-done
+returns-clause-done c =
+    let set = c.args.set in
+    let t = c.args.store.now.tree in
+    let fresh = sym (c.has_other_version.ensures set.path c.in-Some.ensures.found) ∙ c.if-has_other_version.false in
+    let there = node_there (finite.get t.nodes set.path) (sym c.in-Some.ensures.node) in
+    let tree = c.in_ok-put_data.ensures.tree set.path c.in-Some.ensures.found in
+    let still = ap (λ places. finite.get places c.in-Some.id.number) c.in_ok-put_data.ensures.same.0 ∙ c.in-Some.ensures.found in
+    let told = sym (ap (λ u. stat_at u.nodes set.path) tree) ∙ c.in-Some-stat.ensures.stat set.path still in
+    record {
+      step_is = set_step-done t set there.0 c.in-Some-stat.stat there.1 fresh told ∙ (λ i. Ok (sym tree i, Set c.in-Some-stat.stat));
+      given = let same = c.in_ok-put_data.ensures.same.1 in omega (arith, same);
+    }

@@ -1,0 +1,184 @@
+//! A change of one node, done to a store.
+
+ghost use Rattle.std.specs.Prelude.{◌≡◌, ◌≢◌, ◌<◌, ◌+◌, [], length, nat_lt, Some, None, Ok, Err, IfOk, IfErr, OnOk, IsSome, false};
+ghost use Rattle.std.specs.FinMap.{get};
+ghost use Rattle.zpath.specs.First.{first_that_holds};
+ghost use Rattle.zpath.specs.Numbered.{is_over};
+ghost use Rattle.ztree.specs.Tree.{Path, parent_of, children};
+ghost use Rattle.zstore.specs.StoreView.{path_of, AtPath};
+ghost use Rattle.zcalls.specs.Part.{create_step, delete_step, set_step, change_step};
+ghost use Rattle.zcalls.specs.Part.{is_owned, has_other_version, node_has, made_path};
+ghost use Rattle.zops.specs.support.Ready.{IsReadyForPart};
+ghost use Rattle.zops.specs.support.Stops.{IsDone, IsStopped, IsFirst};
+ghost use Rattle.zops.specs.support.Names.{name_refusals};
+
+use crate::owner::has_no_owner;
+use crate::stop::Stop;
+use std::alloc::Global;
+use zcalls::limits::MAX_COUNTER;
+use zcalls::{Change, ChangeReply, Create, Delete, Expected, Kind, Refusal, SetData};
+use zpath::{Path, PathFault};
+use zstore::{Id, Store};
+use ztree::ClientId;
+use ztree::limits::MAX_NODES;
+
+/// Does one change for a client. Where it did nothing, the store is as it was.
+pub(crate) fn change(
+    alloc: Global,
+    store: &mut Store,
+    client: ClientId,
+    change: Change,
+) -> Result<ChangeReply, Stop>
+    requires ready { IsReadyForPart store.old }
+    ensures done { IfOk result
+        (IsDone (change_step store.old.tree client change) store.old store.new) }
+    ensures stopped { IfErr result
+        (IsStopped (change_step store.old.tree client change) store.old store.new) }
+{
+    match change {
+        Change::Create(wanted) => create(alloc, store, client, wanted),
+        Change::Delete(wanted) => delete(store, &wanted),
+        Change::SetData(wanted) => set(store, wanted),
+    }
+}
+
+// Whether a session owns the node.
+fn is_ephemeral(store: &Store, id: Id) -> bool
+    ensures { AtPath store.now id (λ path. result ≡ node_has is_owned store.now.tree.nodes path) }
+{
+    match store.node(id) {
+        Some(node) => node.owner != 0,
+        None => false,
+    }
+}
+
+// Whether the node has another version than the one that is expected.
+pub(crate) fn has_other_version(store: &Store, id: Id, expected: Expected) -> bool
+    ensures { AtPath store.now id (λ path. result
+        ≡ node_has (has_other_version expected) store.now.tree.nodes path) }
+{
+    match (store.node(id), expected) {
+        (Some(node), Expected::Exactly(version)) => node.version != version,
+        _ => false,
+    }
+}
+
+// The path of the node that a create makes beneath a live parent.
+fn made_path(alloc: Global, store: &Store, parent: Id, kind: Kind, path: Path) -> Result<Path, Stop>
+    requires below_root { path ≢ [] }
+    requires short { is_over path ≡ false }
+    requires live { path_of store.now parent ≡ Some (parent_of path) }
+    ensures made { IfOk result (λ made. made ≡ made_path store.now.tree.nodes kind path) }
+    ensures allowed { OnOk result (first_that_holds (name_refusals store.now.tree kind path)
+        ≡ None) }
+    ensures stopped { IfErr result
+        (IsFirst (first_that_holds (name_refusals store.now.tree kind path))) }
+{
+    if !kind.is_sequential() {
+        return Ok(path);
+    }
+    let Some(counter) = store.seq(parent) else {
+        unreachable!();
+    };
+    if counter > MAX_COUNTER {
+        return Err(Stop::Refused(Refusal::SequenceFull));
+    }
+    match path.numbered(alloc, counter) {
+        Ok(made) => Ok(made),
+        Err(PathFault::Memory) => Err(Stop::Memory),
+        Err(_) => Err(Stop::Refused(Refusal::PathLimit)),
+    }
+}
+
+// Makes a node.
+fn create(
+    alloc: Global,
+    store: &mut Store,
+    client: ClientId,
+    create: Create,
+) -> Result<ChangeReply, Stop>
+    requires ready { IsReadyForPart store.old }
+    ensures done { IfOk result
+        (IsDone (create_step store.old.tree client create) store.old store.new) }
+    ensures stopped { IfErr result
+        (IsStopped (create_step store.old.tree client create) store.old store.new) }
+{
+    if has_no_owner(store, client, create.kind) {
+        return Err(Stop::Refused(Refusal::SessionGone));
+    }
+    let Some(above) = create.path.parent(alloc)? else {
+        return Err(Stop::Refused(Refusal::NodeExists));
+    };
+    let Some(parent) = store.find(&above) else {
+        return Err(Stop::Refused(Refusal::NoNode));
+    };
+    if is_ephemeral(store, parent) {
+        return Err(Stop::Refused(Refusal::NoChildrenForEphemerals));
+    }
+    let made = made_path(alloc, store, parent, create.kind, create.path)?;
+    if store.find(&made).is_some() {
+        return Err(Stop::Refused(Refusal::NodeExists));
+    }
+    if store.nodes() >= MAX_NODES {
+        return Err(Stop::Refused(Refusal::Full));
+    }
+    let path = made.copied(alloc)?;
+    let owner = create.kind.owner();
+    let is_sequential = create.kind.is_sequential();
+    store.add(parent, made, create.bytes, owner, is_sequential)?;
+    Ok(ChangeReply::Created(path))
+}
+
+// Takes a node away.
+fn delete(store: &mut Store, delete: &Delete) -> Result<ChangeReply, Stop>
+    requires ready { IsReadyForPart store.old }
+    ensures done { IfOk result
+        (IsDone (delete_step store.old.tree delete.now) store.old store.new) }
+    ensures stopped { IfErr result
+        (IsStopped (delete_step store.old.tree delete.now) store.old store.new) }
+{
+    if delete.path.names().is_empty() {
+        return Err(Stop::Refused(Refusal::RootFixed));
+    }
+    let Some(id) = store.find(&delete.path) else {
+        return Err(Stop::Refused(Refusal::NoNode));
+    };
+    if has_other_version(store, id, delete.version) {
+        return Err(Stop::Refused(Refusal::BadVersion));
+    }
+    if has_children(store, id) {
+        return Err(Stop::Refused(Refusal::NotEmpty));
+    }
+    store.drop_leaf(id);
+    Ok(ChangeReply::Deleted)
+}
+
+// Writes a node's data.
+fn set(store: &mut Store, set: SetData) -> Result<ChangeReply, Stop>
+    requires ready { IsReadyForPart store.old }
+    ensures done { IfOk result (IsDone (set_step store.old.tree set) store.old store.new) }
+    ensures stopped { IfErr result (IsStopped (set_step store.old.tree set) store.old store.new) }
+{
+    let Some(id) = store.find(&set.path) else {
+        return Err(Stop::Refused(Refusal::NoNode));
+    };
+    if has_other_version(store, id, set.version) {
+        return Err(Stop::Refused(Refusal::BadVersion));
+    }
+    store.put_data(id, set.bytes)?;
+    match store.stat(id) {
+        Some(stat) => Ok(ChangeReply::Set(stat)),
+        None => unreachable!(),
+    }
+}
+
+// Whether the node has children.
+fn has_children(store: &Store, id: Id) -> bool
+    ensures { AtPath store.now id (λ path. result
+        ≡ nat_lt 0 (length (children store.now.tree.nodes path))) }
+{
+    match store.stat(id) {
+        Some(stat) => stat.children > 0,
+        None => false,
+    }
+}

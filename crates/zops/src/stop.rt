@@ -1,0 +1,43 @@
+//! Why a part, or a multi, did nothing.
+
+ghost use Rattle.std.specs.Prelude.{◌≡◌};
+ghost use Rattle.zops.specs.declared.stop.Stop.TheVariants.{Memory as no_memory};
+ghost use Rattle.zops.specs.declared.stop.Halt.TheVariants.{Memory as no_memory_left};
+
+use std::alloc::AllocFailed;
+use zcalls::Refusal;
+use zpath::Memory;
+
+/// Why a part did nothing.
+#[derive(Clone, Copy, Debug, PartialEq, Eq)]
+pub(crate) enum Stop {
+    /// It was refused.
+    Refused(Refusal),
+    /// A growth was refused.
+    Memory,
+}
+
+impl From<Memory> for Stop {
+    ghost from_gives = { λ _ stop. stop ≡ no_memory };
+
+    fn from(_memory: Memory) -> Stop {
+        Stop::Memory
+    }
+}
+
+/// Why the parts of a multi were not all done.
+#[derive(Clone, Copy, Debug, PartialEq, Eq)]
+pub(crate) enum Halt {
+    /// This part, counted from 1, was refused.
+    Refused(usize, Refusal),
+    /// A growth was refused.
+    Memory,
+}
+
+impl<T: Drop> From<AllocFailed<T>> for Halt {
+    ghost from_gives = { λ _ halt. halt ≡ no_memory_left };
+
+    fn from(_error: AllocFailed<T>) -> Halt {
+        Halt::Memory
+    }
+}

@@ -1,0 +1,78 @@
+-- Every event keeps a run sound, so every run is sound, and what is committed stays committed.
+use Rattle.std.proofs.Common.{◌≡◌, Bool, true, false, if◌then◌else◌, List, [], ◌∷◌, ◌++◌, refl, sym, ap, ◌∙◌, subst}
+use Rattle.zserver.specs.declared.process.Process.TheVariants.{Master, Server, Client}
+use Rattle.zworld.specs.declared.event.Event.{Event}
+use Rattle.zworld.specs.declared.event.Event.TheVariants.{Begin, Retry, Take, Ignore, Fail, Join}
+use Rattle.zworld.specs.Events.{is_enabled, acts, run}
+use Rattle.zcalls.specs.Kept.{Plain}
+use Rattle.zcalls.specs.PlainTree.{plain_tree}
+use Rattle.zchain.specs.Flow.{log_machine}
+use Rattle.zlegal.specs.Prefix.{IsPrefix}
+use Rattle.zlegal.proofs.lists.Prefixes.{prefix_same, prefix_of}
+use Rattle.zchain.specs.Last.{LastsAreLengths}
+use Rattle.zchain.specs.Account.{Account, account_by, next_account, account_after, opening_account}
+use Rattle.zchain.specs.Sound.{IsSound, IsSoundAfter}
+use Rattle.zchain.specs.Events.{KeepsSound}
+use Rattle.zchain.proofs.tables.Lasts.{lasts, lasts_happen}
+use Rattle.zchain.proofs.steps.Opening.{opening_sound}
+use Rattle.zchain.proofs.steps.Drops.{requests_are_lost}
+use Rattle.zserving.proofs.Events.{servers_hear_servers, servers_hear_clients}
+use Rattle.zcalling.proofs.Events.{clients_hear, calls_begin, calls_are_sent_again, servers_fail}
+use Rattle.zmending.proofs.orders.Orders.{servers_hear_master}
+use Rattle.zmending.proofs.Events.{master_hears, servers_join}
+use Rattle.zorder.specs.Facts.{account_of, EveryRunIsSound, CommittedStays}
+
+-- what is told beside the world leaves the world
+account_world_if : (b : Bool) (t u : Account) → (if b then t else u).world ≡ (if b then t.world else u.world)
+account_world_if true t u = refl
+account_world_if false t u = refl
+
+pub account_world : {P : Type 0} (plain : Plain P) (t : Account) (events : List Event)
+    → (account_after plain t events).world ≡ run (log_machine plain) t.world events
+account_world plain t [] = refl
+account_world plain t (event ∷ events) =
+    account_world plain (next_account plain t event) events
+    ∙ ap (λ w. run (log_machine plain) w events)
+    (account_world_if (is_enabled t.world event) (account_by plain t event (acts (log_machine plain) t.world event)) t)
+
+-- each event
+each_event : (event : Event) → KeepsSound event
+each_event (Begin c call) = calls_begin c call
+each_event (Retry c) = calls_are_sent_again c
+each_event (Take from Master) = master_hears from
+each_event (Take Master (Server y)) = servers_hear_master y
+each_event (Take (Server p) (Server y)) = servers_hear_servers p y
+each_event (Take (Client c) (Server y)) = servers_hear_clients c y
+each_event (Take from (Client c)) = clients_hear from c
+each_event (Ignore from to) = requests_are_lost from to
+each_event (Fail x) = servers_fail x
+each_event (Join x) = servers_join x
+
+lasts_next : (t : Account) (event : Event) → LastsAreLengths t.world → LastsAreLengths (next_account plain_tree t event).world
+lasts_next t event exact =
+    subst LastsAreLengths (sym (account_world_if (is_enabled t.world event) (account_by plain_tree t event (acts (log_machine plain_tree) t.world event)) t))
+    (lasts_happen plain_tree t.world event exact)
+
+-- each list of events
+runs_sound : (t : Account) → LastsAreLengths t.world → IsSound plain_tree t → (events : List Event) → IsSoundAfter plain_tree t (account_after plain_tree t events)
+runs_sound t exact s [] = (s, prefix_same t.committed)
+runs_sound t exact s (event ∷ events) =
+    let next = each_event event t exact s in
+    let later = runs_sound (next_account plain_tree t event) (lasts_next t event exact) next.0 events in
+    (later.0, prefix_of t.committed (next_account plain_tree t event).committed (account_after plain_tree (next_account plain_tree t event) events).committed next.1 later.1)
+
+pub every_run_is_sound : EveryRunIsSound
+every_run_is_sound servers clients events =
+    (runs_sound (opening_account plain_tree servers clients) (lasts plain_tree servers clients []) (opening_sound plain_tree servers clients) events).0
+
+-- more events
+account_more : (t : Account) (events more : List Event) → account_after plain_tree t (events ++ more) ≡ account_after plain_tree (account_after plain_tree t events) more
+account_more t [] more = refl
+account_more t (event ∷ events) more = account_more (next_account plain_tree t event) events more
+
+pub committed_stays : CommittedStays
+committed_stays servers clients events more =
+    let t = account_of servers clients events in
+    let exact = subst LastsAreLengths (sym (account_world plain_tree (opening_account plain_tree servers clients) events)) (lasts plain_tree servers clients events) in
+    subst (λ (u : Account). IsPrefix t.committed u.committed) (sym (account_more (opening_account plain_tree servers clients) events more))
+    (runs_sound t exact (every_run_is_sound servers clients events) more).1

@@ -1,0 +1,57 @@
+//! Worked rows of the definitions, as clauses: the fault of a text, the text of a path, and the name of a sequential node.
+
+ghost use Rattle.std.specs.Prelude.{◌≡◌, ◌+◌, [], ◌∷◌, None, Some, codes, replicate};
+ghost use Rattle.zpath.specs.declared.fault.PathFault.TheVariants.{Empty, NotAbsolute, EmptyName, DotName, BadByte, NameTooLong, PathTooLong, TooDeep, Reserved};
+ghost use Rattle.zpath.specs.declared.limits.TheConstants.{MAX_NAME_LEN, MAX_TEXT_LEN};
+ghost use Rattle.zpath.specs.Faults.{fault_of, child_fault};
+ghost use Rattle.zpath.specs.Grammar.{text_of};
+ghost use Rattle.zpath.specs.Numbered.{numbered_path};
+
+/// The first fault of a text.
+#[tactic(auto, unfolding(crate::specs::Faults::fault_of))]
+pub fn faults_of_texts()
+    ensures empty { fault_of (codes "") ≡ Some Empty }
+    ensures relative { fault_of (codes "a") ≡ Some NotAbsolute }
+    ensures double_slash { fault_of (codes "/a//b") ≡ Some EmptyName }
+    ensures last_slash { fault_of (codes "/a/") ≡ Some EmptyName }
+    ensures first_fault { fault_of (codes "/../") ≡ Some EmptyName }
+    ensures dots { fault_of (codes "/..") ≡ Some DotName }
+    ensures space { fault_of (codes "/a b") ≡ Some BadByte }
+    ensures reserved { fault_of (codes "/zookeeper/x") ≡ Some Reserved }
+    ensures root { fault_of (codes "/") ≡ None }
+    ensures path { fault_of (codes "/a/zookeeper") ≡ None }
+{}
+
+/// Of each two faults that are next to each other the first one, where a text has both.
+#[tactic(auto, unfolding(crate::specs::Faults::fault_of))]
+pub fn first_faults()
+    ensures empty { fault_of (codes "") ≡ Some Empty }
+    ensures relative { fault_of (codes "a//b") ≡ Some NotAbsolute }
+    ensures empty_name { fault_of (codes "/..//b") ≡ Some EmptyName }
+    ensures dots { fault_of (codes "/a b/..") ≡ Some DotName }
+    ensures bad_byte { fault_of (47 ∷ 32 ∷ replicate MAX_NAME_LEN 97) ≡ Some BadByte }
+    ensures long_name { fault_of (47 ∷ replicate (MAX_TEXT_LEN + 1) 97) ≡ Some NameTooLong }
+    ensures long_text { fault_of (text_of (replicate 600 (codes "a"))) ≡ Some PathTooLong }
+    ensures deep { fault_of (text_of (codes "zookeeper" ∷ replicate 32 (97 ∷ []))) ≡ Some TooDeep }
+{}
+
+/// Why a path can't have one more name.
+#[tactic(auto, unfolding(crate::specs::Faults::child_fault))]
+pub fn faults_of_children()
+    ensures reserved { child_fault [] (codes "zookeeper") ≡ Some Reserved }
+    ensures path { child_fault (codes "a" ∷ []) (codes "zookeeper") ≡ None }
+{}
+
+/// The text of a path.
+pub fn texts()
+    ensures root { text_of [] ≡ codes "/" }
+    ensures names { text_of (codes "a" ∷ codes "b" ∷ []) ≡ codes "/a/b" }
+{}
+
+/// The path of a sequential node.
+pub fn numbered_paths()
+    ensures first { numbered_path (codes "n-" ∷ []) 0 ≡ codes "n-0000000000" ∷ [] }
+    ensures next { numbered_path (codes "n-" ∷ []) 1 ≡ codes "n-0000000001" ∷ [] }
+    ensures last { numbered_path (codes "a" ∷ []) 2147483647 ≡ codes "a2147483647" ∷ [] }
+    ensures text { text_of (numbered_path (codes "q" ∷ codes "n" ∷ []) 4) ≡ codes "/q/n0000000004" }
+{}

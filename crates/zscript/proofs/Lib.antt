@@ -1,0 +1,10 @@
+pub mod ScriptLines
+pub mod Kept
+pub mod Cuts
+pub mod Alike
+pub mod FirstEnd
+pub mod Progress
+pub mod Stops
+pub mod Runs
+pub mod Cutting
+pub mod Unended

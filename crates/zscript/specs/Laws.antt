@@ -1,0 +1,16 @@
+-- What holds of the definitions themselves: a line that has no LF is none before the source told its end.
+use Rattle.std.specs.Prelude.{◌≡◌, List, ℕ, [], ◌∷◌}
+use Rattle.zscript.specs.Device.{SourceRun, SinkRun}
+use Rattle.zscript.specs.Outcome.{IsCut}
+
+-- A source that gave these bytes and did not tell its end.
+abbrev pub source_giving : List ℕ → SourceRun
+source_giving bytes = record { gave = λ given. given ≡ bytes; failed = λ count. count ≡ 0; ended = ⊥ }
+
+-- A sink that took these bytes, and failed once.
+abbrev pub sink_taking : List ℕ → SinkRun
+sink_taking bytes = record { took = λ taken. taken ≡ bytes; failed = λ count. count ≡ 1 }
+
+-- Where one byte was read, and neither an LF nor the end, nothing was written.
+abbrev pub UnendedLinesHaveNoAnswer : Type 0
+UnendedLinesHaveNoAnswer = (text : List ℕ) → IsCut (source_giving (97 ∷ [])) (sink_taking text) → text ≡ []

@@ -1,0 +1,6 @@
+pub mod Device
+pub mod Script
+pub mod Outcome
+pub mod Servers
+pub mod Laws
+pub mod support

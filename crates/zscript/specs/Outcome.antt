@@ -1,0 +1,66 @@
+-- What a run of the player comes to, told by what its devices did from its start to its end.
+use Rattle.std.specs.Prelude.{◌≡◌, ℕ, ◌<◌, ◌⊎◌, List, [], ◌++◌, length, codes}
+use Rattle.zops.specs.Machine.{MachineState, opening_machine}
+use Rattle.zscript.specs.Device.{SourceRun, SinkRun, Failed, TookBeginning}
+use Rattle.zscript.specs.Script.{lines_of, whole_lines_of, answers, text_of}
+use Rattle.zscript.specs.declared.fault.PlayFault.{PlayFault}
+use Rattle.zscript.specs.declared.fault.PlayFault.TheVariants.{Read, Write, Memory}
+
+-- Every line was played: the source told its end, the sink took the text of all that it gave, and neither failed.
+pub record IsPlayed (source : SourceRun) (sink : SinkRun) : Type 0 where
+  pub bytes : List ℕ
+  pub given : source.gave bytes
+  pub taken : sink.took (text_of bytes)
+  pub ended : source.ended
+  pub source_sound : source.failed 0
+  pub sink_sound : sink.failed 0
+
+-- Of these lines the first ones were played, and the sink took a beginning of their answers.
+pub record IsStopped (state : MachineState) (lines : List (List ℕ)) (took : List ℕ → Type 0) : Type 0 where
+  pub played : List (List ℕ)
+  pub rest : List (List ℕ)
+  pub split : lines ≡ played ++ rest
+  pub taken : TookBeginning took (answers state played)
+
+-- These lines of the bytes were read: each has its LF, or the source told its end, which ends the last one.
+abbrev pub AreRead : Type 0 → List ℕ → List (List ℕ) → Type 0
+AreRead ended bytes lines = (lines ≡ whole_lines_of bytes) ⊎ (ended × (lines ≡ lines_of bytes))
+
+-- A fault ended the run among the lines that were read.
+pub record IsCut (source : SourceRun) (sink : SinkRun) : Type 0 where
+  pub bytes : List ℕ
+  pub given : source.gave bytes
+  pub lines : List (List ℕ)
+  pub read : AreRead source.ended bytes lines
+  pub stopped : IsStopped opening_machine lines sink.took
+
+-- Some line was not played.
+pub record IsCutBeforeLine (source : SourceRun) (sink : SinkRun) : Type 0 where
+  pub bytes : List ℕ
+  pub given : source.gave bytes
+  pub stopped : IsStopped opening_machine (lines_of bytes) sink.took
+  pub some : 0 < length stopped.rest
+
+-- Each line that had its LF was answered, and no other.
+pub record AnswersWholeLines (source : SourceRun) (sink : SinkRun) : Type 0 where
+  pub bytes : List ℕ
+  pub given : source.gave bytes
+  pub taken : sink.took (answers opening_machine (whole_lines_of bytes))
+
+-- Nothing was read, and nothing written.
+abbrev pub IsIdle : SourceRun → SinkRun → Type 0
+IsIdle source sink = source.gave [] × sink.took []
+
+-- What each fault means.
+-- Of memory: the line that met the want of it was not played, or nothing was read or written at all.
+abbrev pub IsCutBy : SourceRun → SinkRun → PlayFault → Type 0
+IsCutBy source sink Read = AnswersWholeLines source sink × Failed source.failed × sink.failed 0
+IsCutBy source sink Write = IsCut source sink × source.failed 0 × Failed sink.failed
+IsCutBy source sink Memory =
+    (IsCutBeforeLine source sink ⊎ IsIdle source sink) × source.failed 0 × sink.failed 0
+
+-- The text of a fault.
+abbrev pub play_fault_text : PlayFault → List ℕ
+play_fault_text Read = codes "zk: read failed"
+play_fault_text Write = codes "zk: write failed"
+play_fault_text Memory = codes "zk: memory"

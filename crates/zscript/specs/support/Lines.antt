@@ -1,0 +1,38 @@
+-- Lines as a player meets them: a line that has begun is carried on from block to block.
+use Rattle.std.specs.Prelude.{◌≡◌, ℕ, false, List, [], ◌∷◌, ◌++◌, ◌==◌, if◌then◌else◌}
+use Rattle.zops.specs.Machine.{MachineState}
+use Rattle.zlines.specs.Line.{after}
+
+-- The lines that end within some bytes, each without its LF, where a line has begun before them.
+abbrev pub whole_lines_after : List ℕ → List ℕ → List (List ℕ)
+whole_lines_after line [] = []
+whole_lines_after line (b ∷ bs) =
+    if b == 10 then line ∷ whole_lines_after [] bs else whole_lines_after (line ++ b ∷ []) bs
+
+-- The line that has begun, and not ended, behind those bytes.
+abbrev pub line_left : List ℕ → List ℕ → List ℕ
+line_left line [] = line
+line_left line (b ∷ bs) = if b == 10 then line_left [] bs else line_left (line ++ b ∷ []) bs
+
+-- A line that the end of the script ends: there is none where no byte stands behind the last LF.
+abbrev pub last_line : List ℕ → List (List ℕ)
+last_line [] = []
+last_line (b ∷ bs) = (b ∷ bs) ∷ []
+
+-- Those lines, and the one that the end of the script ends.
+abbrev pub lines_after : List ℕ → List ℕ → List (List ℕ)
+lines_after line bytes = whole_lines_after line bytes ++ last_line (line_left line bytes)
+
+-- The state after some lines.
+abbrev pub after_all : MachineState → List (List ℕ) → MachineState
+after_all state [] = state
+after_all state (line ∷ lines) = after_all (after state line) lines
+
+-- No LF is in these bytes.
+abbrev pub IsPart : List ℕ → Type 0
+IsPart [] = Unit {0}
+IsPart (b ∷ bs) = ((b == 10) ≡ false) × IsPart bs
+
+-- Bytes are cut at their first LF: the end of a line, and what follows it.
+abbrev pub IsCutAtEnd : List ℕ → List ℕ → List ℕ → Type 0
+IsCutAtEnd bytes end more = IsPart end × (bytes ≡ end ++ 10 ∷ more)

@@ -1,0 +1,195 @@
+//! What plays a script: fed with its bytes block by block, it answers each line as soon as its LF is there.
+
+ghost use Rattle.std.specs.Prelude.{◌≡◌, ◌<◌, ◌≤◌, List, ℕ, [], ◌++◌, length, IfOk, IfErr, IfSome, IfNone, OnOk, OnErr, string_bytes};
+ghost use Rattle.zscript.specs.Device.{Between, sink_run, TookBeginning, Failed};
+ghost use Rattle.zlines.specs.Line.{after};
+ghost use Rattle.zscript.specs.support.Lines.{line_left, IsPart, IsCutAtEnd};
+ghost use Rattle.zscript.specs.support.PlayerView.{opening_player, player_after, state_after, answers_after, last_answer, with_answer, kept_front, Tells};
+ghost use Rattle.zscript.specs.support.Stops.{IsBlockStoppedBy, IsEndStoppedBy, AreLinesStoppedBy, IsLineStoppedBy};
+
+use crate::device::{DeviceFault, Sink};
+use crate::fault::PlayFault;
+use crate::limits::KEPT;
+use crate::output::Output;
+use memchr::memchr;
+use std::alloc::Global;
+use std::marker::Model;
+use zlines::answer_line;
+use zops::Machine;
+use zpath::Memory;
+
+/// Plays a script.
+#[derive(Drop)]
+pub(crate) struct Player {
+    alloc: Global,
+    machine: Machine,
+    line: Vec<u8>,
+    output: Output,
+}
+
+impl Model for Player {
+    ghost use Rattle.std.specs.Prelude.{◌≤◌, length, string_bytes};
+    ghost use Rattle.zscript.specs.declared.limits.TheConstants.{KEPT};
+    ghost use Rattle.zscript.specs.support.PlayerView.{PlayerView, coded_player_view};
+
+    ghost Value = { PlayerView };
+
+    ghost coded = { coded_player_view };
+
+    ghost view = { λ p. record {
+      state = p.machine.state;
+      line = p.line.items;
+      held = string_bytes p.output.block;
+    } };
+
+    ghost invariant = { λ p. length p.line.items ≤ KEPT };
+}
+
+impl Player {
+    /// A player that has heard nothing.
+    pub(crate) fn new(alloc: Global) -> Result<Player, Memory>
+        ensures { IfOk result (λ player. player ≡ opening_player) }
+    {
+        Ok(Player {
+            alloc,
+            machine: Machine::new(alloc)?,
+            line: Vec::new(alloc),
+            output: Output::new(alloc),
+        })
+    }
+
+    /// Plays the lines that end in these bytes, and writes their replies. What follows the last LF is kept.
+    pub(crate) fn hear<K: Sink>(&mut self, sink: &mut K, bytes: &[u8]) -> Result<(), PlayFault>
+        requires { self.old.held ≡ [] }
+        ensures heard { OnOk result (self.new ≡ player_after self.old bytes.now) }
+        ensures took { OnOk result (K.took sink.old (answers_after self.old bytes.now) sink.new) }
+        ensures sound { OnOk result (K.failed sink.old 0 sink.new) }
+        ensures stopped { IfErr result (IsBlockStoppedBy self.old bytes.now
+            (sink_run K.took K.failed sink.old sink.new)) }
+    {
+        let rest = self.play_lines(sink, bytes)?;
+        self.keep(rest)?;
+        let Ok(()) = self.write_replies(sink) else {
+            return Err(PlayFault::Write);
+        };
+        Ok(())
+    }
+
+    /// Plays a last line that has no LF, if it has a byte, and writes its reply.
+    pub(crate) fn finish<K: Sink>(&mut self, sink: &mut K) -> Result<(), PlayFault>
+        requires { self.old.held ≡ [] }
+        ensures took { OnOk result (K.took sink.old (last_answer self.old) sink.new) }
+        ensures sound { OnOk result (K.failed sink.old 0 sink.new) }
+        ensures stopped { IfErr result (IsEndStoppedBy self.old
+            (sink_run K.took K.failed sink.old sink.new)) }
+    {
+        if self.line.is_empty() {
+            return Ok(());
+        }
+        self.end_line(sink, &[])?;
+        let Ok(()) = self.write_replies(sink) else {
+            return Err(PlayFault::Write);
+        };
+        Ok(())
+    }
+
+    // Plays each line that ends in these bytes, and answers what follows the last LF.
+    fn play_lines<'a, K: Sink>(
+        &mut self,
+        sink: &mut K,
+        bytes: &'a [u8],
+    ) -> Result<&'a [u8], PlayFault>
+        requires { self.old.held ≡ [] }
+        ensures state { OnOk result (self.new.state ≡ state_after self.old bytes.entry.now) }
+        ensures line { IfOk result (λ rest. line_left self.old.line bytes.entry.now
+            ≡ self.new.line ++ rest.now) }
+        ensures tells { OnOk result (Tells (Between K.took sink.old sink.new)
+            (answers_after self.old bytes.entry.now) self.new.held) }
+        ensures sound { OnOk result (K.failed sink.old 0 sink.new) }
+        ensures stopped { IfErr result (AreLinesStoppedBy self.old bytes.entry.now
+            (sink_run K.took K.failed sink.old sink.new)) }
+    {
+        let mut rest = bytes;
+        while let Some((end, more)) = split_line(rest) {
+            self.end_line(sink, end)?;
+            rest = more;
+        }
+        Ok(rest)
+    }
+
+    // Ends the line with these bytes, and plays it. Where nothing is kept of it, it is not copied.
+    fn end_line<K: Sink>(&mut self, sink: &mut K, end: &[u8]) -> Result<(), PlayFault>
+        ensures state { OnOk result (self.new.state
+            ≡ after self.old.state (self.old.line ++ end.now)) }
+        ensures line { OnOk result (self.new.line ≡ []) }
+        ensures tells { OnOk result (Tells (Between K.took sink.old sink.new)
+            (with_answer self.old end.now) self.new.held) }
+        ensures sound { OnOk result (K.failed sink.old 0 sink.new) }
+        ensures stopped { IfErr result (IsLineStoppedBy (with_answer self.old end.now)
+            (sink_run K.took K.failed sink.old sink.new)) }
+    {
+        self.answer(end)?;
+        let Ok(()) = self.output.flush_full(sink) else {
+            return Err(PlayFault::Write);
+        };
+        Ok(())
+    }
+
+    // The same, but the reply is held.
+    fn answer(&mut self, end: &[u8]) -> Result<(), Memory>
+        ensures state { OnOk result (self.new.state
+            ≡ after self.old.state (self.old.line ++ end.now)) }
+        ensures line { OnOk result (self.new.line ≡ []) }
+        ensures held { OnOk result (self.new.held ≡ with_answer self.old end.now) }
+    {
+        if self.line.is_empty() {
+            return answer_line(self.alloc, &mut self.machine, end, &mut self.output.block);
+        }
+        self.keep(end)?;
+        answer_line(
+            self.alloc,
+            &mut self.machine,
+            &self.line,
+            &mut self.output.block,
+        )?;
+        self.line.clear();
+        Ok(())
+    }
+
+    // Adds these bytes to the line that has begun, so far as they are kept.
+    fn keep(&mut self, part: &[u8]) -> Result<(), Memory>
+        ensures line { OnOk result (self.new.line ≡ kept_front (self.old.line ++ part.now)) }
+        ensures state { OnOk result (self.new.state ≡ self.old.state) }
+        ensures held { OnOk result (self.new.held ≡ self.old.held) }
+        ensures some { OnErr result (0 < length part.now) }
+    {
+        let room = KEPT - self.line.len();
+        if part.is_empty() {
+            return Ok(());
+        }
+        self.line.extend_from_slice(&part[..part.len().min(room)])?;
+        Ok(())
+    }
+
+    // Writes the replies that are held.
+    fn write_replies<K: Sink>(&mut self, sink: &mut K) -> Result<(), DeviceFault>
+        ensures written { OnOk result (self.new ≡ record self.old { held = [] }) }
+        ensures took { OnOk result (K.took sink.old self.old.held sink.new) }
+        ensures sound { OnOk result (K.failed sink.old 0 sink.new) }
+        ensures beginning { TookBeginning (Between K.took sink.old sink.new) self.old.held }
+        ensures failed { OnErr result (Failed (Between K.failed sink.old sink.new)) }
+    {
+        self.output.flush(sink)
+    }
+}
+
+// Splits bytes at their first LF: the end of a line, and what follows it.
+fn split_line(bytes: &[u8]) -> Option<(&[u8], &[u8])>
+    ensures some { IfSome result (λ parts. IsCutAtEnd bytes.now parts.0.now parts.1.now) }
+    ensures none { IfNone result (IsPart bytes.now) }
+{
+    match memchr(b'\n', bytes) {
+        Some(place) => Some((&bytes[..place], &bytes[place + 1..])),
+        None => None,
+    }
+}

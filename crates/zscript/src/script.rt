@@ -1,0 +1,78 @@
+//! Plays a script from a source to a sink.
+
+ghost use Rattle.std.specs.Prelude.{◌≡◌, ◌<◌, length, IfOk, OnOk, OnErr, IfErr, vec_len};
+ghost use Rattle.zscript.specs.Device.{source_run, sink_run};
+ghost use Rattle.zscript.specs.Outcome.{IsPlayed, IsCut, IsCutBy};
+ghost use Rattle.zscript.specs.support.PlayerView.{opening_player};
+
+use crate::device::{Sink, Source};
+use crate::fault::PlayFault;
+use crate::limits::BLOCK;
+use crate::player::Player;
+use crate::servers::Servers;
+use std::alloc::{AllocError, Global};
+
+/// Plays a script to the end that its source tells: each line as soon as its LF is read, and a last line
+/// without one at the end.
+///
+/// All replies to the lines that were read are written before more is read. After any fault the sink has
+/// taken a beginning of the answers to the lines that were played. The count of servers is not used yet:
+/// one machine answers.
+pub fn play<S: Source, K: Sink>(
+    alloc: Global,
+    source: &mut S,
+    sink: &mut K,
+    _servers: Servers,
+) -> Result<(), PlayFault>
+    ensures played { OnOk result (IsPlayed
+        (source_run S.gave S.failed S.has_ended source.old source.new)
+        (sink_run K.took K.failed sink.old sink.new)) }
+    ensures cut { OnErr result (IsCut
+        (source_run S.gave S.failed S.has_ended source.old source.new)
+        (sink_run K.took K.failed sink.old sink.new)) }
+    ensures fault { IfErr result (IsCutBy
+        (source_run S.gave S.failed S.has_ended source.old source.new)
+        (sink_run K.took K.failed sink.old sink.new)) }
+{
+    let mut block = zeros(alloc, BLOCK)?;
+    let mut player = Player::new(alloc)?;
+    play_blocks(&mut player, source, sink, &mut block)
+}
+
+// Plays block by block, with a player that has heard nothing.
+fn play_blocks<S: Source, K: Sink>(
+    player: &mut Player,
+    source: &mut S,
+    sink: &mut K,
+    block: &mut [u8],
+) -> Result<(), PlayFault>
+    requires opening { player.old ≡ opening_player }
+    requires room { 0 < length block.old }
+    ensures played { OnOk result (IsPlayed
+        (source_run S.gave S.failed S.has_ended source.old source.new)
+        (sink_run K.took K.failed sink.old sink.new)) }
+    ensures cut { OnErr result (IsCut
+        (source_run S.gave S.failed S.has_ended source.old source.new)
+        (sink_run K.took K.failed sink.old sink.new)) }
+    ensures fault { IfErr result (IsCutBy
+        (source_run S.gave S.failed S.has_ended source.old source.new)
+        (sink_run K.took K.failed sink.old sink.new)) }
+{
+    loop {
+        let Ok(count) = source.read(block) else {
+            return Err(PlayFault::Read);
+        };
+        if count == 0 {
+            player.finish(sink)?;
+            return Ok(());
+        }
+        player.hear(sink, &block[..count])?;
+    }
+}
+
+// Room for so many bytes.
+fn zeros(alloc: Global, len: usize) -> Result<Vec<u8>, AllocError>
+    ensures { IfOk result (λ block. vec_len block ≡ len) }
+{
+    vec![in alloc; 0; len]
+}

@@ -1,0 +1,44 @@
+//! How many servers a script has.
+
+ghost use Rattle.std.specs.Prelude.{◌≡◌, ◌≤◌};
+
+use std::marker::Model;
+
+/// How many servers run: 1 to `limits::MAX_SERVERS`.
+#[derive(Clone, Copy, Debug, PartialEq, Eq)]
+pub struct Servers {
+    count: u8,
+}
+
+impl Model for Servers {
+    ghost use Rattle.std.specs.Prelude.{ℕ};
+    ghost use Rattle.zscript.specs.Servers.{IsServers};
+
+    ghost Value = { ℕ };
+
+    ghost view = { λ s. s.count };
+
+    ghost invariant = { λ s. IsServers s.count };
+
+    ghost inverse = { λ count. record { count = count } };
+}
+
+impl Servers {
+    ghost use Rattle.zscript.specs.Servers.{IsServers};
+
+    /// So many servers.
+    pub fn new(count: u8) -> Servers
+        requires { IsServers count }
+        ensures { result ≡ count }
+    {
+        Servers { count }
+    }
+
+    /// How many they are.
+    pub fn count(self) -> u8
+        ensures value { result ≡ self }
+        ensures few { IsServers result }
+    {
+        self.count
+    }
+}

@@ -1,0 +1,20 @@
+//! Tests of what no clause says of a script: that calls succeed, what the definitions come to on worked scripts, and
+//! that the alphabet of base64 is the RFC's. There is no code here.
+#![tactic(auto)]
+
+#[cfg(test)]
+mod faults;
+#[cfg(test)]
+mod full;
+#[cfg(test)]
+mod limits;
+#[cfg(test)]
+mod lines;
+#[cfg(test)]
+mod playing;
+#[cfg(test)]
+mod rows;
+#[cfg(test)]
+mod session_rows;
+#[cfg(test)]
+mod words;

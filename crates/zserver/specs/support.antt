@@ -1,0 +1,3 @@
+pub mod Homomorphism
+pub mod Cases
+pub mod Rows

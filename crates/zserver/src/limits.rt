@@ -1,0 +1,10 @@
+//! The limits of the chain: each is this project's profile.
+
+/// How many servers there can be: their numbers go from 1 up to this one.
+pub const MAX_SERVERS: u8 = 8;
+
+/// The greatest number of an entry in a log.
+pub const MAX_LOG_NUMBER: u64 = (1 << 62) - 1;
+
+/// The greatest epoch.
+pub const MAX_EPOCH: u64 = (1 << 62) - 1;

@@ -1,0 +1,13 @@
+use Rattle.std.proofs.Common.{sym, ap, ◌∙◌, arith}
+use Rattle.std.specs.FinMap as finite
+use Rattle.zslots.proofs.Items.{some_there, slot_found}
+use Rattle.zslots.proofs.slots.Slots.given.Goals as goal
+
+pub returns-clause-known : goal.returns-clause-known
+returns-clause-known g c =
+    λ id has.
+    let there = some_there _ has in
+    let slot = slot_found c.self.inside.slab.slots id there.0 (ap (λ s. finite.get s.items id) c.self.view_is ∙ there.1) in
+    let below = c.self.invariant id.index slot.0 slot.1 in
+    let given = ap (λ s. s.given) c.self.view_is in
+    omega (arith, below, slot.2, given)

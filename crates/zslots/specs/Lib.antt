@@ -1,0 +1,12 @@
+pub mod Ids
+pub mod SlotsView
+pub mod Fields
+pub mod Lends
+pub mod Links
+pub mod Chains
+pub mod Lists
+pub mod Runs
+pub mod SlotsLaws
+pub mod ListLaws
+pub mod Rows
+pub mod support

@@ -1,0 +1,13 @@
+-- The Ids of a list, computed: what a view may show where a list is part of it.
+use Rattle.std.specs.Prelude.{ℕ, zero, suc, [], ◌∷◌, Option, Some, None}
+use Rattle.zslots.specs.declared.id.Id.{Id}
+use Rattle.zslots.specs.declared.linked.Links.{Links}
+use Rattle.zslots.specs.Ids.{Ids}
+use Rattle.zslots.specs.SlotsView.{Items}
+use Rattle.zslots.specs.Links.{links_at}
+
+-- so many Ids, each the next of the one before
+abbrev pub walk : {T : Type 0} → (T → Links) → ℕ → Items T → Option Id → Ids
+walk links zero m first = []
+walk links (suc n) m None = []
+walk links (suc n) m (Some id) = id ∷ walk links n m (links_at links m id).next

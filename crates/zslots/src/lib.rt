@@ -1,0 +1,31 @@
+//! Items under Ids that are never given twice, and lists whose links stand in the items.
+//!
+//! ```
+//! let mut slots = Slots::new(alloc);
+//! let mut list: List<0> = List::new();
+//! let id = slots.insert(item).ok().expect(&rt, "memory");
+//! list.push_front(&mut slots, id);
+//! list.unlink(&mut slots, id);
+//! ```
+//!
+//! Contracts see a `Slots` as a finite map from Ids (`specs/SlotsView.antt`) and a `List` as the list of Ids that its
+//! items' links spell (`specs/Chains.antt`, `specs/Lists.antt`). An item stands in as many lists as it has pairs of
+//! links; `Linked<L>` says which pair is that of list `L`. What a list's call writes is a total function of the map
+//! (`specs/Links.antt`), so a clause on one list says what becomes of all others too.
+#![tactic(auto)]
+
+mod copied;
+mod id;
+pub mod laws;
+pub mod limits;
+mod linked;
+mod list;
+mod neighbours;
+mod rows;
+mod slots;
+
+pub use copied::Copied;
+pub use id::Id;
+pub use linked::{Linked, Links};
+pub use list::List;
+pub use slots::Slots;

@@ -1,0 +1,117 @@
+//! Lists whose links stand in the items.
+
+ghost use Rattle.std.specs.Prelude.{◌≡◌, ◌<◌, ◌∷◌, ◌++◌, IsSome};
+ghost use Rattle.std.specs.FinMap.{get};
+ghost use Rattle.zslots.specs.declared.limits.TheConstants.{MAX_LENGTH};
+ghost use Rattle.zslots.specs.SlotsView.{with_items};
+ghost use Rattle.zslots.specs.Ids.{Ids, NotIn, first_of};
+ghost use Rattle.zslots.specs.Links.{links_at as item_links, with_front, without, with_between};
+ghost use Rattle.zslots.specs.Chains.{IsBetween};
+
+use crate::id::Id;
+use crate::linked::{Linked, Links};
+use crate::neighbours::{first_if, links_at, set_links, set_next, set_prev};
+use crate::slots::Slots;
+
+/// A list of items, linked by their links of list `L`. None of its calls takes memory.
+///
+/// Each call's first clauses say what it writes, whatever the links are; its clause `list` says what that is where the
+/// list was in order.
+#[derive(Clone, Copy, Debug, PartialEq, Eq)]
+pub struct List<const L: usize> {
+    pub(crate) first: Option<Id>,
+    pub(crate) len: usize,
+}
+
+impl<const L: usize> List<L> {
+    ghost use Rattle.zslots.specs.Lists.{IsList, first_id, length_of, empty_list};
+    ghost use Rattle.zslots.specs.Lists.{list_with_front, list_without, list_with_between};
+
+    /// No item.
+    pub fn new() -> List<L>
+        ensures { result ≡ empty_list }
+    {
+        List {
+            first: None,
+            len: 0,
+        }
+    }
+
+    /// The first item's Id.
+    pub fn first(&self) -> Option<Id>
+        ensures { result ≡ first_id self.now }
+    {
+        self.first
+    }
+
+    /// How many items there are.
+    pub fn len(&self) -> usize
+        ensures { result ≡ length_of self.now }
+    {
+        self.len
+    }
+
+    /// Puts a live item, which stands in no list `L`, before the first.
+    pub fn push_front<T: Linked<L>>(&mut self, slots: &mut Slots<T>, id: Id)
+        requires { length_of self.old < MAX_LENGTH }
+        ensures items { slots.new ≡ with_items slots.old
+            (with_front T.links T.with_links slots.old.items (first_id self.old) id) }
+        ensures own { self.new ≡ list_with_front self.old id }
+        ensures list { (ids : Ids) → IsList T.links slots.old.items self.old ids → NotIn id ids →
+            IsSome (get slots.old.items id) → IsList T.links slots.new.items self.new (id ∷ ids) }
+    {
+        set_prev::<L, T>(slots, self.first, Some(id));
+        let links = Links {
+            next: self.first,
+            prev: None,
+        };
+        set_links::<L, T>(slots, id, links);
+        self.first = Some(id);
+        self.len += 1;
+    }
+
+    /// Takes out an item of the list. Its own links stay as they are.
+    pub fn unlink<T: Linked<L>>(&mut self, slots: &mut Slots<T>, id: Id)
+        requires { 0 < length_of self.old }
+        ensures items { slots.new ≡ with_items slots.old
+            (without T.links T.with_links slots.old.items id) }
+        ensures own { self.new ≡ list_without T.links slots.old.items self.old id }
+        ensures list { (front back : Ids) →
+            IsList T.links slots.old.items self.old (front ++ id ∷ back) →
+            IsList T.links slots.new.items self.new (front ++ back) }
+    {
+        let links = links_at::<L, T>(slots, id);
+        set_next::<L, T>(slots, links.prev, links.next);
+        set_prev::<L, T>(slots, links.next, links.prev);
+        self.first = first_if(links.prev, self.first, links.next);
+        self.len -= 1;
+    }
+
+    /// Puts an item that is in no list `L` between the neighbours, or ends, that its own links name.
+    pub fn relink<T: Linked<L>>(&mut self, slots: &mut Slots<T>, id: Id)
+        requires { length_of self.old < MAX_LENGTH }
+        ensures items { slots.new ≡ with_items slots.old
+            (with_between T.links T.with_links slots.old.items id) }
+        ensures own { self.new ≡ list_with_between T.links slots.old.items self.old id }
+        ensures list { (front back : Ids) →
+            IsList T.links slots.old.items self.old (front ++ back) →
+            NotIn id (front ++ back) → IsBetween T.links slots.old.items id front back →
+            IsList T.links slots.new.items self.new (front ++ id ∷ back) }
+    {
+        let links = links_at::<L, T>(slots, id);
+        set_next::<L, T>(slots, links.prev, Some(id));
+        set_prev::<L, T>(slots, links.next, Some(id));
+        self.first = first_if(links.prev, self.first, Some(id));
+        self.len += 1;
+    }
+
+    /// The Id that follows an item of the list.
+    pub fn next<T: Linked<L>>(&self, slots: &Slots<T>, id: Id) -> Option<Id>
+        ensures own { result ≡ (item_links T.links slots.now.items id).next }
+        ensures list { (front back : Ids) →
+            IsList T.links slots.now.items self.now (front ++ id ∷ back) →
+            result ≡ first_of back }
+    {
+        links_at::<L, T>(slots, id).next
+    }
+}

@@ -1,0 +1,77 @@
+//! Reads and writes of an item's links, where the item is there.
+
+ghost use Rattle.std.specs.Prelude.{◌≡◌};
+ghost use Rattle.zslots.specs.Ids.{first_if as first_where};
+ghost use Rattle.zslots.specs.SlotsView.{with_items};
+ghost use Rattle.zslots.specs.Links.{links_at as item_links, with_links_at, with_next_at, with_prev_at};
+
+use crate::id::Id;
+use crate::linked::{Linked, Links};
+use crate::slots::Slots;
+
+// An item's links.
+pub(crate) fn links_at<const L: usize, T: Linked<L>>(slots: &Slots<T>, id: Id) -> Links
+    ensures { result ≡ item_links T.links slots.now.items id }
+{
+    match slots.get(id) {
+        Some(item) => item.links(),
+        None => Links {
+            next: None,
+            prev: None,
+        },
+    }
+}
+
+// Writes an item's links.
+pub(crate) fn set_links<const L: usize, T: Linked<L>>(slots: &mut Slots<T>, id: Id, to: Links)
+    ensures { slots.new ≡ with_items slots.old
+        (with_links_at T.with_links slots.old.items id to) }
+{
+    if let Some(item) = slots.get_mut(id) {
+        item.set_links(to);
+    }
+}
+
+// Writes an item's next Id.
+pub(crate) fn set_next<const L: usize, T: Linked<L>>(
+    slots: &mut Slots<T>,
+    at: Option<Id>,
+    next: Option<Id>,
+)
+    ensures { slots.new ≡ with_items slots.old
+        (with_next_at T.links T.with_links slots.old.items at next) }
+{
+    if let Some(id) = at {
+        if let Some(item) = slots.get_mut(id) {
+            let prev = item.links().prev;
+            item.set_links(Links { next, prev });
+        }
+    }
+}
+
+// Writes an item's previous Id.
+pub(crate) fn set_prev<const L: usize, T: Linked<L>>(
+    slots: &mut Slots<T>,
+    at: Option<Id>,
+    prev: Option<Id>,
+)
+    ensures { slots.new ≡ with_items slots.old
+        (with_prev_at T.links T.with_links slots.old.items at prev) }
+{
+    if let Some(id) = at {
+        if let Some(item) = slots.get_mut(id) {
+            let next = item.links().next;
+            item.set_links(Links { next, prev });
+        }
+    }
+}
+
+// What a list begins with: what it did where there is something before, and else the other.
+pub(crate) fn first_if(before: Option<Id>, first: Option<Id>, other: Option<Id>) -> Option<Id>
+    ensures { result ≡ first_where before first other }
+{
+    match before {
+        Some(_) => first,
+        None => other,
+    }
+}

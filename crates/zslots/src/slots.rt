@@ -1,0 +1,156 @@
+//! Items under Ids.
+
+ghost use Rattle.std.specs.Prelude.{◌≡◌, ◌+◌, ◌<◌, ◌≤◌, Some, IfOk, IfErr, OnOk, OnErr, OnSome, IfNone, IsOk, IsSome, option_copied};
+ghost use Rattle.std.specs.Option.{option_copied_mut};
+ghost use Rattle.std.specs.Borrow.{sem};
+ghost use Rattle.std.specs.FinMap as finite;
+ghost use Rattle.zslots.specs.declared.limits.TheConstants.{GIVEN_BOUND};
+
+use crate::id::Id;
+use slab::Slab;
+use std::alloc::Global;
+use std::marker::Model;
+use zpath::Memory;
+
+/// An item, and the generation of its Id.
+#[derive(Drop)]
+pub(crate) struct Slot<T> {
+    pub(crate) generation: u128,
+    pub(crate) item: T,
+}
+
+/// Items, each under an Id that is never given twice.
+///
+/// A generation is the number of Ids that were given before it, so an Id whose item was removed names nothing from
+/// then on, whatever the slab puts into its slot.
+#[derive(Drop)]
+pub struct Slots<T> {
+    pub(crate) slab: Slab<Slot<T>>,
+    pub(crate) given: u128,
+}
+
+impl<T> Model for Slots<T> {
+    ghost use Rattle.zslots.specs.SlotsView.{SlotsView, coded_view};
+
+    ghost Value = { SlotsView T };
+
+    ghost coded = { coded_view T.code };
+
+    ghost use Rattle.zslots.specs.Fields.{view_of, HasGivenSlots};
+
+    ghost view = { view_of };
+
+    ghost invariant = { λ s. HasGivenSlots s.slab.slots s.given };
+}
+
+impl<T> Slots<T> {
+    ghost use Rattle.zslots.specs.SlotsView.{empty_slots, IsNew, NamesGivenIds};
+    ghost use Rattle.zslots.specs.Lends.{lends_item, lends_get};
+
+    /// No item, and no Id given. It takes no memory.
+    pub fn new(alloc: Global) -> Slots<T>
+        ensures { result ≡ empty_slots }
+    {
+        Slots {
+            slab: Slab::new(alloc),
+            given: 0,
+        }
+    }
+
+    /// How many Ids were given so far.
+    pub fn given(&self) -> u128
+        ensures given { result ≡ self.now.given }
+        ensures known { NamesGivenIds self.now }
+    {
+        self.given
+    }
+
+    /// Makes room, so that the next `more` inserts succeed.
+    pub fn reserve(&mut self, more: usize) -> Result<(), Memory>
+        ensures room { OnOk result (more ≤ self.new.room) }
+        ensures rest { self.new ≡ record self.old { room = self.new.room } }
+        ensures kept { self.old.room ≤ self.new.room }
+    {
+        self.slab.reserve(more)?;
+        Ok(())
+    }
+
+    /// Puts an item under a new Id, or hands it back where there is no memory.
+    pub fn insert(&mut self, item: T) -> Result<Id, T>
+        requires { self.old.given < GIVEN_BOUND }
+        ensures new { IfOk result (IsNew self.old) }
+        ensures items { IfOk result (λ id. self.new.items ≡ finite.insert self.old.items id item) }
+        ensures given { OnOk result (self.new.given ≡ self.old.given + 1) }
+        ensures room { OnOk result (self.old.room ≤ self.new.room + 1) }
+        ensures had_room { 0 < self.old.room → self.new.room + 1 ≡ self.old.room }
+        // It fails only where there was no room, and then nothing else changes.
+        ensures succeeds { 0 < self.old.room → IsOk result }
+        ensures back { IfErr result (λ same. same ≡ item) }
+        ensures err { OnErr result (self.new ≡ record self.old { room = self.new.room }) }
+    {
+        let generation = self.given;
+        match self.slab.insert(Slot { generation, item }) {
+            Ok(index) => {
+                self.given += 1;
+                Ok(Id { index, generation })
+            }
+            Err(failed) => Err(failed.value.item),
+        }
+    }
+
+    /// The item that the Id names.
+    pub fn get(&self, id: Id) -> Option<&T>
+        ensures { option_copied result ≡ finite.get self.now.items id }
+    {
+        match self.slab.get(id.index) {
+            Some(slot) if slot.generation == id.generation => Some(&slot.item),
+            _ => None,
+        }
+    }
+
+    /// The item that the Id names, for writing.
+    pub fn get_mut(&mut self, id: Id) -> Option<&mut T>
+        ensures* writes_back { sem 𝓛 (lends_get T.row self.entry id result) }
+        ensures value { option_copied_mut result ≡ finite.get self.old.items id }
+    {
+        if self.contains(id) {
+            Some(self.item_mut(id))
+        } else {
+            None
+        }
+    }
+
+    /// Takes out the item that the Id names. The Id names nothing from then on.
+    pub fn remove(&mut self, id: Id) -> Option<T>
+        ensures item { result ≡ finite.get self.old.items id }
+        ensures items { self.new.items ≡ finite.remove self.old.items id }
+        ensures given { self.new.given ≡ self.old.given }
+        ensures room { OnSome result (self.new.room ≡ self.old.room + 1) }
+        ensures absent { IfNone result (self.new ≡ self.old) }
+    {
+        if !self.contains(id) {
+            return None;
+        }
+        Some(self.slab.remove(id.index).item)
+    }
+
+    // Whether the Id names an item.
+    fn contains(&self, id: Id) -> bool
+        ensures { result ≡ finite.contains_key self.now.items id }
+    {
+        match self.slab.get(id.index) {
+            Some(slot) => slot.generation == id.generation,
+            None => false,
+        }
+    }
+
+    // The item that a live Id names, for writing.
+    fn item_mut(&mut self, id: Id) -> &mut T
+        requires { IsSome (finite.get self.old.items id) }
+        ensures* writes_back { sem 𝓛 (lends_item T.row self.entry id result) }
+        ensures value { finite.get self.old.items id ≡ Some result.now }
+    {
+        let slot = &mut self.slab[id.index];
+        &mut slot.item
+    }
+}

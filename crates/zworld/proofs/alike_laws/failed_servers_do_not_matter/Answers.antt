@@ -1,6 +1,0 @@
-use Rattle.zserver.specs.Machine.{kept_tree}
-use Rattle.zworld.proofs.Alike.{have_the_same_enabled, stay_alike}
-use Rattle.zworld.proofs.alike_laws.failed_servers_do_not_matter.Goals as goal
-
-pub returns : goal.returns
-returns c = record { enabled = have_the_same_enabled kept_tree; alike = stay_alike kept_tree }

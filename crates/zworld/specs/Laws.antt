@@ -1,0 +1,50 @@
+-- What holds of settling and of readings, in every world: each statement is a contract in `src/laws.rt`.
+use Rattle.std.specs.Prelude.{◌≡◌, ℕ, ◌+◌, true, false, List, length}
+use Rattle.std.specs.List.{list_any}
+use Rattle.ztree.specs.Tree.{Tree}
+use Rattle.zcalls.specs.Kept.{KeptState}
+use Rattle.zserver.specs.Machine.{kept_tree}
+use Rattle.zworld.specs.declared.outcome.Outcome.{Outcome}
+use Rattle.zworld.specs.declared.outcome.Outcome.TheVariants.{Stopped, Unheard}
+use Rattle.zworld.specs.declared.settled.Settled.TheVariants.{Quiet}
+use Rattle.zworld.specs.declared.event.Event.{Event}
+use Rattle.zworld.specs.declared.event.Event.TheVariants.{Take, Ignore, Fail}
+use Rattle.zserver.specs.declared.process.Process.TheVariants.{Server}
+use Rattle.zworld.specs.World.{World}
+use Rattle.zworld.specs.Reading.{read, is_fitting}
+use Rattle.zworld.specs.Events.{is_enabled, run}
+use Rattle.zworld.specs.Settle.{Settling, settle, settled, deliveries}
+
+-- settling the world of the service
+abbrev pub settling_of : World (KeptState Tree) → ℕ → List Outcome → Settling (KeptState Tree)
+settling_of w limit outcomes = settle kept_tree w limit outcomes
+
+-- settling is a run: its events lead to its world
+abbrev pub SettlingIsARun : Type 0
+SettlingIsARun =
+    (w : World (KeptState Tree)) (limit : ℕ) (outcomes : List Outcome)
+    → (settling_of w limit outcomes).world ≡ run kept_tree w (settling_of w limit outcomes).events
+
+-- its events, and those that might still be done, are as many as the limit
+abbrev pub SettlingKeepsItsLimit : Type 0
+SettlingKeepsItsLimit =
+    (w : World (KeptState Tree)) (limit : ℕ) (outcomes : List Outcome)
+    → (settling_of w limit outcomes).left + length (settling_of w limit outcomes).events ≡ limit
+
+-- where it ends quiet, no message can be taken
+abbrev pub QuietHasNothingToTake : Type 0
+QuietHasNothingToTake =
+    (w : World (KeptState Tree)) (limit : ℕ) (outcomes : List Outcome)
+    → settled (settling_of w limit outcomes) ≡ Quiet
+    → list_any (is_enabled (settling_of w limit outcomes).world) (deliveries w.master.clients) ≡ false
+
+-- what an event reads as, by an outcome
+abbrev pub reading_by : Event → Outcome → Event
+reading_by (Take from (Server s)) Stopped = Fail s
+reading_by (Take from (Server s)) Unheard = Ignore from (Server s)
+reading_by event outcome = event
+
+-- where an outcome fits, the event reads as it says
+abbrev pub FittingOutcomesAreRead : Type 0
+FittingOutcomesAreRead =
+    (w : World (KeptState Tree)) (event : Event) (outcome : Outcome) → is_fitting w event outcome ≡ true → read w event outcome ≡ reading_by event outcome

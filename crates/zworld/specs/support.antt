@@ -1,0 +1,9 @@
+pub mod LogWorld
+pub mod Learning
+pub mod Counter
+pub mod OrderRows
+pub mod RunRows
+pub mod RepairRows
+pub mod JoinRows
+pub mod SettleRows
+pub mod ScenarioRows

@@ -1,0 +1,8 @@
+//! Worked rows: each function's contract has some, and its body does nothing.
+
+mod joins;
+mod orders;
+mod repairs;
+mod runs;
+mod scenarios;
+mod settling;
