@@ -12,3 +12,4 @@ pub mod Fitting
 pub mod WithinTables
 pub mod Within
 pub mod Visited
+pub mod Epochs

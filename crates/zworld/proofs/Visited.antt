@@ -18,7 +18,7 @@ use Rattle.zworld.specs.World.{World, opening_world}
 use Rattle.zworld.specs.Events.{front_is, is_server, has_failed, is_enabled, run}
 use Rattle.zworld.specs.Settle.{processes, deliveries}
 use Rattle.zworld.specs.Laws.{world_after, settling_of, LinksAreVisited, QuietIsQuiet}
-use Rattle.zworld.specs.support.Within.{is_process, IsNear, IsNamed, IsViewWithin, IsClientWithin, IsMemberWithin, IsWithin}
+use Rattle.zworld.specs.support.Within.{is_process, IsServer, IsNear, IsNamed, IsViewWithin, IsClientWithin, IsMemberWithin, IsWithin}
 use Rattle.zworld.proofs.Fitting.{both}
 use Rattle.zworld.proofs.Within.{run_within}
 use Rattle.zworld.proofs.Settling.{settling_is_a_run, quiet_has_nothing_to_take}
@@ -28,16 +28,20 @@ is_one : (s : ℕ) → 0 < s → s ≤ MAX_SERVERS → is_server s ≡ true
 is_one s some few = grind (arith, nat_tests, some, few)
 
 -- and what such a number is
-at_least_one : (s : ℕ) → is_server s ≡ true → 0 < s
+pub at_least_one : (s : ℕ) → is_server s ≡ true → 0 < s
 at_least_one s is = ltb-true 0 s (both (nat_lt 0 s) (nat_le s MAX_SERVERS) is).0
 
-at_most : (s : ℕ) → is_server s ≡ true → s ≤ MAX_SERVERS
+pub at_most : (s : ℕ) → is_server s ≡ true → s ≤ MAX_SERVERS
 at_most s is = let few = (both (nat_lt 0 s) (nat_le s MAX_SERVERS) is).1 in grind (arith, nat_tests, few)
 
 -- the chain of an opening
 chain_within : (from count : ℕ) → 0 < from → from + count ≤ MAX_SERVERS + 1 → AllByRecursion IsMemberWithin (map (λ s. (s, 0)) (range_with_len from count))
 chain_within from zero some few = tt
 chain_within from (suc count) some few = (is_one from some (omega (arith, few)), chain_within (from + 1) count (omega arith) (omega (arith, few)))
+
+numbers_from : (from count : ℕ) → 0 < from → from + count ≤ MAX_SERVERS + 1 → AllByRecursion IsServer (range_with_len from count)
+numbers_from from zero some few = tt
+numbers_from from (suc count) some few = (is_one from some (omega (arith, few)), numbers_from (from + 1) count (omega arith) (omega (arith, few)))
 
 -- a choice between two neighbours
 near_if : (b : Bool) (x y : Option Neighbour) → (b ≡ true → IsNear x) → (b ≡ false → IsNear y) → IsNear (if b then x else y)
@@ -80,6 +84,7 @@ module _ {M : Type 0} (machine : Does M) (servers clients : ℕ) (is : is_server
   opening_within : IsWithin clients (opening_world machine servers clients)
   opening_within = record {
     counted = refl;
+    used = numbers_from 1 servers (omega arith) (let limit : servers ≤ MAX_SERVERS = at_most servers is in omega (arith, limit));
     chain = let limit : servers ≤ MAX_SERVERS = at_most servers is in chain_within 1 servers (omega arith) (omega (arith, limit));
     views = server_within;
     callers = λ c. record {
@@ -148,7 +153,7 @@ visited clients w from to within (m ∷ more) is =
     inr (among_deliveries clients from to known.0 known.1)
 
 -- after a run it is so
-after_within : (servers clients : ℕ) (events : List Event) → is_server servers ≡ true → IsWithin clients (world_after servers clients events)
+pub after_within : (servers clients : ℕ) (events : List Event) → is_server servers ≡ true → IsWithin clients (world_after servers clients events)
 after_within servers clients events is = run_within _ clients kept_tree (opening_world kept_tree servers clients) events (opening_within kept_tree servers clients is)
 
 pub links_are_visited : LinksAreVisited

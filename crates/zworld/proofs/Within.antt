@@ -107,6 +107,7 @@ module _ (M : Type 0) (n : ℕ) where
   server_acts w s did within is good = record {
     counted = within.counted;
     chain = within.chain;
+    used = within.used;
     views = each_at (λ s view. IsViewWithin n view) s did.0 w.servers good.0 within.views;
     callers = within.callers;
     sent = put_within w.links (Server s) did.1 within.sent is good.1;
@@ -118,6 +119,7 @@ module _ (M : Type 0) (n : ℕ) where
   master_acts w did within good = record {
     counted = good.0.counted;
     chain = good.0.chain;
+    used = good.0.used;
     views = within.views;
     callers = within.callers;
     sent = put_within w.links Master did.1 within.sent refl good.1;
@@ -129,6 +131,7 @@ module _ (M : Type 0) (n : ℕ) where
   client_acts w c view posts within is good all = record {
     counted = within.counted;
     chain = within.chain;
+    used = within.used;
     views = within.views;
     callers = each_at (IsClientWithin n) c view w.clients good within.callers;
     sent = put_within w.links (Client c) posts within.sent is all;
@@ -138,7 +141,7 @@ module _ (M : Type 0) (n : ℕ) where
   answer_told : (w : World M) (c : ℕ) (reply : Option (ℕ × Reply)) → IsWithin n w → IsWithin n (with_answer w c reply)
   answer_told w c None within = within
   answer_told w c (Some reply) within =
-      record { counted = within.counted; chain = within.chain; views = within.views; callers = within.callers; sent = within.sent }
+      record { counted = within.counted; chain = within.chain; used = within.used; views = within.views; callers = within.callers; sent = within.sent }
 
   -- a client's row
   client_row : (c : ℕ) (v : ClientView) → nat_lt c n ≡ true → IsClientWithin n c v → (from : Process) (m : MessageOf M) (r : ClientResult M)
@@ -157,7 +160,7 @@ module _ (M : Type 0) (n : ℕ) where
         → IsWithin n (process_step machine w from to m)
     taken_within w from Master m within sender taker speaks =
         master_acts w (master_step w.master from m) within
-        (master_within M n w.master (record { counted = within.counted; chain = within.chain }) from m (master_step w.master from m) sender (master_case w.master from m))
+        (master_within M n w.master (record { counted = within.counted; chain = within.chain; used = within.used }) from m (master_step w.master from m) sender (master_case w.master from m))
     taken_within w from (Server s) m within sender taker speaks =
         server_acts w s (server_step machine (w.servers s) from m) within taker
         (row_within M n machine (w.servers s) (within.views s) from m (server_step machine (w.servers s) from m) sender speaks (server_case machine (w.servers s) from m))
@@ -174,6 +177,7 @@ module _ (M : Type 0) (n : ℕ) where
         let left : IsWithin n (record w { links = without_front w.links from to }) = record {
           counted = within.counted;
           chain = within.chain;
+          used = within.used;
           views = within.views;
           callers = within.callers;
           sent = front_within w.links from to within.sent;
@@ -207,12 +211,13 @@ module _ (M : Type 0) (n : ℕ) where
     acts_within w (Begin c call) within enabled =
         let is : nat_lt c n ≡ true = sym (ap (λ k. nat_lt c k) within.counted) ∙ (both (nat_lt c w.master.clients) _ enabled).0 in
         let did = begun_within w c call within is in
-        record { counted = did.counted; chain = did.chain; views = did.views; callers = did.callers; sent = did.sent }
+        record { counted = did.counted; chain = did.chain; used = did.used; views = did.views; callers = did.callers; sent = did.sent }
     acts_within w (Retry c) within enabled = retried_within w c within (waits_within c (w.clients c) (within.callers c) enabled)
     acts_within w (Take from to) within enabled = front_taken w from to (w.links from to) refl within
     acts_within w (Ignore from to) within enabled = record {
       counted = within.counted;
       chain = within.chain;
+      used = within.used;
       views = within.views;
       callers = within.callers;
       sent = front_within w.links from to within.sent;
@@ -220,13 +225,14 @@ module _ (M : Type 0) (n : ℕ) where
     acts_within w (Fail s) within enabled = record {
       counted = within.counted;
       chain = within.chain;
+      used = within.used;
       views = within.views;
       callers = within.callers;
       sent = put_within w.links (Server s) ((Master, message.Gone) ∷ []) within.sent (both (is_server s) _ enabled).0 ((refl, tt), tt);
     }
     acts_within w (Join s) within enabled =
         master_acts w (join_step w.master s) within
-        (join_within M n w.master s (record { counted = within.counted; chain = within.chain }) (both (is_server s) _ enabled).0)
+        (join_within M n w.master s (record { counted = within.counted; chain = within.chain; used = within.used }) (both (is_server s) _ enabled).0)
 
     -- an event, and a run
     happens_within : (w : World M) (event : Event) → IsWithin n w → IsWithin n (happens machine w event)

@@ -20,7 +20,7 @@ use Rattle.zmaster.specs.View.{MasterView, with_number, members, is_joining, fir
 use Rattle.zmaster.specs.Table.{before, config_posts, MendedChain, join_step}
 use Rattle.zmaster.specs.support.Cases as master
 use Rattle.zworld.specs.Events.{is_server}
-use Rattle.zworld.specs.support.Within.{is_process, IsNamed, IsNear, IsOfClient, SpeaksWithin, GoesWithin, IsViewWithin, IsMemberWithin}
+use Rattle.zworld.specs.support.Within.{is_process, IsServer, IsNamed, IsNear, IsOfClient, SpeaksWithin, GoesWithin, IsViewWithin, IsMemberWithin}
 
 -- a fact of all that two lists hold
 pub all_both : {A : Type 0} (P : A → Type 0) (xs ys : List A) → AllByRecursion P xs → AllByRecursion P ys → AllByRecursion P (xs ++ ys)
@@ -65,10 +65,18 @@ before_within s epoch [] all = tt
 before_within s epoch (p ∷ []) all = tt
 before_within s epoch (p ∷ (t ∷ rest)) all = named_if ((t.0 == s) && (t.1 == epoch)) (Some p.0) (before s epoch (t ∷ rest)) all.0 (before_within s epoch (t ∷ rest) all.1)
 
+-- the used numbers with one more
+more_used : (s : ℕ) (numbers : List ℕ) → is_server s ≡ true → AllByRecursion IsServer numbers → AllByRecursion IsServer (with_number s numbers)
+more_used s [] is all = (is, tt)
+more_used s (number ∷ numbers) is all =
+    all_chosen IsServer (number == s) (number ∷ numbers) (if nat_lt s number then s ∷ number ∷ numbers else number ∷ with_number s numbers) all
+    (all_chosen IsServer (nat_lt s number) (s ∷ number ∷ numbers) (number ∷ with_number s numbers) (is, all) (all.0, more_used s numbers is all.1))
+
 -- the master, with as many clients
 pub record IsMasterWithin (n : ℕ) (v : MasterView) : Type 0 where
   pub counted : v.clients ≡ n
   pub chain : AllByRecursion IsMemberWithin v.chain
+  pub used : AllByRecursion IsServer v.used
 
 module _ (M : Type 0) (n : ℕ) where
   -- what is put goes within
@@ -192,12 +200,12 @@ module _ (M : Type 0) (n : ℕ) where
       (within, ((named, from), tt))
   master_within v within _ _ _ from (master.Joins s epoch is) =
       let w : MasterView = record v { joining = None; epoch = v.epoch + 1 } in
-      let same : IsMasterWithin n w = record { counted = within.counted; chain = within.chain } in
+      let same : IsMasterWithin n w = record { counted = within.counted; chain = within.chain; used = within.used } in
       (same, configs_within w same)
-  master_within v within _ _ _ from (master.LeavesOutside s out) = (record { counted = within.counted; chain = within.chain }, tt)
+  master_within v within _ _ _ from (master.LeavesOutside s out) = (record { counted = within.counted; chain = within.chain; used = more_used s v.used from within.used }, tt)
   master_within v within _ _ _ from (master.Leaves s chain among mended) =
       let left = mended_within (v.epoch + 1) s v.chain chain within.chain mended in
-      let same : IsMasterWithin n (master.after_gone v s chain) = record { counted = within.counted; chain = left.0 } in
+      let same : IsMasterWithin n (master.after_gone v s chain) = record { counted = within.counted; chain = left.0; used = within.used } in
       (same, all_both (GoesWithin n) chain.1 (config_posts (master.after_gone v s chain)) left.1 (configs_within (master.after_gone v s chain) same))
 
   -- a join, by the last member that is found
@@ -212,8 +220,14 @@ module _ (M : Type 0) (n : ℕ) where
       → IsMasterWithin n (join_found v s found).0 × GoWithin (join_found v s found).1
   unfolding join_found
   found_within v s within is None named = (within, tt)
-  found_within v s within is (Some last) named =
-      (record { counted = within.counted; chain = all_both IsMemberWithin v.chain ((s, v.epoch + 1) ∷ []) within.chain (is, tt) }, ((is, named), tt))
+  found_within v s within is (Some last) named = (
+    record {
+      counted = within.counted;
+      chain = all_both IsMemberWithin v.chain ((s, v.epoch + 1) ∷ []) within.chain (is, tt);
+      used = more_used s v.used is within.used;
+    },
+    ((is, named), tt),
+  )
 
   pub join_within : (v : MasterView) (s : ℕ) → IsMasterWithin n v → is_server s ≡ true
       → IsMasterWithin n (join_step {M = M} v s).0 × GoWithin (join_step {M = M} v s).1

@@ -1,5 +1,5 @@
 -- What holds of settling and of readings, in every world: each statement is a contract in `src/laws.rt`.
-use Rattle.std.specs.Prelude.{◌≡◌, ◌⊎◌, [], ℕ, ◌+◌, true, false, List, length}
+use Rattle.std.specs.Prelude.{◌≡◌, ◌⊎◌, ◌≤◌, ◌*◌, [], ℕ, ◌+◌, true, false, List, length}
 use Rattle.std.specs.List.{list_any}
 use Rattle.ztree.specs.Tree.{Tree}
 use Rattle.zcalls.specs.Kept.{KeptState}
@@ -10,6 +10,7 @@ use Rattle.zworld.specs.declared.outcome.Outcome.TheVariants.{Stopped, Unheard}
 use Rattle.zworld.specs.declared.settled.Settled.TheVariants.{Quiet}
 use Rattle.zworld.specs.declared.event.Event.{Event}
 use Rattle.zworld.specs.declared.event.Event.TheVariants.{Take, Ignore, Fail}
+use Rattle.zserver.specs.declared.limits.TheConstants.{MAX_SERVERS}
 use Rattle.zserver.specs.declared.process.Process.{Process}
 use Rattle.zserver.specs.declared.process.Process.TheVariants.{Server}
 use Rattle.zworld.specs.World.{World, opening_world}
@@ -60,6 +61,12 @@ abbrev pub LinksAreVisited : Type 0
 LinksAreVisited =
     (servers clients : ℕ) (events : List Event) (from to : Process) → is_server servers ≡ true
     → ((world_after servers clients events).links from to ≡ []) ⊎ Among (Take from to) (deliveries clients)
+
+-- and the master gives at most three epochs for each server that there can be
+abbrev pub EpochsAreFew : Type 0
+EpochsAreFew =
+    (servers clients : ℕ) (events : List Event) → is_server servers ≡ true
+    → (world_after servers clients events).master.epoch ≤ 3 * MAX_SERVERS
 
 -- so where settling ends quiet, no message on any link can be taken
 abbrev pub QuietIsQuiet : Type 0

@@ -18,6 +18,10 @@ is_process clients Master = true
 is_process clients (Server s) = is_server s
 is_process clients (Client c) = nat_lt c clients
 
+-- there is a server of this number
+abbrev pub IsServer : ℕ → Type 0
+IsServer s = is_server s ≡ true
+
 -- a server, where one is named
 abbrev pub IsNamed : Option ℕ → Type 0
 IsNamed None = Unit {0}
@@ -70,6 +74,7 @@ AreLinksWithin {M} clients links =
 pub record IsWithin {M : Type 0} (clients : ℕ) (w : World M) : Type 0 where
   pub counted : w.master.clients ≡ clients
   pub chain : AllByRecursion IsMemberWithin w.master.chain
+  pub used : AllByRecursion IsServer w.master.used
   pub views : (s : ℕ) → IsViewWithin clients (w.servers s)
   pub callers : (c : ℕ) → IsClientWithin clients c (w.clients c)
   pub sent : AreLinksWithin clients w.links
