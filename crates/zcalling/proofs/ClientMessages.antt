@@ -44,6 +44,7 @@ module _ {P : Type 0} (plain : Plain P) (t : Account) (s : IsSound plain t) (c :
         (λ e is'. s.waits d m of (ap (λ x. (t.world.clients x).outstanding) e ∙ sym outstanding ∙ is')) (λ f is'. s.waits d m of is') is;
   }
 
+  -- all facts hold after it
   pub again_sound : IsSound plain (record t { world = with_client t.world c view (client.outstanding_posts view) t.world.history })
   again_sound = client_sound plain t s c view (client.outstanding_posts view) t.world.history (again_calls (client.outstanding_posts view))
       (send_justified (with_client t.world c view (client.outstanding_posts view) t.world.history) t.items c view
@@ -86,6 +87,7 @@ module _ {P : Type 0} (plain : Plain P) (t : Account) (s : IsSound plain t) (c n
         )) is;
   }
 
+  -- all facts hold after it
   pub answer_sound : IsSound plain (record t { world = with_client t.world c view [] ended })
   answer_sound = client_sound plain t s c view [] ended (answer_calls []) (λ post a. absurd a)
 
@@ -118,6 +120,7 @@ module _ {P : Type 0} (plain : Plain P) (t : Account) (s : IsSound plain t) (c :
     | inr f ↦ rw f unchanged
   ]
 
+  -- all that a client may hear
   pub message_taken : (from : Process) (m : LogMessage) → IsJustified t.world t.items from (Client c) m → IsSound plain (after (client.client_step (t.world.clients c) from m))
   unfolding client.client_step
   message_taken (Server p) (message.Answer number reply) justified = answer_taken number reply justified

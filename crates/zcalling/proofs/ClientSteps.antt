@@ -52,6 +52,7 @@ module _ {P : Type 0} (plain : Plain P) (t : Account) (s : IsSound plain t) (c :
   ahead_later : (x : ℕ) (log : List Entry) → IsAhead w x log → IsAhead later x log
   ahead_later x log h = record { own = h.own; holds = h.holds; begins = h.begins; has_successor = h.has_successor; no_tail_order = h.no_tail_order }
 
+  -- all facts hold after a client's step
   pub client_sound : AreGoodCalls w t.items later
       → ((post : Post (List Entry)) → Among post posts → IsJustified later t.items (Client c) post.0 post.1)
       → IsSound plain (record t { world = later })
@@ -91,6 +92,7 @@ among_take_more (suc n) [] e x a = absurd a
 among_take_more (suc n) (y ∷ h) e x (inl f) = inl f
 among_take_more (suc n) (y ∷ h) e x (inr a) = inr (among_take_more n h e x a)
 
+-- items stay later than the beginnings of their calls
 pub in_time_later : (h : History) (e : CallEvent) (items : List Item) → AreBegunInTime h items → AreBegunInTime (h ++ e ∷ []) items
 in_time_later h e items in_time i a =
     let old = in_time i a in
@@ -98,6 +100,7 @@ in_time_later h e items in_time i a =
     let long : length (h ++ e ∷ []) ≡ length h + length (e ∷ []) = length-append h (e ∷ []) in
     (omega arith, among_take_more i.time h e (Begin i.operation.client i.operation.number i.operation.call) old.1)
 
+-- answers stay in time, where the new event is
 pub answered_later : (items : List Item) (k : ℕ) (h : History) (e : CallEvent) → AreAnsweredInTime items k h → ((n : ℕ) → length h + k ≡ n → IsAnsweredBy items n e) → AreAnsweredInTime items k (h ++ e ∷ [])
 answered_later items k [] e h last = (last k (omega arith), tt)
 answered_later items k (x ∷ more) e h last = (h.0, answered_later items (k + 1) more e h.1 (λ n is. last n (omega (arith, is))))
@@ -140,6 +143,7 @@ module _ {P : Type 0} (plain : Plain P) (t : Account) (s : IsSound plain t) (c :
   answer_old : (d m : ℕ) (r : Reply) → Among (Answer d m r) begun → Among (Answer d m r) t.world.history
   answer_old d m r a = elim (among_last _ t.world.history _ a) [ inl b ↦ b | inr e ↦ absurd (cc e) ]
 
+  -- the calls of the history after a beginning
   pub begin_calls : (posts : List (Post (List Entry))) → AreGoodCalls t.world t.items (with_client t.world c view posts begun)
   begin_calls posts = record {
     more = λ o a. among_left _ t.world.history _ a;
@@ -178,6 +182,7 @@ module _ (w : LogWorld) (items : List Item) (c : ℕ) where
   sent_justified head tail number (call.Update update) h post a = to_justified head (message.Submit number update) (λ s. h) post a
   sent_justified head tail number (call.Query query) h post a = to_justified tail (message.Query number query) (λ s. h) post a
 
+  -- what a client sends is justified where its call has begun
   pub send_justified : (v : ClientView) → ((n : ℕ) (of : Call) → v.outstanding ≡ Some (n, of) → HasBegun w.history (record { client = c; number = n; call = of }))
       → (post : Post (List Entry)) → Among post (client.outstanding_posts v) → IsJustified w items (Client c) post.0 post.1
   send_justified v h post a = by v.outstanding h a

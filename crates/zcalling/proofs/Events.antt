@@ -34,6 +34,7 @@ client_hears t s from c m rest link =
     (record { begun = λ o h. h; given = λ i h. h; opened = λ z k h. (h.0, λ p a. h.1 p (front_among t.world.links from (Client c) Master (Server z) (message.NewPred k p) a)); failed = λ z h. h })
     from (Client c) m (s.justified from (Client c) m (subst (Among m) (sym link) (inl refl))))
 
+-- the events Take at a client
 pub clients_hear : ClientsHear
 clients_hear Master c t lasts s = where_enabled t (Take Master (Client c)) s (λ e. front_there t Master (Client c) e
     (λ m rest link alive. quiet_event t _ (client_hears t s Master c m rest link)))
@@ -42,6 +43,7 @@ clients_hear (Server p) c t lasts s = where_enabled t (Take (Server p) (Client c
 clients_hear (Client d) c t lasts s = where_enabled t (Take (Client d) (Client c)) s (λ e. front_there t (Client d) (Client c) e
     (λ m rest link alive. quiet_event t _ (client_hears t s (Client d) c m rest link)))
 
+-- the event Begin
 pub calls_begin : CallsBegin
 calls_begin c call t lasts s = where_enabled t (Begin c call) s (λ e. quiet_event t _ (begin_sound plain_tree t s c call))
 
@@ -49,6 +51,7 @@ again_account : (t : Account) → IsSound plain_tree t → (c : ℕ) → IsSound
 unfolding client.retry_posts
 again_account t s c = again_sound plain_tree t s c (t.world.clients c) refl refl
 
+-- the event Retry
 pub calls_are_sent_again : CallsAreSentAgain
 calls_are_sent_again c t lasts s = where_enabled t (Retry c) s (λ e. quiet_event t _ (again_account t s c))
 
@@ -82,6 +85,7 @@ fail_sound t s x = record {
   waits = s.waits;
 }
 
+-- the event Fail
 pub servers_fail : ServersFail
 servers_fail x t lasts s = where_enabled t (Fail x) s (λ e. quiet_event t _
     (put_unread plain_tree (record t { world = record t.world { failed = at x true t.world.failed } }) x Master message.Gone (unread_foreign message.Gone tt)

@@ -21,10 +21,11 @@ pub where_enabled : (t : Account) (event : Event) → IsSound plain_tree t
     → (is_enabled t.world event ≡ true → IsSoundAfter plain_tree t (account_by plain_tree t event (acts (log_machine plain_tree) t.world event))) → IsSoundAfter plain_tree t (next_account plain_tree t event)
 where_enabled t event s did = elim (test (is_enabled t.world event)) [ inl e ↦ rw e (did e) | inr f ↦ rw f (s, prefix_same t.committed) ]
 
--- nothing is processed where nothing more is committed
+-- there are no new items where nothing more is committed
 nothing_new : (t : Account) → new_items plain_tree (length t.world.history) t.committed t.committed ≡ []
 nothing_new t = ap (λ es. all_at_time (length t.world.history) (acts_from plain_tree.update (after_log plain_tree t.committed) es)) (drop-length t.committed)
 
+-- an event after which nothing more is committed
 pub quiet_event : (t : Account) (w : LogWorld) → IsSound plain_tree (record t { world = w })
     → IsSoundAfter plain_tree t (record { world = w; committed = t.committed; items = t.items ++ new_items plain_tree (length t.world.history) t.committed t.committed })
 quiet_event t w s = (

@@ -19,9 +19,11 @@ begins_nothing x xs h = let none : [] ≡ x ∷ (xs ++ h.0) = h.1 in cc none
 pub early_answers_are_refuted : EarlyAnswersAreRefuted
 early_answers_are_refuted reply s = (s.0.justified (Server 1) (Client 0) (message.Answer 1 reply) (inl refl)).1
 
+-- nor is that to a query
 pub any_queries_are_refuted : AnyQueriesAreRefuted
 any_queries_are_refuted query s = (s.0.justified (Server 1) (Client 0) (message.Answer 1 _) (inl refl)).1
 
+-- of a tail that was
 pub old_tails_are_refuted : OldTailsAreRefuted
 old_tails_are_refuted query s = (s.0.justified (Server 1) (Client 0) (message.Answer 2 _) (inl refl)).1
 
@@ -46,6 +48,7 @@ any_updates_are_refuted s =
 pub any_snapshots_are_refuted : AnySnapshotsAreRefuted
 any_snapshots_are_refuted s = begins_nothing (call 1) [] s.1
 
+-- and no call acts twice
 pub second_acts_are_refuted : SecondActsAreRefuted
 second_acts_are_refuted t o first second twice s =
     let once = subst (NoTwo AreOneUpdate) (sym s.acted ∙ twice) (acted_entries_once plain_tree t.committed) in

@@ -1,5 +1,5 @@
 -- A run of the log world with what is told of it beside the world: the committed log, which is the log of the last server
--- that took a message as a tail, and the processed list.
+-- that took a message as a tail, and the items.
 use Rattle.std.specs.Prelude.{ℕ, if◌then◌else◌, None, Some, List, [], ◌∷◌, ◌++◌, length, is_none}
 use Rattle.zcalls.specs.declared.call.Call.TheVariants as call
 use Rattle.zcalls.specs.declared.call.Entry.{Entry}
@@ -52,7 +52,7 @@ query_items_by plain w (Take (Client c) (Server s)) =
     query_items_of_front plain (length w.history) (tail_log (w.servers s)) c (w.links (Client c) (Server s))
 query_items_by plain w event = []
 
--- the log world, the committed log and the processed list
+-- the log world, the committed log and the items
 pub record Account : Type 0 where
   pub world : LogWorld
   pub committed : List Entry

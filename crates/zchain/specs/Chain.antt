@@ -13,10 +13,6 @@ use Rattle.zlegal.specs.Prefix.{IsPrefix}
 abbrev pub queue : LogWorld → ℕ → List LogMessage
 queue w s = w.links Master (Server s)
 
--- what a server told the master
-abbrev pub reports : LogWorld → ℕ → List LogMessage
-reports w s = w.links (Server s) Master
-
 -- the number was used
 abbrev pub IsUsed : LogWorld → ℕ → Type 0
 IsUsed w s = is_among s w.master.used ≡ true

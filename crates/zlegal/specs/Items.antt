@@ -1,4 +1,4 @@
--- The processed list: the calls in the order in which they took effect, each with its reply and with the length that the
+-- The items of a run: the calls in the order in which they took effect, each with its reply and with the length that the
 -- history had then. What is said of it here makes a legal order of it.
 use Rattle.std.specs.Prelude.{◌≡◌, ℕ, ◌+◌, ◌≤◌, Bool, true, false, List, [], ◌∷◌, map, length, take, drop, if◌then◌else◌}
 use Rattle.zcalls.specs.declared.call.Call.{Call}
@@ -22,11 +22,11 @@ pub record Item : Type 0 where
   pub reply : Reply
   pub time : ℕ
 
--- a call and its reply, processed when the history had this length
+-- a call and its reply, as it took effect when the history had this length
 abbrev pub at_time : ℕ → Operation × Reply → Item
 at_time time did = record { operation = did.0; reply = did.1; time = time }
 
--- calls and replies, processed when the history had this length
+-- calls and replies, as they took effect when the history had this length
 abbrev pub all_at_time : ℕ → List (Operation × Reply) → List Item
 all_at_time time dids = map (at_time time) dids
 

@@ -46,6 +46,7 @@ front_heard t s from m rest link =
     (record { begun = λ o h. h; given = λ i h. h; opened = λ z k h. (h.0, λ p a. h.1 p (front_among t.world.links from Master Master (Server z) (message.NewPred k p) a)); failed = λ z h. h })
     from Master m (s.justified from Master m (subst (Among m) (sym link) (inl refl))))
 
+-- the events Take at the master
 pub master_hears : MasterHears
 master_hears Master t lasts s = where_enabled t (Take Master Master) s (λ e. front_there t Master Master e
     (λ m rest link alive. quiet_event t _ (front_heard t s Master m rest link)))
@@ -59,5 +60,6 @@ not_used : (v : MasterView) (x : ℕ) → is_none (master.join_fault v x) ≡ tr
 unfolding master.join_fault
 not_used v x free used = let not : ◌≡◌ {A = Bool} false true = rw used at free in cc not
 
+-- the event Join
 pub servers_join : ServersJoin
 servers_join x t lasts s = where_enabled t (Join x) s (λ e. quiet_event t _ (joins_sound plain_tree t s x (not_used t.world.master x (right_of (is_server x) (is_none (master.join_fault t.world.master x)) e))))

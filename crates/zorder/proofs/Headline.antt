@@ -1,17 +1,15 @@
 -- Every history has a legal order, also where failed servers lose what they held.
-use Rattle.std.proofs.Common.{◌≡◌, List, [], ◌∷◌, refl, sym, ap, ◌∙◌, subst}
+use Rattle.std.proofs.Common.{◌≡◌, List, [], ◌∷◌, sym, ap, ◌∙◌, subst}
 use Rattle.ztree.specs.Tree.{Tree}
 use Rattle.zcalls.specs.Kept.{KeptState}
-use Rattle.zserver.specs.declared.process.Process.{Process}
-use Rattle.zserver.specs.declared.process.Process.TheVariants.{Master, Server, Client}
 use Rattle.zserver.specs.Machine.{kept_tree, replay}
 use Rattle.zserver.proofs.Projection.{log_stands_for_machine}
 use Rattle.zworld.specs.declared.event.Event.{Event}
 use Rattle.zworld.specs.PlainTree.{IsExplained}
 use Rattle.zworld.specs.World.{World, opening_world}
-use Rattle.zworld.specs.Events.{has_failed, happens, run}
+use Rattle.zworld.specs.Events.{happens, run}
 use Rattle.zworld.specs.Alike.{IsAlike}
-use Rattle.zworld.proofs.Alike.{stay_alike}
+use Rattle.zworld.proofs.Alike.{stay_alike, alike_through}
 use Rattle.zworld.proofs.LogWorlds.{runs_with}
 use Rattle.zcalls.specs.PlainTree.{plain_tree}
 use Rattle.zlegal.proofs.order.PlainTree.{items_explain}
@@ -31,25 +29,13 @@ every_history_is_explained servers clients events =
     ∙ sym (ap (λ (w : World _). w.history) (runs_with (replay kept_tree) (log_stands_for_machine kept_tree) servers clients events)) in
     subst IsExplained same explained
 
--- what is alike to something alike is alike
-failed_alike : {M : Type 0} (u v : World M) → IsAlike u v → (p : Process) → has_failed u p ≡ has_failed v p
-failed_alike u v a Master = refl
-failed_alike u v a (Server s) = sym (ap (λ (w : World _). w.failed s) a.rest)
-failed_alike u v a (Client c) = refl
-
-alike_both : {M : Type 0} (u v w : World M) → IsAlike u v → IsAlike v w → IsAlike u w
-alike_both u v w a b = record {
-  rest = b.rest ∙ ap (λ (x : World _). record x { servers = w.servers; links = w.links }) a.rest;
-  servers = λ s alive. a.servers s alive ∙ b.servers s (ap (λ (x : World _). x.failed s) a.rest ∙ alive);
-  links = λ from to alive. a.links from to alive ∙ b.links from to (sym (failed_alike u v a to) ∙ alive);
-}
-
 -- what events lead to with losses is alike to what they lead to
 losses_alike : (v : World (KeptState Tree)) (events : List Event) (w : World (KeptState Tree)) → LeadWithLosses v events w → IsAlike (run kept_tree v events) w
 losses_alike v [] w h = h
 losses_alike v (event ∷ events) w (u, first, rest) =
-    alike_both _ _ w (stay_alike kept_tree (happens kept_tree v event) u events first) (losses_alike u events w rest)
+    alike_through _ _ w (stay_alike kept_tree (happens kept_tree v event) u events first) (losses_alike u events w rest)
 
+-- so it has the same history
 pub every_history_with_losses_is_explained : EveryHistoryWithLossesIsExplained
 every_history_with_losses_is_explained servers clients events w leads =
     let alike = losses_alike (opening_world kept_tree servers clients) events w leads in

@@ -27,6 +27,7 @@ account_world_if : (b : Bool) (t u : Account) → (if b then t else u).world ≡
 account_world_if true t u = refl
 account_world_if false t u = refl
 
+-- the world of an account is that of the run
 pub account_world : {P : Type 0} (plain : Plain P) (t : Account) (events : List Event)
     → (account_after plain t events).world ≡ run (log_machine plain) t.world events
 account_world plain t [] = refl
@@ -61,6 +62,7 @@ runs_sound t exact s (event ∷ events) =
     let later = runs_sound (next_account plain_tree t event) (lasts_next t event exact) next.0 events in
     (later.0, prefix_of t.committed (next_account plain_tree t event).committed (account_after plain_tree (next_account plain_tree t event) events).committed next.1 later.1)
 
+-- from the opening
 pub every_run_is_sound : EveryRunIsSound
 every_run_is_sound servers clients events =
     (runs_sound (opening_account plain_tree servers clients) (lasts plain_tree servers clients []) (opening_sound plain_tree servers clients) events).0
@@ -70,6 +72,7 @@ account_more : (t : Account) (events more : List Event) → account_after plain_
 account_more t [] more = refl
 account_more t (event ∷ events) more = account_more (next_account plain_tree t event) events more
 
+-- whatever happens later
 pub committed_stays : CommittedStays
 committed_stays servers clients events more =
     let t = account_of servers clients events in

@@ -42,6 +42,7 @@ longer t s x y log before has =
     let ahead = s.ordered x y before more.0 more.1 in
     record { own = ahead.own; holds = ahead.holds; begins = prefix_of log more.0 ahead.own more.2 ahead.begins; has_successor = ahead.has_successor }
 
+-- so of the logs of members
 pub logs_begin_each_other : LogsBeginEachOther
 logs_begin_each_other servers clients events x y log before has =
     let m = longer (account_of servers clients events) (every_run_is_sound servers clients events) x y log before has in
@@ -96,6 +97,7 @@ holds_committed : (t : Account) → IsSound plain_tree t → (x : ℕ) (log : Li
 holds_committed t s x log lives tail has =
     s.tail x log (log_member t.world s.blank s.live x lives log has) has (no_successor (t.world.servers x) tail)
 
+-- and the committed log only grows
 pub tails_hold_what_tails_held : TailsHoldWhatTailsHeld
 tails_hold_what_tails_held servers clients events more s t old log s_lives s_tail s_has t_lives t_tail t_has =
     let v = account_of servers clients events in
@@ -104,5 +106,6 @@ tails_hold_what_tails_held servers clients events more s t old log s_lives s_tai
     let is = holds_committed w (every_run_is_sound servers clients (events ++ more)) t log t_lives t_tail t_has in
     subst (λ a. IsPrefix a log) (sym was) (subst (IsPrefix v.committed) (sym is) (committed_stays servers clients events more))
 
+-- in any log a call acts once
 pub updates_act_once : UpdatesActOnce
 updates_act_once servers clients events = acted_entries_once plain_tree (account_of servers clients events).committed

@@ -62,6 +62,7 @@ tested_update : (call : Call) → IsUpdate call → is_update call ≡ true
 tested_update (Update update) h = refl
 tested_update (Query query) h = absurd h
 
+-- the item is an update, and those are what acts of the committed log
 pub answered_updates_are_committed : AnsweredUpdatesAreCommitted
 answered_updates_are_committed servers clients events o reply update begun answered =
     let t = account_of servers clients events in
@@ -108,6 +109,7 @@ replays_at : (p : Tree) (xs : List Item) (i : Item) (ys : List Item) → Replays
 replays_at p [] i ys h = h.0
 replays_at p (x ∷ xs) i ys h = replays_at (operation_step (service_of plain_tree) p x.operation).0 xs i ys h.1
 
+-- the items before it are what acts of a beginning of the committed log
 pub answered_queries_saw_committed : AnsweredQueriesSawCommitted
 answered_queries_saw_committed servers clients events client number query reply begun answered =
     let t = account_of servers clients events in

@@ -92,6 +92,7 @@ module _ {P : Type 0} (plain : Plain P) (t : Account) (s : IsSound plain t) (c y
   machine : (taken.0.machine ≡ old.machine) ⊎ IsSubmitted old taken.0.machine
   machine = client_machine plain old (Client c) m taken row c refl
 
+  -- the message is justified
   pub justified : IsJustified w t.items (Client c) (Server y) m
   justified = s.justified (Client c) (Server y) m (subst (Among m) (sym link) (inl refl))
 
@@ -124,6 +125,7 @@ module _ {P : Type 0} (plain : Plain P) (t : Account) (s : IsSound plain t) (c y
     | inr new ↦ let f : false ≡ true = sym (ap is_none new.has) ∙ h in absurd (cc f)
   ]
 
+  -- the new view is good
   pub good_view : IsGoodView w (Client c) y taken.0
   good_view = record {
     pred = stay.0;
@@ -141,6 +143,7 @@ module _ {P : Type 0} (plain : Plain P) (t : Account) (s : IsSound plain t) (c y
       ap (λ (u : ServerView (List Entry)). or_else u.machine (first_snapshot_by w1 y u.pred)) (at_same y taken.0 w.servers)
       ∙ ap (λ pred. or_else taken.0.machine (first_snapshot_by w1 y pred)) stay.0 ∙ ap (or_else taken.0.machine) (same_first old.pred)
 
+  -- what the taker shows first only grows
   pub shows : (log : List Entry) → first_log w1 y ≡ Some log → (shown : List Entry) × (first_log w y ≡ Some shown) × IsPrefix shown log
   shows log is = elim (machine) [
     | inl same ↦ (log, ap (λ l. or_else l (first_snapshot_by w y old.pred)) (sym same) ∙ sym now_shows ∙ is, prefix_same log)
@@ -188,6 +191,7 @@ module _ {P : Type 0} (plain : Plain P) (t : Account) (s : IsSound plain t) (c y
           items = t.items ++ (sym silent i ++ new_items plain (length w.history) t.committed committed);
         })
 
+    -- the event, where no query is answered
     pub take_from_client : IsSoundAfter plain t (account_by plain t (Take (Client c) (Server y)) (process_step (log_machine plain) popped (Client c) (Server y) m))
     take_from_client = after_puts plain t (account_with_view plain t (Client c) y taken.0) _ y taken.1 is_account
         (row_puts (Client c) m taken row refl refl justified (view_step_sound plain t s (Client c) refl y taken.0 good_view shows alive))

@@ -17,6 +17,7 @@ use Rattle.zserving.proofs.ClientMessages.{take_from_client}
 use Rattle.zserving.proofs.Queries.{take_query}
 use Rattle.zchain.proofs.Events.{where_enabled, front_there}
 
+-- a server takes whatever is the front of a link from a server
 pub servers_hear_servers : ServersHearServers
 servers_hear_servers p y t lasts s = where_enabled t (Take (Server p) (Server y)) s (λ e. front_there t (Server p) (Server y) e
     (λ m rest link alive. take_from_server plain_tree t s p y m rest link (lasts.views y) alive))
@@ -41,5 +42,6 @@ module _ (t : Account) (lasts : LastsAreLengths t.world) (s : IsSound plain_tree
   heard (message.Query number query) rest link alive = query_by number query rest link alive (tail_log (t.world.servers y)) refl
   heard m rest link alive = silent m rest link refl alive
 
+-- or from a client
 pub servers_hear_clients : ServersHearClients
 servers_hear_clients c y t lasts s = where_enabled t (Take (Client c) (Server y)) s (λ e. front_there t (Client c) (Server y) e (heard t lasts s c y))

@@ -1,4 +1,4 @@
--- The event Take at a tail, of a client's query: it is processed and answered.
+-- The event Take at a tail, of a client's query: it becomes an item, and is answered.
 use Rattle.std.proofs.Common.{◌≡◌, ℕ, ◌≤◌, true, false, List, [], ◌∷◌, ◌++◌, length, take, Option, Some, None, refl, sym, ap, ◌∙◌, subst, inl, inr, append-nil, arith}
 use Rattle.std.proofs.Math.Seq.{drop-length, take-length}
 use Rattle.std.specs.Prelude.{is_none}
@@ -158,5 +158,6 @@ module _ {P : Type 0} (plain : Plain P) (t : Account) (s : IsSound plain t) (c y
     items = t.items ++ (sym is_asked i ++ sym nothing_new i);
   }
 
+  -- the event
   pub take_query : IsSoundAfter plain t (account_by plain t (Take (Client c) (Server y)) (process_step (log_machine plain) popped (Client c) (Server y) m))
   take_query = (subst (IsSound plain) is_account answered_sound, subst (IsPrefix t.committed) (sym same_committed) (prefix_same t.committed))

@@ -121,6 +121,7 @@ module _ {P : Type 0} (plain : Plain P) (t : Account) (s : IsSound plain t) (p y
         items = t.items ++ new_items plain (length w.history) t.committed committed;
       })
 
+  -- the event
   pub take_from_server : IsSoundAfter plain t (account_by plain t (Take (Server p) (Server y)) (process_step (log_machine plain) popped (Server p) (Server y) m))
   take_from_server = after_puts plain t (account_with_view plain t (Server p) y taken.0) _ y taken.1 is_account all_puts
       (view_step_begins plain t s (Server p) refl y taken.0 (good_view plain t s p y m rest link exact) (good_first_log plain t s p y m rest link exact) alive)

@@ -35,6 +35,7 @@ module _ {P : Type 0} (plain : Plain P) (t : Account) (s : IsSound plain t) (p y
   justified : IsJustified w t.items (Server p) (Server y) m
   justified = s.justified (Server p) (Server y) m (subst (Among m) (sym link) (inl refl))
 
+  -- the new view is good
   pub good_view : IsGoodView w (Server p) y taken.0
   good_view =
       let v = w.servers y in

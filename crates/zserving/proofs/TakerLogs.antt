@@ -1,4 +1,4 @@
--- A server takes a message of another server: Lemma 2, that what it would hold in the end stays, and that what it shows grows.
+-- A server takes a message of another server: what it would hold in the end stays, and what it shows first grows.
 use Rattle.std.proofs.Common.{◌≡◌, ◌⊎◌, ℕ, ◌==◌, List, ◌∷◌, drop, Option, Some, None, refl, sym, ap, ◌∙◌, subst, inl, inr, eqb-true, eq-eqb}
 use Rattle.zcalls.specs.declared.call.Entry.{Entry}
 use Rattle.zserver.specs.declared.process.Process.TheVariants.{Server}
@@ -47,6 +47,7 @@ module _ {P : Type 0} (plain : Plain P) (w : LogWorld) (p y : ℕ) (m : LogMessa
   grows_from : (log : List Entry) (machine : Log) → machine ≡ Some log → (k : ℕ) → Grows log (log_with_message k machine m)
   grows_from log machine is k = subst (λ l. Grows log (log_with_message k l m)) (sym is) (flowed_grows k log m)
 
+  -- the log of the taker grows
   pub taker_grows : (log : List Entry) → log_at w y ≡ Some log → Grows log new.machine
   taker_grows log is = elim (is_pred old.pred p) [
     | inl h ↦ subst (Grows log) (sym (takes_flows plain old p h.0 m exact h.1)) (grows_from log old.machine is h.0)
@@ -64,6 +65,7 @@ module _ {P : Type 0} (plain : Plain P) (w : LogWorld) (p y : ℕ) (m : LogMessa
     | inr f ↦ ap (flow pred.1 log) (front_not_from w.links (Server p) (Server y) (Server pred.0) (Server y) f)
   ]
 
+  -- it would hold in the end what it would have held
   pub final_log_taker : final_log w1 y ≡ final_log w y
   final_log_taker = elim (is_pred old.pred p) [
     | inl h ↦
@@ -105,6 +107,7 @@ module _ {P : Type 0} (plain : Plain P) (w : LogWorld) (p y : ℕ) (m : LogMessa
       let same : more.0 ≡ log = (let e : Some more.0 ≡ Some log = sym now ∙ h in cc e) in
       (mine, ap (λ l. or_else l (first_snapshot_by w y old.pred)) is, subst (IsPrefix mine) same more.2)
 
+  -- so what it shows first begins with what it showed
   pub first_log_taker : (log : List Entry) → first_log w1 y ≡ Some log → (shown : List Entry) × (first_log w y ≡ Some shown) × IsPrefix shown log
   first_log_taker log h = by old.machine refl
     where

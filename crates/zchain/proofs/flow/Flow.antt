@@ -17,6 +17,7 @@ first_more_of : (now later more : Log) → or_else (or_else now later) more ≡ 
 first_more_of None later more = refl
 first_more_of (Some log) later more = refl
 
+-- the first log of more messages
 pub first_more : (k : ℕ) (ms more : List LogMessage) → first_snapshot k (ms ++ more) ≡ or_else (first_snapshot k ms) (first_snapshot k more)
 first_more k [] more = refl
 first_more k (m ∷ ms) more = ap (or_else (snapshot_of k m)) (first_more k ms more) ∙ sym (first_more_of (snapshot_of k m) (first_snapshot k ms) (first_snapshot k more))
@@ -29,10 +30,12 @@ abbrev pub AreForeign : ℕ → List LogMessage → Type 0
 AreForeign k [] = Unit {0}
 AreForeign k (m ∷ ms) = IsForeign k m × AreForeign k ms
 
+-- messages that don't count leave the log
 pub flow_foreign : (k : ℕ) (log : Log) (ms : List LogMessage) → AreForeign k ms → flow k log ms ≡ log
 flow_foreign k log [] h = refl
 flow_foreign k log (m ∷ ms) h = ap (λ l. flow k l ms) (h.0.0 log) ∙ flow_foreign k log ms h.1
 
+-- and show none
 pub first_foreign : (k : ℕ) (ms : List LogMessage) → AreForeign k ms → first_snapshot k ms ≡ None
 first_foreign k [] h = refl
 first_foreign k (m ∷ ms) h = ap (λ l. or_else l (first_snapshot k ms)) h.0.1 ∙ first_foreign k ms h.1
@@ -54,6 +57,7 @@ grown_begins log n e = elim (test (n == length log + 1)) [
 abbrev pub Grows : List Entry → Log → Type 0
 Grows log new = (more : List Entry) × (new ≡ Some more) × IsPrefix log more
 
+-- a message makes a log longer, if anything
 pub flowed_grows : (k : ℕ) (log : List Entry) (m : LogMessage) → Grows log (log_with_message k (Some log) m)
 flowed_grows k log (message.Update epoch n e) = elim (test (k == epoch)) [
   | inl t ↦ rw t (with_entry log n e, refl, grown_begins log n e)

@@ -1,4 +1,4 @@
--- A message that is fine stays so: the history and the processed list grow, servers fail, and epochs are only opened.
+-- A message that is justified stays so: the history and the items grow, servers fail, and epochs are only opened.
 use Rattle.std.proofs.Common.{◌≡◌, ℕ, true, List}
 use Rattle.zserver.specs.declared.message.Message.TheVariants as message
 use Rattle.zserver.specs.declared.process.Process.{Process}
@@ -18,6 +18,7 @@ pub record GoesOn (w later : LogWorld) (items more : List Item) : Type 0 where
   pub opened : (t k : ℕ) → IsOpened w t k → IsOpened later t k
   pub failed : (s : ℕ) → w.failed s ≡ true → later.failed s ≡ true
 
+-- what justifies a message is there later too
 pub justified_later : (w later : LogWorld) (items more : List Item) → GoesOn w later items more → (from to : Process) (m : LogMessage)
     → IsJustified w items from to m → IsJustified later more from to m
 justified_later w later items more on (Client c) to (message.Submit number update) h = on.begun _ h

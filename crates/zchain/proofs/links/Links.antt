@@ -21,6 +21,7 @@ same_process (Client c) Master h = cc
 same_process (Client c) (Server t) h = cc
 same_process (Client c) (Client d) h = ap Client (eqb-true c d h)
 
+-- each process is itself
 pub same_itself : (p : Process) → is_same p p ≡ true
 same_itself Master = refl
 same_itself (Server s) = eq-eqb s s refl
@@ -30,9 +31,11 @@ same_itself (Client c) = eq-eqb c c refl
 pub at_cases : {V : Type 0} (P : V → Type 0) (n : ℕ) (v : V) (f : ℕ → V) (m : ℕ) → (m ≡ n → P v) → ((m == n) ≡ false → P (f m)) → P (at n v f m)
 at_cases P n v f m same other = elim (test (m == n)) [ inl t ↦ rw t (same (eqb-true _ _ t)) | inr f ↦ rw f (other f) ]
 
+-- the value that was replaced
 pub at_same : {V : Type 0} (n : ℕ) (v : V) (f : ℕ → V) → at n v f n ≡ v
 at_same n v f = ap (λ b. cond b v (f n)) (eq-eqb n n refl)
 
+-- the others
 pub at_other : {V : Type 0} (n : ℕ) (v : V) (f : ℕ → V) (m : ℕ) → (m == n) ≡ false → at n v f m ≡ f m
 at_other n v f m e = ap (λ b. cond b v (f m)) e
 
@@ -65,6 +68,7 @@ module _ {M : Type 0} where
   drop_among [] m a = a
   drop_among (x ∷ link) m a = inr a
 
+  -- what is under way without a front was under way with it
   pub front_among : (links : Links M) (sender taker from to : Process) (m : MessageOf M) → Among m (without_front links sender taker from to) → Among m (links from to)
   front_among links sender taker from to m a = elim (test (is_same from sender && is_same to taker)) [
     | inl t ↦ drop_among (links from to) m (subst (λ l. Among m l) (ap (λ b. cond b (drop 1 (links from to)) (links from to)) t) a)
@@ -75,16 +79,20 @@ module _ {M : Type 0} where
   abbrev pub AllPosts : (MessageOf M → Type 0) → List (Post M) → Type 0
   AllPosts Q posts = (post : Post M) → Among post posts → Q post.1
 
+  -- of no posts
   pub all_none : (Q : MessageOf M → Type 0) → AllPosts Q []
   all_none Q post a = absurd a
 
+  -- of one post more
   pub all_and : (Q : MessageOf M → Type 0) (first : Post M) (posts : List (Post M)) → Q first.1 → AllPosts Q posts → AllPosts Q (first ∷ posts)
   all_and Q first posts h k post (inl e) = subst (λ (p : Post M). Q p.1) e h
   all_and Q first posts h k post (inr a) = k post a
 
+  -- of posts behind posts
   pub all_append : (Q : MessageOf M → Type 0) (posts more : List (Post M)) → AllPosts Q posts → AllPosts Q more → AllPosts Q (posts ++ more)
   all_append Q posts more h k post a = elim (among_cases post posts more a) [ inl b ↦ h post b | inr c ↦ k post c ]
 
+  -- of a post for each
   pub all_map : {A : Type 0} (Q : MessageOf M → Type 0) (f : A → Post M) (xs : List A) → ((x : A) → Q (f x).1) → AllPosts Q (map f xs)
   all_map Q f [] h = all_none Q
   all_map Q f (x ∷ xs) h = all_and Q (f x) (map f xs) (h x) (all_map Q f xs h)

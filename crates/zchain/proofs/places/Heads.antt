@@ -1,4 +1,4 @@
--- Lemma 7: a member with a log and without predecessor is the first of the chain.
+-- A member with a log and without predecessor is the first of the chain.
 use Rattle.std.proofs.Common.{◌≡◌, ℕ, false, ◌==◌, List, [], ◌∷◌, map, Option, Some, None, sym, ap, ◌∙◌, subst, inl, inr, eqb-true}
 use Rattle.std.specs.Prelude.{◌&&◌, is_none}
 use Rattle.zcalls.specs.declared.call.Entry.{Entry}
@@ -33,6 +33,7 @@ nobody_before (a ∷ chain) s h apart x before = elim (test (a.0 == s)) [
     again same (inl p) = apart.0 s p.1 same
     again same (inr p) = apart.0 s (before_second x s (map (λ (m : Neighbour). m.0) chain) p) same
 
+-- a member with a log and without predecessor has nobody before it
 pub head_is_first : (w : LogWorld) → OrdersLead w → AreDistinct w → (s : ℕ) → IsMember w s → (log : List Entry) → log_at w s ≡ Some log → (w.servers s).pred ≡ None
     → (x : ℕ) → ComesBefore x s (members w.master) → ⊥
 head_is_first w line apart s member log has head =

@@ -11,6 +11,7 @@ settled_by : (Past : Place → Type 0) (pred target : Place) (more : List LogMes
 settled_by Past pred target more here rest None h = rest h
 settled_by Past pred target more here rest (Some new) h = elim (h.0) [ inl e ↦ cc | inr past ↦ absurd (here past) ]
 
+-- so orders lead it where it is
 pub settled : (Past : Place → Type 0) (pred : Place) (orders : List LogMessage) (target : Place) → (Past pred → ⊥) → LeadsTo Past false pred orders target → pred ≡ target
 settled Past pred [] target here h = h
 settled Past pred (m ∷ more) target here h = settled_by Past pred target more here (settled Past pred more target here) (turn_of m) h
@@ -30,6 +31,7 @@ last_by : (Past : Place → Type 0) (fresh : Bool) (pred new : Place) (turn : Op
 last_by Past fresh pred new None e past = cc
 last_by Past fresh pred new (Some next) e past = (past, cc e)
 
+-- orders that led to a predecessor that is past lead, with one more, to the one that it tells
 pub one_more_order : (Past : Place → Type 0) (fresh : Bool) (pred : Place) (orders : List LogMessage) (target new : Place) (m : LogMessage)
     → turn_of m ≡ Some new → Past target → LeadsTo Past fresh pred orders target → LeadsTo Past fresh pred (orders ++ m ∷ []) new
 one_more_order Past fresh pred [] target new m turn past h = last_by Past fresh pred new (turn_of m) turn (inr (subst Past (sym h) past))
@@ -65,6 +67,7 @@ more_by Past Later fresh later pred target more past is stay go None h = stay h
 more_by Past Later fresh later pred target more past is stay go (Some next) h =
     (elim (h.0) [ inl e ↦ inl (is e) | inr p ↦ inr (past pred p) ], go next h.1)
 
+-- orders lead on where more is past, or more is fresh
 pub leads_more : (Past Later : Place → Type 0) (fresh later : Bool) (pred : Place) (orders : List LogMessage) (target : Place)
     → ((p : Place) → Past p → Later p) → (fresh ≡ true → later ≡ true) → LeadsTo Past fresh pred orders target → LeadsTo Later later pred orders target
 leads_more Past Later fresh later pred [] target past is h = h
@@ -93,6 +96,7 @@ place_splits b (a ∷ chain) p t k h = elim (test (a.0 == t)) [
       record { front = b ∷ more.front; epoch = more.epoch; rest = more.rest; is = ap (λ l. b ∷ l) more.is }
 ]
 
+-- a server with a predecessor in its place stands right behind it
 pub place_splits_chain : (chain : List Neighbour) (p t k : ℕ) → place_from None chain t ≡ Some (Some (p, k)) → StandsBefore chain p t k
 place_splits_chain [] p t k h = cc
 place_splits_chain (a ∷ chain) p t k h = elim (test (a.0 == t)) [

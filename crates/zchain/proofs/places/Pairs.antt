@@ -43,7 +43,7 @@ not_fresh w s pred h = elim (test (is_none (log_at w s))) [
   | inr f ↦ ap (λ b. b && is_none (w.servers s).pred) f
 ]
 
--- Lemma 6: a member's predecessor, if it is a member, is the one that the master has in mind
+-- a member's predecessor, if it is a member, is the one that the master has in mind
 pub settled_pred : (w : LogWorld) → OrdersLead w → (p s k : ℕ) → IsMember w p → IsMember w s → (w.servers s).pred ≡ Some (p, k) → IsPair w p s k
 settled_pred w line p s k p_in s_in is =
     let place = has_place None w.master.chain s s_in in
@@ -63,6 +63,7 @@ map_split : (front : List Neighbour) (a b : Neighbour) (rest : List Neighbour)
 map_split [] a b rest = refl
 map_split (f ∷ front) a b rest = ap (λ l. f.0 ∷ l) (map_split front a b rest)
 
+-- the members of a pair stand next to each other
 pub pair_next : (w : LogWorld) → AreDistinct w → (p s k : ℕ) → IsPair w p s k → AreNext w p s
 pair_next w apart p s k is =
     let split = place_splits_chain w.master.chain p s k is in

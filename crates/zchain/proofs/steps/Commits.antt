@@ -99,7 +99,7 @@ module _ {P : Type 0} (plain : Plain P) (t : Account) (s : IsSound plain t) (fro
     ]
   ]
 
-  -- the log is committed, and what acts of it is processed
+  -- the log is committed, and what acts of it becomes items
   pub commit_sound : IsSound plain (record { world = w1; committed = log; items = t.items ++ new_items plain (length w.history) t.committed log })
   commit_sound =
       sound log (t.items ++ new_items plain (length w.history) t.committed log)

@@ -32,6 +32,7 @@ abbrev pub IsKept : LogWorld → Process → Process → Type 1
 IsKept w from to = (Q : List LogMessage → Type 0) → ((m : LogMessage) (l : List LogMessage) → is_request m ≡ true → Q (m ∷ l) → Q l)
     → (p : Process) (z : ℕ) → Q (w.links p (Server z)) → Q (without_front w.links from to p (Server z))
 
+-- where the front was on a link to no server
 pub kept_not_to : (w : LogWorld) (from to : Process) → ((z : ℕ) → is_same (Server z) to ≡ false) → IsKept w from to
 kept_not_to w from to apart Q drops p z h = subst Q (sym (front_not_to w.links from to p (Server z) (apart z))) h
 
@@ -81,6 +82,7 @@ module _ {P : Type 0} (plain : Plain P) (t : Account) (s : IsSound plain t) (fro
   opened : (z k : ℕ) → IsOpened w z k → IsOpened dropped z k
   opened z k h = (h.0, λ p a. h.1 p (front_among w.links from to Master (Server z) (message.NewPred k p) a))
 
+  -- all facts hold without the front
   pub dropped_sound : IsSound plain (record t { world = dropped })
   dropped_sound = record {
     distinct = s.distinct;
@@ -121,6 +123,7 @@ kept_request w from to is Q drops p z h = elim (test (is_same p from && is_same 
     gone [] is h = h
     gone (m ∷ l) is h = drops m l is h
 
+-- the event Ignore
 pub requests_are_lost : RequestsAreLost
 requests_are_lost from to t lasts s = where_enabled t (Ignore from to) s (λ e. quiet_event t _
     (dropped_sound plain_tree t s from to (kept_request t.world from to (left_of (front_is is_request (t.world.links from to)) (not (has_failed t.world to)) e))))

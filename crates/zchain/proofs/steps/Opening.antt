@@ -11,7 +11,7 @@ use Rattle.zworld.specs.World.{opening_world}
 use Rattle.zcalls.specs.Kept.{Plain}
 use Rattle.zchain.specs.Flow.{log_machine, LogWorld, Log, log_at, final_log_by, final_log}
 use Rattle.zlegal.specs.Prefix.{Pairwise}
-use Rattle.zchain.specs.Chain.{Place, place_behind, place_from, IsBehind, IsMember, IsOpened}
+use Rattle.zchain.specs.Chain.{Place, place_behind, place_from, IsBehind, IsOpened}
 use Rattle.zchain.specs.Account.{opening_account}
 use Rattle.zchain.specs.Sound.{IsSound}
 use Rattle.zcalls.proofs.Among.{test}
@@ -50,6 +50,7 @@ among_tested s (x ∷ xs) h = elim (test (x == s)) [
   | inr f ↦ inr (among_tested s xs (rw f at h))
 ]
 
+-- and the other way round
 pub tested_among : (s : ℕ) (xs : List ℕ) → Among s xs → is_among s xs ≡ true
 tested_among s [] h = absurd h
 tested_among s (x ∷ xs) (inl e) = rw (eq-eqb x s e) refl
@@ -110,10 +111,6 @@ module _ {P : Type 0} (plain : Plain P) (servers clients : ℕ) where
     ])
   ]
 
-  within : (s : ℕ) → IsMember w s → (1 ≤ s) × (s ≤ servers)
-  within s h = let is = in_range 1 servers s (subst (λ l. Among s l) (members_are (range_with_len 1 servers)) h) in
-      let high : s < 1 + servers = is.1 in (is.0, omega arith)
-
   -- what holds of members and of spares holds of each
   each_view : (Q : ServerView (List Entry) → Type 0) (s : ℕ) → Q (member (log_machine plain) (pred_of s) (succ_of s)) → Q spare → Q (w.servers s)
   each_view Q s m e = elim (test (s == 0)) [
@@ -153,6 +150,7 @@ module _ {P : Type 0} (plain : Plain P) (servers clients : ℕ) where
         | inr p ↦ let up : 1 < s = p.0 in ap (λ (v : ServerView (List Entry)). v.pred) (is_member s (omega arith) (omega arith)) ∙ (let f : (s == 1) ≡ false = ne_eqb s 1 (omega arith) in rw f p.1)
       ]
 
+  -- all facts hold before the first event
   pub opening_sound : IsSound plain (opening_account plain servers clients)
   opening_sound = record {
     distinct = subst (NoTwo (λ (s t : ℕ). s ≡ t)) (sym (members_are (range_with_len 1 servers))) (range_apart 1 servers);

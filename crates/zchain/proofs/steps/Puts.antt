@@ -33,6 +33,7 @@ put_one links sender receiver m from to = elim (test (is_same from sender)) [
 abbrev pub with_put : LogWorld → ℕ → Process → LogMessage → LogWorld
 with_put w x to m = record w { links = put w.links (Server x) ((to, m) ∷ []) }
 
+-- the account with it
 abbrev pub account_with_put : Account → ℕ → Process → LogMessage → Account
 account_with_put t x to m = record t { world = with_put t.world x to m }
 
@@ -44,7 +45,7 @@ or_else_none (Some log) = refl
 pub ahead_put : (w : LogWorld) (x : ℕ) (to : Process) (m : LogMessage) (z : ℕ) (log : List Entry) → IsAhead w z log → IsAhead (with_put w x to m) z log
 ahead_put w x to m z log h = record { own = h.own; holds = h.holds; begins = h.begins; has_successor = h.has_successor; no_tail_order = h.no_tail_order }
 
--- what was fine stays so, and what is put is fine
+-- what was justified stays so, and so is what is put
 pub justified_put : (w : LogWorld) (items : List Item) (x : ℕ) (to : Process) (m : LogMessage) → IsJustified w items (Server x) to m
     → AllAreJustified w items w.links → AllAreJustified (with_put w x to m) items (with_put w x to m).links
 justified_put w items x to m justified old from to' m' a = elim (put_among w.links (Server x) ((to, m) ∷ []) from to' m' a) [
@@ -66,6 +67,7 @@ module _ (w : LogWorld) (x : ℕ) (to : Process) (m : LogMessage) (no_snapshot :
         ∙ or_else_none (first_snapshot pred.1 (w.links (Server pred.0) (Server y)))
   ]
 
+  -- each server shows first what it did
   pub first_log_put : (y : ℕ) → first_log (with_put w x to m) y ≡ first_log w y
   first_log_put y = ap (or_else (log_at w y)) (first_put_by y (w.servers y).pred)
 
@@ -77,9 +79,11 @@ module _ (w : LogWorld) (x : ℕ) (to : Process) (m : LogMessage) (foreign : (k 
     | inr p ↦ ap (flow pred.1 log) p.2 ∙ flow_more pred.1 log (w.links (Server pred.0) (Server y)) (m ∷ []) ∙ (foreign pred.1).0 (flow pred.1 log (w.links (Server pred.0) (Server y)))
   ]
 
+  -- each server would hold in the end what it did
   pub final_log_unread : (y : ℕ) → final_log (with_put w x to m) y ≡ final_log w y
   final_log_unread y = final_log_unread_by y (log_at w y) (w.servers y).pred
 
+  -- so the chain is in order
   pub ordered_unread : ChainIsOrdered w → ChainIsOrdered (with_put w x to m)
   ordered_unread h a b before log is = ahead_put w x to m a log (h a b before log (sym (final_log_unread b) ∙ is))
 
@@ -121,6 +125,7 @@ IsUnread (message.Joined epoch) = Unit {0}
 IsUnread message.Gone = Unit {0}
 IsUnread other = ⊥
 
+-- they count in no epoch
 pub unread_foreign : (m : LogMessage) → IsUnread m → (k : ℕ) → IsForeign k m
 unread_foreign (message.Answer number reply) h k = (λ log. refl, refl)
 unread_foreign (message.Ack epoch n) h k = (λ log. refl, refl)

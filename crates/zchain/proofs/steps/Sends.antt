@@ -33,6 +33,7 @@ pub below_some : (log : List Entry) (new : Log) → IsBelow (Some log) new → (
 below_some log None h = absurd h
 below_some log (Some more) h = (more, refl, h)
 
+-- who has a log would hold one in the end that goes on with it
 pub final_log_of_log : (w : LogWorld) (x : ℕ) (log : List Entry) → log_at w x ≡ Some log → (more : List Entry) × (final_log w x ≡ Some more) × IsPrefix log more
 final_log_of_log w x log is = below_some log (final_log w x) (by (w.servers x).pred)
   where
@@ -95,6 +96,7 @@ module _ (w : LogWorld) (line : OrdersLead w) (apart : AreDistinct w) (ordered :
         ∙ sym (ap (flow pred.1 (log_at w b)) p.2) ∙ h)
   ]
 
+  -- the chain is in order with the entry put
   pub ordered_sent : ChainIsOrdered (with_put w x (Server t) m)
   ordered_sent a b before log h = ahead_put w x (Server t) m a log (sent_by a b before (w.servers b).pred refl log h)
 

@@ -47,13 +47,14 @@ put_more links sender post posts p q = elim (test (is_same p sender)) [
 put_none : {M : Type 0} (links : Links M) (sender p q : Process) → put links sender [] p q ≡ links p q
 put_none links sender p q = elim (test (is_same p sender)) [ inl t ↦ rw t (append-nil (links p q)) | inr f ↦ rw f refl ]
 
+-- one after the other or at once is the same
 pub puts_at_once : (t : Account) (y : ℕ) (posts : List (Post (List Entry))) → account_with_puts t y posts ≡ record t { world = record t.world { links = put t.world.links (Server y) posts } }
 puts_at_once t y [] = λ i. record t { world = record t.world { links = λ p q. sym (put_none t.world.links (Server y) p q) i } }
 puts_at_once t y (post ∷ posts) =
     puts_at_once (account_with_put t y post.0 post.1) y posts
     ∙ (λ i. record t { world = record t.world { links = λ p q. put_more t.world.links (Server y) post posts p q i } })
 
--- a message that nobody reads, and that is fine
+-- a message that nobody reads, and that is justified
 abbrev pub IsUnreadAndJustified : LogWorld → List Item → ℕ → Post (List Entry) → Type 0
 IsUnreadAndJustified w items y post = IsUnread post.1 × IsJustified w items (Server y) post.0 post.1
 
@@ -88,7 +89,7 @@ answers_unread w items y e (Some reply) given post (inl is) =
     subst (λ (q : Post (List Entry)). IsUnread q.1 × IsJustified w items (Server y) q.0 q.1) is (tt, given reply refl)
 answers_unread w items y e (Some reply) given post (inr a) = absurd a
 
--- after a row: the view, the committed log and the processed list
+-- after a row: the view, the committed log and the items
 abbrev pub account_with_view : {P : Type 0} → Plain P → Account → Process → ℕ → ServerView (List Entry) → Account
 account_with_view plain t from y v =
     record {
@@ -104,6 +105,7 @@ tail_log_is v log h = elim (test (is_none v.succ)) [
   | inr f ↦ let is : ◌≡◌ {A = Log} None (Some log) = rw f at h in absurd (cc is)
 ]
 
+-- who is a tail with a log has a tail's log
 pub no_tail_log : (v : ServerView (List Entry)) (log : List Entry) → tail_log v ≡ None → v.machine ≡ Some log → is_none v.succ ≡ true → ⊥
 no_tail_log v log none has ends = let is : ◌≡◌ {A = Log} None (Some log) = sym (rw ends at none) ∙ has in cc is
 
@@ -186,5 +188,6 @@ module _ {P : Type 0} (plain : Plain P) (t : Account) (s : IsSound plain t) (fro
       (subst (λ items. IsSound plain (record { world = w1; committed = t.committed; items = items })) (sym (append-nil t.items)) (quiet is))
   view_step (Some log) is = commits log is
 
+  -- all facts hold after the step
   pub view_step_sound : IsSound plain (account_with_view plain t from y v)
   view_step_sound = view_step (tail_log v) refl

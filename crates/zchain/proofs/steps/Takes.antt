@@ -72,6 +72,7 @@ module _ {P : Type 0} (plain : Plain P) where
   flows_by machine sent p k succ (message.Ack epoch n) = ack_machine (view_of machine (length_of machine) sent (Some (p, k)) succ) p epoch n
   flows_by machine sent p k succ m = refl
 
+  -- the predecessor's message makes of the log what flows
   pub takes_flows : (v : ServerView (List Entry)) (p k : ℕ) (m : LogMessage) → HasExactLast v → v.pred ≡ Some (p, k) → (server_step (log_machine plain) v (Server p) m).0.machine ≡ log_with_message k v.machine m
   takes_flows v p k m exact pred =
       ap (λ (u : ServerView (List Entry)). (server_step (log_machine plain) u (Server p) m).0.machine) (λ i. record v { last = exact i; pred = pred i })
@@ -117,9 +118,11 @@ module _ {P : Type 0} (plain : Plain P) where
 pub front_here : {M : Type 0} (links : Links M) (from to : Process) → without_front links from to from to ≡ drop 1 (links from to)
 front_here links from to = rw (same_itself from) (rw (same_itself to) refl)
 
+-- other links stay, by their sender
 pub front_not_from : {M : Type 0} (links : Links M) (from to p q : Process) → is_same p from ≡ false → without_front links from to p q ≡ links p q
 front_not_from links from to p q f = rw f refl
 
+-- or by their receiver
 pub front_not_to : {M : Type 0} (links : Links M) (from to p q : Process) → is_same q to ≡ false → without_front links from to p q ≡ links p q
 front_not_to links from to p q f = elim (test (is_same p from)) [ inl t ↦ rw t (rw f refl) | inr g ↦ rw g refl ]
 
@@ -136,6 +139,7 @@ module _ (w : LogWorld) (from : Process) (y : ℕ) (v : ServerView (List Entry))
   final_log_elsewhere_by z f log None = refl
   final_log_elsewhere_by z f log (Some pred) = ap (flow pred.1 log) (front_not_to w.links from (Server y) (Server pred.0) (Server z) f)
 
+  -- what other servers would hold in the end
   pub final_log_elsewhere : (z : ℕ) → (z == y) ≡ false → final_log w1 z ≡ final_log w z
   final_log_elsewhere z f =
       ap (λ (u : ServerView (List Entry)). final_log_by w1 z u.machine u.pred) (at_other y v w.servers z f) ∙ final_log_elsewhere_by z f (w.servers z).machine (w.servers z).pred
@@ -144,6 +148,7 @@ module _ (w : LogWorld) (from : Process) (y : ℕ) (v : ServerView (List Entry))
   first_elsewhere_by z f None = refl
   first_elsewhere_by z f (Some pred) = ap (first_snapshot pred.1) (front_not_to w.links from (Server y) (Server pred.0) (Server z) f)
 
+  -- and what they show first
   pub first_log_elsewhere : (z : ℕ) → (z == y) ≡ false → first_log w1 z ≡ first_log w z
   first_log_elsewhere z f =
       ap (λ (u : ServerView (List Entry)). or_else u.machine (first_snapshot_by w1 z u.pred)) (at_other y v w.servers z f) ∙ ap (or_else (w.servers z).machine) (first_elsewhere_by z f (w.servers z).pred)
@@ -179,6 +184,7 @@ module _ (w : LogWorld) (from : Process) (y : ℕ) (v : ServerView (List Entry))
               no_tail_order = subst HasNoTailOrder (sym (same_queue x)) h.no_tail_order;
             }
 
+    -- so the chain is in order where those before the taker are ahead of it
     pub ordered_view : ((x : ℕ) → ComesBefore x y (members w.master) → (log : List Entry) → final_log w1 y ≡ Some log → IsAhead w x log)
         → ChainIsOrdered w → ChainIsOrdered w1
     ordered_view own ordered a b before log is = elim (test (b == y)) [

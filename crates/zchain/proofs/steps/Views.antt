@@ -41,7 +41,7 @@ pub record IsGoodView (w : LogWorld) (from : Process) (y : ℕ) (v : ServerView 
   -- the log is of calls that began
   pub begun : (log : List Entry) → v.machine ≡ Some log → AllBegun w.history log
 
--- what is shown of the committed log and the processed list then
+-- what is shown of the committed log and the items then
 pub record AreGoodLists {P : Type 0} (plain : Plain P) (w : LogWorld) (committed : List Entry) (items : List Item) : Type 0 where
   pub shown : AllShowCommitted w committed
   pub tail : TailHoldsCommitted w committed
@@ -82,6 +82,7 @@ module _ {P : Type 0} (plain : Plain P) (t : Account) (s : IsSound plain t) (fro
       still true b h c = ap (λ x. x && b) c ∙ h
       still false b h c = absurd (cc h)
 
+  -- all facts hold after the step of the view
   pub view_sound : (committed : List Entry) (items : List Item) → ((i : Item) → Among i t.items → Among i items)
       → AreGoodLists plain w1 committed items → IsSound plain (record { world = w1; committed = committed; items = items })
   view_sound committed items more lists = record {

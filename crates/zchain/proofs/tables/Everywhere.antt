@@ -82,9 +82,11 @@ module _ {M : Type 0} (does : Does M) (V : ServerView M → Type 0) (Q : Message
   acts_all w (Join s) h =
       record { views = h.views; under_way = put_all w.links Master (master.join_step w.master s).1 (ordered_all _ (join_orders w.master s)) h.under_way }
 
+  -- an event
   pub happens_all : (w : World M) (event : Event) → Everywhere V Q w → Everywhere V Q (happens does w event)
   happens_all w event h = elim (test (is_enabled w event)) [ inl t ↦ rw t (acts_all w event h) | inr f ↦ rw f h ]
 
+  -- and every list of events
   pub run_all : (w : World M) (events : List Event) → Everywhere V Q w → Everywhere V Q (run does w events)
   run_all w [] h = h
   run_all w (event ∷ events) h = run_all (happens does w event) events (happens_all w event h)

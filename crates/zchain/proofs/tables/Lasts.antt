@@ -80,6 +80,7 @@ module _ {P : Type 0} (plain : Plain P) where
     | inr f ↦ rw f (elim (test (nat_lt servers s)) [ inl t ↦ rw t refl | inr g ↦ rw g refl ])
   ]
 
+  -- an event keeps last numbers the lengths of logs
   pub lasts_happen : (w : LogWorld) (event : Event) → LastsAreLengths w → LastsAreLengths (happens (log_machine plain) w event)
   lasts_happen w event h =
       let all = happens_all (log_machine plain) HasExactLast IsExact
@@ -87,6 +88,7 @@ module _ {P : Type 0} (plain : Plain P) where
       orders_exact requests_exact tt w event (record { views = h.views; under_way = h.under_way }) in
       record { views = all.views; under_way = all.under_way }
 
+  -- so does every list of events, from the opening
   pub lasts : (servers clients : ℕ) (events : List Event) → LastsAreLengths (run (log_machine plain) (opening_world (log_machine plain) servers clients) events)
   lasts servers clients events =
       let all = run_all (log_machine plain) HasExactLast IsExact

@@ -85,6 +85,7 @@ module _ {M : Type 0} where
     | inr f ↦ rw f (all_none IsOrder)
   ]
 
+  -- whatever the master hears
   pub master_orders : (v : MasterView) (from : Process) (m : MessageOf M) → AllPosts IsOrder (master.master_step v from m).1
   unfolding master.master_step
   master_orders v (Server s) (message.Have epoch last) = takes_have_orders v s epoch last
@@ -103,6 +104,7 @@ module _ {M : Type 0} where
   join_orders_by v s None = all_none IsOrder
   join_orders_by v s (Some last) = one_order (Server s, message.NewPred (v.epoch + 1) last) tt
 
+  -- at a join
   pub join_orders : (v : MasterView) (s : ℕ) → AllPosts IsOrder (master.join_step {M = M} v s).1
   unfolding master.join_step
   join_orders v s = join_orders_by v s (last_or None (members v))
@@ -124,13 +126,16 @@ module _ {M : Type 0} where
   outstanding_requests head tail None = all_none IsRequest
   outstanding_requests head tail (Some waits) = sent_requests head tail waits.0 waits.1
 
+  -- the call that a client waits for
   pub send_requests : (v : ClientView) → AllPosts IsRequest (client.outstanding_posts {M = M} v)
   send_requests v = outstanding_requests v.head v.tail v.outstanding
 
+  -- at a beginning
   pub begin_requests : (v : ClientView) (c : Call) → AllPosts IsRequest (client.begin_step {M = M} v c).1
   unfolding client.begin_step
   begin_requests v c = send_requests (record v { number = v.number + 1; outstanding = Some (v.number + 1, c) })
 
+  -- at a retry
   pub retry_requests : (v : ClientView) → AllPosts IsRequest (client.retry_posts {M = M} v)
   unfolding client.retry_posts
   retry_requests v = send_requests v
@@ -146,6 +151,7 @@ module _ {M : Type 0} where
     | inr f ↦ rw f (all_none IsRequest)
   ]
 
+  -- at a message
   pub client_requests : (v : ClientView) (from : Process) (m : MessageOf M) → AllPosts IsRequest (client.client_step v from m).1
   unfolding client.client_step
   client_requests v (Server s) (message.Answer number reply) = answer_requests v number reply

@@ -58,6 +58,7 @@ module _ {P : Type 0} (plain : Plain P) where
   next_of : (v : ServerView (List Entry)) (mine : List Entry) → v.machine ≡ Some mine → HasExactLast v → v.last + 1 ≡ length mine + 1
   next_of v mine has exact = ap (λ l. l + 1) (exact ∙ ap length_of has)
 
+  -- each row keeps Sent of the log
   pub row_sent : (v : ServerView (List Entry)) (from : Process) (m : LogMessage) (r : ServerResult (List Entry)) → IsRow (log_machine plain) v from m r
       → HasExactLast v → IsLogged v → IsLogged r.0
   row_sent v from m r (Ignores from' m') exact h = h
@@ -80,6 +81,7 @@ module _ {P : Type 0} (plain : Plain P) where
   accepted_begun w v mine n e r (Processes ends) has begun h log is = subst (AllBegun w.history) (cc is) (longer_begun w mine e begun (h mine has))
   accepted_begun w v mine n e r (Forwards succ has_succ) has begun h log is = subst (AllBegun w.history) (cc is) (longer_begun w mine e begun (h mine has))
 
+  -- each row keeps logs of calls that began
   pub row_begun : (w : LogWorld) (items : List Item) (y : ℕ) (v : ServerView (List Entry)) (from : Process) (m : LogMessage) (r : ServerResult (List Entry))
       → IsRow (log_machine plain) v from m r → IsJustified w items from (Server y) m → HasBegunLog w v → HasBegunLog w r.0
   row_begun w items y v from m r (Ignores from' m') justified h = h
@@ -97,6 +99,7 @@ module _ {P : Type 0} (plain : Plain P) where
   no_log : (v : ServerView (List Entry)) → v ≡ spare → (log : List Entry) → v.machine ≡ Some log → ⊥
   no_log v blank log has = let is : ◌≡◌ {A = Log} None (Some log) = sym (ap (λ (u : ServerView (List Entry)). u.machine) blank) ∙ has in cc
 
+  -- each row leaves a spare server as it is, but the master's
   pub row_blank : (v : ServerView (List Entry)) (from : Process) (m : LogMessage) (r : ServerResult (List Entry)) → IsRow (log_machine plain) v from m r
       → is_same Master from ≡ false → v ≡ spare → r.0 ≡ spare
   row_blank v from m r (Ignores from' m') f blank = blank

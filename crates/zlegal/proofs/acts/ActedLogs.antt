@@ -29,6 +29,7 @@ module _ {P : Type 0} (plain : Plain P) where
   after_calls p [] = p
   after_calls p (x ∷ xs) = after_calls (operation_step (service_of plain) p x.0).0 xs
 
+  -- the state after items
   abbrev pub after_items : P → List Item → P
   after_items p [] = p
   after_items p (i ∷ is) = after_items (operation_step (service_of plain) p i.operation).0 is
@@ -40,6 +41,7 @@ module _ {P : Type 0} (plain : Plain P) where
   now_replays s e now r (Acts low) time more h = (refl, h)
   now_replays s e now r (Stays high) time more h = h
 
+  -- what acts of entries replays from the state before them
   pub acted_replays : (time : ℕ) (s : KeptState P) (es : List Entry) → Replays (service_of plain) s.plain (all_at_time time (acts_from plain.update s es))
   acted_replays time s [] = tt
   acted_replays time s (e ∷ es) =
@@ -51,6 +53,7 @@ module _ {P : Type 0} (plain : Plain P) where
   now_leads s e now r (Acts low) more = refl
   now_leads s e now r (Stays high) more = refl
 
+  -- and leads to the state after them
   pub acted_leads : (s : KeptState P) (es : List Entry) → after_calls s.plain (acts_from plain.update s es) ≡ (after plain.update s es).plain
   acted_leads s [] = refl
   acted_leads s (e ∷ es) =
@@ -66,6 +69,7 @@ module _ {P : Type 0} (plain : Plain P) where
       by (Update u) e = rw e refl
       by (Query q) e = rw e refl
 
+  -- the items lead where their updates do, as a query leaves the state
   pub items_lead : (p : P) (is : List Item) → after_items p is ≡ after_calls p (updates_of is)
   items_lead p [] = refl
   items_lead p (i ∷ is) = items_lead (operation_step (service_of plain) p i.operation).0 is ∙ item_leads p i.operation i.reply (updates_of is)

@@ -1,4 +1,4 @@
--- The committed log grows, and the processed list by what acts of it: the list stays in order.
+-- The committed log grows, and the items by what acts of it: they stay in order.
 use Rattle.std.proofs.Common.{◌≡◌, ℕ, ◌≤◌, List, [], ◌∷◌, ◌++◌, length, take, drop, Option, refl, sym, ap, ◌∙◌, subst, inl, inr, arith}
 use Rattle.zcalls.specs.declared.call.Entry.{Entry}
 use Rattle.zcalls.specs.declared.reply.Reply.{Reply}
@@ -39,7 +39,7 @@ update_among (i ∷ is) x a = elim (test (is_update i.operation.call)) [
     first more (inl e) = (i, inl refl, e)
     first more (inr b) = let m = more b in (m.0, inr m.1, m.2)
 
--- what is processed at one time
+-- what takes effect at one time
 timed : (time : ℕ) (xs : List (Operation × Reply)) (i : Item) → Among i (all_at_time time xs) → (x : Operation × Reply) × Among x xs × (at_time time x ≡ i)
 timed time [] i a = absurd a
 timed time (x ∷ xs) i (inl e) = (x, inl refl, e)
@@ -70,6 +70,7 @@ module _ {P : Type 0} (plain : Plain P) where
     abbrev more : List Item
     more = new_items plain (length history) old new
 
+    -- the updates among the items are what acts of the longer log
     pub grown_committed : AreCommitted plain old items → AreCommitted plain new (items ++ more)
     grown_committed acted =
         updates_more items more ∙ (λ i. acted i ++ updates_acted (length history) (after_log plain old) (drop (length old) new) i) ∙ sym (acted_begins plain old new longer)
@@ -77,11 +78,13 @@ module _ {P : Type 0} (plain : Plain P) where
     leads : AreCommitted plain old items → after_items plain plain.opening items ≡ (after_log plain old).plain
     leads acted = items_lead plain plain.opening items ∙ ap (after_calls plain plain.opening) acted ∙ acted_leads plain (nothing_kept plain.opening) old
 
+    -- the items replay
     pub grown_replays : AreCommitted plain old items → Replays (service_of plain) plain.opening items → Replays (service_of plain) plain.opening (items ++ more)
     grown_replays acted replays =
         replays_more plain plain.opening items more replays
         (subst (λ p. Replays (service_of plain) p more) (sym (leads acted)) (acted_replays plain (length history) (after_log plain old) (drop (length old) new)))
 
+    -- their times don't fall
     pub grown_rises : AreBegunInTime history items → TimesRise items → TimesRise (items ++ more)
     grown_rises in_time rising =
         pairwise_append (λ i j. i.time ≤ j.time) items more rising (timed_rises (length history) acts)
@@ -96,8 +99,10 @@ module _ {P : Type 0} (plain : Plain P) where
         let whole : HasBegun (take (length history) history) m.0.0 = among_whole history _ (subst (HasBegun history) e.2 now) in
         subst (λ j. (j.time ≤ length history) × HasBegun (take j.time history) j.operation) m.2 (omega arith, whole)
 
+    -- each is later than the beginning of its call
     pub grown_in_time : AreBegunInTime history items → AreBegunInTime history (items ++ more)
     grown_in_time in_time i a = elim (among_cases i items more a) [ inl b ↦ in_time i b | inr c ↦ begun_now i c ]
 
+    -- and what was answered in time is so still
     pub grown_answered : AreAnsweredInTime items 0 history → AreAnsweredInTime (items ++ more) 0 history
     grown_answered answered = in_time_more items (items ++ more) (λ i a. among_left i items more a) 0 history answered

@@ -29,10 +29,12 @@ no_two_last {A} R (z ∷ xs) y f h = (
   no_two_last R xs y (λ x a. f x (inr a)) h.1,
 )
 
+-- one is taken out
 pub no_two_without : {A : Type 0} (R : A → A → Type 0) (xs : List A) (m : A) (ys : List A) → NoTwo R (xs ++ m ∷ ys) → NoTwo R (xs ++ ys)
 no_two_without R [] m ys h = h.1
 no_two_without R (x ∷ xs) m ys h = (λ z a. h.0 z (among_insert z m xs ys a), no_two_without R xs m ys h.1)
 
+-- the values of a function, where no two of the arguments have values that are alike
 pub no_two_map : {A B : Type 0} (f : A → B) (R : B → B → Type 0) (xs : List A) → NoTwo (λ x y. R (f x) (f y)) xs → NoTwo R (map f xs)
 no_two_map f R [] h = tt
 no_two_map f R (x ∷ xs) h = (λ y a r. let m = found xs y a in h.0 m.0 m.1 (subst (R (f x)) (sym m.2) r), no_two_map f R xs h.1)
@@ -42,6 +44,7 @@ no_two_map f R (x ∷ xs) h = (λ y a r. let m = found xs y a in h.0 m.0 m.1 (su
     found (z ∷ zs) y (inl e) = (z, inl refl, e)
     found (z ∷ zs) y (inr a) = let m = found zs y a in (m.0, inr m.1, m.2)
 
+-- and the other way round
 pub no_two_of_map : {A B : Type 0} (f : A → B) (R : B → B → Type 0) (xs : List A) → NoTwo R (map f xs) → NoTwo (λ x y. R (f x) (f y)) xs
 no_two_of_map f R [] h = tt
 no_two_of_map f R (x ∷ xs) h = (λ y a r. h.0 (f y) (mapped xs y a) r, no_two_of_map f R xs h.1)

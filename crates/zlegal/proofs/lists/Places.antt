@@ -10,6 +10,7 @@ before_second x y [] p = absurd p
 before_second x y (w ∷ h) (inl p) = inr p.1
 before_second x y (w ∷ h) (inr p) = inr (before_second x y h p)
 
+-- what holds of each two members holds of one before another
 pub of_pairwise : {A : Type 0} (R : A → A → Type 0) (xs : List A) → Pairwise R xs → (x y : A) → ComesBefore x y xs → R x y
 of_pairwise R [] h x y p = absurd p
 of_pairwise R (z ∷ zs) h x y (inl p) = subst (λ w. R w y) p.0 (h.0 y p.1)

@@ -6,12 +6,15 @@ use Rattle.zlegal.specs.Prefix.{IsPrefix}
 pub prefix_same : {A : Type 0} (xs : List A) → IsPrefix xs xs
 prefix_same xs = ([], sym (append-nil xs))
 
+-- a beginning of a beginning is a beginning
 pub prefix_of : {A : Type 0} (xs ys zs : List A) → IsPrefix xs ys → IsPrefix ys zs → IsPrefix xs zs
 prefix_of xs ys zs h k = (h.0 ++ k.0, k.1 ∙ ap (λ l. l ++ k.0) h.1 ∙ append_assoc xs h.0 k.0)
 
+-- a list begins one that goes on
 pub prefix_append : {A : Type 0} (xs ys : List A) → IsPrefix xs (xs ++ ys)
 prefix_append xs ys = (ys, refl)
 
+-- the empty list begins each
 pub prefix_nil : {A : Type 0} (xs : List A) → IsPrefix [] xs
 prefix_nil xs = (xs, refl)
 

@@ -1,4 +1,4 @@
--- A part of the processed list: all of its updates, and some of its queries.
+-- A part of the items: all updates, and some queries.
 use Rattle.std.proofs.Common.{◌≡◌, ◌<◌, ◌≤◌, List, [], ◌∷◌, ◌++◌, refl, sym, ap, ◌∙◌, subst, inl, inr, true, false, map, arith}
 use Rattle.std.specs.List.{AllByRecursion}
 use Rattle.zcalls.specs.declared.call.Call.{Call}
@@ -24,20 +24,12 @@ kept_among is kept (Keep j js kept' more) i (inl e) = inl e
 kept_among is kept (Keep j js kept' more) i (inr a) = inr (kept_among js kept' more i a)
 kept_among is kept (Skip j js kept' query more) i a = inr (kept_among js kept' more i a)
 
--- each update is kept
-pub update_kept : (is kept : List Item) → Keeps is kept → (i : Item) → Among i is → is_update i.operation.call ≡ true → Among i kept
-update_kept is kept None i a u = absurd a
-update_kept is kept (Keep j js kept' more) i (inl e) u = inl e
-update_kept is kept (Keep j js kept' more) i (inr a) u = inr (update_kept js kept' more i a u)
-update_kept is kept (Skip j js kept' query more) i (inl e) u =
-    let no : is_update i.operation.call ≡ false = subst (λ k. is_update k.operation.call ≡ false) e query in cc
-update_kept is kept (Skip j js kept' query more) i (inr a) u = update_kept js kept' more i a u
-
 -- one more is kept: it was already, or it is put between
 pub data KeepsOne (is kept : List Item) (i : Item) : Type 0 where
   Already : Among i kept → KeepsOne is kept i
   Put : (before after : List Item) → kept ≡ before ++ after → is_update i.operation.call ≡ false → Keeps is (before ++ i ∷ after) → KeepsOne is kept i
 
+-- an item of the list can be kept too
 pub keep_one : (is kept : List Item) → Keeps is kept → (i : Item) → Among i is → KeepsOne is kept i
 keep_one is kept None i a = absurd a
 keep_one is kept (Keep j js kept' more) i (inl e) = Already (inl e)
@@ -59,6 +51,7 @@ pub record KeepsUpdates (is : List Item) : Type 0 where
   pub updates : updates_of is ≡ map (λ i. (i.operation, i.reply)) kept
   pub only : (i : Item) → Among i kept → is_update i.operation.call ≡ true
 
+-- each list has the part of its updates alone
 pub keep_updates : (is : List Item) → KeepsUpdates is
 keep_updates [] = record { kept = []; keeps = None; updates = refl; only = λ i a. absurd a }
 keep_updates (i ∷ is) =
@@ -84,6 +77,7 @@ module _ {P : Type 0} (plain : Plain P) where
   query_leaves p o (Update u) f = cc
   query_leaves p o (Query q) f = refl
 
+  -- what is kept replays
   pub kept_replays : (is kept : List Item) → Keeps is kept → (p : P) → Replays (service_of plain) p is → Replays (service_of plain) p kept
   kept_replays is kept None p h = tt
   kept_replays is kept (Keep i is' kept' more) p h = (h.0, kept_replays is' kept' more (operation_step (service_of plain) p i.operation).0 h.1)
@@ -125,6 +119,7 @@ operation_among [] o a = absurd a
 operation_among (i ∷ is) o (inl e) = (i, inl refl, e)
 operation_among (i ∷ is) o (inr a) = let m = operation_among is o a in (m.0, inr m.1, m.2)
 
+-- calls stand as their items do
 pub operations_before : (is : List Item) (i j : Item) → ComesBefore i j is → ComesBefore i.operation j.operation (map (λ k. k.operation) is)
 operations_before [] i j h = absurd h
 operations_before (k ∷ is) i j (inl p) = inl (ap (λ m. m.operation) p.0, among_map is j p.1)

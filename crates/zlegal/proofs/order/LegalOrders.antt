@@ -1,4 +1,4 @@
--- The processed list makes a legal order of its history: all of its updates, and of its queries those that were answered.
+-- The items make a legal order of their history: all updates, and of the queries those that were answered.
 use Rattle.std.proofs.Common.{◌≡◌, ◌⊎◌, ℕ, zero, suc, ◌+◌, ◌<◌, ◌≤◌, List, [], ◌∷◌, ◌++◌, refl, sym, ap, ◌∙◌, subst, inl, inr, true, map, take, arith}
 use Rattle.zcalls.specs.declared.call.Call.{Call}
 use Rattle.zcalls.specs.declared.call.Call.TheVariants.{Update, Query}
@@ -32,6 +32,7 @@ answered_by_more : (is js : List Item) → ((i : Item) → Among i is → Among 
 answered_by_more is js more k (Begin c n call) h = tt
 answered_by_more is js more k (Answer c n r) h = (h.0, more h.0 h.1, h.2, h.3)
 
+-- answers that were in time are so with more items
 pub in_time_more : (is js : List Item) → ((i : Item) → Among i is → Among i js) → (k : ℕ) (h : History) → AreAnsweredInTime is k h → AreAnsweredInTime js k h
 in_time_more is js more k [] t = tt
 in_time_more is js more k (e ∷ h) t = (answered_by_more is js more k e t.0, in_time_more is js more (k + 1) h t.1)
@@ -166,7 +167,7 @@ module _ {P : Type 0} (Lawful : P → Type 0) (plain : Plain P) (history : Histo
     lawful = states_lawful Lawful (service_of plain) keeps plain.opening (order_of kept) opened;
   }
 
--- The processed list makes a legal order.
+-- The items make a legal order.
 module _ {P : Type 0} (Lawful : P → Type 0) (plain : Plain P) where
   of_chosen : (history : History) (items : List Item)
       → Lawful plain.opening → ((p : P) (o : Operation) → Lawful p → Lawful (operation_step (service_of plain) p o).0)
@@ -180,6 +181,7 @@ module _ {P : Type 0} (Lawful : P → Type 0) (plain : Plain P) where
             (kept_replays plain items kept chosen.keeps plain.opening replays) chosen.either opened keeps,
       )
 
+  -- the calls of what is kept are a legal order
   pub legal_order : (history : History) (items : List Item)
       → Lawful plain.opening → ((p : P) (o : Operation) → Lawful p → Lawful (operation_step (service_of plain) p o).0)
       → NoTwo AreOneUpdate (updates_of items)

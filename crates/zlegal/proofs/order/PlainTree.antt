@@ -1,4 +1,4 @@
--- A processed list explains its history, and so every history is explained where every run is sound.
+-- The items explain their history, over the plain tree.
 use Rattle.std.proofs.Common.{◌≡◌, List, [], ◌∷◌, refl, sym, subst}
 use Rattle.std.specs.List.{AllByRecursion}
 use Rattle.ztree.specs.Tree.{Tree}
@@ -42,6 +42,7 @@ lawful_order history order legal = record {
   lawful = weaker (states_from (service_of plain_tree) plain_tree.opening order) legal.lawful;
 }
 
+-- over the plain tree, whose every state is lawful
 pub items_explain : ItemsExplain
 items_explain history committed items acted replays rising in_time answered once =
     let found = legal_order IsGood plain_tree history items (lawful_opening, no_sessions) call_good

@@ -55,6 +55,7 @@ module _ {P : Type 0} (plain : Plain P) (t : Account) (s : IsSound plain t) (x :
     justified = λ to m a. absurd a;
   }
 
+  -- its number was used from now on, and nothing else changes
   pub outside_sound : IsSound plain (record t { world = world_with_move t.world used_view [] })
   outside_sound = move_sound plain t s used_view [] good_outside
 
@@ -224,6 +225,7 @@ module _ {P : Type 0} (plain : Plain P) (t : Account) (s : IsSound plain t) (x :
   mended_here : master.mended_chain {M = List Entry} e x w.master.chain ≡ (front ++ (repair before e rest).0, (repair before e rest).1)
   mended_here = ap (master.mended_chain e x) split.is ∙ mended_is e x split.epoch front rest split.first
 
+  -- all facts hold without the member
   pub inside_sound : IsSound plain (record t {
     world = world_with_move t.world
         (record t.world.master { chain = (master.mended_chain {M = List Entry} (t.world.master.epoch + 1) x t.world.master.chain).0; joining = joining; epoch = t.world.master.epoch + 1 })
@@ -238,6 +240,7 @@ module _ {P : Type 0} (plain : Plain P) (t : Account) (s : IsSound plain t) (x :
       (sym mended_here) (move_sound plain t s v posts good_inside)
 
 module _ {P : Type 0} (plain : Plain P) (t : Account) (s : IsSound plain t) where
+  -- Gone from anyone
   pub gone_heard : (x : ℕ) → t.world.failed x ≡ true
       → IsSound plain (record t { world = world_with_move t.world (master.gone_row {M = List Entry} t.world.master x).0 (master.gone_row t.world.master x).1 })
   unfolding master.gone_row

@@ -147,6 +147,7 @@ module _ {P : Type 0} (plain : Plain P) (t : Account) (s : IsSound plain t) (x :
       one_justified to m (inl is) = subst (λ (q : Post (List Entry)). IsJustified w1 t.items Master q.0 q.1) is tt
       one_justified to m (inr a) = absurd a
 
+  -- all facts hold with the new member
   pub join_sound : IsSound plain (record t { world = world_with_move t.world v posts })
   join_sound = move_sound plain t s v posts good_join
 
@@ -164,6 +165,7 @@ module _ {P : Type 0} (plain : Plain P) (t : Account) (s : IsSound plain t) (x :
   join_by None is did same = subst (λ (d : MasterView × List (Post (List Entry))). IsSound plain (record t { world = world_with_move t.world d.0 d.1 })) (sym same) (unheard plain t s)
   join_by (Some p) is did same = subst (λ (d : MasterView × List (Post (List Entry))). IsSound plain (record t { world = world_with_move t.world d.0 d.1 })) (sym same) (join_sound plain t s x unused p is)
 
+  -- where there is a chain, and where there is none
   pub joins_sound : IsSound plain (record t { world = world_with_move t.world (master.join_step {M = List Entry} t.world.master x).0 (master.join_step t.world.master x).1 })
   unfolding master.join_step
   joins_sound = join_by (last_or None (members t.world.master)) refl (master.join_step t.world.master x) refl

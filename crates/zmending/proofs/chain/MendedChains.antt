@@ -13,6 +13,7 @@ use Rattle.zlegal.proofs.lists.Members.{among_right}
 abbrev pub ids : List Neighbour → List ℕ
 ids chain = map (λ (m : Neighbour). m.0) chain
 
+-- of two chains one behind the other
 pub ids_append : (front rest : List Neighbour) → ids (front ++ rest) ≡ ids front ++ ids rest
 ids_append [] rest = refl
 ids_append (a ∷ front) rest = ap (λ l. a.0 ∷ l) (ids_append front rest)
@@ -25,6 +26,7 @@ pub record Stands (chain : List Neighbour) (x : ℕ) : Type 0 where
   pub is : chain ≡ front ++ (x, epoch) ∷ rest
   pub first : Among x (ids front) → ⊥
 
+-- each member stands somewhere
 pub stands : (chain : List Neighbour) (x : ℕ) → Among x (ids chain) → Stands chain x
 stands [] x h = absurd h
 stands (a ∷ chain) x h = elim (test (a.0 == x)) [
@@ -56,6 +58,7 @@ mended_behind_is epoch x p k (a ∷ front) rest apart = elim (test (a.0 == x)) [
   | inr f ↦ rw f (ap (λ (l : List Neighbour × List (Post (List Entry))). (a ∷ l.0, l.1)) (mended_behind_is epoch x a.0 k front rest (λ b. apart (inr b))))
 ]
 
+-- the chain without a member is its front, and the repair behind it
 pub mended_is : (epoch x k : ℕ) (front rest : List Neighbour) → (Among x (ids front) → ⊥)
     → master.mended_chain {M = List Entry} epoch x (front ++ (x, k) ∷ rest)
     ≡ (front ++ (repair (last_or None (ids front)) epoch rest).0, (repair (last_or None (ids front)) epoch rest).1)
@@ -72,6 +75,7 @@ repair_ids None epoch (r ∷ rest) = refl
 repair_ids (Some p) epoch [] = refl
 repair_ids (Some p) epoch (r ∷ rest) = refl
 
+-- its members are all others
 pub mended_ids : (before : Option ℕ) (epoch : ℕ) (front rest : List Neighbour) → ids (front ++ (repair before epoch rest).0) ≡ ids front ++ ids rest
 mended_ids before epoch front rest = ids_append front (repair before epoch rest).0 ∙ ap (λ l. ids front ++ l) (repair_ids before epoch rest)
 
@@ -102,6 +106,7 @@ apart_of [] ys x h a b = a
 apart_of (z ∷ xs) ys x h (inl e) b = h.0 x (among_right x xs ys b) e
 apart_of (z ∷ xs) ys x h (inr a) b = apart_of xs ys x h.1 a b
 
+-- who is taken out is no member any more
 pub gone_of : (xs ys : List ℕ) (m : ℕ) → NoTwo (λ (a b : ℕ). a ≡ b) (xs ++ m ∷ ys) → Among m (xs ++ ys) → ⊥
 gone_of [] ys m h a = h.0 m a refl
 gone_of (x ∷ xs) ys m h (inl e) = h.0 m (among_right m xs (m ∷ ys) (inl refl)) e
@@ -116,6 +121,7 @@ last_there : (x : ℕ) (xs : List ℕ) (p y : ℕ) → last_or (Some x) xs ≡ S
 last_there x [] p y h a = absurd a
 last_there x (z ∷ xs) p y h a = elim (last_in (Some z) xs p h) [ inl e ↦ inl (cc e) | inr b ↦ inr b ]
 
+-- nobody stands behind the last
 pub nobody_behind : (before : Option ℕ) (xs : List ℕ) (p y : ℕ) → last_or before xs ≡ Some p → NoTwo (λ (a b : ℕ). a ≡ b) xs → ComesBefore p y xs → ⊥
 nobody_behind before [] p y h apart b = b
 nobody_behind before (x ∷ xs) p y h apart (inl b) = apart.0 p (last_there x xs p y h b.1) b.0

@@ -177,6 +177,7 @@ module _ {P : Type 0} (plain : Plain P) (t : Account) (s : IsSound plain t) (v :
     | inr none ↦ absurd (let e : ◌≡◌ {A = Log} None (Some log) = sym none ∙ is in cc e)
   ]
 
+  -- all facts hold after the master's step
   pub move_sound : IsSound plain (record t { world = w1 })
   move_sound = record {
     distinct = good.distinct;

@@ -18,9 +18,11 @@ pub data IsTold (before : Option ℕ) (e : ℕ) (rest : List Neighbour) (z : ℕ
   Ends : (p : ℕ) → before ≡ Some p → rest ≡ [] → z ≡ p → m ≡ message.BecomeTail e → IsTold before e rest z m
   Turns : (p : ℕ) (r : Neighbour) (more : List Neighbour) → before ≡ Some p → rest ≡ r ∷ more → z ≡ r.0 → m ≡ message.NewPred e p → IsTold before e rest z m
 
+-- a server is told one order, or nothing
 pub one_told : (y : ℕ) (o : LogMessage) (z : ℕ) → (addressed (Server z) ((Server y, o) ∷ []) ≡ []) ⊎ ((z ≡ y) × (addressed (Server z) ((Server y, o) ∷ []) ≡ o ∷ []))
 one_told y o z = elim (test (z == y)) [ inl t ↦ inr (eqb-true _ _ t, rw t refl) | inr f ↦ inl (rw f refl) ]
 
+-- so of a repair
 pub told_one : (before : Option ℕ) (e : ℕ) (rest : List Neighbour) (z : ℕ)
     → (addressed (Server z) (repair before e rest).1 ≡ []) ⊎ ((m : LogMessage) × (addressed (Server z) (repair before e rest).1 ≡ m ∷ []) × IsTold before e rest z m)
 told_one None e [] z = inl refl
@@ -34,7 +36,7 @@ pub told_turned : (before : Option ℕ) (e : ℕ) (r : Neighbour) (more : List N
 told_turned None e r more z is = let t : (z == r.0) ≡ true = eq-eqb z r.0 is in (message.BecomeHead e, rw t refl, refl)
 told_turned (Some p) e r more z is = let t : (z == r.0) ≡ true = eq-eqb z r.0 is in (message.NewPred e p, rw t refl, refl)
 
--- all of it is fine
+-- all of it is justified
 pub repair_justified : (before : Option ℕ) (e : ℕ) (rest : List Neighbour) (w : LogWorld) (items : List _) (post : Post (List Entry)) → Among post (repair before e rest).1 → IsJustified w items Master post.0 post.1
 repair_justified None e [] w items post a = absurd a
 repair_justified None e (r ∷ more) w items post (inl is) = subst (λ (q : Post (List Entry)). IsJustified w items Master q.0 q.1) is tt
@@ -61,6 +63,7 @@ elsewhere : (r : Neighbour) (more : List Neighbour) (z : ℕ) → (r.0 == z) ≡
 elsewhere r more z f q others e is =
     let heads : r ≡ q = cc e in let t : (r.0 == z) ≡ true = eq-eqb r.0 z (ap (λ (n : Neighbour). n.0) heads ∙ sym is) in cc (f, t)
 
+-- a place behind the repair is old, or that of who is turned
 pub repair_place : (before : Option ℕ) (e : ℕ) (rest : List Neighbour) (x k z : ℕ) (place : Place) → (x == z) ≡ false → place_from before (repair before e rest).0 z ≡ Some place
     → ((place_from before ((x, k) ∷ rest) z ≡ Some place) × IsElsewhere rest z) ⊎ IsTurned before e rest x z place (place_from before ((x, k) ∷ rest) z)
 repair_place None e [] x k z place f h = absurd (cc h)

@@ -43,6 +43,7 @@ pub addressed_clients : (z : ℕ) (m : LogMessage) (cs : List ℕ) → addressed
 addressed_clients z m [] = refl
 addressed_clients z m (c ∷ cs) = addressed_clients z m cs
 
+-- with the clients told, servers are put what they were
 pub addressed_told : (z : ℕ) (v : MasterView) (first : List (Post (List Entry))) → addressed (Server z) (first ++ master.config_posts v) ≡ addressed (Server z) first
 addressed_told z v [] = addressed_clients z (message.Config v.epoch (head_of v) (tail_of v)) (range_with_len 0 v.clients)
 addressed_told z v (post ∷ first) = elim (test (is_same (Server z) post.0)) [
@@ -112,6 +113,7 @@ module _ {P : Type 0} (plain : Plain P) (t : Account) (s : IsSound plain t) (joi
     justified = λ to m a. standing_justified to m (standing (to, m) a);
   }
 
+  -- all facts hold where the chain stands
   pub standing_sound : IsSound plain (record t { world = world_with_move t.world v posts })
   standing_sound = move_sound plain t s v posts good_standing
 
@@ -128,6 +130,7 @@ module _ {P : Type 0} (plain : Plain P) (t : Account) (s : IsSound plain t) wher
   abbrev after : MasterView × List (Post (List Entry)) → Account
   after did = record t { world = world_with_move t.world did.0 did.1 }
 
+  -- a message that doesn't count
   pub unheard : IsSound plain (after (t.world.master, []))
   unheard = standing_sound plain t s t.world.master.joining t.world.master.epoch (omega arith) [] (λ post a. absurd a) (λ z. inl refl)
 
@@ -148,6 +151,7 @@ module _ {P : Type 0} (plain : Plain P) (t : Account) (s : IsSound plain t) wher
       one post (inl e) = subst (λ (q : Post (List Entry)). IsStanding t.world q.1) e opened
       one post (inr b) = absurd b
 
+  -- Have
   pub have_heard : (x epoch : ℕ) (last : Option ℕ) → IsOpened t.world x epoch → IsSound plain (after (master.have_row t.world.master x epoch last))
   unfolding master.have_row
   have_heard x epoch last opened = have_by x epoch last opened (master.before x epoch t.world.master.chain) refl
@@ -155,6 +159,7 @@ module _ {P : Type 0} (plain : Plain P) (t : Account) (s : IsSound plain t) wher
   abbrev settled : MasterView
   settled = record t.world.master { joining = None; epoch = t.world.master.epoch + 1 }
 
+  -- Joined
   pub joined_heard : (x : ℕ) → IsSound plain (after (master.joined_row t.world.master x))
   unfolding master.joined_row
   joined_heard x = elim (test (is_joining t.world.master x)) [

@@ -10,13 +10,13 @@ use Rattle.zserver.specs.Table.{new_succ_row}
 use Rattle.zserver.proofs.Fields.{view_of}
 use Rattle.zmaster.specs.View.{members}
 use Rattle.zworld.specs.declared.event.Event.TheVariants.{Take}
-use Rattle.zcalls.specs.Lists.{Among, ComesBefore}
+use Rattle.zcalls.specs.Lists.{ComesBefore}
 use Rattle.zworld.specs.Links.{without_front}
 use Rattle.zworld.specs.Events.{process_step}
 use Rattle.zcalls.specs.Kept.{Plain}
 use Rattle.zchain.specs.Flow.{log_machine, LogWorld, LogMessage, Log, log_with_message, flow, snapshot_of, first_snapshot, or_else, log_at, final_log_by, final_log, first_snapshot_by}
 use Rattle.zlegal.specs.Prefix.{IsPrefix}
-use Rattle.zchain.specs.Chain.{queue, IsAhead, IsOpened, IsMember, IsPair, IsPast, LeadsTo, is_fresh, HasNoTailOrder, HasNoTailOrderBehind}
+use Rattle.zchain.specs.Chain.{queue, IsAhead, IsOpened, IsMember, IsPair, HasNoTailOrder, HasNoTailOrderBehind}
 use Rattle.zchain.specs.Account.{Account, account_by}
 use Rattle.zchain.specs.Sound.{IsSound, IsSoundAfter, ChainIsOrdered, AllShowCommitted}
 use Rattle.zcalls.proofs.Among.{test}
@@ -30,7 +30,8 @@ use Rattle.zchain.proofs.steps.Sends.{final_log_of_log, ahead_less}
 use Rattle.zchain.proofs.steps.Takes.{front_here}
 use Rattle.zchain.proofs.steps.ServerSteps.{account_with_view}
 use Rattle.zmending.proofs.orders.OrderSteps.{IsGoodTurn, turn_sound, member}
-use Rattle.zmending.proofs.orders.Neighbours.{final_log_of, first_log_of, same_final_log, same_first, after_turn}
+use Rattle.zmending.proofs.orders.Neighbours.{after_turn}
+use Rattle.zmending.proofs.orders.NewViews.{successor_opened, good_successor}
 
 -- where there was no log, a whole one is there in its epoch only
 shown_first : (epoch k : ℕ) (transfer : Transfer (List Entry)) (log : List Entry) → log_with_message epoch None (message.Snapshot k transfer) ≡ Some log
@@ -133,6 +134,7 @@ module _ {P : Type 0} (plain : Plain P) (told : Account) (s : IsSound plain told
   shows : AllShowCommitted w1 told.committed
   shows y log y_in h = shows_by y y_in (w.servers y).pred refl log h
 
+  -- all facts hold with the snapshot put
   pub put_whole : IsOpened told.world t k → IsSound plain (account_with_put told x (Server t) m)
   put_whole opened = record {
     distinct = s.distinct;
@@ -180,18 +182,10 @@ module _ {P : Type 0} (plain : Plain P) (t : Account) (s : IsSound plain t) (y e
   led = record (t.world.servers y) { succ = Some (z, epoch) }
 
   opened : IsOpened t.world z epoch
-  opened = s.justified Master (Server y) order (subst (Among order) (sym link) (inl refl))
+  opened = successor_opened plain t s y epoch z None rest link alive
 
   good_hand : IsGoodTurn t.world y led rest
-  good_hand = record {
-    machine = refl;
-    succ = λ some no_order. refl;
-    final_log = λ log is. (log, sym (final_log_of plain t s y order rest link alive led ∙ same_final_log plain t s y order rest link alive led led.machine led.pred) ∙ is, prefix_same log);
-    shows = λ log is. (log, sym (first_log_of plain t s y order rest link alive led ∙ ap (or_else led.machine) (same_first plain t s y order rest link alive led led.pred)) ∙ is, prefix_same log);
-    line = λ place is. subst (λ q. LeadsTo (IsPast t.world) (is_fresh t.world y) (t.world.servers y).pred q place) link (s.line y place is);
-    successor = λ x k is. let pair : ◌≡◌ {A = Neighbour} (z, epoch) (x, k) = cc is in subst (λ (q : Neighbour). IsOpened t.world q.0 q.1) pair opened;
-    sent = s.sent y;
-  }
+  good_hand = good_successor plain t s y epoch z None rest link alive
 
   handed : server.server_step (log_machine plain) (t.world.servers y) Master order
       ≡ (led, (Server z, message.Snapshot epoch (record { last = (t.world.servers y).last; machine = own })) ∷ [])
@@ -204,6 +198,7 @@ module _ {P : Type 0} (plain : Plain P) (t : Account) (s : IsSound plain t) (y e
   queue_left : queue led_account.world y ≡ rest
   queue_left = front_here t.world.links Master (Server y) ∙ ap (drop 1) link
 
+  -- the event
   pub take_whole_order : IsSoundAfter plain t (account_by plain t (Take Master (Server y))
       (process_step (log_machine plain) (record t.world { links = without_front t.world.links Master (Server y) }) Master (Server y) order))
   take_whole_order = after_turn plain t s y order rest link alive

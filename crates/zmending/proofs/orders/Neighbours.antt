@@ -62,13 +62,16 @@ module _ {P : Type 0} (plain : Plain P) (t : Account) (s : IsSound plain t) (y :
   pub final_log_of : (v : ServerView (List Entry)) → final_log (with_view w Master y v) y ≡ final_log_by (with_view w Master y v) y v.machine v.pred
   final_log_of v = ap (λ (u : ServerView (List Entry)). final_log_by (with_view w Master y v) y u.machine u.pred) (at_same y v w.servers)
 
+  -- and what it shows first
   pub first_log_of : (v : ServerView (List Entry)) → first_log (with_view w Master y v) y ≡ or_else v.machine (first_snapshot_by (with_view w Master y v) y v.pred)
   first_log_of v = ap (λ (u : ServerView (List Entry)). or_else u.machine (first_snapshot_by (with_view w Master y v) y u.pred)) (at_same y v w.servers)
 
+  -- other links stay
   pub same_final_log : (v : ServerView (List Entry)) (log : Log) (pred : Option Neighbour) → final_log_by (with_view w Master y v) y log pred ≡ final_log_by w y log pred
   same_final_log v log None = refl
   same_final_log v log (Some pred) = refl
 
+  -- other links stay
   pub same_first : (v : ServerView (List Entry)) (pred : Option Neighbour) → first_snapshot_by (with_view w Master y v) y pred ≡ first_snapshot_by w y pred
   same_first v None = refl
   same_first v (Some pred) = refl
@@ -93,6 +96,7 @@ module _ {P : Type 0} (plain : Plain P) (t : Account) (s : IsSound plain t) (y :
         items = t.items ++ new_items plain (length w.history) t.committed committed;
       })
 
+  -- the whole event, from the view and what is put
   pub after_turn : (r : ServerResult (List Entry)) → server.server_step (log_machine plain) (t.world.servers y) Master m ≡ r → IsGoodTurn t.world y r.0 rest
       → IsSound plain (account_with_puts (account_with_view plain t Master y r.0) y r.1) → IsSoundAfter plain t (account_by plain t (Take Master (Server y)) (process_step (log_machine plain) popped Master (Server y) m))
   after_turn r is good sound =
@@ -134,6 +138,7 @@ module _ {P : Type 0} (plain : Plain P) (t : Account) (s : IsSound plain t) (y e
   acks_by None post a = absurd a
   acks_by (Some log) post a = acks_unread (account_with_view plain t Master y ended).world (account_with_view plain t Master y ended).items y (t.world.servers y).pred (t.world.servers y).last post a
 
+  -- the event
   pub take_tail_order : IsSoundAfter plain t (account_by plain t (Take Master (Server y))
       (process_step (log_machine plain) (record t.world { links = without_front t.world.links Master (Server y) }) Master (Server y) (message.BecomeTail epoch)))
   take_tail_order = after_turn plain t s y (message.BecomeTail epoch) rest link alive (ended, acks_all (t.world.servers y)) end_taken good_end
@@ -165,6 +170,7 @@ module _ {P : Type 0} (plain : Plain P) (t : Account) (s : IsSound plain t) (y e
   unfolding server.server_step become_head_row
   head_taken = refl
 
+  -- the event
   pub take_head_order : IsSoundAfter plain t (account_by plain t (Take Master (Server y))
       (process_step (log_machine plain) (record t.world { links = without_front t.world.links Master (Server y) }) Master (Server y) (message.BecomeHead epoch)))
   take_head_order = after_turn plain t s y (message.BecomeHead epoch) rest link alive (led, []) head_taken good_head
@@ -215,6 +221,7 @@ module _ {P : Type 0} (plain : Plain P) (t : Account) (s : IsSound plain t) (y e
   have_justified post (inl e) = subst (IsUnreadAndJustified (account_with_view plain t Master y turned).world (account_with_view plain t Master y turned).items y) e (tt, opens)
   have_justified post (inr a) = absurd a
 
+  -- the event
   pub take_pred_order : IsSoundAfter plain t (account_by plain t (Take Master (Server y))
       (process_step (log_machine plain) (record t.world { links = without_front t.world.links Master (Server y) }) Master (Server y) (message.NewPred epoch p)))
   take_pred_order = after_turn plain t s y (message.NewPred epoch p) rest link alive

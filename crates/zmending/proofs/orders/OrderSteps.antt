@@ -120,6 +120,7 @@ module _ {P : Type 0} (plain : Plain P) (t : Account) (s : IsSound plain t) (y :
   begins_by None is = prefix_same t.committed
   begins_by (Some log) is = tail_begins log is
 
+  -- what was committed stays committed
   pub turn_begins : IsPrefix t.committed (account_with_view plain t Master y v).committed
   turn_begins = begins_by (tail_log v) refl
 
@@ -148,5 +149,6 @@ module _ {P : Type 0} (plain : Plain P) (t : Account) (s : IsSound plain t) (y :
       (λ z behind l has. let ahead = s.ordered y z behind l has in
       let not : is_none v.succ ≡ false = good.succ ahead.has_successor ahead.no_tail_order in cc (tail.1, not))
 
+  -- all facts hold after the step
   pub turn_sound : IsSound plain (account_with_view plain t Master y v)
   turn_sound = turn_step (tail_log v) refl

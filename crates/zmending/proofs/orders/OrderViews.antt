@@ -58,6 +58,7 @@ module _ {P : Type 0} (plain : Plain P) (t : Account) (s : IsSound plain t) (y :
   opened : (z k : ℕ) → IsOpened w z k → IsOpened w1 z k
   opened z k h = (h.0, λ p a. h.1 p (front_among w.links Master (Server y) Master (Server z) (message.NewPred k p) a))
 
+  -- all facts hold after the step of the view
   pub order_sound : (committed : List Entry) (items : List Item) → ((i : Item) → Among i t.items → Among i items)
       → AreGoodLists plain w1 committed items → IsSound plain (record { world = w1; committed = committed; items = items })
   order_sound committed items more lists = record {

@@ -51,6 +51,7 @@ module _ {P : Type 0} (plain : Plain P) (t : Account) (s : IsSound plain t) (y :
     sent = s.sent y;
   }
 
+  -- the event
   pub take_ignored : turn_of m ≡ None → server.server_step (log_machine plain) (t.world.servers y) Master m ≡ (t.world.servers y, [])
       → IsSoundAfter plain t (account_by plain t (Take Master (Server y))
       (process_step (log_machine plain) (record t.world { links = without_front t.world.links Master (Server y) }) Master (Server y) m))
@@ -93,5 +94,6 @@ module _ (t : Account) (s : IsSound plain_tree t) (y : ℕ) where
   heard message.Gone rest link alive = take_ignored plain_tree t s y message.Gone rest link alive refl refl
   heard (message.Config epoch head tail) rest link alive = take_ignored plain_tree t s y (message.Config epoch head tail) rest link alive refl refl
 
+-- a server takes whatever is the front of the master's link
 pub servers_hear_master : ServersHearMaster
 servers_hear_master y t lasts s = where_enabled t (Take Master (Server y)) s (λ e. front_there t Master (Server y) e (heard t s y))

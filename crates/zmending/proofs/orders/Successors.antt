@@ -12,13 +12,12 @@ use Rattle.zcalls.specs.Lists.{Among}
 use Rattle.zworld.specs.Links.{without_front}
 use Rattle.zworld.specs.Events.{process_step}
 use Rattle.zcalls.specs.Kept.{Plain}
-use Rattle.zchain.specs.Flow.{log_machine, LogMessage, Log, or_else, log_at}
+use Rattle.zchain.specs.Flow.{log_machine, LogMessage, Log, log_at}
 use Rattle.zlegal.specs.Prefix.{IsEntry}
-use Rattle.zchain.specs.Chain.{IsOpened, IsMember, IsPast, LeadsTo, is_fresh}
+use Rattle.zchain.specs.Chain.{IsOpened, IsMember}
 use Rattle.zlegal.specs.Items.{AllBegun}
 use Rattle.zchain.specs.Account.{Account, account_by}
 use Rattle.zchain.specs.Sound.{IsSound, IsSoundAfter}
-use Rattle.zlegal.proofs.lists.Prefixes.{prefix_same}
 use Rattle.zlegal.proofs.lists.Members.{among_mid}
 use Rattle.zchain.proofs.links.Links.{at_same, front_among}
 use Rattle.zchain.proofs.tables.RowViews.{above_among}
@@ -26,7 +25,8 @@ use Rattle.zchain.proofs.steps.Sends.{put_sent}
 use Rattle.zchain.proofs.steps.Puts.{account_with_put}
 use Rattle.zchain.proofs.steps.ServerSteps.{account_with_puts, account_with_view}
 use Rattle.zmending.proofs.orders.OrderSteps.{IsGoodTurn, turn_sound, member}
-use Rattle.zmending.proofs.orders.Neighbours.{final_log_of, first_log_of, same_final_log, same_first, after_turn}
+use Rattle.zmending.proofs.orders.Neighbours.{after_turn}
+use Rattle.zmending.proofs.orders.NewViews.{successor_opened, good_successor}
 
 -- entries of the sender's log, one after the other
 sends : {P : Type 0} (plain : Plain P) (t : Account) (y : ℕ) → IsMember t.world y → (own : List Entry) → log_at t.world y ≡ Some own → AllBegun t.world.history own
@@ -57,23 +57,16 @@ module _ {P : Type 0} (plain : Plain P) (t : Account) (s : IsSound plain t) (y e
   led = record (t.world.servers y) { succ = Some (z, epoch) }
 
   opened : IsOpened t.world z epoch
-  opened = s.justified Master (Server y) m (subst (Among m) (sym link) (inl refl))
+  opened = successor_opened plain t s y epoch z (Some n) rest link alive
 
   good_follow : IsGoodTurn t.world y led rest
-  good_follow = record {
-    machine = refl;
-    succ = λ some no_order. refl;
-    final_log = λ log is. (log, sym (final_log_of plain t s y m rest link alive led ∙ same_final_log plain t s y m rest link alive led led.machine led.pred) ∙ is, prefix_same log);
-    shows = λ log is. (log, sym (first_log_of plain t s y m rest link alive led ∙ ap (or_else led.machine) (same_first plain t s y m rest link alive led led.pred)) ∙ is, prefix_same log);
-    line = λ place is. subst (λ q. LeadsTo (IsPast t.world) (is_fresh t.world y) (t.world.servers y).pred q place) link (s.line y place is);
-    successor = λ x k is. let pair : ◌≡◌ {A = Neighbour} (z, epoch) (x, k) = cc is in subst (λ (q : Neighbour). IsOpened t.world q.0 q.1) pair opened;
-    sent = s.sent y;
-  }
+  good_follow = good_successor plain t s y epoch z (Some n) rest link alive
 
   followed : server.server_step (log_machine plain) (t.world.servers y) Master m ≡ (led, map (forward_post (z, epoch)) (entries_above n (t.world.servers y).sent))
   unfolding server.server_step
   followed = follow_by (t.world.servers y).machine (t.world.servers y).last (t.world.servers y).sent (t.world.servers y).pred (t.world.servers y).succ epoch z n own has
 
+  -- the event
   pub take_succ_order : IsSoundAfter plain t (account_by plain t (Take Master (Server y))
       (process_step (log_machine plain) (record t.world { links = without_front t.world.links Master (Server y) }) Master (Server y) m))
   take_succ_order = after_turn plain t s y m rest link alive (led, map (forward_post (z, epoch)) (entries_above n (t.world.servers y).sent)) followed good_follow
