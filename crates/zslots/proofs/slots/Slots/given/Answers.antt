@@ -1,4 +1,4 @@
-use Rattle.std.proofs.Common.{sym, ap, ◌∙◌, arith}
+use Rattle.std.proofs.Common.{ap, ◌∙◌, arith}
 use Rattle.std.specs.FinMap as finite
 use Rattle.zslots.proofs.Items.{some_there, slot_found}
 use Rattle.zslots.proofs.slots.Slots.given.Goals as goal
