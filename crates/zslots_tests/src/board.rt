@@ -38,11 +38,16 @@ impl Board {
             "copy" => self.copy(alloc),
             "left" => left_numbers(alloc, &self.left, &self.slots),
             "right" => right_numbers(alloc, &self.right, &self.slots),
-            _ => match self.ids.get(number as usize).copied() {
-                Some(id) if word == "get" => self.get(alloc, id),
-                Some(id) => said(alloc, self.change(word, id)),
-                None => said(alloc, word == "reserve" && self.slots.reserve(8).is_ok()),
-            },
+            _ => self.answer_at(alloc, word, number),
+        }
+    }
+
+    // The same where the word is about an Id that was given, or makes room for the first ones.
+    fn answer_at(&mut self, alloc: Global, word: &str, place: u64) -> Result<String, AllocError> {
+        match self.ids.get(place as usize).copied() {
+            Some(id) if word == "get" => self.get(alloc, id),
+            Some(id) => said(alloc, self.change(word, id)),
+            None => said(alloc, word == "reserve" && self.slots.reserve(8).is_ok()),
         }
     }
 
