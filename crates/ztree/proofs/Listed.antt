@@ -1,17 +1,17 @@
 -- Which names are listed among the children of a node, and which paths among the ephemerals of a session.
-use Rattle.std.proofs.Common.{◌≡◌, ◌+◌, Bool, true, false, cond, ◌||◌, List, [], ◌∷◌, ◌++◌, map, Option, Some, None, refl, sym, ap, subst, ◌∙◌}
+use Rattle.std.proofs.Common.{◌≡◌, Bool, true, false, cond, List, [], ◌∷◌, ◌++◌, map, Option, Some, None, refl, sym, ap, subst, ◌∙◌}
 use Rattle.std.specs.Prelude.{is_some, ◌==◌}
 use Rattle.std.specs.List.{filter_map, cons_option, list_any}
 use Rattle.std.specs.Ordering.{eq_by_cmp}
 use Rattle.std.specs.Cmp.{tied_itself}
-use Rattle.std.specs.Cmp.Lexicographic.{pointwise, nat_list_eq_equiv, lists_equiv}
+use Rattle.std.specs.Cmp.Lexicographic.{nat_list_eq_equiv, lists_equiv}
 use Rattle.std.specs.FinMap as finite
 use Rattle.std.specs.FinMap.{find, get-entries}
 use Rattle.std.specs.Str.{bytes_eq}
 use Rattle.std.proofs.lemmas.Slice.Eq.{bytes_eq-Decides}
 use Rattle.zpath.specs.Grammar.{path_cmp}
 use Rattle.ztree.specs.declared.node.Node.{Node}
-use Rattle.ztree.specs.Tree.{Path, Name, Nodes, child_name, children}
+use Rattle.ztree.specs.Tree.{Path, Name, child_name}
 use Rattle.ztree.specs.Laws.{ListsChildren, IsParentOfChild, ListsEphemerals}
 use Rattle.ztree.proofs.Sorted.{paths_total, same_path}
 use Rattle.ztree.proofs.Maps.{same_some, none_some, tied_same}

@@ -1,12 +1,11 @@
 -- What keeps each key a path.
-use Rattle.std.proofs.Common.{◌≡◌, ◌≢◌, ◌⊎◌, inl, inr, true, [], Option, Some, None, refl, sym, ap, subst, ◌∙◌, ◌+◌, Bool, List, ℕ, arith}
-use Rattle.std.specs.Prelude.{is_some}
+use Rattle.std.proofs.Common.{◌≡◌, ◌≢◌, ◌⊎◌, inl, inr, [], Option, Some, None, refl, sym, subst, ◌∙◌, ◌+◌, Bool, List, ℕ, arith}
 use Rattle.std.specs.Option.{option_map_or}
 use Rattle.std.specs.FinMap as finite
 use Rattle.std.specs.FinMap.{get-empty}
 use Rattle.zpath.specs.Grammar.{IsPath, path_cmp}
 use Rattle.ztree.specs.declared.node.Node.{Node}
-use Rattle.ztree.specs.Tree.{Tree, Path, Nodes, opening_tree, new_node, parent_of, has_node, with_change_at, with_child, with_node, without_child, without_node, with_data, with_data_at}
+use Rattle.ztree.specs.Tree.{Tree, Path, Nodes, opening_tree, new_node, parent_of, with_change_at, with_child, with_node, without_child, without_node, with_data, with_data_at}
 use Rattle.ztree.specs.Lawful.{HasPaths}
 use Rattle.ztree.proofs.Sorted.{paths_total, same_path}
 use Rattle.ztree.proofs.Maps.{none_some, has_some, is_there, get-removed, get-inserted}

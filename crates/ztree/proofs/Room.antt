@@ -1,5 +1,5 @@
 -- Where all counters of a node have room, so has each.
-use Rattle.std.proofs.Common.{◌+◌, Bool, true, false, arith}
+use Rattle.std.proofs.Common.{Bool, true, false, arith}
 use Rattle.ztree.specs.declared.node.Node.{Node}
 use Rattle.ztree.specs.Room.{HasRoom, HasRoomForChild, HasRoomForLosses, HasRoomForData}
 

@@ -7,7 +7,7 @@ use Rattle.std.specs.FinMap.{get-insert}
 use Rattle.std.proofs.lemmas.Bool.Decides.{nat_tests}
 use Rattle.zstore.specs.declared.id.Id.{Id}
 use Rattle.ztree.specs.Tree.{Path}
-use Rattle.zstore.specs.StoreView.{StoreView, path_of, number_of, NamesNew}
+use Rattle.zstore.specs.StoreView.{StoreView, path_of, NamesNew}
 
 -- an Id that names a path still names it after another Id was given
 pub still_named : (old new : StoreView) (id : Id) (path : Path) (other : Id) (p : Path) → NamesNew old new id path → path_of old other ≡ Some p → path_of new other ≡ Some p

@@ -1,4 +1,4 @@
-use Rattle.std.proofs.Common.{◌≡◌, ap, ◌∙◌, arith}
+use Rattle.std.proofs.Common.{ap, ◌∙◌, arith}
 use Rattle.ztree.specs.Tree.{Tree}
 use Rattle.zstore_tests.proofs.Low.{low_counters, zxid-ended}
 use Rattle.zstore_tests.proofs.steps.end.Goals as goal

@@ -1,4 +1,4 @@
-use Rattle.std.proofs.Common.{[], ◌∷◌, ◌<◌, arith}
+use Rattle.std.proofs.Common.{[], ◌∷◌, arith}
 use Rattle.std.specs.FinMap as finite
 use Rattle.ztree.specs.support.Samples.{some_node}
 use Rattle.ztree.proofs.Sorted.{paths_total, same_path}

@@ -1,4 +1,4 @@
-use Rattle.std.proofs.Common.{◌≡◌, ◌≤◌, Bool, true, false, ◌+◌, get_or, sym, ap, ◌∙◌, Some, cond, arith, refl}
+use Rattle.std.proofs.Common.{◌≡◌, Bool, true, false, ◌+◌, get_or, sym, ap, ◌∙◌, Some, cond, arith, refl}
 use Rattle.std.specs.FinMap as finite
 use Rattle.zstore.specs.declared.row.Row.{Row}
 use Rattle.zstore.specs.StoreView.{StoreView}
