@@ -19,17 +19,17 @@ ghost use Rattle.zcalls.specs.Part.{create_refusals, delete_refusals, part_step}
 ghost use Rattle.zcalls.specs.Multi.{run};
 ghost use Rattle.zcalls.specs.Step.{step, query_reply, is_exhausted};
 ghost use Rattle.zcalls.specs.support.Rows.{refusals};
-ghost use Rattle.zcalls.specs.support.Rows.{number_reply, counted, creates, deletes, keeping, third_kept, answers};
+ghost use Rattle.zcalls.specs.support.Rows.{number_reply, counting_entry, creates, deletes, keeping, third_kept, answers};
 
 /// What one entry does: where nothing is kept; and where a client's call 3 acted last, as the seventh
 /// create.
 pub fn updates_act_once()
-    ensures number_0 { counted (nothing_kept 7) (creates 1 0) ≡ (nothing_kept 7, None) }
-    ensures first { counted (nothing_kept 7) (creates 1 1)
+    ensures number_0 { counting_entry (nothing_kept 7) (creates 1 0) ≡ (nothing_kept 7, None) }
+    ensures first { counting_entry (nothing_kept 7) (creates 1 1)
         ≡ (keeping (nothing_kept 7) 8 1 1 (number_reply 8), Some (number_reply 8)) }
-    ensures retry { counted third_kept (creates 1 3) ≡ (third_kept, Some (number_reply 7)) }
-    ensures late { counted third_kept (creates 1 2) ≡ (third_kept, None) }
-    ensures other_client { counted third_kept (creates 2 3)
+    ensures retry { counting_entry third_kept (creates 1 3) ≡ (third_kept, Some (number_reply 7)) }
+    ensures late { counting_entry third_kept (creates 1 2) ≡ (third_kept, None) }
+    ensures other_client { counting_entry third_kept (creates 2 3)
         ≡ (keeping third_kept 8 2 3 (number_reply 8), Some (number_reply 8)) }
 {}
 
@@ -60,7 +60,7 @@ pub fn refusals_have_an_order()
         → step t client u ≡ (t, Refused Exhausted) }
 {}
 
-/// The parts of a multi, by what each does: none are done; one that is refused ends them, and is counted
+/// The parts of a multi, by what each does: none are done; one that is refused ends them, and is counting_entry
 /// from 1; the reply of one that is done stands in front.
 pub fn parts_are_done_in_turn()
     ensures none { (t : Tree) (client : ℕ) → run t client [] ≡ Ok (t, []) }

@@ -1,6 +1,6 @@
 //! Worked calls of one node, with their answers.
 
-use crate::play::{Act, data, names, play, stat};
+use crate::play::{Act, has_names, has_stat, is_absent, long_path, play};
 use std::test::Fail;
 use zops::Expected::{Any, Exactly};
 use zops::Kind::{EphemeralSequential, Persistent, PersistentSequential};
@@ -34,19 +34,17 @@ fn creates_nodes(rt: HostRuntime) -> Result<(), Fail> {
         ),
     ];
     play(&rt, alloc, &mut machine, &rows)?;
-    let listed = names(alloc, &machine, "/q")?;
-    assert_eq!(rt; listed.as_str(), " n-0000000000 n-0000000001");
-    let parent = stat(alloc, &machine, "/q")?;
-    assert_eq!(rt; parent, Some([1, 1, 3, 0, 0, 0, 2, 0, 2, 2]));
+    let made = ["n-0000000000", "n-0000000001"];
+    has_names(&rt, alloc, &machine, "/q", &made)?;
     assert_eq!(rt; machine.applied(), 6);
-    Ok(())
+    has_stat(&rt, alloc, &machine, "/q", [1, 1, 3, 0, 0, 0, 2, 0, 2, 2])
 }
 
 #[test]
 fn refused_sequential_creates_take_no_number(rt: HostRuntime) -> Result<(), Fail> {
     let alloc = rt.alloc();
     let mut machine = Machine::new(alloc)?;
-    let long = format!(in alloc; "/{}", "a".repeat(alloc, 246)?)?;
+    let long = long_path(alloc, "/")?;
     let gone = EphemeralSequential(SessionId::new(9));
     let rows = [
         (
@@ -89,11 +87,8 @@ fn refused_sequential_creates_take_no_number(rt: HostRuntime) -> Result<(), Fail
         ),
     ];
     play(&rt, alloc, &mut machine, &rows)?;
-    assert_eq!(rt;
-        names(alloc, &machine, "/")?.as_str(),
-        " b0000000000 b0000000001"
-    );
-    Ok(())
+    let made = ["b0000000000", "b0000000001"];
+    has_names(&rt, alloc, &machine, "/", &made)
 }
 
 #[test]
@@ -113,7 +108,5 @@ fn sets_checks_and_deletes(rt: HostRuntime) -> Result<(), Fail> {
         (7, Act::Delete(Any), "/a", ("NoNode", 0, 0)),
     ];
     play(&rt, alloc, &mut machine, &rows)?;
-    assert!(rt; stat(alloc, &machine, "/a")?.is_none());
-    assert!(rt; data(alloc, &machine, "/a")?.is_none());
-    Ok(())
+    is_absent(&rt, alloc, &machine, "/a")
 }

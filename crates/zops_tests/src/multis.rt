@@ -1,6 +1,6 @@
 //! Worked multis, with their answers.
 
-use crate::play::{Act, apply, data, multi, names, part, stat};
+use crate::play::{Act, apply, has_data, has_names, has_stat, multi, part};
 use std::test::Fail;
 use zops::Expected::{Any, Exactly};
 use zops::Kind::{Persistent, PersistentSequential};
@@ -22,11 +22,10 @@ fn refused_multi_leaves_all_as_it_was(rt: HostRuntime) -> Result<(), Fail> {
         multi(alloc, &refused)?,
         ("NoNode", 2, 0),
     )?;
-    assert_eq!(rt; stat(alloc, &machine, "/")?, Some([0; 10]));
+    has_stat(&rt, alloc, &machine, "/", [0; 10])?;
     let made = [(Act::Create(PersistentSequential), "/n-")];
     apply(&rt, &mut machine, 7, multi(alloc, &made)?, ("multi", 1, 0))?;
-    assert_eq!(rt; names(alloc, &machine, "/")?.as_str(), " n-0000000000");
-    Ok(())
+    has_names(&rt, alloc, &machine, "/", &["n-0000000000"])
 }
 
 #[test]
@@ -42,11 +41,8 @@ fn multi_takes_one_zxid(rt: HostRuntime) -> Result<(), Fail> {
         (Act::Delete(Any), "/a/c"),
     ];
     apply(&rt, &mut machine, 7, multi(alloc, &made)?, ("multi", 6, 0))?;
-    let root = stat(alloc, &machine, "/")?;
-    assert_eq!(rt; root, Some([0, 0, 1, 0, 0, 0, 2, 0, 0, 2]));
-    let b = data(alloc, &machine, "/b")?.ok_or("there is /b")?;
-    assert_eq!(rt; b.as_slice(), [104, 105].as_slice());
-    Ok(())
+    has_stat(&rt, alloc, &machine, "/", [0, 0, 1, 0, 0, 0, 2, 0, 0, 2])?;
+    has_data(&rt, alloc, &machine, "/b", &[104, 105])
 }
 
 #[test]

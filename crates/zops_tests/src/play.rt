@@ -5,7 +5,7 @@ use std::process::Abort;
 use std::test::Fail;
 use zops::{
     CallNumber, Change, Check, ClientId, Create, Data, Delete, Entry, Expected, Kind, MAX_APPLIED,
-    Machine, Multi, Part, Query, Refusal, Reply, SessionId, SetData, Update,
+    Machine, Multi, Part, Query, Refusal, Reply, SessionId, SetData, Stat, Update,
 };
 use zpath::Path;
 
@@ -20,6 +20,11 @@ pub enum Act {
     Ping(u64),
     Close(u64),
     Tick,
+}
+
+/// A path to which no ten digits can be added: a name of 246 bytes behind this.
+pub fn long_path(alloc: Global, front: &str) -> Result<String, Fail> {
+    Ok(format!(in alloc; "{front}{}", "a".repeat(alloc, 246)?)?)
 }
 
 /// The kind of a node that the session of that id owns.
@@ -126,6 +131,17 @@ pub fn outcome(reply: &Reply) -> (&'static str, u64, u64) {
     }
 }
 
+// The update as an entry of the client of that number.
+fn entry(client: u8, update: Update) -> Result<Entry, Fail> {
+    let client = ClientId::new(client).ok_or("there is such a client")?;
+    let number = CallNumber::new(1).ok_or("there is such a number")?;
+    Ok(Entry {
+        client,
+        number,
+        update,
+    })
+}
+
 /// Applies an update of the client of that number, and compares the answer.
 pub fn apply(
     rt: &impl Abort,
@@ -134,16 +150,12 @@ pub fn apply(
     update: Update,
     want: (&str, u64, u64),
 ) -> Result<(), Fail> {
-    let client = ClientId::new(client).ok_or("there is such a client")?;
-    let number = CallNumber::new(1).ok_or("there is such a number")?;
+    let entry = entry(client, update)?;
     assert!(rt; machine.applied() < MAX_APPLIED);
-    let entry = Entry {
-        client,
-        number,
-        update,
-    };
-    let reply = machine.apply(entry)?.ok_or("an update has a reply")?;
-    assert_eq!(rt; outcome(&reply), want);
+    match machine.apply(entry)? {
+        Some(reply) => assert_eq!(rt; outcome(&reply), want),
+        None => assert!(rt; false, "an update has a reply"),
+    }
     Ok(())
 }
 
@@ -160,14 +172,25 @@ pub fn play(
     Ok(())
 }
 
-/// The numbers of the stat of the node at a path, in the order of the text; none where there is none.
-pub fn stat(alloc: Global, machine: &Machine, path: &str) -> Result<Option<[u64; 10]>, Fail> {
+// What the query of the stat of the node at a path is answered.
+fn exists(alloc: Global, machine: &Machine, path: &str) -> Result<Reply, Fail> {
     let query = Query::Exists(Path::parse(alloc, path)?);
-    let reply = machine.ask(&query)?;
-    let Reply::Exists(stat) = &reply else {
-        return Ok(None);
-    };
-    Ok(Some([
+    Ok(machine.ask(&query)?)
+}
+
+fn children(alloc: Global, machine: &Machine, path: &str) -> Result<Reply, Fail> {
+    let query = Query::GetChildren(Path::parse(alloc, path)?);
+    Ok(machine.ask(&query)?)
+}
+
+fn data(alloc: Global, machine: &Machine, path: &str) -> Result<Reply, Fail> {
+    let query = Query::GetData(Path::parse(alloc, path)?);
+    Ok(machine.ask(&query)?)
+}
+
+// The numbers of a stat in the order of the text.
+fn numbers(stat: Stat) -> [u64; 10] {
+    [
         stat.czxid.number(),
         stat.mzxid.number(),
         stat.pzxid.number(),
@@ -178,28 +201,67 @@ pub fn stat(alloc: Global, machine: &Machine, path: &str) -> Result<Option<[u64;
         stat.owner,
         stat.length as u64,
         stat.children as u64,
-    ]))
+    ]
 }
 
-/// The names of the children of the node at a path, each behind a space.
-pub fn names(alloc: Global, machine: &Machine, path: &str) -> Result<String, Fail> {
-    let query = Query::GetChildren(Path::parse(alloc, path)?);
-    let reply = machine.ask(&query)?;
-    let mut text = String::new(alloc);
-    if let Reply::Children(names) = &reply {
-        for name in names.as_slice() {
-            write!(text, " {}", name.as_str())?;
+/// Compares the stat of the node at a path.
+pub fn has_stat(
+    rt: &impl Abort,
+    alloc: Global,
+    machine: &Machine,
+    path: &str,
+    want: [u64; 10],
+) -> Result<(), Fail> {
+    match &exists(alloc, machine, path)? {
+        Reply::Exists(stat) => assert_eq!(rt; numbers(*stat), want, "at {path}"),
+        _ => assert!(rt; false, "there is no {path}"),
+    }
+    Ok(())
+}
+
+/// Looks that there is no node at a path.
+pub fn is_absent(
+    rt: &impl Abort,
+    alloc: Global,
+    machine: &Machine,
+    path: &str,
+) -> Result<(), Fail> {
+    let reply = exists(alloc, machine, path)?;
+    assert_eq!(rt; outcome(&reply).0, "NoNode", "at {path}");
+    Ok(())
+}
+
+/// Compares the names of the children of the node at a path.
+pub fn has_names(
+    rt: &impl Abort,
+    alloc: Global,
+    machine: &Machine,
+    path: &str,
+    want: &[&str],
+) -> Result<(), Fail> {
+    match &children(alloc, machine, path)? {
+        Reply::Children(names) => {
+            assert_eq!(rt; names.as_slice().len(), want.len(), "at {path}");
+            for (name, want) in names.as_slice().iter().zip(want) {
+                assert_eq!(rt; name.as_str(), *want, "at {path}");
+            }
         }
+        _ => assert!(rt; false, "there is no {path}"),
     }
-    Ok(text)
+    Ok(())
 }
 
-/// The data of the node at a path; none where there is none.
-pub fn data(alloc: Global, machine: &Machine, path: &str) -> Result<Option<Vec<u8>>, Fail> {
-    let query = Query::GetData(Path::parse(alloc, path)?);
-    let reply = machine.ask(&query)?;
-    match &reply {
-        Reply::Data(data, _) => Ok(Some(data.as_slice().to_vec(alloc)?)),
-        _ => Ok(None),
+/// Compares the data of the node at a path.
+pub fn has_data(
+    rt: &impl Abort,
+    alloc: Global,
+    machine: &Machine,
+    path: &str,
+    want: &[u8],
+) -> Result<(), Fail> {
+    match &data(alloc, machine, path)? {
+        Reply::Data(data, _) => assert_eq!(rt; data.as_slice(), want, "at {path}"),
+        _ => assert!(rt; false, "there is no {path}"),
     }
+    Ok(())
 }

@@ -1,6 +1,6 @@
 //! Which of two refusals is the answer, and the words of the refusals.
 
-use crate::play::{Act, owned, play};
+use crate::play::{Act, long_path, owned, play};
 use std::test::Fail;
 use zops::Expected::{Any, Exactly};
 use zops::Kind::{Persistent, PersistentSequential};
@@ -10,7 +10,7 @@ use zops::{Machine, Refusal};
 fn earlier_refusals_are_the_answer(rt: HostRuntime) -> Result<(), Fail> {
     let alloc = rt.alloc();
     let mut machine = Machine::new(alloc)?;
-    let long = format!(in alloc; "/e/{}", "a".repeat(alloc, 246)?)?;
+    let long = long_path(alloc, "/e/")?;
     let rows = [
         (1, Act::Open(20), "/", ("opened", 1, 20)),
         (1, Act::Create(owned(1)), "/e", ("created", 0, 0)),

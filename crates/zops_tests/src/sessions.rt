@@ -1,6 +1,6 @@
 //! Worked calls of sessions, with their answers.
 
-use crate::play::{Act, owned, play, stat};
+use crate::play::{Act, has_stat, is_absent, owned, play};
 use std::test::Fail;
 use zops::Kind::{EphemeralSequential, Persistent};
 use zops::{Machine, SessionId};
@@ -23,10 +23,8 @@ fn ends_at_its_deadline(rt: HostRuntime) -> Result<(), Fail> {
         (1, Act::Ping(1), "/", ("SessionGone", 0, 0)),
     ];
     play(&rt, alloc, &mut machine, &rows)?;
-    assert!(rt; stat(alloc, &machine, "/e")?.is_none());
-    let root = stat(alloc, &machine, "/")?;
-    assert_eq!(rt; root, Some([0, 0, 4, 0, 0, 0, 4, 0, 0, 0]));
-    Ok(())
+    is_absent(&rt, alloc, &machine, "/e")?;
+    has_stat(&rt, alloc, &machine, "/", [0, 0, 4, 0, 0, 0, 4, 0, 0, 0])
 }
 
 #[test]

@@ -32,9 +32,9 @@ deletes client number = record { client = client; number = number; update = Dele
 abbrev pub keeping : KeptState ℕ → ℕ → ℕ → ℕ → Reply → KeptState ℕ
 keeping s creates client number reply = record { plain = creates; kept = insert s.kept client (record { number = number; reply = reply }) }
 
--- what one entry does
-abbrev pub counted : KeptState ℕ → Entry → KeptState ℕ × Option Reply
-counted s e = entry_step counting s e
+-- what the counting step does at one entry
+abbrev pub counting_entry : KeptState ℕ → Entry → KeptState ℕ × Option Reply
+counting_entry s e = entry_step counting s e
 
 -- a client's call 3 acted last, as the seventh create
 abbrev pub third_kept : KeptState ℕ
