@@ -1,6 +1,5 @@
 -- The client table is the rows of its cases.
-use Rattle.std.proofs.Common.{◌≡◌, ℕ, Bool, true, false, nat_lt, ◌==◌, List, [], Option, Some, None, refl, sym, ap, inl, inr, eqb-true, ltb-true}
-use Rattle.std.specs.Prelude.{◌⊎◌}
+use Rattle.std.proofs.Common.{◌≡◌, ℕ, true, nat_lt, Option, Some, None, sym, ap, inl, inr, eqb-true, ltb-true}
 use mathlib.Core.Bool.{true≢false}
 use Rattle.zcalls.specs.declared.call.Call.{Call}
 use Rattle.zcalls.specs.declared.reply.Reply.{Reply}

@@ -1,22 +1,21 @@
 -- The master keeps its bounds.
-use Rattle.std.proofs.Common.{◌≡◌, ℕ, ◌+◌, ◌*◌, ◌<◌, ◌≤◌, Bool, true, false, ◌==◌, List, [], ◌∷◌, ◌++◌, Option, Some, None, zero, suc, length, refl, sym, ap, subst, ◌∙◌, inl, inr, eqb-true, map, arith, length-append}
-use Rattle.std.specs.Prelude.{◌⊎◌, ◌||◌, if◌then◌else◌}
+use Rattle.std.proofs.Common.{◌≡◌, ℕ, ◌+◌, ◌≤◌, Bool, true, false, ◌==◌, List, [], ◌∷◌, ◌++◌, Option, Some, None, zero, suc, length, refl, sym, ap, subst, ◌∙◌, inl, inr, arith, length-append}
+use Rattle.std.specs.Prelude.{◌||◌, if◌then◌else◌}
 use Rattle.std.proofs.lemmas.List.FromFn.{length-range_with_len, length-map-range_with_len}
 use Rattle.std.specs.List.{range_with_len, last_or}
 use Rattle.std.proofs.lemmas.Bool.Decides.{nat_tests}
-use mathlib.Core.Bool.{true≢false}
 use Rattle.zcalls.proofs.Among.{test}
 use Rattle.zserver.specs.declared.message.Message.TheVariants as message
 use Rattle.zserver.specs.declared.process.Process.{Process}
 use Rattle.zserver.specs.declared.process.Process.TheVariants.{Server}
 use Rattle.zserver.specs.View.{Neighbour, MessageOf}
-use Rattle.zmaster.specs.View.{MasterView, is_among, with_number, members, is_joining, opening_master}
+use Rattle.zmaster.specs.View.{MasterView, is_among, with_number, members, is_joining}
 use Rattle.zmaster.specs.declared.join_fault.JoinFault.{JoinFault}
 use Rattle.zmaster.specs.declared.join_fault.JoinFault.TheVariants.{Used}
 use Rattle.zmaster.specs.Table.{MasterResult, no_effect, MendedChain, join_fault, join_step, master_step}
-use Rattle.zmaster.specs.support.Cases.{IsMended, Only, First, Last, Between, IsMasterRow, Ignores, Reports, Joins, LeavesOutside, Leaves, after_gone}
+use Rattle.zmaster.specs.support.Cases.{IsMended, Only, First, Last, Between, IsMasterRow, Ignores, Reports, Joins, LeavesOutside, Leaves}
 use Rattle.zmaster.specs.Laws.{IsRisingFrom, joining_count, IsBounded, OpeningIsBounded}
-use Rattle.zmaster.proofs.Numbers.{numbers_of, later, among_behind, among_with_number, no_fewer, one_more, still_rising}
+use Rattle.zmaster.proofs.Numbers.{numbers_of, later, among_behind, no_fewer, one_more, still_rising}
 use Rattle.zmaster.proofs.Cases.{master_case}
 
 -- who is joining is Some

@@ -1,7 +1,6 @@
 -- The master table is the rows of its cases.
-use Rattle.std.proofs.Common.{◌≡◌, ℕ, ◌+◌, Bool, true, false, ◌==◌, List, [], ◌∷◌, ◌++◌, Option, Some, None, refl, sym, ap, subst, ◌∙◌, inl, inr, eqb-true, map}
+use Rattle.std.proofs.Common.{◌≡◌, ℕ, ◌+◌, true, ◌==◌, List, [], ◌∷◌, ◌++◌, Option, Some, None, refl, sym, ap, subst, inl, inr, eqb-true}
 use Rattle.std.proofs.lemmas.List.{append_assoc}
-use Rattle.std.specs.Prelude.{◌⊎◌, ◌||◌, if◌then◌else◌}
 use mathlib.Core.Bool.{true≢false}
 use Rattle.zcalls.proofs.Among.{test}
 use Rattle.zserver.specs.declared.message.Message.TheVariants as message
@@ -9,7 +8,7 @@ use Rattle.zserver.specs.declared.process.Process.{Process}
 use Rattle.zserver.specs.declared.process.Process.TheVariants.{Server}
 use Rattle.zserver.specs.View.{Neighbour, MessageOf}
 use Rattle.zmaster.specs.View.{MasterView, is_among, members, is_joining}
-use Rattle.zmaster.specs.Table.{MasterResult, before, MendedChain, mended_chain, mended_chain_behind, without_next, without_first, have_row, joined_row, gone_row, master_step}
+use Rattle.zmaster.specs.Table.{before, MendedChain, mended_chain, mended_chain_behind, without_next, without_first, have_row, joined_row, gone_row, master_step}
 use Rattle.zmaster.proofs.Numbers.{numbers_of, later}
 use Rattle.zmaster.specs.support.Cases.{IsMended, Only, First, Last, Between, IsMasterRow, Ignores, Reports, Joins, LeavesOutside, Leaves}
 

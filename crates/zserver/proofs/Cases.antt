@@ -1,6 +1,5 @@
 -- The server table is the rows of its cases.
-use Rattle.std.proofs.Common.{◌≡◌, ℕ, ◌+◌, Bool, true, false, cond, nat_lt, ◌==◌, List, [], Option, Some, None, refl, sym, ap, ◌∙◌, inl, inr, eqb-true, ltb-true}
-use Rattle.std.specs.Prelude.{◌⊎◌}
+use Rattle.std.proofs.Common.{◌≡◌, ℕ, ◌+◌, true, false, cond, nat_lt, ◌==◌, List, [], Option, Some, None, refl, sym, ap, ◌∙◌, inl, inr, eqb-true, ltb-true}
 use Rattle.zcalls.specs.declared.call.Entry.{Entry}
 use Rattle.zcalls.specs.declared.call.Update.{Update}
 use Rattle.zcalls.specs.declared.call.Query.{Query}

@@ -1,15 +1,11 @@
 -- Outcomes are learnt as events are done.
-use Rattle.std.proofs.Common.{◌≡◌, ℕ, zero, suc, Bool, true, false, if◌then◌else◌, List, [], ◌∷◌, ◌++◌, refl, sym, ap, ◌∙◌}
+use Rattle.std.proofs.Common.{◌≡◌, zero, suc, Bool, true, false, if◌then◌else◌, [], ◌∷◌, refl, sym, ap, ◌∙◌}
 use Rattle.std.proofs.lemmas.List.{append_assoc}
-use Rattle.std.specs.Prelude.{◌&&◌, nat_lt}
 use Rattle.zserver.specs.Machine.{Does}
-use Rattle.zworld.specs.declared.event.Event.{Event}
-use Rattle.zworld.specs.declared.outcome.Outcome.{Outcome}
-use Rattle.zworld.specs.World.{World}
-use Rattle.zworld.specs.Events.{is_enabled, happens}
+use Rattle.zworld.specs.Events.{happens}
 use Rattle.zworld.specs.Reading.{read, read_all}
-use Rattle.zworld.specs.Settle.{Settling, with_event, with_try, with_tries, is_over, passes, next_outcome}
-use Rattle.zworld.specs.support.Learning.{GoesOn, is_done, DoneIsLearnt, IdleIsPassed, PassBegins, PassesEnd, ReadsOn, ReadingIsLearnt}
+use Rattle.zworld.specs.Settle.{with_event, with_tries, passes, next_outcome}
+use Rattle.zworld.specs.support.Learning.{is_done, DoneIsLearnt, IdleIsPassed, PassBegins, PassesEnd, ReadingIsLearnt}
 
 -- a choice that is made
 chosen : {A : Type 0} (b : Bool) (x y : A) → b ≡ true → (if b then x else y) ≡ x

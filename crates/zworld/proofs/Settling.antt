@@ -13,7 +13,7 @@ use Rattle.zworld.specs.World.{World}
 use Rattle.zworld.specs.Events.{is_enabled, happens, run}
 use Rattle.zworld.specs.declared.outcome.Outcome.{Outcome}
 use Rattle.zworld.specs.Reading.{read}
-use Rattle.zworld.specs.Settle.{Settling, opening_settling, settle, settled, deliveries, retry_events, with_event, with_try, with_tries, is_over, passes, next_outcome}
+use Rattle.zworld.specs.Settle.{Settling, opening_settling, settle, settling_end, deliveries, retry_events, with_event, with_try, with_tries, is_over, passes, next_outcome}
 
 -- what holds of both outcomes of two tests holds of their choice
 of_both : {A : Type 0} (P : A → Type 0) (a b : Bool) (x y : A) → (a ≡ true → b ≡ true → P x) → P y → P (if a && b then x else y)
@@ -156,7 +156,7 @@ module _ {M : Type 0} (machine : Does M) where
   passes_over events (suc more) s few = over_or_on events more s (omega (arith, few)) (is_over s events) refl (passes_over events more (with_tries machine s events))
 
   -- where settling ends quiet, no message can be taken
-  pub quiet_has_nothing_to_take : (w : World M) (limit : ℕ) (outcomes : List Outcome) → settled (settle machine w limit outcomes) ≡ Quiet
+  pub quiet_has_nothing_to_take : (w : World M) (limit : ℕ) (outcomes : List Outcome) → settling_end (settle machine w limit outcomes) ≡ Quiet
       → list_any (is_enabled (settle machine w limit outcomes).world) (deliveries w.master.clients) ≡ false
   quiet_has_nothing_to_take w limit outcomes quiet =
       let few = asked_again_keeps (λ s. s.left ≤ limit) (falls limit) w limit outcomes (omega arith) in

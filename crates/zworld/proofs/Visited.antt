@@ -1,7 +1,7 @@
 -- Settling visits every link that holds a message.
-use Rattle.std.proofs.Common.{◌≡◌, ℕ, ◌+◌, ◌-◌, ◌<◌, ◌≤◌, zero, suc, Bool, true, false, if◌then◌else◌, nat_lt, nat_le, ◌==◌, List, [], ◌∷◌, ◌++◌, map, Option, Some, None, refl, sym, ap, subst, ◌∙◌, inl, inr, arith, ltb-true, eqb-true}
+use Rattle.std.proofs.Common.{◌≡◌, ℕ, ◌+◌, ◌-◌, ◌<◌, ◌≤◌, zero, suc, Bool, true, false, if◌then◌else◌, nat_lt, nat_le, ◌==◌, List, [], ◌∷◌, ◌++◌, map, Option, Some, None, refl, sym, ap, subst, inl, inr, arith, ltb-true, eqb-true}
 use mathlib.Core.Bool.{true≢false}
-use Rattle.std.specs.Prelude.{◌⊎◌, ◌&&◌, ◌||◌, not, flat_map}
+use Rattle.std.specs.Prelude.{◌⊎◌, ◌||◌, flat_map}
 use Rattle.std.specs.List.{AllByRecursion, range_with_len, list_any}
 use Rattle.std.proofs.lemmas.Bool.Decides.{nat_tests}
 use Rattle.zcalls.specs.Lists.{Among}
@@ -10,15 +10,14 @@ use Rattle.zserver.specs.declared.limits.TheConstants.{MAX_SERVERS}
 use Rattle.zserver.specs.declared.process.Process.{Process}
 use Rattle.zserver.specs.declared.process.Process.TheVariants.{Master, Server, Client}
 use Rattle.zserver.specs.Machine.{Does, kept_tree}
-use Rattle.zserver.specs.View.{ServerView, Neighbour, MessageOf, spare, member, opening_server}
-use Rattle.zclient.specs.View.{opening_client}
+use Rattle.zserver.specs.View.{Neighbour, MessageOf, spare, member, opening_server}
 use Rattle.zworld.specs.declared.event.Event.{Event}
 use Rattle.zworld.specs.declared.event.Event.TheVariants.{Take}
 use Rattle.zworld.specs.World.{World, opening_world}
-use Rattle.zworld.specs.Events.{front_is, is_server, has_failed, is_enabled, run}
+use Rattle.zworld.specs.Events.{is_server, is_enabled}
 use Rattle.zworld.specs.Settle.{processes, deliveries}
 use Rattle.zworld.specs.Laws.{world_after, settling_of, LinksAreVisited, QuietIsQuiet}
-use Rattle.zworld.specs.support.Within.{is_process, IsServer, IsNear, IsNamed, IsViewWithin, IsClientWithin, IsMemberWithin, IsWithin}
+use Rattle.zworld.specs.support.Within.{is_process, IsServer, IsNear, IsNamed, IsViewWithin, IsMemberWithin, IsWithin}
 use Rattle.zworld.proofs.Fitting.{both}
 use Rattle.zworld.proofs.Within.{run_within}
 use Rattle.zworld.proofs.Settling.{settling_is_a_run, quiet_has_nothing_to_take}

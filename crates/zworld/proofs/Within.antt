@@ -1,34 +1,32 @@
 -- In every run from an opening all that is on links is between processes of the world.
-use Rattle.std.proofs.Common.{◌≡◌, ℕ, ◌+◌, ◌-◌, ◌<◌, ◌≤◌, zero, suc, Bool, true, false, if◌then◌else◌, nat_lt, nat_le, ◌==◌, List, [], ◌∷◌, ◌++◌, map, Option, Some, None, refl, sym, ap, subst, ◌∙◌, inl, inr, arith, eqb-true}
+use Rattle.std.proofs.Common.{◌≡◌, ℕ, ◌+◌, Bool, true, false, if◌then◌else◌, nat_lt, ◌==◌, List, [], ◌∷◌, ◌++◌, Option, Some, None, refl, sym, ap, subst, ◌∙◌, inl, inr, eqb-true}
 use mathlib.Core.Bool.{true≢false}
-use Rattle.std.specs.Prelude.{◌⊎◌, ◌&&◌, not, drop, is_some}
-use Rattle.std.specs.List.{AllByRecursion, range_with_len}
-use Rattle.std.proofs.lemmas.Bool.Decides.{nat_tests}
+use Rattle.std.specs.Prelude.{◌&&◌, not, drop, is_some}
+use Rattle.std.specs.List.{AllByRecursion}
 use Rattle.zcalls.specs.declared.call.Call.{Call}
 use Rattle.zcalls.specs.declared.reply.Reply.{Reply}
 use Rattle.zcalls.specs.Lists.{Among}
 use Rattle.zcalls.proofs.Among.{test, among_cases}
-use Rattle.zserver.specs.declared.limits.TheConstants.{MAX_SERVERS}
 use Rattle.zserver.specs.declared.message.Message.TheVariants as message
 use Rattle.zserver.specs.declared.process.Process.{Process}
 use Rattle.zserver.specs.declared.process.Process.TheVariants.{Master, Server, Client}
 use Rattle.zserver.specs.Machine.{Does}
-use Rattle.zserver.specs.View.{ServerView, Neighbour, MessageOf, Post, spare, opening_server}
+use Rattle.zserver.specs.View.{ServerView, MessageOf, Post}
 use Rattle.zserver.specs.Table.{server_step}
 use Rattle.zserver.proofs.Cases.{server_case}
 use Rattle.zmaster.specs.View.{MasterView}
 use Rattle.zmaster.specs.Table.{master_step, join_step}
 use Rattle.zmaster.proofs.Cases.{master_case}
-use Rattle.zclient.specs.View.{ClientView, opening_client}
+use Rattle.zclient.specs.View.{ClientView}
 use Rattle.zclient.specs.Table.{ClientResult, client_step, begin_step, retry_posts}
 use Rattle.zclient.specs.support.Cases as client
 use Rattle.zclient.proofs.Cases.{client_case}
 use Rattle.zworld.specs.declared.event.Event.{Event}
 use Rattle.zworld.specs.declared.event.Event.TheVariants.{Begin, Retry, Take, Ignore, Fail, Join}
 use Rattle.zworld.specs.Links.{Links, put, without_front, is_same, addressed}
-use Rattle.zworld.specs.World.{World, at, opening_world}
-use Rattle.zworld.specs.Events.{is_server, has_failed, is_enabled, process_step, front_step, acts, happens, run, with_answer, client_does}
-use Rattle.zworld.specs.support.Within.{is_process, IsNamed, IsNear, IsOfClient, SpeaksWithin, GoesWithin, IsViewWithin, IsClientWithin, IsMemberWithin, AreLinksWithin, IsWithin}
+use Rattle.zworld.specs.World.{World, at}
+use Rattle.zworld.specs.Events.{is_server, is_enabled, process_step, front_step, acts, happens, run, with_answer, client_does}
+use Rattle.zworld.specs.support.Within.{is_process, SpeaksWithin, GoesWithin, IsViewWithin, IsClientWithin, AreLinksWithin, IsWithin}
 use Rattle.zworld.proofs.Fitting.{both}
 use Rattle.zworld.proofs.WithinTables.{row_within, outstanding_within, IsMasterWithin, master_within, join_within}
 

@@ -1,5 +1,5 @@
 -- The three tables speak of processes of the world alone, where what they know and hear does.
-use Rattle.std.proofs.Common.{◌≡◌, ℕ, ◌+◌, ◌<◌, ◌≤◌, zero, suc, Bool, true, false, if◌then◌else◌, nat_lt, ◌==◌, List, [], ◌∷◌, ◌++◌, map, Option, Some, None, refl, sym, ap, subst, ◌∙◌, inl, inr, arith}
+use Rattle.std.proofs.Common.{◌≡◌, ℕ, ◌+◌, ◌≤◌, zero, suc, Bool, true, false, if◌then◌else◌, nat_lt, ◌==◌, List, [], ◌∷◌, ◌++◌, map, Option, Some, None, refl, subst, arith}
 use Rattle.std.specs.Prelude.{◌&&◌, not, filter}
 use Rattle.std.specs.List.{AllByRecursion, range_with_len, last_or}
 use Rattle.std.proofs.lemmas.Bool.{lt-ltb}
@@ -9,9 +9,9 @@ use Rattle.zcalls.specs.declared.call.Entry.{Entry}
 use Rattle.zcalls.specs.declared.reply.Reply.{Reply}
 use Rattle.zserver.specs.declared.message.Message.TheVariants as message
 use Rattle.zserver.specs.declared.process.Process.{Process}
-use Rattle.zserver.specs.declared.process.Process.TheVariants.{Master, Server, Client}
+use Rattle.zserver.specs.declared.process.Process.TheVariants.{Server, Client}
 use Rattle.zserver.specs.Machine.{Does}
-use Rattle.zserver.specs.View.{ServerView, Neighbour, Transfer, MessageOf, Post}
+use Rattle.zserver.specs.View.{ServerView, Neighbour, MessageOf, Post}
 use Rattle.zserver.specs.Table.{ServerResult, ack_posts, answer_posts, forward_post, entries_above, missing_posts}
 use Rattle.zserver.specs.support.Cases.{IsAccepted, Processes, Forwards, IsRow, Ignores, Submits, Updates, Asks, Acknowledges, Shows, Turns, Follows, Leads, Ends}
 use Rattle.zclient.specs.View.{ClientView}

@@ -16,7 +16,7 @@ use Rattle.zserver.specs.declared.process.Process.TheVariants.{Server}
 use Rattle.zworld.specs.World.{World, opening_world}
 use Rattle.zworld.specs.Reading.{read, is_fitting}
 use Rattle.zworld.specs.Events.{is_server, is_enabled, run}
-use Rattle.zworld.specs.Settle.{Settling, settle, settled, deliveries}
+use Rattle.zworld.specs.Settle.{Settling, settle, settling_end, deliveries}
 
 -- settling the world of the service
 abbrev pub settling_of : World (KeptState Tree) → ℕ → List Outcome → Settling (KeptState Tree)
@@ -38,7 +38,7 @@ SettlingKeepsItsLimit =
 abbrev pub QuietHasNothingToTake : Type 0
 QuietHasNothingToTake =
     (w : World (KeptState Tree)) (limit : ℕ) (outcomes : List Outcome)
-    → settled (settling_of w limit outcomes) ≡ Quiet
+    → settling_end (settling_of w limit outcomes) ≡ Quiet
     → list_any (is_enabled (settling_of w limit outcomes).world) (deliveries w.master.clients) ≡ false
 
 -- what an event reads as, by an outcome
@@ -72,5 +72,5 @@ EpochsAreFew =
 abbrev pub QuietIsQuiet : Type 0
 QuietIsQuiet =
     (servers clients limit : ℕ) (events : List Event) (outcomes : List Outcome) (from to : Process) → is_server servers ≡ true
-    → settled (settling_of (world_after servers clients events) limit outcomes) ≡ Quiet
+    → settling_end (settling_of (world_after servers clients events) limit outcomes) ≡ Quiet
     → is_enabled (settling_of (world_after servers clients events) limit outcomes).world (Take from to) ≡ false

@@ -85,5 +85,5 @@ settle machine w limit outcomes =
     (with_tries machine (passes machine (deliveries w.master.clients) limit (opening_settling w limit outcomes)) (retry_events w.master.clients))
 
 -- how it ended: at the limit as soon as so many events were done, also where nothing would have been left
-abbrev pub settled : {M : Type 0} → Settling M → Settled
-settled s = if s.left == 0 then Limit else Quiet
+abbrev pub settling_end : {M : Type 0} → Settling M → Settled
+settling_end s = if s.left == 0 then Limit else Quiet

@@ -2,9 +2,7 @@
 -- beforehand. What it keeps is one fact: with what was learnt and whatever follows, the definition stands where the
 -- program stands, with what follows.
 use Rattle.std.specs.Prelude.{◌≡◌, Bool, true, false, ◌&&◌, nat_lt, List, [], ◌∷◌, ◌++◌, suc, ℕ}
-use Rattle.ztree.specs.Tree.{Tree}
-use Rattle.zcalls.specs.Kept.{KeptState}
-use Rattle.zserver.specs.Machine.{Does, kept_tree}
+use Rattle.zserver.specs.Machine.{Does}
 use Rattle.zworld.specs.declared.event.Event.{Event}
 use Rattle.zworld.specs.declared.outcome.Outcome.{Outcome}
 use Rattle.zworld.specs.World.{World}

@@ -28,8 +28,8 @@ after_scenes w [] = w
 after_scenes w (scene ∷ scenes) = after_scenes (after_scene w scene) scenes
 
 -- a scenario with so many servers
-abbrev pub played : ℕ → List Scene → World Counting
-played servers scenes = after_scenes (opening_world counting_machine servers 2) scenes
+abbrev pub scenes_end : ℕ → List Scene → World Counting
+scenes_end servers scenes = after_scenes (opening_world counting_machine servers 2) scenes
 
 -- two of three servers fail at once, between two calls
 abbrev pub two_fail : List Scene

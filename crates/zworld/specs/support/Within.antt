@@ -1,5 +1,5 @@
 -- Worlds in which nobody speaks of, or to, a process that isn't one of the world's.
-use Rattle.std.specs.Prelude.{◌≡◌, ℕ, Bool, true, false, nat_lt, List, Option, None, Some}
+use Rattle.std.specs.Prelude.{◌≡◌, ℕ, Bool, true, false, nat_lt, Option, None, Some}
 use Rattle.std.specs.List.{AllByRecursion}
 use Rattle.zcalls.specs.declared.call.Entry.{Entry}
 use Rattle.zcalls.specs.Lists.{Among}

@@ -10,7 +10,7 @@ ghost use Rattle.zworld.specs.declared.settled.Settled.TheVariants.{Quiet, Limit
 ghost use Rattle.zworld.specs.support.Counter.{create, exists, name_reply, count_reply};
 ghost use Rattle.zworld.specs.declared.outcome.Outcome.TheVariants.{Acted, Stopped, Unheard};
 ghost use Rattle.zworld.specs.Reading.{is_fitting};
-ghost use Rattle.zworld.specs.Settle.{settled};
+ghost use Rattle.zworld.specs.Settle.{settling_end};
 ghost use Rattle.zworld.specs.Laws.{SettlingIsARun, SettlingKeepsItsLimit, QuietHasNothingToTake};
 ghost use Rattle.zworld.specs.support.RunRows.{after, m, s1, s2, c0, c1};
 ghost use Rattle.zworld.specs.support.SettleRows.{settled_after, read_after, two_begin, two_settle};
@@ -19,7 +19,7 @@ ghost use Rattle.zworld.specs.support.SettleRows.{lost_request, lost_state};
 /// The order of the deliveries: link by link, one message from each that has one when its turn comes, pass after pass.
 pub fn settling_goes_link_by_link()
     ensures events { (settled_after 3 two_begin 100 []).events ≡ two_settle }
-    ensures quiet { settled (settled_after 3 two_begin 100 []) ≡ Quiet }
+    ensures quiet { settling_end (settled_after 3 two_begin 100 []) ≡ Quiet }
     ensures seen { (settled_after 3 two_begin 100 []).world.history
         ≡ saw.Begin 0 1 create ∷ saw.Begin 1 1 create ∷ saw.Answer 0 1 (name_reply 0)
         ∷ saw.Answer 1 1 (name_reply 1) ∷ [] }
@@ -28,24 +28,24 @@ pub fn settling_goes_link_by_link()
 /// The limit: it ends settling as soon as so many events were done, also where nothing would have been left.
 pub fn settling_has_a_limit()
     ensures none { (settled_after 3 two_begin 0 []).events ≡ [] }
-    ensures none_is_limit { settled (settled_after 3 [] 0 []) ≡ Limit }
+    ensures none_is_limit { settling_end (settled_after 3 [] 0 []) ≡ Limit }
     ensures some { (settled_after 3 two_begin 3 []).events ≡ take 3 two_settle }
-    ensures exact { settled (settled_after 3 two_begin 12 []) ≡ Limit }
-    ensures one_more { settled (settled_after 3 two_begin 13 []) ≡ Quiet }
+    ensures exact { settling_end (settled_after 3 two_begin 12 []) ≡ Limit }
+    ensures one_more { settling_end (settled_after 3 two_begin 13 []) ≡ Quiet }
 {}
 
 /// When no message is left, each outstanding call is sent once more, and that is an event too.
 pub fn settling_retries_once()
     ensures retried { (settled_after 1 lost_request 100 []).events
         ≡ Retry 1 ∷ Take c1 s1 ∷ Take s1 c1 ∷ [] }
-    ensures counted { settled (settled_after 1 lost_request 3 []) ≡ Limit }
+    ensures counted { settling_end (settled_after 1 lost_request 3 []) ≡ Limit }
     ensures answered { (settled_after 1 lost_request 100 []).world.history
         ≡ saw.Begin 1 1 create ∷ saw.Answer 1 1 (name_reply 0) ∷ [] }
 {}
 
 /// Where the state is lost, settling is quiet in the end, the call stays unanswered, and nobody can join.
 pub fn settling_ends_where_the_state_is_lost()
-    ensures quiet { settled (settled_after 1 lost_state 100 []) ≡ Quiet }
+    ensures quiet { settling_end (settled_after 1 lost_state 100 []) ≡ Quiet }
     ensures unanswered { (settled_after 1 lost_state 100 []).world.history
         ≡ saw.Begin 1 1 exists ∷ [] }
     ensures refused { join_fault (settled_after 1 lost_state 100 []).world.master 3 ≡ Some Lost }
