@@ -3,6 +3,10 @@ use Rattle.std.proofs.Common.{◌≡◌, ℕ, ◌≤◌, Bool, true, false, if�
 use Rattle.zcalls.specs.declared.call.Call.{Call}
 use Rattle.zcalls.specs.declared.call.Entry.{Entry}
 use Rattle.zcalls.specs.declared.reply.Reply.{Reply}
+use Rattle.zcalls.specs.Lists.{Among}
+use Rattle.zcalls.specs.Operation.{Operation}
+use Rattle.zcalls.specs.Kept.{Plain}
+use Rattle.zcalls.proofs.Among.{test}
 use Rattle.zserver.specs.declared.message.Message.TheVariants as message
 use Rattle.zserver.specs.declared.process.Process.{Process}
 use Rattle.zserver.specs.declared.process.Process.TheVariants.{Master, Server, Client}
@@ -11,19 +15,15 @@ use Rattle.zclient.specs.View.{ClientView}
 use Rattle.zclient.specs.Table as client
 use Rattle.zworld.specs.declared.history.CallEvent.{CallEvent}
 use Rattle.zworld.specs.declared.history.CallEvent.TheVariants.{Begin, Answer}
-use Rattle.zcalls.specs.Lists.{Among}
 use Rattle.zworld.specs.History.{History, HasBegun}
-use Rattle.zcalls.specs.Operation.{Operation}
 use Rattle.zworld.specs.Events.{client_took}
-use Rattle.zcalls.specs.Kept.{Plain}
 use Rattle.zlegal.specs.Items.{IsGiven, IsSameEvent}
+use Rattle.zlegal.proofs.lists.Members.{among_left, among_last}
+use Rattle.zlegal.proofs.lists.Distinct.{no_two_last}
 use Rattle.zchain.specs.Flow.{LogMessage}
 use Rattle.zchain.specs.Messages.{IsJustified}
 use Rattle.zchain.specs.Account.{Account}
 use Rattle.zchain.specs.Sound.{IsSound}
-use Rattle.zcalls.proofs.Among.{test}
-use Rattle.zlegal.proofs.lists.Members.{among_left, among_last}
-use Rattle.zlegal.proofs.lists.Distinct.{no_two_last}
 use Rattle.zchain.proofs.links.Links.{at_cases}
 use Rattle.zcalling.proofs.ClientSteps.{with_client, AreGoodCalls, client_sound, in_time_later, answered_later, send_justified}
 

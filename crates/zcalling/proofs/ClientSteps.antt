@@ -4,6 +4,9 @@ use Rattle.zcalls.specs.declared.call.Call.{Call}
 use Rattle.zcalls.specs.declared.call.Call.TheVariants as call
 use Rattle.zcalls.specs.declared.call.Entry.{Entry}
 use Rattle.zcalls.specs.declared.reply.Reply.{Reply}
+use Rattle.zcalls.specs.Lists.{Among}
+use Rattle.zcalls.specs.Operation.{Operation}
+use Rattle.zcalls.specs.Kept.{Plain}
 use Rattle.zserver.specs.declared.message.Message.TheVariants as message
 use Rattle.zserver.specs.declared.process.Process.TheVariants.{Server, Client}
 use Rattle.zserver.specs.View.{Post}
@@ -11,22 +14,19 @@ use Rattle.zclient.specs.View.{ClientView}
 use Rattle.zclient.specs.Table as client
 use Rattle.zworld.specs.declared.history.CallEvent.{CallEvent}
 use Rattle.zworld.specs.declared.history.CallEvent.TheVariants.{Begin, Answer}
-use Rattle.zcalls.specs.Lists.{Among}
 use Rattle.zworld.specs.History.{History, HasBegun}
-use Rattle.zcalls.specs.Operation.{Operation}
 use Rattle.zworld.specs.Links.{put}
 use Rattle.zworld.specs.World.{at}
-use Rattle.zcalls.specs.Kept.{Plain}
 use Rattle.zlegal.specs.Items.{Item, IsAnsweredBy, AreBegunInTime, AreAnsweredInTime, IsSameEvent, EventsDiffer, AreNumbered}
+use Rattle.zlegal.proofs.lists.Members.{among_left, among_right, among_last, among_take}
+use Rattle.zlegal.proofs.lists.Distinct.{no_two_last}
+use Rattle.zlegal.proofs.order.LegalOrders.{given}
 use Rattle.zchain.specs.Flow.{LogWorld, LogMessage}
 use Rattle.zchain.specs.Chain.{IsAhead}
 use Rattle.zchain.specs.Messages.{IsJustified}
 use Rattle.zchain.specs.Account.{Account}
 use Rattle.zchain.specs.Sound.{IsSound, WaitsAreOpen}
-use Rattle.zlegal.proofs.lists.Members.{among_left, among_right, among_last, among_take}
-use Rattle.zlegal.proofs.lists.Distinct.{no_two_last}
 use Rattle.zchain.proofs.links.Links.{put_among, at_cases}
-use Rattle.zlegal.proofs.order.LegalOrders.{given}
 use Rattle.zchain.proofs.links.LaterWorlds.{justified_later}
 
 -- the world after a client has a new view, put messages, and the history is this

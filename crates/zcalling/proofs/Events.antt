@@ -1,28 +1,28 @@
 -- The events of clients, and that a server fails.
 use Rattle.std.proofs.Common.{◌≡◌, ℕ, true, false, List, ◌∷◌, refl, sym, subst, inl}
+use Rattle.zcalls.specs.Lists.{Among}
+use Rattle.zcalls.specs.PlainTree.{plain_tree}
 use Rattle.zserver.specs.declared.message.Message.TheVariants as message
 use Rattle.zserver.specs.declared.process.Process.{Process}
 use Rattle.zserver.specs.declared.process.Process.TheVariants.{Master, Server, Client}
 use Rattle.zclient.specs.Table as client
 use Rattle.zworld.specs.declared.event.Event.TheVariants.{Begin, Retry, Take, Fail}
-use Rattle.zcalls.specs.Lists.{Among}
 use Rattle.zworld.specs.Links.{without_front}
 use Rattle.zworld.specs.World.{at}
 use Rattle.zworld.specs.Events.{acts, front_step}
-use Rattle.zcalls.specs.PlainTree.{plain_tree}
 use Rattle.zchain.specs.Flow.{log_machine, LogMessage}
 use Rattle.zchain.specs.Chain.{IsMember}
 use Rattle.zchain.specs.Account.{Account}
 use Rattle.zchain.specs.Sound.{IsSound}
-use Rattle.zcalling.specs.Laws.{ClientsHear, CallsBegin, CallsAreSentAgain, ServersFail}
 use Rattle.zchain.proofs.links.Links.{at_cases, at_same, front_among}
 use Rattle.zchain.proofs.links.LaterWorlds.{justified_later}
 use Rattle.zchain.proofs.tables.Lasts.{lasts}
 use Rattle.zchain.proofs.steps.Puts.{put_unread, unread_foreign}
-use Rattle.zcalling.proofs.ClientSteps.{begin_sound}
-use Rattle.zcalling.proofs.ClientMessages.{again_sound, message_taken}
 use Rattle.zchain.proofs.steps.Drops.{kept_not_to, dropped_sound}
 use Rattle.zchain.proofs.Events.{where_enabled, quiet_event, front_there}
+use Rattle.zcalling.specs.Laws.{ClientsHear, CallsBegin, CallsAreSentAgain, ServersFail}
+use Rattle.zcalling.proofs.ClientSteps.{begin_sound}
+use Rattle.zcalling.proofs.ClientMessages.{again_sound, message_taken}
 
 -- a client hears
 client_hears : (t : Account) → IsSound plain_tree t → (from : Process) (c : ℕ) (m : LogMessage) (rest : List LogMessage) → t.world.links from (Client c) ≡ m ∷ rest

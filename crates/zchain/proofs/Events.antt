@@ -1,20 +1,20 @@
 -- An event: one that is not enabled changes nothing, most commit nothing, and a message that is taken was the front.
+use Rattle.std.specs.Prelude.{not}
 use Rattle.std.proofs.Common.{◌≡◌, Bool, true, false, List, [], ◌∷◌, ◌++◌, length, refl, sym, ap, ◌∙◌, subst, inl, inr, append-nil}
 use Rattle.std.proofs.Math.Seq.{drop-length}
-use Rattle.std.specs.Prelude.{not}
+use Rattle.zcalls.specs.PlainTree.{plain_tree}
+use Rattle.zcalls.specs.Acts.{after_log, acts_from}
+use Rattle.zcalls.proofs.Among.{test}
 use Rattle.zserver.specs.declared.process.Process.{Process}
 use Rattle.zworld.specs.declared.event.Event.{Event}
 use Rattle.zworld.specs.declared.event.Event.TheVariants.{Take}
 use Rattle.zworld.specs.Events.{front_is, has_failed, is_enabled, acts, front_step}
-use Rattle.zcalls.specs.PlainTree.{plain_tree}
-use Rattle.zchain.specs.Flow.{log_machine, LogWorld, LogMessage}
-use Rattle.zcalls.specs.Acts.{after_log, acts_from}
 use Rattle.zlegal.specs.Items.{all_at_time, new_items}
-use Rattle.zchain.specs.Account.{Account, account_by, next_account}
-use Rattle.zchain.specs.Sound.{IsSound, IsSoundAfter}
-use Rattle.zcalls.proofs.Among.{test}
 use Rattle.zlegal.proofs.lists.Tests.{left_of, right_of, not_true}
 use Rattle.zlegal.proofs.lists.Prefixes.{prefix_same}
+use Rattle.zchain.specs.Flow.{log_machine, LogWorld, LogMessage}
+use Rattle.zchain.specs.Account.{Account, account_by, next_account}
+use Rattle.zchain.specs.Sound.{IsSound, IsSoundAfter}
 
 -- an event that isn't enabled changes nothing
 pub where_enabled : (t : Account) (event : Event) → IsSound plain_tree t

@@ -4,6 +4,8 @@ use Rattle.std.specs.Prelude.{ℕ, if◌then◌else◌, None, Some, List, [], �
 use Rattle.zcalls.specs.declared.call.Call.TheVariants as call
 use Rattle.zcalls.specs.declared.call.Entry.{Entry}
 use Rattle.zcalls.specs.declared.call.Query.{Query}
+use Rattle.zcalls.specs.Kept.{Plain}
+use Rattle.zcalls.specs.Acts.{after_log}
 use Rattle.zserver.specs.declared.message.Message.TheVariants as message
 use Rattle.zserver.specs.declared.process.Process.TheVariants.{Server, Client}
 use Rattle.zserver.specs.View.{ServerView}
@@ -11,10 +13,8 @@ use Rattle.zworld.specs.declared.event.Event.{Event}
 use Rattle.zworld.specs.declared.event.Event.TheVariants.{Take}
 use Rattle.zworld.specs.World.{opening_world}
 use Rattle.zworld.specs.Events.{is_enabled, acts}
-use Rattle.zcalls.specs.Kept.{Plain}
-use Rattle.zchain.specs.Flow.{log_machine, LogWorld, LogMessage, Log}
-use Rattle.zcalls.specs.Acts.{after_log}
 use Rattle.zlegal.specs.Items.{Item, new_items}
+use Rattle.zchain.specs.Flow.{log_machine, LogWorld, LogMessage, Log}
 
 -- the log of a server without successor
 abbrev pub tail_log : ServerView (List Entry) → Log

@@ -1,13 +1,13 @@
 -- The chain as the master has it in mind, the links to and from the master, and what is said of two members.
 use Rattle.std.specs.Prelude.{◌≡◌, ◌⊎◌, ℕ, ◌≤◌, Bool, true, false, ◌&&◌, ◌==◌, if◌then◌else◌, Option, None, Some, List, [], ◌∷◌, is_none}
 use Rattle.zcalls.specs.declared.call.Entry.{Entry}
+use Rattle.zcalls.specs.Lists.{Among}
 use Rattle.zserver.specs.declared.message.Message.TheVariants as message
 use Rattle.zserver.specs.declared.process.Process.TheVariants.{Master, Server}
 use Rattle.zserver.specs.View.{Neighbour}
 use Rattle.zmaster.specs.View.{members, is_among}
-use Rattle.zcalls.specs.Lists.{Among}
-use Rattle.zchain.specs.Flow.{LogWorld, LogMessage, log_at, final_log}
 use Rattle.zlegal.specs.Prefix.{IsPrefix}
+use Rattle.zchain.specs.Flow.{LogWorld, LogMessage, log_at, final_log}
 
 -- what the master told a server that it hasn't taken yet, the first order first
 abbrev pub queue : LogWorld → ℕ → List LogMessage

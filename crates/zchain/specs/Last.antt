@@ -1,10 +1,10 @@
 -- The number of the last entry is the length of the log, in views and in what snapshots hand over.
 use Rattle.std.specs.Prelude.{◌≡◌, ℕ, List, length}
 use Rattle.zcalls.specs.declared.call.Entry.{Entry}
+use Rattle.zcalls.specs.Lists.{Among}
 use Rattle.zserver.specs.declared.message.Message.TheVariants as message
 use Rattle.zserver.specs.declared.process.Process.{Process}
 use Rattle.zserver.specs.View.{ServerView}
-use Rattle.zcalls.specs.Lists.{Among}
 use Rattle.zchain.specs.Flow.{LogWorld, LogMessage, length_of}
 
 -- a view's last number is the length of its log; 0 without one

@@ -1,11 +1,11 @@
 -- What holds before the first event, what each event keeps, and what holds of every list of events by it.
 use Rattle.std.specs.Prelude.{ℕ, List}
+use Rattle.zcalls.specs.PlainTree.{plain_tree}
 use Rattle.zserver.specs.declared.process.Process.{Process}
 use Rattle.zworld.specs.declared.event.Event.{Event}
 use Rattle.zworld.specs.declared.event.Event.TheVariants.{Ignore}
 use Rattle.zworld.specs.World.{opening_world}
 use Rattle.zworld.specs.Events.{run}
-use Rattle.zcalls.specs.PlainTree.{plain_tree}
 use Rattle.zchain.specs.Flow.{log_machine}
 use Rattle.zchain.specs.Last.{LastsAreLengths}
 use Rattle.zchain.specs.Account.{opening_account}

@@ -1,11 +1,11 @@
 -- What is said of each message under way.
 use Rattle.std.specs.Prelude.{◌≡◌, true, List}
 use Rattle.zcalls.specs.declared.call.Call.TheVariants as call
+use Rattle.zcalls.specs.Operation.{operation_of}
 use Rattle.zserver.specs.declared.message.Message.TheVariants as message
 use Rattle.zserver.specs.declared.process.Process.{Process}
 use Rattle.zserver.specs.declared.process.Process.TheVariants.{Master, Server, Client}
 use Rattle.zworld.specs.History.{HasBegun}
-use Rattle.zcalls.specs.Operation.{operation_of}
 use Rattle.zlegal.specs.Items.{Item, IsGiven, AllBegun}
 use Rattle.zchain.specs.Flow.{LogWorld, LogMessage}
 use Rattle.zchain.specs.Chain.{IsOpened}

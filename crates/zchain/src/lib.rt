@@ -4,4 +4,4 @@
 #![tactic(auto)]
 
 pub mod laws;
-pub mod rows;
+mod rows;

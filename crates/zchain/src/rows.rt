@@ -1,4 +1,4 @@
-//! Wrong tables, each refuted by an invariant: each contract is a step after which the invariants don't hold.
+//! Wrong tables, each refuted by an invariant: each contract is a step that loses it.
 
 ghost use Rattle.zchain.specs.support.WrongTables.{
   AnyQueriesAreRefuted,

@@ -5,15 +5,15 @@ use Rattle.zcalls.specs.declared.call.Call.{Call}
 use Rattle.zcalls.specs.declared.call.Call.TheVariants.{Update, Query}
 use Rattle.zcalls.specs.declared.call.Entry.{Entry}
 use Rattle.zcalls.specs.declared.reply.Reply.{Reply}
-use Rattle.zworld.specs.declared.history.CallEvent.{CallEvent}
-use Rattle.zworld.specs.declared.history.CallEvent.TheVariants.{Begin, Answer}
 use Rattle.zcalls.specs.Lists.{Among, NoTwo}
-use Rattle.zworld.specs.History.{History, HasBegun}
 use Rattle.zcalls.specs.Operation.{Operation, operation_of}
-use Rattle.zworld.specs.LegalOrder.{Service, operation_step}
-use Rattle.zclient.specs.View.{ClientView}
 use Rattle.zcalls.specs.Kept.{Plain}
 use Rattle.zcalls.specs.Acts.{after_log, acts_of, acts_from}
+use Rattle.zclient.specs.View.{ClientView}
+use Rattle.zworld.specs.declared.history.CallEvent.{CallEvent}
+use Rattle.zworld.specs.declared.history.CallEvent.TheVariants.{Begin, Answer}
+use Rattle.zworld.specs.History.{History, HasBegun}
+use Rattle.zworld.specs.LegalOrder.{Service, operation_step}
 use Rattle.zlegal.specs.Prefix.{Pairwise}
 
 -- a call that took effect

@@ -1,31 +1,31 @@
 -- The events of the master, and every run: all of it is sound.
-use Rattle.std.proofs.Common.{◌≡◌, ℕ, Bool, true, false, List, ◌∷◌, sym, subst, inl, refl}
 use Rattle.std.specs.Prelude.{is_none}
+use Rattle.std.proofs.Common.{◌≡◌, ℕ, Bool, true, false, List, ◌∷◌, sym, subst, inl, refl}
 use Rattle.zcalls.specs.declared.call.Entry.{Entry}
+use Rattle.zcalls.specs.Lists.{Among}
+use Rattle.zcalls.specs.PlainTree.{plain_tree}
 use Rattle.zserver.specs.declared.message.Message.TheVariants as message
 use Rattle.zserver.specs.declared.process.Process.{Process}
 use Rattle.zserver.specs.declared.process.Process.TheVariants.{Master, Server, Client}
 use Rattle.zmaster.specs.View.{MasterView, is_among}
 use Rattle.zmaster.specs.Table as master
 use Rattle.zworld.specs.declared.event.Event.TheVariants.{Take, Join}
-use Rattle.zcalls.specs.Lists.{Among}
 use Rattle.zworld.specs.Links.{without_front}
 use Rattle.zworld.specs.Events.{front_step, is_server}
-use Rattle.zcalls.specs.PlainTree.{plain_tree}
+use Rattle.zlegal.proofs.lists.Tests.{right_of}
 use Rattle.zchain.specs.Flow.{log_machine, LogMessage}
 use Rattle.zchain.specs.Messages.{IsJustified}
 use Rattle.zchain.specs.Account.{Account}
 use Rattle.zchain.specs.Sound.{IsSound}
-use Rattle.zmending.specs.Laws.{MasterHears, ServersJoin}
 use Rattle.zchain.proofs.links.Links.{front_among}
 use Rattle.zchain.proofs.links.LaterWorlds.{justified_later}
-use Rattle.zmending.proofs.chain.Moves.{world_with_move}
 use Rattle.zchain.proofs.steps.Drops.{kept_not_to, dropped_sound}
+use Rattle.zchain.proofs.Events.{where_enabled, front_there, quiet_event}
+use Rattle.zmending.specs.Laws.{MasterHears, ServersJoin}
+use Rattle.zmending.proofs.chain.Moves.{world_with_move}
 use Rattle.zmending.proofs.chain.StandingChains.{unheard, have_heard, joined_heard}
 use Rattle.zmending.proofs.chain.Departures.{gone_heard}
 use Rattle.zmending.proofs.chain.Joins.{joins_sound}
-use Rattle.zlegal.proofs.lists.Tests.{right_of}
-use Rattle.zchain.proofs.Events.{where_enabled, front_there, quiet_event}
 
 -- what the master does with a message
 heard : (t : Account) → IsSound plain_tree t → (from : Process) (m : LogMessage) → IsJustified t.world t.items from Master m

@@ -2,6 +2,7 @@
 use Rattle.std.proofs.Common.{◌≡◌, List, [], ◌∷◌, sym, ap, ◌∙◌, subst}
 use Rattle.ztree.specs.Tree.{Tree}
 use Rattle.zcalls.specs.Kept.{KeptState}
+use Rattle.zcalls.specs.PlainTree.{plain_tree}
 use Rattle.zserver.specs.Machine.{kept_tree, replay}
 use Rattle.zserver.proofs.Projection.{log_stands_for_machine}
 use Rattle.zworld.specs.declared.event.Event.{Event}
@@ -11,7 +12,6 @@ use Rattle.zworld.specs.Events.{happens, run}
 use Rattle.zworld.specs.Alike.{IsAlike}
 use Rattle.zworld.proofs.Alike.{stay_alike, alike_through}
 use Rattle.zworld.proofs.LogWorlds.{runs_with}
-use Rattle.zcalls.specs.PlainTree.{plain_tree}
 use Rattle.zlegal.proofs.order.PlainTree.{items_explain}
 use Rattle.zchain.specs.Flow.{LogWorld}
 use Rattle.zchain.specs.Account.{opening_account}

@@ -1,14 +1,14 @@
 -- Every event keeps a run sound, so every run is sound, and what is committed stays committed.
 use Rattle.std.proofs.Common.{◌≡◌, Bool, true, false, if◌then◌else◌, List, [], ◌∷◌, ◌++◌, refl, sym, ap, ◌∙◌, subst}
+use Rattle.zcalls.specs.Kept.{Plain}
+use Rattle.zcalls.specs.PlainTree.{plain_tree}
 use Rattle.zserver.specs.declared.process.Process.TheVariants.{Master, Server, Client}
 use Rattle.zworld.specs.declared.event.Event.{Event}
 use Rattle.zworld.specs.declared.event.Event.TheVariants.{Begin, Retry, Take, Ignore, Fail, Join}
 use Rattle.zworld.specs.Events.{is_enabled, acts, run}
-use Rattle.zcalls.specs.Kept.{Plain}
-use Rattle.zcalls.specs.PlainTree.{plain_tree}
-use Rattle.zchain.specs.Flow.{log_machine}
 use Rattle.zlegal.specs.Prefix.{IsPrefix}
 use Rattle.zlegal.proofs.lists.Prefixes.{prefix_same, prefix_of}
+use Rattle.zchain.specs.Flow.{log_machine}
 use Rattle.zchain.specs.Last.{LastsAreLengths}
 use Rattle.zchain.specs.Account.{Account, account_by, next_account, account_after, opening_account}
 use Rattle.zchain.specs.Sound.{IsSound, IsSoundAfter}

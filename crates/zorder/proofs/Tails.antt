@@ -1,25 +1,25 @@
 -- At most one live server is a tail, the log of each member begins that of the one before it, and tails hold what is
 -- committed.
-use Rattle.std.proofs.Common.{◌≡◌, ℕ, Bool, true, false, List, ◌++◌, Option, Some, None, refl, sym, ap, ◌∙◌, subst, inl, inr}
 use Rattle.std.specs.Prelude.{◌&&◌, is_none, is_some}
 use Rattle.std.specs.Option.{option_map}
+use Rattle.std.proofs.Common.{◌≡◌, ℕ, Bool, true, false, List, ◌++◌, Option, Some, None, refl, sym, ap, ◌∙◌, subst, inl, inr}
 use Rattle.zcalls.specs.declared.call.Entry.{Entry}
+use Rattle.zcalls.specs.Lists.{ComesBefore}
+use Rattle.zcalls.specs.PlainTree.{plain_tree}
+use Rattle.zcalls.proofs.ActedLogs.{acted_entries_once}
 use Rattle.zserver.specs.Machine.{kept_tree, replay}
 use Rattle.zserver.specs.View.{ServerView, is_tail}
 use Rattle.zserver.specs.support.Homomorphism.{view_with}
 use Rattle.zserver.proofs.Projection.{log_stands_for_machine}
 use Rattle.zmaster.specs.View.{members}
-use Rattle.zcalls.specs.Lists.{ComesBefore}
 use Rattle.zworld.specs.World.{World, opening_world}
 use Rattle.zworld.specs.Events.{run}
 use Rattle.zworld.specs.support.LogWorld.{world_with}
 use Rattle.zworld.proofs.LogWorlds.{runs_with}
-use Rattle.zcalls.specs.PlainTree.{plain_tree}
 use Rattle.zlegal.specs.Prefix.{IsPrefix}
 use Rattle.zlegal.proofs.lists.Tests.{left_of, right_of}
 use Rattle.zlegal.proofs.lists.Places.{two_places}
 use Rattle.zlegal.proofs.lists.Prefixes.{prefix_of}
-use Rattle.zcalls.proofs.ActedLogs.{acted_entries_once}
 use Rattle.zchain.specs.Flow.{LogWorld, Log, log_at}
 use Rattle.zchain.specs.Account.{Account, opening_account}
 use Rattle.zchain.specs.Sound.{IsSound}

@@ -6,20 +6,20 @@ use Rattle.zcalls.specs.declared.call.Call.TheVariants.{Update, Query}
 use Rattle.zcalls.specs.declared.call.Entry.{Entry}
 use Rattle.zcalls.specs.declared.reply.Reply.{Reply}
 use Rattle.zcalls.specs.Kept.{KeptState, nothing_kept, entry_step}
-use Rattle.zworld.specs.declared.history.CallEvent.TheVariants.{Answer}
 use Rattle.zcalls.specs.Lists.{Among}
 use Rattle.zcalls.specs.Operation.{Operation, operation_of}
-use Rattle.zworld.specs.History.{IsUpdate, HasBegun}
-use Rattle.zworld.specs.LegalOrder.{operation_step}
 use Rattle.zcalls.specs.PlainTree.{plain_tree}
-use Rattle.zworld.specs.PlainTree.{service_of}
 use Rattle.zcalls.specs.Acts.{after_log, acts_from}
-use Rattle.zlegal.specs.Items.{Item, is_update, updates_of, Replays}
 use Rattle.zcalls.proofs.Among.{test}
-use Rattle.zlegal.proofs.lists.Members.{among_take}
-use Rattle.zlegal.proofs.order.LegalOrders.{one_call, given}
 use Rattle.zcalls.proofs.Acting.{Outcome, outcome}
 use Rattle.zcalls.proofs.Acting.Outcome.{Acts, Stays}
+use Rattle.zworld.specs.declared.history.CallEvent.TheVariants.{Answer}
+use Rattle.zworld.specs.History.{IsUpdate, HasBegun}
+use Rattle.zworld.specs.LegalOrder.{operation_step}
+use Rattle.zworld.specs.PlainTree.{service_of}
+use Rattle.zlegal.specs.Items.{Item, is_update, updates_of, Replays}
+use Rattle.zlegal.proofs.lists.Members.{among_take}
+use Rattle.zlegal.proofs.order.LegalOrders.{one_call, given}
 use Rattle.zlegal.proofs.acts.ActedLogs.{after_items, after_calls, acted_leads, items_lead}
 use Rattle.zlegal.proofs.acts.NewItems.{updates_more}
 use Rattle.zchain.specs.Account.{Account}

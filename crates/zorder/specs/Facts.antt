@@ -4,18 +4,18 @@ use Rattle.zcalls.specs.declared.call.Entry.{Entry}
 use Rattle.zcalls.specs.declared.call.Call.TheVariants.{Query}
 use Rattle.zcalls.specs.declared.call.Query.{Query as Question}
 use Rattle.zcalls.specs.declared.reply.Reply.{Reply}
+use Rattle.zcalls.specs.Lists.{Among, ComesBefore, NoTwo}
+use Rattle.zcalls.specs.Operation.{Operation, IsSameCall}
+use Rattle.zcalls.specs.PlainTree.{plain_tree}
+use Rattle.zcalls.specs.Acts.{after_log, acts_of}
 use Rattle.zserver.specs.Machine.{kept_tree}
 use Rattle.zserver.specs.View.{is_tail}
 use Rattle.zmaster.specs.View.{members}
 use Rattle.zworld.specs.declared.event.Event.{Event}
 use Rattle.zworld.specs.declared.history.CallEvent.TheVariants.{Answer}
-use Rattle.zcalls.specs.Lists.{Among, ComesBefore, NoTwo}
-use Rattle.zcalls.specs.Operation.{Operation, IsSameCall}
 use Rattle.zworld.specs.History.{IsUpdate, HasBegun}
 use Rattle.zworld.specs.World.{opening_world}
 use Rattle.zworld.specs.Events.{run}
-use Rattle.zcalls.specs.PlainTree.{plain_tree}
-use Rattle.zcalls.specs.Acts.{after_log, acts_of}
 use Rattle.zlegal.specs.Prefix.{IsPrefix}
 use Rattle.zchain.specs.Flow.{log_at}
 use Rattle.zchain.specs.Account.{Account, account_after, opening_account}

@@ -1,33 +1,33 @@
 -- The event Take at a server, from a client.
-use Rattle.std.proofs.Common.{◌≡◌, ◌⊎◌, ℕ, ◌+◌, true, false, if◌then◌else◌, List, [], ◌∷◌, ◌++◌, length, Option, Some, None, refl, sym, ap, ◌∙◌, subst, inl, inr}
 use Rattle.std.specs.Prelude.{is_none}
+use Rattle.std.proofs.Common.{◌≡◌, ◌⊎◌, ℕ, ◌+◌, true, false, if◌then◌else◌, List, [], ◌∷◌, ◌++◌, length, Option, Some, None, refl, sym, ap, ◌∙◌, subst, inl, inr}
 use Rattle.zcalls.specs.declared.call.Entry.{Entry}
+use Rattle.zcalls.specs.Lists.{Among, ComesBefore}
+use Rattle.zcalls.specs.Kept.{Plain}
 use Rattle.zserver.specs.declared.message.Message.TheVariants as message
 use Rattle.zserver.specs.declared.process.Process.{Process}
 use Rattle.zserver.specs.declared.process.Process.TheVariants.{Server, Client}
 use Rattle.zserver.specs.View.{ServerView, Neighbour}
 use Rattle.zserver.specs.Table.{ServerResult}
 use Rattle.zserver.specs.Table as server
+use Rattle.zserver.specs.support.Cases.{IsAccepted, IsRow, Processes, Forwards, Ignores, Submits, Updates, Asks, Acknowledges, Shows, Turns, Follows, Leads, Ends}
+use Rattle.zserver.proofs.Cases.{server_case}
 use Rattle.zmaster.specs.View.{members}
 use Rattle.zworld.specs.declared.event.Event.TheVariants.{Take}
-use Rattle.zcalls.specs.Lists.{Among, ComesBefore}
 use Rattle.zworld.specs.Links.{without_front}
 use Rattle.zworld.specs.Events.{process_step}
-use Rattle.zcalls.specs.Kept.{Plain}
-use Rattle.zchain.specs.Flow.{log_machine, LogWorld, LogMessage, Log, or_else, log_at, final_log_by, final_log, first_snapshot_by, first_log, length_of}
 use Rattle.zlegal.specs.Prefix.{IsPrefix}
 use Rattle.zlegal.specs.Items.{Item, new_items}
+use Rattle.zlegal.proofs.lists.Tests.{left_of}
+use Rattle.zlegal.proofs.lists.Prefixes.{prefix_same, prefix_append}
+use Rattle.zchain.specs.Flow.{log_machine, LogWorld, LogMessage, Log, or_else, log_at, final_log_by, final_log, first_snapshot_by, first_log, length_of}
 use Rattle.zchain.specs.Last.{HasExactLast}
 use Rattle.zchain.specs.Chain.{IsAhead}
 use Rattle.zchain.specs.Messages.{IsJustified}
 use Rattle.zchain.specs.Account.{Account, tail_log, committed_after, query_items_by, query_items_of_front, query_items, account_by}
 use Rattle.zchain.specs.Sound.{IsSound, IsSoundAfter}
-use Rattle.zlegal.proofs.lists.Tests.{left_of}
-use Rattle.zlegal.proofs.lists.Prefixes.{prefix_same, prefix_append}
 use Rattle.zchain.proofs.links.Links.{at_same}
 use Rattle.zchain.proofs.places.Pairs.{log_member}
-use Rattle.zserver.specs.support.Cases.{IsAccepted, IsRow, Processes, Forwards, Ignores, Submits, Updates, Asks, Acknowledges, Shows, Turns, Follows, Leads, Ends}
-use Rattle.zserver.proofs.Cases.{server_case}
 use Rattle.zchain.proofs.tables.RowViews.{row_sent, row_begun, row_blank}
 use Rattle.zchain.proofs.places.Heads.{head_is_first}
 use Rattle.zchain.proofs.steps.Takes.{with_view, neighbours_stay}

@@ -1,21 +1,21 @@
 -- The events Take at a server, from another server or from a client.
 use Rattle.std.proofs.Common.{◌≡◌, ℕ, false, List, [], ◌∷◌, length, Some, None, refl, ap, ◌∙◌}
 use Rattle.zcalls.specs.declared.call.Query.{Query}
+use Rattle.zcalls.specs.PlainTree.{plain_tree}
 use Rattle.zserver.specs.declared.message.Message.TheVariants as message
 use Rattle.zserver.specs.declared.process.Process.TheVariants.{Server, Client}
 use Rattle.zworld.specs.declared.event.Event.TheVariants.{Take}
 use Rattle.zworld.specs.Events.{front_step}
-use Rattle.zcalls.specs.PlainTree.{plain_tree}
 use Rattle.zchain.specs.Flow.{log_machine, LogMessage, Log}
 use Rattle.zchain.specs.Last.{LastsAreLengths}
 use Rattle.zchain.specs.Account.{Account, tail_log, query_items_of_front, account_by}
 use Rattle.zchain.specs.Sound.{IsSound, IsSoundAfter}
-use Rattle.zserving.specs.Laws.{ServersHearServers, ServersHearClients}
 use Rattle.zchain.proofs.tables.Lasts.{lasts}
+use Rattle.zchain.proofs.Events.{where_enabled, front_there}
+use Rattle.zserving.specs.Laws.{ServersHearServers, ServersHearClients}
 use Rattle.zserving.proofs.ServerMessages.{take_from_server}
 use Rattle.zserving.proofs.ClientMessages.{take_from_client}
 use Rattle.zserving.proofs.Queries.{take_query}
-use Rattle.zchain.proofs.Events.{where_enabled, front_there}
 
 -- a server takes whatever is the front of a link from a server
 pub servers_hear_servers : ServersHearServers

@@ -1,12 +1,13 @@
 -- The event Take at a tail, of a client's query: it becomes an item, and is answered.
+use Rattle.std.specs.Prelude.{is_none}
 use Rattle.std.proofs.Common.{◌≡◌, ℕ, ◌≤◌, true, false, List, [], ◌∷◌, ◌++◌, length, take, Option, Some, None, refl, sym, ap, ◌∙◌, subst, inl, inr, append-nil, arith}
 use Rattle.std.proofs.Math.Seq.{drop-length, take-length}
-use Rattle.std.specs.Prelude.{is_none}
 use Rattle.zcalls.specs.declared.call.Call.TheVariants as call
 use Rattle.zcalls.specs.declared.call.Entry.{Entry}
 use Rattle.zcalls.specs.declared.call.Query.{Query}
 use Rattle.zcalls.specs.declared.reply.Reply.{Reply}
 use Rattle.zcalls.specs.Kept.{nothing_kept, Plain}
+use Rattle.zcalls.specs.Acts.{after_log, acts_from}
 use Rattle.zserver.specs.declared.message.Message.TheVariants as message
 use Rattle.zserver.specs.declared.process.Process.TheVariants.{Server, Client}
 use Rattle.zserver.specs.Machine.{Does}
@@ -20,21 +21,20 @@ use Rattle.zworld.specs.Links.{without_front}
 use Rattle.zworld.specs.World.{at}
 use Rattle.zworld.specs.Events.{process_step, server_does}
 use Rattle.zworld.specs.PlainTree.{service_of}
-use Rattle.zchain.specs.Flow.{log_machine, LogWorld, LogMessage, Log, first_log}
-use Rattle.zcalls.specs.Acts.{after_log, acts_from}
 use Rattle.zlegal.specs.Items.{Item, updates_of, Replays, AreBegunInTime, all_at_time, new_items}
 use Rattle.zlegal.specs.Prefix.{IsPrefix}
+use Rattle.zlegal.proofs.lists.Members.{among_last, among_left, among_mid}
+use Rattle.zlegal.proofs.lists.Distinct.{pairwise_last}
+use Rattle.zlegal.proofs.lists.Prefixes.{prefix_same}
+use Rattle.zlegal.proofs.order.LegalOrders.{in_time_more}
+use Rattle.zlegal.proofs.acts.ActedLogs.{after_items, after_calls, acted_leads, items_lead, replays_more}
+use Rattle.zlegal.proofs.acts.NewItems.{updates_more}
+use Rattle.zchain.specs.Flow.{log_machine, LogWorld, LogMessage, Log, first_log}
 use Rattle.zchain.specs.Last.{HasExactLast}
 use Rattle.zchain.specs.Chain.{IsMember}
 use Rattle.zchain.specs.Account.{Account, tail_log, committed_after, query_items_by, query_items_of_front, query_items, account_by}
 use Rattle.zchain.specs.Sound.{IsSound, IsSoundAfter, TailHoldsCommitted}
-use Rattle.zlegal.proofs.lists.Members.{among_last, among_left, among_mid}
-use Rattle.zlegal.proofs.lists.Distinct.{pairwise_last}
-use Rattle.zlegal.proofs.lists.Prefixes.{prefix_same}
 use Rattle.zchain.proofs.links.Links.{at_same, at_cases}
-use Rattle.zlegal.proofs.order.LegalOrders.{in_time_more}
-use Rattle.zlegal.proofs.acts.ActedLogs.{after_items, after_calls, acted_leads, items_lead, replays_more}
-use Rattle.zlegal.proofs.acts.NewItems.{updates_more}
 use Rattle.zchain.proofs.places.Pairs.{log_member}
 use Rattle.zchain.proofs.steps.Puts.{account_with_put, put_unread, unread_foreign}
 use Rattle.zchain.proofs.steps.Takes.{with_view, committed_view}

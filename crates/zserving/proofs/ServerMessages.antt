@@ -1,39 +1,39 @@
 -- The event Take at a server, from another server: what is put behind the new view.
-use Rattle.std.proofs.Common.{◌≡◌, ℕ, ◌+◌, false, if◌then◌else◌, List, [], ◌∷◌, ◌++◌, length, Some, None, refl, sym, ap, ◌∙◌, subst, inl, inr}
 use Rattle.std.specs.Prelude.{is_none}
+use Rattle.std.proofs.Common.{◌≡◌, ℕ, ◌+◌, false, if◌then◌else◌, List, [], ◌∷◌, ◌++◌, length, Some, None, refl, sym, ap, ◌∙◌, subst, inl, inr}
 use Rattle.zcalls.specs.declared.call.Entry.{Entry}
 use Rattle.zcalls.specs.declared.reply.Reply.{Reply}
+use Rattle.zcalls.specs.Lists.{Among}
+use Rattle.zcalls.specs.Kept.{Plain}
+use Rattle.zcalls.specs.Operation.{operation_of}
+use Rattle.zcalls.specs.Acts.{acts_of}
+use Rattle.zcalls.proofs.Among.{among_cases}
+use Rattle.zcalls.proofs.ActedLogs.{reply_is_acted}
 use Rattle.zserver.specs.declared.message.Message.TheVariants as message
 use Rattle.zserver.specs.declared.process.Process.{Process}
 use Rattle.zserver.specs.declared.process.Process.TheVariants.{Master, Server}
 use Rattle.zserver.specs.View.{ServerView, Post}
 use Rattle.zserver.specs.Table.{ServerResult, ack_posts, answer_posts}
 use Rattle.zserver.specs.Table as server
+use Rattle.zserver.specs.support.Cases.{IsAccepted, IsRow, Processes, Forwards, Ignores, Submits, Updates, Asks, Acknowledges, Shows, Turns, Follows, Leads, Ends}
+use Rattle.zserver.proofs.Cases.{server_case}
 use Rattle.zworld.specs.declared.event.Event.TheVariants.{Take}
-use Rattle.zcalls.specs.Lists.{Among}
 use Rattle.zworld.specs.History.{HasBegun}
 use Rattle.zworld.specs.Links.{without_front}
 use Rattle.zworld.specs.Events.{process_step}
-use Rattle.zcalls.specs.Kept.{Plain}
-use Rattle.zchain.specs.Flow.{log_machine, LogWorld, LogMessage, length_of}
-use Rattle.zcalls.specs.Operation.{operation_of}
 use Rattle.zlegal.specs.Items.{Item, IsGiven, new_items}
-use Rattle.zcalls.specs.Acts.{acts_of}
+use Rattle.zlegal.proofs.acts.NewItems.{update_among}
+use Rattle.zchain.specs.Flow.{log_machine, LogWorld, LogMessage, length_of}
 use Rattle.zchain.specs.Last.{HasExactLast}
 use Rattle.zchain.specs.Chain.{IsMember, IsOpened}
 use Rattle.zchain.specs.Messages.{IsJustified}
 use Rattle.zchain.specs.Account.{Account, tail_log, committed_after, account_by}
 use Rattle.zchain.specs.Sound.{IsSound, IsSoundAfter}
-use Rattle.zcalls.proofs.Among.{among_cases}
 use Rattle.zchain.proofs.links.Links.{at_same}
-use Rattle.zcalls.proofs.ActedLogs.{reply_is_acted}
 use Rattle.zchain.proofs.places.Pairs.{log_member}
-use Rattle.zserver.specs.support.Cases.{IsAccepted, IsRow, Processes, Forwards, Ignores, Submits, Updates, Asks, Acknowledges, Shows, Turns, Follows, Leads, Ends}
-use Rattle.zserver.proofs.Cases.{server_case}
 use Rattle.zchain.proofs.steps.Sends.{put_sent}
-use Rattle.zlegal.proofs.acts.NewItems.{update_among}
-use Rattle.zserving.proofs.ServerViews.{good_view, good_first_log}
 use Rattle.zchain.proofs.steps.ServerSteps.{account_with_puts, puts_at_once, puts_unread, acks_unread, answers_unread, account_with_view, view_step_sound, view_step_begins, after_puts, IsUnreadAndJustified}
+use Rattle.zserving.proofs.ServerViews.{good_view, good_first_log}
 
 -- the view after an entry was accepted where there is no successor commits the entry
 module _ {P : Type 0} (plain : Plain P) where

@@ -1,24 +1,24 @@
 -- A server takes a message of another server: its new view is good.
-use Rattle.std.proofs.Common.{◌≡◌, ℕ, true, List, ◌∷◌, Option, Some, None, refl, sym, ap, ◌∙◌, subst, inl}
 use Rattle.std.specs.Prelude.{is_none}
+use Rattle.std.proofs.Common.{◌≡◌, ℕ, true, List, ◌∷◌, Option, Some, None, refl, sym, ap, ◌∙◌, subst, inl}
 use Rattle.zcalls.specs.declared.call.Entry.{Entry}
+use Rattle.zcalls.specs.Lists.{Among}
+use Rattle.zcalls.specs.Kept.{Plain}
 use Rattle.zserver.specs.declared.process.Process.TheVariants.{Server}
 use Rattle.zserver.specs.View.{Neighbour}
 use Rattle.zserver.specs.Table.{ServerResult, server_step}
-use Rattle.zcalls.specs.Lists.{Among}
-use Rattle.zcalls.specs.Kept.{Plain}
-use Rattle.zchain.specs.Flow.{log_machine, LogWorld, LogMessage, first_log}
+use Rattle.zserver.proofs.Cases.{server_case}
 use Rattle.zlegal.specs.Prefix.{IsPrefix}
+use Rattle.zlegal.proofs.lists.Tests.{left_of, right_of}
+use Rattle.zchain.specs.Flow.{log_machine, LogWorld, LogMessage, first_log}
 use Rattle.zchain.specs.Last.{HasExactLast}
 use Rattle.zchain.specs.Messages.{IsJustified}
 use Rattle.zchain.specs.Account.{Account}
 use Rattle.zchain.specs.Sound.{IsSound}
-use Rattle.zlegal.proofs.lists.Tests.{left_of, right_of}
-use Rattle.zserver.proofs.Cases.{server_case}
 use Rattle.zchain.proofs.tables.RowViews.{row_sent, row_begun, row_blank}
 use Rattle.zchain.proofs.steps.Takes.{takes_stays, neighbours_stay, with_view}
-use Rattle.zserving.proofs.TakerLogs.{taker_grows, final_log_taker, first_log_taker}
 use Rattle.zchain.proofs.steps.Views.{IsGoodView}
+use Rattle.zserving.proofs.TakerLogs.{taker_grows, final_log_taker, first_log_taker}
 
 none_is : (pred : Option Neighbour) → is_none pred ≡ true → (p k : ℕ) → pred ≡ Some (p, k) → ⊥
 none_is None h p k e = cc

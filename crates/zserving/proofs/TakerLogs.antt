@@ -1,18 +1,18 @@
 -- A server takes a message of another server: what it would hold in the end stays, and what it shows first grows.
 use Rattle.std.proofs.Common.{◌≡◌, ◌⊎◌, ℕ, ◌==◌, List, ◌∷◌, drop, Option, Some, None, refl, sym, ap, ◌∙◌, subst, inl, inr, eqb-true, eq-eqb}
 use Rattle.zcalls.specs.declared.call.Entry.{Entry}
+use Rattle.zcalls.specs.Kept.{Plain}
+use Rattle.zcalls.proofs.Among.{test}
 use Rattle.zserver.specs.declared.process.Process.TheVariants.{Server}
 use Rattle.zserver.specs.View.{ServerView, Neighbour}
 use Rattle.zserver.specs.Table.{server_step}
-use Rattle.zcalls.specs.Kept.{Plain}
-use Rattle.zchain.specs.Flow.{log_machine, LogWorld, LogMessage, Log, log_with_message, flow, snapshot_of, first_snapshot, or_else, log_at, final_log_by, final_log, first_snapshot_by, first_log}
+use Rattle.zserver.proofs.Cases.{server_case}
 use Rattle.zlegal.specs.Prefix.{IsPrefix}
-use Rattle.zchain.specs.Last.{HasExactLast}
-use Rattle.zcalls.proofs.Among.{test}
 use Rattle.zlegal.proofs.lists.Prefixes.{prefix_same}
+use Rattle.zchain.specs.Flow.{log_machine, LogWorld, LogMessage, Log, log_with_message, flow, snapshot_of, first_snapshot, or_else, log_at, final_log_by, final_log, first_snapshot_by, first_log}
+use Rattle.zchain.specs.Last.{HasExactLast}
 use Rattle.zchain.proofs.flow.Flow.{Grows, flowed_grows, flowed_first}
 use Rattle.zchain.proofs.links.Links.{at_same}
-use Rattle.zserver.proofs.Cases.{server_case}
 use Rattle.zchain.proofs.steps.Takes.{takes_flows, takes_stays, neighbours_stay, front_here, front_not_from, with_view}
 
 -- a predecessor is this server, or isn't

@@ -1,10 +1,10 @@
 -- A message that is justified stays so: the history and the items grow, servers fail, and epochs are only opened.
 use Rattle.std.proofs.Common.{◌≡◌, ℕ, true, List}
+use Rattle.zcalls.specs.Lists.{Among}
+use Rattle.zcalls.specs.Operation.{Operation, operation_of}
 use Rattle.zserver.specs.declared.message.Message.TheVariants as message
 use Rattle.zserver.specs.declared.process.Process.{Process}
 use Rattle.zserver.specs.declared.process.Process.TheVariants.{Master, Server, Client}
-use Rattle.zcalls.specs.Lists.{Among}
-use Rattle.zcalls.specs.Operation.{Operation, operation_of}
 use Rattle.zworld.specs.History.{HasBegun}
 use Rattle.zlegal.specs.Items.{Item}
 use Rattle.zchain.specs.Flow.{LogWorld, LogMessage}

@@ -1,13 +1,13 @@
 -- What is under way after messages are put or a front is taken, and a family after one value is replaced.
-use Rattle.std.proofs.Common.{◌≡◌, ◌⊎◌, ℕ, true, false, cond, ◌==◌, List, [], ◌∷◌, ◌++◌, drop, map, refl, sym, ap, subst, inl, inr, eqb-true, eq-eqb}
 use Rattle.std.specs.Prelude.{◌&&◌}
+use Rattle.std.proofs.Common.{◌≡◌, ◌⊎◌, ℕ, true, false, cond, ◌==◌, List, [], ◌∷◌, ◌++◌, drop, map, refl, sym, ap, subst, inl, inr, eqb-true, eq-eqb}
+use Rattle.zcalls.specs.Lists.{Among}
+use Rattle.zcalls.proofs.Among.{test, among_cases}
 use Rattle.zserver.specs.declared.process.Process.{Process}
 use Rattle.zserver.specs.declared.process.Process.TheVariants.{Master, Server, Client}
 use Rattle.zserver.specs.View.{MessageOf, Post}
-use Rattle.zcalls.specs.Lists.{Among}
 use Rattle.zworld.specs.Links.{Links, is_same, addressed, put, without_front}
 use Rattle.zworld.specs.World.{at}
-use Rattle.zcalls.proofs.Among.{test, among_cases}
 
 -- one process
 pub same_process : (p q : Process) → is_same p q ≡ true → p ≡ q

@@ -1,15 +1,15 @@
 -- A member with a log and without predecessor is the first of the chain.
-use Rattle.std.proofs.Common.{◌≡◌, ℕ, false, ◌==◌, List, [], ◌∷◌, map, Option, Some, None, sym, ap, ◌∙◌, subst, inl, inr, eqb-true}
 use Rattle.std.specs.Prelude.{◌&&◌, is_none}
+use Rattle.std.proofs.Common.{◌≡◌, ℕ, false, ◌==◌, List, [], ◌∷◌, map, Option, Some, None, sym, ap, ◌∙◌, subst, inl, inr, eqb-true}
 use Rattle.zcalls.specs.declared.call.Entry.{Entry}
+use Rattle.zcalls.specs.Lists.{ComesBefore, NoTwo}
+use Rattle.zcalls.proofs.Among.{test}
 use Rattle.zserver.specs.View.{Neighbour}
 use Rattle.zmaster.specs.View.{members}
-use Rattle.zcalls.specs.Lists.{ComesBefore, NoTwo}
+use Rattle.zlegal.proofs.lists.Places.{before_second}
 use Rattle.zchain.specs.Flow.{LogWorld, log_at}
 use Rattle.zchain.specs.Chain.{Place, place_from, queue, IsPast, IsMember, LeadsTo, is_fresh}
 use Rattle.zchain.specs.Sound.{OrdersLead, AreDistinct}
-use Rattle.zcalls.proofs.Among.{test}
-use Rattle.zlegal.proofs.lists.Places.{before_second}
 use Rattle.zchain.proofs.places.Orders.{settled}
 use Rattle.zchain.proofs.places.Pairs.{has_place}
 

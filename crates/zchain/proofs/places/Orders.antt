@@ -1,9 +1,9 @@
 -- Orders that lead from one predecessor to another, and places in the chain.
 use Rattle.std.proofs.Common.{◌≡◌, ◌⊎◌, ℕ, Bool, true, false, cond, ◌==◌, List, [], ◌∷◌, ◌++◌, Option, Some, None, refl, sym, ap, ◌∙◌, subst, inl, inr, eqb-true}
+use Rattle.zcalls.proofs.Among.{test}
 use Rattle.zserver.specs.View.{Neighbour}
 use Rattle.zchain.specs.Flow.{LogMessage}
 use Rattle.zchain.specs.Chain.{Place, turn_of, LeadsTo, place_behind, place_from}
-use Rattle.zcalls.proofs.Among.{test}
 
 -- a server whose predecessor isn't past leads nowhere else
 settled_by : (Past : Place → Type 0) (pred target : Place) (more : List LogMessage) → (Past pred → ⊥) → (LeadsTo Past false pred more target → pred ≡ target)

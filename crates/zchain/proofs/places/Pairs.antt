@@ -1,15 +1,15 @@
 -- Members and their predecessors: a member whose predecessor is a member has it in the master's mind too.
-use Rattle.std.proofs.Common.{◌≡◌, ◌⊎◌, ℕ, false, ◌==◌, List, [], ◌∷◌, ◌++◌, map, Option, Some, None, refl, sym, ap, ◌∙◌, subst, inl, inr, eq-eqb}
 use Rattle.std.specs.Prelude.{◌&&◌, is_none}
+use Rattle.std.proofs.Common.{◌≡◌, ◌⊎◌, ℕ, false, ◌==◌, List, [], ◌∷◌, ◌++◌, map, Option, Some, None, refl, sym, ap, ◌∙◌, subst, inl, inr, eq-eqb}
 use Rattle.zcalls.specs.declared.call.Entry.{Entry}
+use Rattle.zcalls.specs.Lists.{Among, ComesBefore, NoTwo}
+use Rattle.zcalls.proofs.Among.{test}
 use Rattle.zserver.specs.View.{ServerView, Neighbour}
 use Rattle.zmaster.specs.View.{members, is_among}
-use Rattle.zcalls.specs.Lists.{Among, ComesBefore, NoTwo}
+use Rattle.zlegal.proofs.lists.Places.{stands_before, before_next}
 use Rattle.zchain.specs.Flow.{LogWorld, Log, log_at}
 use Rattle.zchain.specs.Chain.{Place, place_behind, place_from, queue, IsPair, IsPast, IsMember, LeadsTo, is_fresh}
 use Rattle.zchain.specs.Sound.{OrdersLead, AreDistinct, UnusedAreBlank, LiveAreMembers}
-use Rattle.zcalls.proofs.Among.{test}
-use Rattle.zlegal.proofs.lists.Places.{stands_before, before_next}
 use Rattle.zchain.proofs.places.Orders.{settled, place_splits_chain}
 
 -- a server that lives and has a log is a member

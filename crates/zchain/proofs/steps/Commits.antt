@@ -1,29 +1,29 @@
 -- The tail argument: a member that has no successor after its step commits its whole log.
-use Rattle.std.proofs.Common.{◌≡◌, ◌⊎◌, ℕ, true, ◌==◌, List, [], ◌++◌, length, Option, Some, None, sym, ap, ◌∙◌, subst, inl, inr, eqb-true, append-nil}
 use Rattle.std.specs.Prelude.{is_none}
+use Rattle.std.proofs.Common.{◌≡◌, ◌⊎◌, ℕ, true, ◌==◌, List, [], ◌++◌, length, Option, Some, None, sym, ap, ◌∙◌, subst, inl, inr, eqb-true, append-nil}
 use Rattle.zcalls.specs.declared.call.Entry.{Entry}
+use Rattle.zcalls.specs.Lists.{Among, ComesBefore}
+use Rattle.zcalls.specs.Kept.{Plain}
+use Rattle.zcalls.proofs.Among.{test}
 use Rattle.zserver.specs.declared.process.Process.{Process}
 use Rattle.zserver.specs.declared.process.Process.TheVariants.{Server}
 use Rattle.zserver.specs.View.{ServerView, Neighbour}
 use Rattle.zmaster.specs.View.{members}
-use Rattle.zcalls.specs.Lists.{Among, ComesBefore}
-use Rattle.zcalls.specs.Kept.{Plain}
 use Rattle.zlegal.specs.Prefix.{IsPrefix}
 use Rattle.zlegal.specs.Items.{Item, AllBegun, new_items}
+use Rattle.zlegal.proofs.lists.Members.{among_left}
+use Rattle.zlegal.proofs.lists.Prefixes.{prefix_same, prefix_of}
+use Rattle.zlegal.proofs.acts.NewItems.{grown_committed, grown_replays, grown_rises, grown_in_time, grown_answered}
+use Rattle.zlegal.proofs.lists.Places.{two_places}
 use Rattle.zchain.specs.Flow.{LogWorld, Log, or_else, log_at, final_log_by, final_log, first_snapshot_by, first_log}
 use Rattle.zchain.specs.Chain.{IsAhead, IsMember}
 use Rattle.zchain.specs.Account.{Account}
 use Rattle.zchain.specs.Sound.{IsSound, AllShowCommitted, TailHoldsCommitted}
-use Rattle.zcalls.proofs.Among.{test}
-use Rattle.zlegal.proofs.lists.Members.{among_left}
-use Rattle.zlegal.proofs.lists.Prefixes.{prefix_same, prefix_of}
 use Rattle.zchain.proofs.flow.Flow.{flow_below, IsBelow}
 use Rattle.zchain.proofs.links.Links.{at_same, at_other}
 use Rattle.zchain.proofs.steps.Sends.{below_some, final_log_of_log}
 use Rattle.zchain.proofs.steps.Takes.{with_view, first_log_elsewhere}
 use Rattle.zchain.proofs.steps.Views.{AreGoodLists}
-use Rattle.zlegal.proofs.acts.NewItems.{grown_committed, grown_replays, grown_rises, grown_in_time, grown_answered}
-use Rattle.zlegal.proofs.lists.Places.{two_places}
 
 -- who shows a log could have one
 pub final_log_of_first_log : (w : LogWorld) (s : ℕ) (log : List Entry) → first_log w s ≡ Some log → (more : List Entry) × (final_log w s ≡ Some more) × IsPrefix log more

@@ -1,7 +1,10 @@
 -- A front is gone that no server reads: one of the master's, or a request. Nothing else changes.
-use Rattle.std.proofs.Common.{◌≡◌, ℕ, Bool, true, false, List, [], ◌∷◌, drop, Option, Some, None, refl, sym, ap, ◌∙◌, subst, inl, inr}
 use Rattle.std.specs.Prelude.{◌&&◌, not}
+use Rattle.std.proofs.Common.{◌≡◌, ℕ, Bool, true, false, List, [], ◌∷◌, drop, Option, Some, None, refl, sym, ap, ◌∙◌, subst, inl, inr}
 use Rattle.zcalls.specs.declared.call.Entry.{Entry}
+use Rattle.zcalls.specs.Kept.{Plain}
+use Rattle.zcalls.specs.PlainTree.{plain_tree}
+use Rattle.zcalls.proofs.Among.{test}
 use Rattle.zserver.specs.declared.message.Message.TheVariants as message
 use Rattle.zserver.specs.declared.process.Process.{Process}
 use Rattle.zserver.specs.declared.process.Process.TheVariants.{Master, Server}
@@ -9,15 +12,12 @@ use Rattle.zserver.specs.View.{Neighbour}
 use Rattle.zworld.specs.declared.event.Event.TheVariants.{Ignore}
 use Rattle.zworld.specs.Links.{is_same, without_front}
 use Rattle.zworld.specs.Events.{front_is, is_request, has_failed}
-use Rattle.zcalls.specs.Kept.{Plain}
-use Rattle.zcalls.specs.PlainTree.{plain_tree}
+use Rattle.zlegal.proofs.lists.Tests.{left_of, right_of}
 use Rattle.zchain.specs.Flow.{LogWorld, LogMessage, Log, flow, first_snapshot, or_else, log_at, final_log_by, first_snapshot_by}
 use Rattle.zchain.specs.Chain.{IsAhead, IsOpened, Place, IsPast, LeadsTo, is_fresh, HasDistinctEpochs, HasNoTailOrderBehind}
 use Rattle.zchain.specs.Account.{Account}
 use Rattle.zchain.specs.Sound.{IsSound}
 use Rattle.zchain.specs.Laws.{RequestsAreLost}
-use Rattle.zcalls.proofs.Among.{test}
-use Rattle.zlegal.proofs.lists.Tests.{left_of, right_of}
 use Rattle.zchain.proofs.links.Links.{front_among, same_process}
 use Rattle.zchain.proofs.links.LaterWorlds.{justified_later}
 use Rattle.zchain.proofs.steps.Takes.{front_not_to}

@@ -1,22 +1,22 @@
 -- The opening is sound.
-use Rattle.std.proofs.Common.{◌≡◌, ◌≢◌, ◌⊎◌, ℕ, zero, suc, ◌+◌, ◌-◌, ◌<◌, ◌≤◌, true, false, if◌then◌else◌, nat_lt, ◌==◌, List, [], ◌∷◌, map, Option, Some, None, refl, sym, ap, ◌∙◌, subst, inl, inr, arith, eqb-true, eq-eqb, le-ltb, ne_eqb}
-use Rattle.std.proofs.lemmas.Bool.Decides.{nat_tests}
 use Rattle.std.specs.Prelude.{is_none}
 use Rattle.std.specs.List.{range_with_len}
+use Rattle.std.proofs.Common.{◌≡◌, ◌≢◌, ◌⊎◌, ℕ, zero, suc, ◌+◌, ◌-◌, ◌<◌, ◌≤◌, true, false, if◌then◌else◌, nat_lt, ◌==◌, List, [], ◌∷◌, map, Option, Some, None, refl, sym, ap, ◌∙◌, subst, inl, inr, arith, eqb-true, eq-eqb, le-ltb, ne_eqb}
+use Rattle.std.proofs.lemmas.Bool.Decides.{nat_tests}
 use Rattle.zcalls.specs.declared.call.Entry.{Entry}
+use Rattle.zcalls.specs.Lists.{Among, NoTwo}
+use Rattle.zcalls.specs.Kept.{Plain}
+use Rattle.zcalls.proofs.Among.{test}
 use Rattle.zserver.specs.View.{ServerView, Neighbour, spare, member}
 use Rattle.zmaster.specs.View.{is_among, members}
-use Rattle.zcalls.specs.Lists.{Among, NoTwo}
 use Rattle.zworld.specs.World.{opening_world}
-use Rattle.zcalls.specs.Kept.{Plain}
-use Rattle.zchain.specs.Flow.{log_machine, LogWorld, Log, log_at, final_log_by, final_log}
 use Rattle.zlegal.specs.Prefix.{Pairwise}
+use Rattle.zlegal.proofs.lists.Prefixes.{prefix_nil}
+use Rattle.zlegal.proofs.lists.Places.{of_pairwise}
+use Rattle.zchain.specs.Flow.{log_machine, LogWorld, Log, log_at, final_log_by, final_log}
 use Rattle.zchain.specs.Chain.{Place, place_behind, place_from, IsBehind, IsOpened}
 use Rattle.zchain.specs.Account.{opening_account}
 use Rattle.zchain.specs.Sound.{IsSound}
-use Rattle.zcalls.proofs.Among.{test}
-use Rattle.zlegal.proofs.lists.Prefixes.{prefix_nil}
-use Rattle.zlegal.proofs.lists.Places.{of_pairwise}
 
 -- numbers in a range
 in_range : (a n s : ℕ) → Among s (range_with_len a n) → (a ≤ s) × (s < a + n)

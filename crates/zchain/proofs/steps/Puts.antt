@@ -1,19 +1,19 @@
 -- A server puts one message: what nobody reads changes nothing, and an entry of its own log keeps the order of the chain.
 use Rattle.std.proofs.Common.{◌≡◌, ◌⊎◌, ℕ, List, [], ◌∷◌, ◌++◌, Option, Some, None, refl, sym, ap, ◌∙◌, subst, inl, inr, append-nil}
 use Rattle.zcalls.specs.declared.call.Entry.{Entry}
+use Rattle.zcalls.specs.Kept.{Plain}
+use Rattle.zcalls.proofs.Among.{test}
 use Rattle.zserver.specs.declared.message.Message.TheVariants as message
 use Rattle.zserver.specs.declared.process.Process.{Process}
 use Rattle.zserver.specs.declared.process.Process.TheVariants.{Server}
 use Rattle.zserver.specs.View.{MessageOf, Post, Neighbour}
 use Rattle.zworld.specs.Links.{Links, is_same, put}
-use Rattle.zcalls.specs.Kept.{Plain}
 use Rattle.zlegal.specs.Items.{Item}
 use Rattle.zchain.specs.Flow.{LogWorld, LogMessage, Log, flow, snapshot_of, first_snapshot, or_else, log_at, final_log_by, final_log, first_snapshot_by, first_log}
 use Rattle.zchain.specs.Chain.{IsAhead}
 use Rattle.zchain.specs.Messages.{IsJustified}
 use Rattle.zchain.specs.Account.{Account}
 use Rattle.zchain.specs.Sound.{IsSound, ChainIsOrdered, AllAreJustified}
-use Rattle.zcalls.proofs.Among.{test}
 use Rattle.zchain.proofs.flow.Flow.{flow_more, first_more, IsForeign}
 use Rattle.zchain.proofs.links.Links.{same_process, put_among}
 

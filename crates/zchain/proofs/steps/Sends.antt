@@ -1,22 +1,22 @@
 -- A server puts an entry of its own log to another: the order of the chain stays.
 use Rattle.std.proofs.Common.{◌≡◌, ℕ, List, [], ◌∷◌, ◌==◌, append-nil, Option, Some, None, refl, sym, ap, ◌∙◌, subst, inl, inr}
 use Rattle.zcalls.specs.declared.call.Entry.{Entry}
+use Rattle.zcalls.specs.Lists.{ComesBefore}
+use Rattle.zcalls.specs.Kept.{Plain}
+use Rattle.zcalls.specs.Operation.{operation_of}
+use Rattle.zcalls.proofs.Among.{test}
 use Rattle.zserver.specs.declared.message.Message.TheVariants as message
 use Rattle.zserver.specs.declared.process.Process.TheVariants.{Server}
 use Rattle.zserver.specs.View.{Neighbour}
 use Rattle.zmaster.specs.View.{members}
-use Rattle.zcalls.specs.Lists.{ComesBefore}
 use Rattle.zworld.specs.History.{HasBegun}
-use Rattle.zcalls.specs.Kept.{Plain}
-use Rattle.zcalls.specs.Operation.{operation_of}
 use Rattle.zlegal.specs.Prefix.{IsPrefix, IsEntry}
+use Rattle.zlegal.proofs.lists.Places.{before_second}
+use Rattle.zlegal.proofs.lists.Prefixes.{prefix_of}
 use Rattle.zchain.specs.Flow.{LogWorld, LogMessage, Log, log_with_message, flow, or_else, log_at, final_log_by, final_log, first_snapshot_by}
 use Rattle.zchain.specs.Chain.{IsAhead, IsOpened, IsMember}
 use Rattle.zchain.specs.Account.{Account}
 use Rattle.zchain.specs.Sound.{IsSound, ChainIsOrdered, OrdersLead, AreDistinct}
-use Rattle.zcalls.proofs.Among.{test}
-use Rattle.zlegal.proofs.lists.Places.{before_second}
-use Rattle.zlegal.proofs.lists.Prefixes.{prefix_of}
 use Rattle.zchain.proofs.flow.Flow.{flow_more, flow_below, IsBelow, good_update}
 use Rattle.zchain.proofs.steps.Puts.{put_one, with_put, account_with_put, ahead_put, justified_put, first_log_put}
 use Rattle.zchain.proofs.places.Pairs.{settled_pred, pair_next}

@@ -1,27 +1,27 @@
 -- A server takes a message that isn't the master's: the step of its view is sound, and so is what is put that nobody reads.
+use Rattle.std.specs.Prelude.{is_none}
 use Rattle.std.proofs.Common.{◌≡◌, ℕ, true, false, List, [], ◌∷◌, ◌++◌, length, Option, Some, None, refl, sym, ap, ◌∙◌, subst, inl, inr, append-nil, append_assoc}
 use Rattle.std.proofs.Math.Seq.{drop-length}
-use Rattle.std.specs.Prelude.{is_none}
 use Rattle.zcalls.specs.declared.call.Entry.{Entry}
 use Rattle.zcalls.specs.declared.reply.Reply.{Reply}
+use Rattle.zcalls.specs.Lists.{Among}
+use Rattle.zcalls.specs.Kept.{Plain}
+use Rattle.zcalls.specs.Acts.{after_log, acts_from}
+use Rattle.zcalls.proofs.Among.{test}
 use Rattle.zserver.specs.declared.process.Process.{Process}
 use Rattle.zserver.specs.declared.process.Process.TheVariants.{Master, Server}
 use Rattle.zserver.specs.View.{ServerView, Neighbour, Post}
 use Rattle.zserver.specs.Table.{ack_posts, answer_posts}
 use Rattle.zmaster.specs.View.{is_among}
-use Rattle.zcalls.specs.Lists.{Among}
 use Rattle.zworld.specs.Links.{Links, is_same, addressed, put}
-use Rattle.zcalls.specs.Kept.{Plain}
-use Rattle.zcalls.specs.Acts.{after_log, acts_from}
 use Rattle.zlegal.specs.Prefix.{IsPrefix}
 use Rattle.zlegal.specs.Items.{Item, IsGiven, all_at_time, new_items}
+use Rattle.zlegal.proofs.lists.Prefixes.{prefix_of, prefix_same}
 use Rattle.zchain.specs.Flow.{LogWorld, Log, or_else, first_snapshot_by, first_log}
 use Rattle.zchain.specs.Chain.{IsMember}
 use Rattle.zchain.specs.Messages.{IsJustified}
 use Rattle.zchain.specs.Account.{Account, tail_log, committed_after}
 use Rattle.zchain.specs.Sound.{IsSound, IsSoundAfter, TailHoldsCommitted}
-use Rattle.zcalls.proofs.Among.{test}
-use Rattle.zlegal.proofs.lists.Prefixes.{prefix_of, prefix_same}
 use Rattle.zchain.proofs.links.Links.{at_same, at_cases}
 use Rattle.zchain.proofs.steps.Puts.{IsUnread, unread_foreign, account_with_put, put_unread}
 use Rattle.zchain.proofs.steps.Takes.{with_view, committed_view}

@@ -1,30 +1,30 @@
 -- A server takes a message of another server: what it would hold after all that its predecessor put stays, and what it
 -- shows first only grows.
-use Rattle.std.proofs.Common.{◌≡◌, ℕ, ◌+◌, true, false, nat_lt, ◌==◌, List, [], ◌∷◌, ◌++◌, drop, length, Option, Some, None, refl, sym, ap, ◌∙◌, subst, inl, inr, eqb-true, eq-eqb}
 use Rattle.std.specs.Prelude.{is_none}
+use Rattle.std.proofs.Common.{◌≡◌, ℕ, ◌+◌, true, false, nat_lt, ◌==◌, List, [], ◌∷◌, ◌++◌, drop, length, Option, Some, None, refl, sym, ap, ◌∙◌, subst, inl, inr, eqb-true, eq-eqb}
 use Rattle.zcalls.specs.declared.call.Entry.{Entry}
+use Rattle.zcalls.specs.Lists.{ComesBefore}
+use Rattle.zcalls.specs.Kept.{Plain}
+use Rattle.zcalls.proofs.Among.{test}
 use Rattle.zserver.specs.declared.limits.TheConstants.{MAX_LOG_NUMBER}
 use Rattle.zserver.specs.declared.message.Message.TheVariants as message
 use Rattle.zserver.specs.declared.process.Process.{Process}
 use Rattle.zserver.specs.declared.process.Process.TheVariants.{Master, Server}
 use Rattle.zserver.specs.View.{ServerView, Neighbour, Transfer}
 use Rattle.zserver.specs.Table.{ServerResult, is_neighbour, accept_result, update_row, ack_row, snapshot_row, server_step}
+use Rattle.zserver.specs.support.Cases.{IsAccepted, IsRow, Processes, Forwards, Ignores, Submits, Updates, Asks, Acknowledges, Shows, Turns, Follows, Leads, Ends}
 use Rattle.zserver.proofs.Fields.{view_of}
+use Rattle.zserver.proofs.Cases.{server_case}
 use Rattle.zmaster.specs.View.{members}
-use Rattle.zcalls.specs.Lists.{ComesBefore}
 use Rattle.zworld.specs.Links.{Links, is_same, without_front}
 use Rattle.zworld.specs.World.{at}
-use Rattle.zcalls.specs.Kept.{Plain}
-use Rattle.zchain.specs.Flow.{log_machine, LogWorld, LogMessage, Log, log_with_message, flow, first_snapshot, or_else, log_at, final_log_by, final_log, first_snapshot_by, first_log, length_of}
 use Rattle.zlegal.specs.Prefix.{IsPrefix}
+use Rattle.zlegal.proofs.lists.Prefixes.{prefix_of}
+use Rattle.zchain.specs.Flow.{log_machine, LogWorld, LogMessage, Log, log_with_message, flow, first_snapshot, or_else, log_at, final_log_by, final_log, first_snapshot_by, first_log, length_of}
 use Rattle.zchain.specs.Last.{HasExactLast}
 use Rattle.zchain.specs.Chain.{queue, IsAhead, IsMember, HasNoTailOrder}
 use Rattle.zchain.specs.Sound.{ChainIsOrdered, AllShowCommitted}
-use Rattle.zcalls.proofs.Among.{test}
-use Rattle.zlegal.proofs.lists.Prefixes.{prefix_of}
 use Rattle.zchain.proofs.links.Links.{same_itself, at_same, at_other}
-use Rattle.zserver.specs.support.Cases.{IsAccepted, IsRow, Processes, Forwards, Ignores, Submits, Updates, Asks, Acknowledges, Shows, Turns, Follows, Leads, Ends}
-use Rattle.zserver.proofs.Cases.{server_case}
 
 module _ {P : Type 0} (plain : Plain P) where
   -- an entry is accepted

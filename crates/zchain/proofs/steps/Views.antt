@@ -1,16 +1,16 @@
 -- A server took a message that isn't the master's, and has a new view: what has to be shown of the view so that all is sound.
-use Rattle.std.proofs.Common.{◌≡◌, ℕ, Bool, true, false, List, Some, sym, ap, ◌∙◌, subst}
 use Rattle.std.specs.Prelude.{◌&&◌, is_none}
+use Rattle.std.proofs.Common.{◌≡◌, ℕ, Bool, true, false, List, Some, sym, ap, ◌∙◌, subst}
 use Rattle.zcalls.specs.declared.call.Entry.{Entry}
+use Rattle.zcalls.specs.Lists.{Among, ComesBefore}
+use Rattle.zcalls.specs.Kept.{Plain}
 use Rattle.zserver.specs.declared.message.Message.TheVariants as message
 use Rattle.zserver.specs.declared.process.Process.{Process}
 use Rattle.zserver.specs.declared.process.Process.TheVariants.{Master, Server}
 use Rattle.zserver.specs.View.{ServerView, spare}
 use Rattle.zmaster.specs.View.{members}
-use Rattle.zcalls.specs.Lists.{Among, ComesBefore}
 use Rattle.zworld.specs.Links.{is_same}
 use Rattle.zworld.specs.World.{at}
-use Rattle.zcalls.specs.Kept.{Plain}
 use Rattle.zworld.specs.PlainTree.{service_of}
 use Rattle.zlegal.specs.Prefix.{IsPrefix, IsEntry}
 use Rattle.zlegal.specs.Items.{Item, Replays, AreCommitted, TimesRise, AreBegunInTime, AreAnsweredInTime, AllBegun}

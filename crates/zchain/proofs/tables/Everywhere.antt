@@ -2,6 +2,8 @@
 -- orders and requests have it.
 use Rattle.std.proofs.Common.{ℕ, List, [], ◌∷◌, Option, Some, None, refl, inl, inr}
 use Rattle.zcalls.specs.declared.reply.Reply.{Reply}
+use Rattle.zcalls.specs.Lists.{Among}
+use Rattle.zcalls.proofs.Among.{test}
 use Rattle.zserver.specs.declared.message.Message.TheVariants as message
 use Rattle.zserver.specs.declared.process.Process.{Process}
 use Rattle.zserver.specs.declared.process.Process.TheVariants.{Master, Server, Client}
@@ -13,11 +15,9 @@ use Rattle.zclient.specs.View.{ClientView}
 use Rattle.zclient.specs.Table as client
 use Rattle.zworld.specs.declared.event.Event.{Event}
 use Rattle.zworld.specs.declared.event.Event.TheVariants.{Begin, Retry, Take, Ignore, Fail, Join}
-use Rattle.zcalls.specs.Lists.{Among}
 use Rattle.zworld.specs.Links.{Links, put, without_front}
 use Rattle.zworld.specs.World.{World}
 use Rattle.zworld.specs.Events.{is_enabled, client_does, with_answer, process_step, front_step, acts, happens, run}
-use Rattle.zcalls.proofs.Among.{test}
 use Rattle.zchain.proofs.links.Links.{put_among, front_among, at_cases, AllPosts, all_none, all_and}
 use Rattle.zchain.proofs.tables.OtherPosts.{IsOrder, IsRequest, master_orders, join_orders, begin_requests, retry_requests, client_requests}
 

@@ -2,22 +2,22 @@
 use Rattle.std.proofs.Common.{◌≡◌, ℕ, ◌+◌, nat_lt, ◌==◌, List, [], ◌∷◌, ◌++◌, length, length-append, Option, Some, None, refl, ap, ◌∙◌, inl, inr, arith}
 use Rattle.zcalls.specs.declared.call.Entry.{Entry}
 use Rattle.zcalls.specs.declared.reply.Reply.{Reply}
+use Rattle.zcalls.specs.Kept.{Plain}
+use Rattle.zcalls.proofs.Among.{test}
 use Rattle.zserver.specs.declared.message.Message.TheVariants as message
 use Rattle.zserver.specs.declared.process.Process.{Process}
 use Rattle.zserver.specs.declared.process.Process.TheVariants.{Master, Server, Client}
 use Rattle.zserver.specs.View.{ServerView, Neighbour, Post, opening_server}
 use Rattle.zserver.specs.Table.{ServerResult, ack_posts, answer_posts, forward_post, entries_above, missing_posts, server_step, last_number}
+use Rattle.zserver.specs.support.Cases.{IsAccepted, IsRow, Processes, Forwards, Ignores, Submits, Updates, Asks, Acknowledges, Shows, Turns, Follows, Leads, Ends}
+use Rattle.zserver.proofs.Cases.{server_case}
 use Rattle.zworld.specs.declared.event.Event.{Event}
 use Rattle.zworld.specs.World.{opening_world}
 use Rattle.zworld.specs.Events.{happens, run}
-use Rattle.zcalls.specs.Kept.{Plain}
 use Rattle.zchain.specs.Flow.{log_machine, LogWorld, LogMessage, Log, length_of}
 use Rattle.zchain.specs.Last.{HasExactLast, IsExact, LastsAreLengths}
-use Rattle.zcalls.proofs.Among.{test}
 use Rattle.zchain.proofs.links.Links.{AllPosts, all_none, all_and, all_append, all_map}
 use Rattle.zchain.proofs.tables.OtherPosts.{IsOrder, IsRequest}
-use Rattle.zserver.specs.support.Cases.{IsAccepted, IsRow, Processes, Forwards, Ignores, Submits, Updates, Asks, Acknowledges, Shows, Turns, Follows, Leads, Ends}
-use Rattle.zserver.proofs.Cases.{server_case}
 use Rattle.zchain.proofs.tables.Everywhere.{happens_all, run_all}
 
 -- what is put

@@ -1,9 +1,10 @@
 -- What the master and clients put: orders and configurations, and requests.
-use Rattle.std.proofs.Common.{ℕ, ◌+◌, if◌then◌else◌, nat_lt, ◌==◌, List, [], ◌∷◌, ◌++◌, Option, Some, None, inl, inr}
 use Rattle.std.specs.List.{range_with_len, last_or}
+use Rattle.std.proofs.Common.{ℕ, ◌+◌, if◌then◌else◌, nat_lt, ◌==◌, List, [], ◌∷◌, ◌++◌, Option, Some, None, inl, inr}
 use Rattle.zcalls.specs.declared.call.Call.{Call}
 use Rattle.zcalls.specs.declared.call.Call.TheVariants as call
 use Rattle.zcalls.specs.declared.reply.Reply.{Reply}
+use Rattle.zcalls.proofs.Among.{test}
 use Rattle.zserver.specs.declared.message.Message.TheVariants as message
 use Rattle.zserver.specs.declared.process.Process.{Process}
 use Rattle.zserver.specs.declared.process.Process.TheVariants.{Master, Server, Client}
@@ -12,7 +13,6 @@ use Rattle.zmaster.specs.View.{MasterView, is_among, members, is_joining, head_o
 use Rattle.zmaster.specs.Table as master
 use Rattle.zclient.specs.View.{ClientView}
 use Rattle.zclient.specs.Table as client
-use Rattle.zcalls.proofs.Among.{test}
 use Rattle.zchain.proofs.links.Links.{AllPosts, all_none, all_and, all_append, all_map}
 
 -- an order to a server, or a configuration

@@ -1,23 +1,23 @@
 -- What a row keeps of a view alone: Sent is of the log, logs are of calls that began, and who is spare stays so.
 use Rattle.std.proofs.Common.{◌≡◌, ℕ, ◌+◌, false, nat_lt, List, [], ◌∷◌, ◌++◌, length, Option, Some, None, refl, sym, ap, ◌∙◌, subst, inl, inr, append_assoc}
 use Rattle.zcalls.specs.declared.call.Entry.{Entry}
+use Rattle.zcalls.specs.Lists.{Among}
+use Rattle.zcalls.specs.Kept.{Plain}
+use Rattle.zcalls.specs.Operation.{operation_of}
+use Rattle.zcalls.proofs.Among.{test}
 use Rattle.zserver.specs.declared.process.Process.{Process}
 use Rattle.zserver.specs.declared.process.Process.TheVariants.{Master, Server}
 use Rattle.zserver.specs.View.{ServerView, Neighbour, spare}
 use Rattle.zserver.specs.Table.{ServerResult, entries_above}
-use Rattle.zcalls.specs.Lists.{Among}
+use Rattle.zserver.specs.support.Cases.{IsAccepted, IsRow, Processes, Forwards, Ignores, Submits, Updates, Asks, Acknowledges, Shows, Turns, Follows, Leads, Ends}
 use Rattle.zworld.specs.History.{HasBegun}
 use Rattle.zworld.specs.Links.{is_same}
-use Rattle.zcalls.specs.Kept.{Plain}
-use Rattle.zchain.specs.Flow.{log_machine, LogWorld, LogMessage, Log, length_of}
-use Rattle.zcalls.specs.Operation.{operation_of}
 use Rattle.zlegal.specs.Prefix.{IsEntry}
 use Rattle.zlegal.specs.Items.{Item, AllBegun}
+use Rattle.zlegal.proofs.lists.Members.{among_last}
+use Rattle.zchain.specs.Flow.{log_machine, LogWorld, LogMessage, Log, length_of}
 use Rattle.zchain.specs.Last.{HasExactLast}
 use Rattle.zchain.specs.Messages.{IsJustified}
-use Rattle.zcalls.proofs.Among.{test}
-use Rattle.zlegal.proofs.lists.Members.{among_last}
-use Rattle.zserver.specs.support.Cases.{IsAccepted, IsRow, Processes, Forwards, Ignores, Submits, Updates, Asks, Acknowledges, Shows, Turns, Follows, Leads, Ends}
 
 -- Sent is of the log
 abbrev pub IsLogged : ServerView (List Entry) → Type 0

@@ -1,4 +1,4 @@
--- Wrong tables, each with a step after which the invariants don't hold. The table itself is the server's crate's, so what
+-- Wrong tables, each with a step that loses an invariant. The table itself is the server's crate's, so what
 -- would be wrong in it is written down here beside it.
 use Rattle.std.specs.Prelude.{◌≡◌, ℕ, ◌+◌, ◌==◌, ◌&&◌, if◌then◌else◌, Option, None, Some, List, [], ◌∷◌, ◌++◌, length}
 use Rattle.zcalls.specs.declared.call.Entry.{Entry}
@@ -8,6 +8,7 @@ use Rattle.zcalls.specs.declared.call.Update.{Update}
 use Rattle.zcalls.specs.declared.call.Update.TheVariants.{Delete}
 use Rattle.zcalls.specs.declared.reply.Reply.{Reply}
 use Rattle.zcalls.specs.Operation.{Operation}
+use Rattle.zcalls.specs.Lists.{Among}
 use Rattle.zcalls.specs.PlainTree.{plain_tree}
 use Rattle.zserver.specs.declared.message.Message.TheVariants as message
 use Rattle.zserver.specs.declared.process.Process.{Process}
@@ -19,10 +20,12 @@ use Rattle.zworld.specs.declared.event.Event.TheVariants.{Take}
 use Rattle.zworld.specs.Links.{Links, is_same, without_front}
 use Rattle.zworld.specs.World.{opening_world}
 use Rattle.zworld.specs.Events.{server_does}
+use Rattle.zlegal.specs.Prefix.{IsPrefix}
 use Rattle.zlegal.specs.Items.{updates_of}
 use Rattle.zchain.specs.Flow.{LogWorld, LogMessage, Log, log_machine}
 use Rattle.zchain.specs.Account.{Account, account_by}
-use Rattle.zchain.specs.Sound.{IsSound, IsSoundAfter}
+use Rattle.zchain.specs.Messages.{IsJustified}
+use Rattle.zchain.specs.Sound.{IsSound, ChainIsOrdered}
 
 -- client 0's call of this number
 abbrev pub call : ℕ → Entry
@@ -47,12 +50,28 @@ two_members first second links =
       links = links;
     }
 
--- the invariants are lost where a server takes a message with this result
-abbrev pub Refutes : LogWorld → List Entry → Process → ℕ → ServerResult (List Entry) → Type 0
-Refutes w committed from s result =
-    let t : Account = record { world = w; committed = committed; items = [] } in
-    let taken = server_does (record w { links = without_front w.links from (Server s) }) s result in
-    IsSoundAfter plain_tree t (account_by plain_tree t (Take from (Server s)) taken) → ⊥
+-- the world after a server takes a message with this result
+abbrev pub taken_world : LogWorld → Process → ℕ → ServerResult (List Entry) → LogWorld
+taken_world w from s result = server_does (record w { links = without_front w.links from (Server s) }) s result
+
+-- the same with what is told beside the world, from this committed log on
+abbrev pub taken_account : LogWorld → List Entry → Process → ℕ → ServerResult (List Entry) → Account
+taken_account w committed from s result =
+    account_by plain_tree (record { world = w; committed = committed; items = [] }) (Take from (Server s)) (taken_world w from s result)
+
+-- then client 0 is put a message by the server that isn't justified: an answer of no item
+abbrev pub AnswersNoItem : LogWorld → List Entry → ℕ → ServerResult (List Entry) → Type 0
+AnswersNoItem w committed s result =
+    let u = taken_account w committed (Client 0) s result in
+    (m : LogMessage) × Among m (u.world.links (Server s) (Client 0)) × (IsJustified u.world u.items (Server s) (Client 0) m → ⊥)
+
+-- the chain was in order, and isn't then
+abbrev pub LosesOrder : LogWorld → Process → ℕ → ServerResult (List Entry) → Type 0
+LosesOrder w from s result = ChainIsOrdered w × (ChainIsOrdered (taken_world w from s result) → ⊥)
+
+-- what was committed isn't, then
+abbrev pub LosesCommitted : LogWorld → List Entry → Process → ℕ → ServerResult (List Entry) → Type 0
+LosesCommitted w committed from s result = IsPrefix committed (taken_account w committed from s result).committed → ⊥
 
 -- a head that answers before the tail has the update
 abbrev pub early_answer : {M : Type 0} → Does M → ServerView M → M → Neighbour → Entry → Reply → ServerResult M
@@ -64,7 +83,7 @@ early_answer does v m succ entry reply = (
 abbrev pub EarlyAnswersAreRefuted : Type 0
 EarlyAnswersAreRefuted =
     (reply : Reply)
-    → Refutes (two_members [] (Some []) (on_link (Client 0) (Server 1) (message.Submit 1 (call 1).update))) [] (Client 0) 1
+    → AnswersNoItem (two_members [] (Some []) (on_link (Client 0) (Server 1) (message.Submit 1 (call 1).update))) [] 1
     (early_answer (log_machine plain_tree) (holder (Some []) None (Some (2, 0))) [] (2, 0) (call 1) reply)
 
 -- a server with a log that answers queries, tail or not
@@ -75,7 +94,7 @@ any_query_row does v client number query =
 abbrev pub AnyQueriesAreRefuted : Type 0
 AnyQueriesAreRefuted =
     (query : Query)
-    → Refutes (two_members [] (Some []) (on_link (Client 0) (Server 1) (message.Query 1 query))) [] (Client 0) 1
+    → AnswersNoItem (two_members [] (Some []) (on_link (Client 0) (Server 1) (message.Query 1 query))) [] 1
     (any_query_row (log_machine plain_tree) (holder (Some []) None (Some (2, 0))) 0 1 query)
 
 -- and so an old tail, which has put its snapshot
@@ -84,7 +103,7 @@ OldTailsAreRefuted =
     (query : Query)
     → let snapshot = on_link (Server 1) (Server 2) (message.Snapshot 0 (record { last = 1; machine = call 1 ∷ [] })) in
     let asked = on_link (Client 0) (Server 1) (message.Query 2 query) in
-    Refutes (two_members (call 1 ∷ []) None (λ from to. snapshot from to ++ asked from to)) (call 1 ∷ []) (Client 0) 1
+    AnswersNoItem (two_members (call 1 ∷ []) None (λ from to. snapshot from to ++ asked from to)) (call 1 ∷ []) 1
     (any_query_row (log_machine plain_tree) (holder (Some (call 1 ∷ [])) None (Some (2, 0))) 0 2 query)
 
 -- a server with a log that takes updates from clients, head or not
@@ -94,7 +113,7 @@ any_submit_row does v client number update =
 
 abbrev pub AnySubmitsAreRefuted : Type 0
 AnySubmitsAreRefuted =
-    Refutes (two_members [] (Some []) (on_link (Client 0) (Server 2) (message.Submit 1 (call 1).update))) [] (Client 0) 2
+    LosesOrder (two_members [] (Some []) (on_link (Client 0) (Server 2) (message.Submit 1 (call 1).update))) (Client 0) 2
     (any_submit_row (log_machine plain_tree) (holder (Some []) (Some (1, 0)) None) 0 1 (call 1).update)
 
 -- an update of the predecessor that is taken without its number being the next
@@ -104,7 +123,7 @@ any_update_row does v p epoch n entry =
 
 abbrev pub AnyUpdatesAreRefuted : Type 0
 AnyUpdatesAreRefuted =
-    Refutes (two_members (call 1 ∷ call 2 ∷ []) (Some []) (on_link (Server 1) (Server 2) (message.Update 0 2 (call 2)))) [] (Server 1) 2
+    LosesOrder (two_members (call 1 ∷ call 2 ∷ []) (Some []) (on_link (Server 1) (Server 2) (message.Update 0 2 (call 2)))) (Server 1) 2
     (any_update_row (log_machine plain_tree) (holder (Some []) (Some (1, 0)) None) 1 0 2 (call 2))
 
 -- a snapshot of the predecessor that is taken over a state that is there
@@ -114,7 +133,7 @@ any_snapshot_row v p epoch transfer =
 
 abbrev pub AnySnapshotsAreRefuted : Type 0
 AnySnapshotsAreRefuted =
-    Refutes (two_members (call 1 ∷ []) (Some (call 1 ∷ [])) (on_link (Server 1) (Server 2) (message.Snapshot 0 (record { last = 0; machine = [] }))))
+    LosesCommitted (two_members (call 1 ∷ []) (Some (call 1 ∷ [])) (on_link (Server 1) (Server 2) (message.Snapshot 0 (record { last = 0; machine = [] }))))
     (call 1 ∷ []) (Server 1) 2 (any_snapshot_row (holder (Some (call 1 ∷ [])) (Some (1, 0)) None) 1 0 (record { last = 0; machine = [] }))
 
 -- a retried update that acts again stands twice among the items

@@ -7,14 +7,14 @@ use Rattle.zcalls.specs.declared.call.Entry.{Entry}
 use Rattle.zcalls.specs.declared.reply.Reply.{Reply}
 use Rattle.zcalls.specs.Kept.{Plain, KeptState, nothing_kept, entry_step}
 use Rattle.zcalls.specs.Operation.{Operation}
-use Rattle.zworld.specs.LegalOrder.{operation_step}
-use Rattle.zworld.specs.PlainTree.{service_of}
 use Rattle.zcalls.specs.Acts.{after_log, acts_from, acts_of}
-use Rattle.zlegal.specs.Prefix.{IsPrefix}
-use Rattle.zlegal.specs.Items.{Item, all_at_time, is_update, updates_of, Replays}
 use Rattle.zcalls.proofs.ActedLogs.{after, acted_more}
 use Rattle.zcalls.proofs.Acting.{Outcome, outcome}
 use Rattle.zcalls.proofs.Acting.Outcome.{Acts, Stays}
+use Rattle.zworld.specs.LegalOrder.{operation_step}
+use Rattle.zworld.specs.PlainTree.{service_of}
+use Rattle.zlegal.specs.Prefix.{IsPrefix}
+use Rattle.zlegal.specs.Items.{Item, all_at_time, is_update, updates_of, Replays}
 
 module _ {P : Type 0} (plain : Plain P) where
   -- what acted of a log that another log begins

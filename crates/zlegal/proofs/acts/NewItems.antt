@@ -4,18 +4,18 @@ use Rattle.zcalls.specs.declared.call.Entry.{Entry}
 use Rattle.zcalls.specs.declared.reply.Reply.{Reply}
 use Rattle.zcalls.specs.Kept.{KeptState, nothing_kept, entry_step, Plain}
 use Rattle.zcalls.specs.Lists.{Among}
-use Rattle.zworld.specs.History.{History, HasBegun}
 use Rattle.zcalls.specs.Operation.{Operation, operation_of}
-use Rattle.zworld.specs.PlainTree.{service_of}
 use Rattle.zcalls.specs.Acts.{after_log, acts_from}
+use Rattle.zcalls.proofs.Among.{test, among_cases}
+use Rattle.zcalls.proofs.Acting.{Outcome, outcome, acted_entry}
+use Rattle.zcalls.proofs.Acting.Outcome.{Acts, Stays}
+use Rattle.zworld.specs.History.{History, HasBegun}
+use Rattle.zworld.specs.PlainTree.{service_of}
 use Rattle.zlegal.specs.Prefix.{IsPrefix}
 use Rattle.zlegal.specs.Items.{Item, at_time, all_at_time, is_update, updates_of, Replays, AreCommitted, TimesRise, AreBegunInTime, AreAnsweredInTime, AllBegun, new_items}
-use Rattle.zcalls.proofs.Among.{test, among_cases}
 use Rattle.zlegal.proofs.lists.Members.{among_left, among_drop, among_whole}
 use Rattle.zlegal.proofs.lists.Distinct.{pairwise_append}
 use Rattle.zlegal.proofs.order.LegalOrders.{in_time_more}
-use Rattle.zcalls.proofs.Acting.{Outcome, outcome, acted_entry}
-use Rattle.zcalls.proofs.Acting.Outcome.{Acts, Stays}
 use Rattle.zlegal.proofs.acts.ActedLogs.{after_items, after_calls, acted_begins, acted_replays, acted_leads, items_lead, replays_more}
 
 -- the updates of a list that goes on

@@ -1,8 +1,8 @@
 -- Lists no two of whose members are alike, and lists each two of whose members are in a relation.
 use Rattle.std.proofs.Common.{◌≡◌, List, [], ◌∷◌, ◌++◌, map, refl, sym, ap, ◌∙◌, subst, inl, inr}
 use Rattle.zcalls.specs.Lists.{Among, NoTwo}
-use Rattle.zlegal.specs.Prefix.{Pairwise}
 use Rattle.zcalls.proofs.Among.{among_cases}
+use Rattle.zlegal.specs.Prefix.{Pairwise}
 use Rattle.zlegal.proofs.lists.Members.{among_last, among_inserted, among_insert}
 
 -- members that are alike are one, where no two are

@@ -1,6 +1,6 @@
 -- Tests, which come out one way or the other.
-use Rattle.std.proofs.Common.{◌≡◌, refl, Bool, true, false}
 use Rattle.std.specs.Prelude.{◌&&◌, not}
+use Rattle.std.proofs.Common.{◌≡◌, refl, Bool, true, false}
 
 -- both of two tests
 pub left_of : (a b : Bool) → (a && b) ≡ true → a ≡ true

@@ -1,15 +1,15 @@
 -- A part of the items: all updates, and some queries.
-use Rattle.std.proofs.Common.{◌≡◌, ◌<◌, ◌≤◌, List, [], ◌∷◌, ◌++◌, refl, sym, ap, ◌∙◌, subst, inl, inr, true, false, map, arith}
 use Rattle.std.specs.List.{AllByRecursion}
+use Rattle.std.proofs.Common.{◌≡◌, ◌<◌, ◌≤◌, List, [], ◌∷◌, ◌++◌, refl, sym, ap, ◌∙◌, subst, inl, inr, true, false, map, arith}
 use Rattle.zcalls.specs.declared.call.Call.{Call}
 use Rattle.zcalls.specs.declared.call.Call.TheVariants.{Update, Query}
 use Rattle.zcalls.specs.Lists.{Among, ComesBefore}
 use Rattle.zcalls.specs.Operation.{Operation}
-use Rattle.zworld.specs.LegalOrder.{Service, operation_step, replies_from, states_from}
 use Rattle.zcalls.specs.Kept.{Plain}
+use Rattle.zcalls.proofs.Among.{test}
+use Rattle.zworld.specs.LegalOrder.{Service, operation_step, replies_from, states_from}
 use Rattle.zworld.specs.PlainTree.{service_of, call_step}
 use Rattle.zlegal.specs.Items.{Item, is_update, updates_of, Replays, TimesRise}
-use Rattle.zcalls.proofs.Among.{test}
 
 -- some queries of a list are left out
 pub data Keeps : List Item → List Item → Type 0 where

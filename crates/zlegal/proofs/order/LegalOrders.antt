@@ -3,13 +3,13 @@ use Rattle.std.proofs.Common.{◌≡◌, ◌⊎◌, ℕ, zero, suc, ◌+◌, ◌
 use Rattle.zcalls.specs.declared.call.Call.{Call}
 use Rattle.zcalls.specs.declared.call.Call.TheVariants.{Update, Query}
 use Rattle.zcalls.specs.declared.reply.Reply.{Reply}
+use Rattle.zcalls.specs.Lists.{Among, ComesBefore, NoTwo}
+use Rattle.zcalls.specs.Operation.{AreOneUpdate, Operation, IsSameCall}
+use Rattle.zcalls.specs.Kept.{Plain}
 use Rattle.zworld.specs.declared.history.CallEvent.{CallEvent}
 use Rattle.zworld.specs.declared.history.CallEvent.TheVariants.{Begin, Answer}
-use Rattle.zcalls.specs.Lists.{Among, ComesBefore, NoTwo}
 use Rattle.zworld.specs.History.{History, IsUpdate, HasBegun, IsAnswered, EndsBefore}
-use Rattle.zcalls.specs.Operation.{AreOneUpdate, Operation, IsSameCall}
 use Rattle.zworld.specs.LegalOrder.{operation_step, IsReplayed, IsLegalOrder, replies_from}
-use Rattle.zcalls.specs.Kept.{Plain}
 use Rattle.zworld.specs.PlainTree.{service_of}
 use Rattle.zlegal.specs.Items.{Item, is_update, updates_of, Replays, IsItemOf, IsGiven, IsGivenBy, IsAnsweredBy, AreAnsweredInTime, IsSameEvent, TimesRise, AreBegunInTime, EventsDiffer}
 use Rattle.zlegal.proofs.lists.Members.{among_mid, among_insert, among_inserted, among_take}

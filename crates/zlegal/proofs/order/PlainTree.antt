@@ -1,23 +1,23 @@
 -- The items explain their history, over the plain tree.
-use Rattle.std.proofs.Common.{◌≡◌, List, [], ◌∷◌, refl, sym, subst}
 use Rattle.std.specs.List.{AllByRecursion}
+use Rattle.std.proofs.Common.{◌≡◌, List, [], ◌∷◌, refl, sym, subst}
 use Rattle.ztree.specs.Tree.{Tree}
 use Rattle.ztree.specs.Lawful.{IsLawful}
 use Rattle.ztree.proofs.Lawful.{lawful_opening}
 use Rattle.zcalls.specs.declared.call.Call.{Call}
 use Rattle.zcalls.specs.declared.call.Call.TheVariants.{Update, Query}
+use Rattle.zcalls.specs.Operation.{Operation, AreOneUpdate}
+use Rattle.zcalls.specs.PlainTree.{plain_tree}
+use Rattle.zcalls.specs.Lists.{NoTwo}
 use Rattle.zcalls.proofs.LawfulParts.{IsGood}
 use Rattle.zcalls.proofs.LawfulCalls.{step-good}
 use Rattle.zcalls.proofs.Bounds.{no_sessions}
+use Rattle.zcalls.proofs.ActedLogs.{acted_entries_once}
 use Rattle.zworld.specs.History.{History}
-use Rattle.zcalls.specs.Operation.{Operation, AreOneUpdate}
 use Rattle.zworld.specs.LegalOrder.{operation_step, IsLegalOrder, states_from}
 use Rattle.zworld.specs.PlainTree.{service_of}
-use Rattle.zcalls.specs.PlainTree.{plain_tree}
 use Rattle.zlegal.specs.Laws.{ItemsExplain}
 use Rattle.zlegal.proofs.order.LegalOrders.{legal_order}
-use Rattle.zcalls.proofs.ActedLogs.{acted_entries_once}
-use Rattle.zcalls.specs.Lists.{NoTwo}
 
 -- a call keeps a tree good
 call_good : (t : Tree) (o : Operation) → IsGood t → IsGood (operation_step (service_of plain_tree) t o).0

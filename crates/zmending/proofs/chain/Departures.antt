@@ -1,29 +1,29 @@
 -- The master hears Gone: from outside the chain, or from a member, which is taken out.
-use Rattle.std.proofs.Common.{◌≡◌, ◌⊎◌, ℕ, ◌+◌, ◌≤◌, true, false, if◌then◌else◌, ◌==◌, List, [], ◌∷◌, ◌++◌, Option, Some, None, refl, sym, ap, ◌∙◌, subst, inl, inr, append-nil, arith, eqb-true}
 use Rattle.std.specs.List.{last_or}
+use Rattle.std.proofs.Common.{◌≡◌, ◌⊎◌, ℕ, ◌+◌, ◌≤◌, true, false, if◌then◌else◌, ◌==◌, List, [], ◌∷◌, ◌++◌, Option, Some, None, refl, sym, ap, ◌∙◌, subst, inl, inr, append-nil, arith, eqb-true}
 use Rattle.zcalls.specs.declared.call.Entry.{Entry}
+use Rattle.zcalls.specs.Lists.{Among, ComesBefore, NoTwo}
+use Rattle.zcalls.specs.Kept.{Plain}
+use Rattle.zcalls.proofs.Among.{test}
 use Rattle.zserver.specs.declared.message.Message.TheVariants as message
 use Rattle.zserver.specs.declared.process.Process.TheVariants.{Master, Server}
 use Rattle.zserver.specs.View.{Post, Neighbour}
 use Rattle.zmaster.specs.View.{MasterView, members, is_among, is_joining, with_number}
 use Rattle.zmaster.specs.Table as master
-use Rattle.zcalls.specs.Lists.{Among, ComesBefore, NoTwo}
 use Rattle.zworld.specs.Links.{addressed}
-use Rattle.zcalls.specs.Kept.{Plain}
+use Rattle.zlegal.proofs.lists.Members.{among_left, among_right, among_insert, among_inserted}
+use Rattle.zlegal.proofs.lists.Places.{before_insert}
+use Rattle.zlegal.proofs.lists.Distinct.{no_two_without}
 use Rattle.zchain.specs.Flow.{LogWorld, LogMessage}
 use Rattle.zchain.specs.Chain.{queue, IsPast, Place, place_behind, place_from, LeadsTo, is_fresh, turn_of}
 use Rattle.zchain.specs.Messages.{IsJustified}
 use Rattle.zchain.specs.Account.{Account}
 use Rattle.zchain.specs.Sound.{IsSound}
-use Rattle.zcalls.proofs.Among.{test}
-use Rattle.zlegal.proofs.lists.Members.{among_left, among_right, among_insert, among_inserted}
 use Rattle.zchain.proofs.places.Orders.{leads_more, one_more_order, unread_order}
 use Rattle.zchain.proofs.steps.Opening.{among_tested}
 use Rattle.zmending.proofs.chain.Moves.{world_with_move, IsGoodPost, IsGoodMove, move_sound}
 use Rattle.zmending.proofs.chain.StandingChains.{addressed_told, told_among}
 use Rattle.zmending.proofs.chain.MendedChains.{ids, ids_append, Stands, stands, repair, mended_is, mended_ids, place_cases, place_in, apart_of, gone_of, last_in, nobody_behind}
-use Rattle.zlegal.proofs.lists.Places.{before_insert}
-use Rattle.zlegal.proofs.lists.Distinct.{no_two_without}
 use Rattle.zmending.proofs.chain.RepairOrders.{IsTold, Heads, Ends, Turns, told_one, told_turned, repair_justified, IsTurned, IsElsewhere, repair_place}
 use Rattle.zmending.proofs.chain.UsedNumbers.{used_is, used_stays}
 

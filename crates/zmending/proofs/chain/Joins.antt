@@ -1,31 +1,31 @@
 -- A server joins: it stands behind the last of the chain, and is told so.
-use Rattle.std.proofs.Common.{◌≡◌, ◌⊎◌, ℕ, ◌+◌, true, ◌==◌, List, [], ◌∷◌, ◌++◌, Option, Some, None, refl, sym, ap, ◌∙◌, subst, inl, inr, append-nil, arith, eqb-true, eq-eqb}
 use Rattle.std.specs.Prelude.{◌&&◌, is_none}
 use Rattle.std.specs.List.{last_or}
+use Rattle.std.proofs.Common.{◌≡◌, ◌⊎◌, ℕ, ◌+◌, true, ◌==◌, List, [], ◌∷◌, ◌++◌, Option, Some, None, refl, sym, ap, ◌∙◌, subst, inl, inr, append-nil, arith, eqb-true, eq-eqb}
 use Rattle.zcalls.specs.declared.call.Entry.{Entry}
+use Rattle.zcalls.specs.Lists.{Among, ComesBefore, NoTwo}
+use Rattle.zcalls.specs.Kept.{Plain}
+use Rattle.zcalls.proofs.Among.{test}
 use Rattle.zserver.specs.declared.message.Message.TheVariants as message
 use Rattle.zserver.specs.declared.process.Process.TheVariants.{Master, Server}
 use Rattle.zserver.specs.View.{ServerView, Post, Neighbour, spare}
 use Rattle.zmaster.specs.View.{MasterView, members, is_among, with_number}
 use Rattle.zmaster.specs.Table as master
-use Rattle.zcalls.specs.Lists.{Among, ComesBefore, NoTwo}
 use Rattle.zworld.specs.Links.{addressed}
-use Rattle.zcalls.specs.Kept.{Plain}
+use Rattle.zlegal.proofs.lists.Members.{among_left, among_right, among_last}
+use Rattle.zlegal.proofs.lists.Distinct.{no_two_last}
+use Rattle.zlegal.proofs.lists.Places.{before_last}
 use Rattle.zchain.specs.Flow.{LogWorld, LogMessage, or_else, final_log_by, final_log, first_snapshot_by, first_log}
 use Rattle.zchain.specs.Chain.{queue, IsPast, IsUsed, Place, place_behind, place_from, LeadsTo, is_fresh}
 use Rattle.zchain.specs.Messages.{IsJustified}
 use Rattle.zchain.specs.Account.{Account}
 use Rattle.zchain.specs.Sound.{IsSound}
-use Rattle.zcalls.proofs.Among.{test}
-use Rattle.zlegal.proofs.lists.Members.{among_left, among_right, among_last}
-use Rattle.zlegal.proofs.lists.Distinct.{no_two_last}
 use Rattle.zchain.proofs.places.Orders.{leads_more, first_order}
 use Rattle.zmending.proofs.chain.Moves.{world_with_move, IsGoodPost, IsGoodMove, move_sound}
 use Rattle.zmending.proofs.chain.StandingChains.{unheard}
 use Rattle.zmending.proofs.chain.MendedChains.{ids_append, place_cases, place_in}
 use Rattle.zmending.proofs.chain.RepairOrders.{one_told}
 use Rattle.zmending.proofs.chain.UsedNumbers.{used_is, used_stays, used_now}
-use Rattle.zlegal.proofs.lists.Places.{before_last}
 
 -- the place of the last
 last_place : (before : Option ℕ) (x e z : ℕ) (place : Place) → place_from before ((x, e) ∷ []) z ≡ Some place → (x ≡ z) × (place_behind before e ≡ place)

@@ -1,13 +1,13 @@
 -- A chain from which a member is taken out: who is left, in which places, and what its servers are told. Lists only.
-use Rattle.std.proofs.Common.{◌≡◌, ◌⊎◌, ℕ, true, false, ◌==◌, List, [], ◌∷◌, ◌++◌, map, Option, Some, None, refl, ap, ◌∙◌, inl, inr, eqb-true, eq-eqb}
 use Rattle.std.specs.List.{last_or}
+use Rattle.std.proofs.Common.{◌≡◌, ◌⊎◌, ℕ, true, false, ◌==◌, List, [], ◌∷◌, ◌++◌, map, Option, Some, None, refl, ap, ◌∙◌, inl, inr, eqb-true, eq-eqb}
 use Rattle.zcalls.specs.declared.call.Entry.{Entry}
+use Rattle.zcalls.specs.Lists.{Among, ComesBefore, NoTwo}
+use Rattle.zcalls.proofs.Among.{test}
 use Rattle.zserver.specs.View.{Post, Neighbour}
 use Rattle.zmaster.specs.Table as master
-use Rattle.zcalls.specs.Lists.{Among, ComesBefore, NoTwo}
-use Rattle.zchain.specs.Chain.{Place, place_behind, place_from}
-use Rattle.zcalls.proofs.Among.{test}
 use Rattle.zlegal.proofs.lists.Members.{among_right}
+use Rattle.zchain.specs.Chain.{Place, place_behind, place_from}
 
 -- the members of a chain
 abbrev pub ids : List Neighbour → List ℕ

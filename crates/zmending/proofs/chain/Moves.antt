@@ -1,21 +1,21 @@
 -- The master does something: it has a new view, and puts at most one order to each server.
 use Rattle.std.proofs.Common.{◌≡◌, ◌⊎◌, ℕ, ◌<◌, ◌≤◌, true, false, List, [], ◌∷◌, ◌++◌, Option, Some, None, refl, sym, ap, ◌∙◌, subst, inl, inr, arith}
 use Rattle.zcalls.specs.declared.call.Entry.{Entry}
+use Rattle.zcalls.specs.Lists.{Among, ComesBefore, NoTwo}
+use Rattle.zcalls.specs.Kept.{Plain}
+use Rattle.zcalls.proofs.Among.{among_cases}
 use Rattle.zserver.specs.declared.message.Message.TheVariants as message
 use Rattle.zserver.specs.declared.process.Process.{Process}
 use Rattle.zserver.specs.declared.process.Process.TheVariants.{Master, Server}
 use Rattle.zserver.specs.View.{Post, Neighbour}
 use Rattle.zmaster.specs.View.{MasterView, members, is_among}
-use Rattle.zcalls.specs.Lists.{Among, ComesBefore, NoTwo}
 use Rattle.zworld.specs.Links.{addressed, put}
-use Rattle.zcalls.specs.Kept.{Plain}
 use Rattle.zlegal.specs.Items.{Item}
 use Rattle.zchain.specs.Flow.{LogWorld, LogMessage, Log, or_else, log_at, final_log_by, final_log, first_snapshot_by, first_log}
 use Rattle.zchain.specs.Chain.{queue, IsAhead, IsOpened, IsMember, IsUsed, IsPair, place_from, HasNoTailOrder, HoldsBehind, HasNoTailOrderBehind, IsNewEpoch, HasDistinctEpochs}
 use Rattle.zchain.specs.Messages.{IsJustified}
 use Rattle.zchain.specs.Account.{Account}
 use Rattle.zchain.specs.Sound.{IsSound, OrdersLead}
-use Rattle.zcalls.proofs.Among.{among_cases}
 use Rattle.zchain.proofs.links.Links.{put_among}
 use Rattle.zchain.proofs.places.Pairs.{pair_next}
 use Rattle.zchain.proofs.links.LaterWorlds.{justified_later}

@@ -1,15 +1,15 @@
 -- What servers are told when a member is taken out of the chain, and who has another place then. Lists and messages only.
 use Rattle.std.proofs.Common.{◌≡◌, ◌⊎◌, ℕ, true, false, ◌==◌, List, [], ◌∷◌, Option, Some, None, refl, sym, ap, ◌∙◌, subst, inl, inr, eqb-true, eq-eqb}
 use Rattle.zcalls.specs.declared.call.Entry.{Entry}
+use Rattle.zcalls.specs.Lists.{Among}
+use Rattle.zcalls.proofs.Among.{test}
 use Rattle.zserver.specs.declared.message.Message.TheVariants as message
 use Rattle.zserver.specs.declared.process.Process.TheVariants.{Master, Server}
 use Rattle.zserver.specs.View.{Post, Neighbour}
-use Rattle.zcalls.specs.Lists.{Among}
 use Rattle.zworld.specs.Links.{addressed}
 use Rattle.zchain.specs.Flow.{LogWorld, LogMessage}
 use Rattle.zchain.specs.Chain.{Place, place_behind, place_from, turn_of}
 use Rattle.zchain.specs.Messages.{IsJustified}
-use Rattle.zcalls.proofs.Among.{test}
 use Rattle.zmending.proofs.chain.MendedChains.{repair}
 
 -- what a server is told

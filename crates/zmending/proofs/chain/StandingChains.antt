@@ -1,23 +1,23 @@
 -- The master hears Have or Joined, or a message that doesn't count: the chain stays.
-use Rattle.std.proofs.Common.{◌≡◌, ◌⊎◌, ℕ, ◌+◌, ◌≤◌, true, ◌==◌, List, [], ◌∷◌, ◌++◌, map, Option, Some, None, refl, sym, ap, subst, inl, inr, append-nil, arith, eqb-true}
 use Rattle.std.specs.Prelude.{◌&&◌}
 use Rattle.std.specs.List.{range_with_len}
+use Rattle.std.proofs.Common.{◌≡◌, ◌⊎◌, ℕ, ◌+◌, ◌≤◌, true, ◌==◌, List, [], ◌∷◌, ◌++◌, map, Option, Some, None, refl, sym, ap, subst, inl, inr, append-nil, arith, eqb-true}
 use Rattle.zcalls.specs.declared.call.Entry.{Entry}
+use Rattle.zcalls.specs.Lists.{Among}
+use Rattle.zcalls.specs.Kept.{Plain}
+use Rattle.zcalls.proofs.Among.{test, among_cases}
 use Rattle.zserver.specs.declared.message.Message.TheVariants as message
 use Rattle.zserver.specs.declared.process.Process.{Process}
 use Rattle.zserver.specs.declared.process.Process.TheVariants.{Master, Server, Client}
 use Rattle.zserver.specs.View.{Post, Neighbour}
 use Rattle.zmaster.specs.View.{MasterView, is_among, is_joining, head_of, tail_of}
 use Rattle.zmaster.specs.Table as master
-use Rattle.zcalls.specs.Lists.{Among}
 use Rattle.zworld.specs.Links.{is_same, addressed}
-use Rattle.zcalls.specs.Kept.{Plain}
 use Rattle.zchain.specs.Flow.{LogWorld, LogMessage}
 use Rattle.zchain.specs.Chain.{queue, IsOpened, IsPast, LeadsTo, is_fresh, turn_of}
 use Rattle.zchain.specs.Messages.{IsJustified}
 use Rattle.zchain.specs.Account.{Account}
 use Rattle.zchain.specs.Sound.{IsSound}
-use Rattle.zcalls.proofs.Among.{test, among_cases}
 use Rattle.zchain.proofs.places.Orders.{unread_order}
 use Rattle.zmending.proofs.chain.Moves.{world_with_move, IsGoodPost, IsGoodMove, move_sound}
 

@@ -1,7 +1,10 @@
 -- A server puts its whole log to its successor: the order of the chain stays, and the committed log begins what is shown.
-use Rattle.std.proofs.Common.{◌≡◌, ◌⊎◌, ℕ, false, ◌==◌, List, [], ◌∷◌, drop, Option, Some, None, refl, sym, ap, ◌∙◌, subst, inl, inr, eqb-true}
 use Rattle.std.specs.Prelude.{is_none}
+use Rattle.std.proofs.Common.{◌≡◌, ◌⊎◌, ℕ, false, ◌==◌, List, [], ◌∷◌, drop, Option, Some, None, refl, sym, ap, ◌∙◌, subst, inl, inr, eqb-true}
 use Rattle.zcalls.specs.declared.call.Entry.{Entry}
+use Rattle.zcalls.specs.Lists.{ComesBefore}
+use Rattle.zcalls.specs.Kept.{Plain}
+use Rattle.zcalls.proofs.Among.{test}
 use Rattle.zserver.specs.declared.message.Message.TheVariants as message
 use Rattle.zserver.specs.declared.process.Process.TheVariants.{Master, Server}
 use Rattle.zserver.specs.View.{ServerView, Neighbour, Transfer}
@@ -10,18 +13,15 @@ use Rattle.zserver.specs.Table.{new_succ_row}
 use Rattle.zserver.proofs.Fields.{view_of}
 use Rattle.zmaster.specs.View.{members}
 use Rattle.zworld.specs.declared.event.Event.TheVariants.{Take}
-use Rattle.zcalls.specs.Lists.{ComesBefore}
 use Rattle.zworld.specs.Links.{without_front}
 use Rattle.zworld.specs.Events.{process_step}
-use Rattle.zcalls.specs.Kept.{Plain}
-use Rattle.zchain.specs.Flow.{log_machine, LogWorld, LogMessage, Log, log_with_message, flow, snapshot_of, first_snapshot, or_else, log_at, final_log_by, final_log, first_snapshot_by}
 use Rattle.zlegal.specs.Prefix.{IsPrefix}
+use Rattle.zlegal.proofs.lists.Places.{before_second}
+use Rattle.zlegal.proofs.lists.Prefixes.{prefix_same}
+use Rattle.zchain.specs.Flow.{log_machine, LogWorld, LogMessage, Log, log_with_message, flow, snapshot_of, first_snapshot, or_else, log_at, final_log_by, final_log, first_snapshot_by}
 use Rattle.zchain.specs.Chain.{queue, IsAhead, IsOpened, IsMember, IsPair, HasNoTailOrder, HasNoTailOrderBehind}
 use Rattle.zchain.specs.Account.{Account, account_by}
 use Rattle.zchain.specs.Sound.{IsSound, IsSoundAfter, ChainIsOrdered, AllShowCommitted}
-use Rattle.zcalls.proofs.Among.{test}
-use Rattle.zlegal.proofs.lists.Places.{before_second}
-use Rattle.zlegal.proofs.lists.Prefixes.{prefix_same}
 use Rattle.zchain.proofs.links.Links.{at_same, front_among}
 use Rattle.zchain.proofs.flow.Flow.{flow_more, first_more}
 use Rattle.zchain.proofs.steps.Puts.{put_one, with_put, account_with_put, ahead_put, justified_put}

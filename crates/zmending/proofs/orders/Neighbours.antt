@@ -1,29 +1,29 @@
 -- The event Take at a server, of the master's BecomeTail, BecomeHead and NewPred.
-use Rattle.std.proofs.Common.{◌≡◌, ℕ, true, false, ◌==◌, List, [], ◌∷◌, ◌++◌, length, drop, Option, Some, None, refl, sym, ap, ◌∙◌, subst, inl, inr, eqb-true}
 use Rattle.std.specs.Prelude.{◌&&◌, is_none}
+use Rattle.std.proofs.Common.{◌≡◌, ℕ, true, false, ◌==◌, List, [], ◌∷◌, ◌++◌, length, drop, Option, Some, None, refl, sym, ap, ◌∙◌, subst, inl, inr, eqb-true}
 use Rattle.zcalls.specs.declared.call.Entry.{Entry}
+use Rattle.zcalls.specs.Lists.{Among}
+use Rattle.zcalls.specs.Kept.{Plain}
+use Rattle.zcalls.proofs.Among.{test}
 use Rattle.zserver.specs.declared.message.Message.TheVariants as message
 use Rattle.zserver.specs.declared.process.Process.TheVariants.{Master, Server}
 use Rattle.zserver.specs.View.{ServerView, Neighbour, Post}
 use Rattle.zserver.specs.Table.{ServerResult, ack_posts, last_number, become_tail_row, become_head_row, new_pred_row}
 use Rattle.zserver.specs.Table as server
+use Rattle.zserver.specs.support.Cases.{acks_all}
 use Rattle.zworld.specs.declared.event.Event.TheVariants.{Take}
-use Rattle.zcalls.specs.Lists.{Among}
 use Rattle.zworld.specs.Links.{without_front}
 use Rattle.zworld.specs.Events.{process_step}
-use Rattle.zcalls.specs.Kept.{Plain}
-use Rattle.zchain.specs.Flow.{log_machine, LogWorld, LogMessage, Log, or_else, log_at, final_log_by, final_log, first_snapshot_by, first_log}
 use Rattle.zlegal.specs.Items.{Item, new_items}
+use Rattle.zlegal.proofs.lists.Prefixes.{prefix_same}
+use Rattle.zchain.specs.Flow.{log_machine, LogWorld, LogMessage, Log, or_else, log_at, final_log_by, final_log, first_snapshot_by, first_log}
 use Rattle.zchain.specs.Chain.{IsOpened, IsPast, LeadsTo, is_fresh, HasDistinctEpochs}
 use Rattle.zchain.specs.Messages.{IsJustified}
 use Rattle.zchain.specs.Account.{Account, tail_log, committed_after, account_by}
 use Rattle.zchain.specs.Sound.{IsSound, IsSoundAfter}
-use Rattle.zcalls.proofs.Among.{test}
-use Rattle.zlegal.proofs.lists.Prefixes.{prefix_same}
 use Rattle.zchain.proofs.flow.Flow.{IsForeign, AreForeign, flow_foreign, first_foreign}
 use Rattle.zchain.proofs.places.Orders.{leads_more}
 use Rattle.zchain.proofs.links.Links.{at_same}
-use Rattle.zserver.specs.support.Cases.{acks_all}
 use Rattle.zchain.proofs.steps.Sends.{final_log_of_log}
 use Rattle.zchain.proofs.steps.Takes.{with_view, front_here}
 use Rattle.zchain.proofs.steps.ServerSteps.{account_with_puts, puts_at_once, puts_unread, acks_unread, account_with_view, IsUnreadAndJustified, after_puts}

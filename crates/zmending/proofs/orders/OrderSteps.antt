@@ -1,23 +1,23 @@
 -- A server took a message of the master: the step of its view is sound. The log stays, whatever the message.
+use Rattle.std.specs.Prelude.{◌&&◌, is_none}
 use Rattle.std.proofs.Common.{◌≡◌, ℕ, true, false, ◌==◌, List, [], ◌∷◌, ◌++◌, length, Some, None, refl, sym, ap, ◌∙◌, subst, inl, inr, eqb-true, append-nil}
 use Rattle.std.proofs.Math.Seq.{drop-length}
-use Rattle.std.specs.Prelude.{◌&&◌, is_none}
 use Rattle.zcalls.specs.declared.call.Entry.{Entry}
+use Rattle.zcalls.specs.Lists.{Among, ComesBefore}
+use Rattle.zcalls.specs.Kept.{Plain}
+use Rattle.zcalls.specs.Acts.{after_log, acts_from}
+use Rattle.zcalls.proofs.Among.{test}
 use Rattle.zserver.specs.declared.message.Message.TheVariants as message
 use Rattle.zserver.specs.declared.process.Process.TheVariants.{Master, Server}
 use Rattle.zserver.specs.View.{ServerView}
 use Rattle.zmaster.specs.View.{members, is_among}
-use Rattle.zcalls.specs.Lists.{Among, ComesBefore}
-use Rattle.zcalls.specs.Kept.{Plain}
-use Rattle.zcalls.specs.Acts.{after_log, acts_from}
 use Rattle.zlegal.specs.Prefix.{IsPrefix, IsEntry}
 use Rattle.zlegal.specs.Items.{Item, all_at_time, AllBegun, new_items}
+use Rattle.zlegal.proofs.lists.Prefixes.{prefix_same}
 use Rattle.zchain.specs.Flow.{LogWorld, LogMessage, Log, or_else, log_at, first_snapshot_by, final_log, first_log}
 use Rattle.zchain.specs.Chain.{queue, IsAhead, IsOpened, IsMember, IsPast, Place, place_of, LeadsTo, HasNoTailOrder}
 use Rattle.zchain.specs.Account.{Account, tail_log, committed_after}
 use Rattle.zchain.specs.Sound.{IsSound, ChainIsOrdered, TailHoldsCommitted}
-use Rattle.zcalls.proofs.Among.{test}
-use Rattle.zlegal.proofs.lists.Prefixes.{prefix_same}
 use Rattle.zchain.proofs.links.Links.{at_cases, at_same, at_other, front_among}
 use Rattle.zchain.proofs.steps.Sends.{ahead_less}
 use Rattle.zchain.proofs.steps.Takes.{with_view, final_log_elsewhere, committed_view}

@@ -1,19 +1,19 @@
 -- A server took a message of the master, and has a new view: what has to be shown of it so that all is sound.
-use Rattle.std.proofs.Common.{◌≡◌, ℕ, false, ◌==◌, List, [], ◌∷◌, drop, Some, sym, ap, ◌∙◌, subst, inl, inr, eqb-true}
 use Rattle.std.specs.Prelude.{◌&&◌, is_none}
+use Rattle.std.proofs.Common.{◌≡◌, ℕ, false, ◌==◌, List, [], ◌∷◌, drop, Some, sym, ap, ◌∙◌, subst, inl, inr, eqb-true}
 use Rattle.zcalls.specs.declared.call.Entry.{Entry}
+use Rattle.zcalls.specs.Lists.{Among}
+use Rattle.zcalls.specs.Kept.{Plain}
+use Rattle.zcalls.proofs.Among.{test}
 use Rattle.zserver.specs.declared.message.Message.TheVariants as message
 use Rattle.zserver.specs.declared.process.Process.TheVariants.{Master, Server}
 use Rattle.zserver.specs.View.{ServerView, spare}
-use Rattle.zcalls.specs.Lists.{Among}
-use Rattle.zcalls.specs.Kept.{Plain}
 use Rattle.zlegal.specs.Prefix.{IsEntry}
 use Rattle.zlegal.specs.Items.{Item, AllBegun}
 use Rattle.zchain.specs.Flow.{LogWorld, LogMessage}
 use Rattle.zchain.specs.Chain.{queue, IsOpened, IsUsed, IsPast, Place, place_of, LeadsTo, HasDistinctEpochs, HasNoTailOrderBehind}
 use Rattle.zchain.specs.Account.{Account}
 use Rattle.zchain.specs.Sound.{IsSound, ChainIsOrdered}
-use Rattle.zcalls.proofs.Among.{test}
 use Rattle.zchain.proofs.links.Links.{at_same, at_other, front_among}
 use Rattle.zchain.proofs.links.LaterWorlds.{justified_later}
 use Rattle.zchain.proofs.steps.Takes.{with_view, front_here, front_not_to}

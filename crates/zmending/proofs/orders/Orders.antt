@@ -1,6 +1,8 @@
 -- The event Take at a server, from the master: all of its orders, and what is none.
 use Rattle.std.proofs.Common.{◌≡◌, ◌⊎◌, ℕ, Bool, true, false, List, [], ◌∷◌, Option, Some, None, refl, sym, ap, ◌∙◌, subst}
 use Rattle.zcalls.specs.declared.call.Entry.{Entry}
+use Rattle.zcalls.specs.Kept.{Plain}
+use Rattle.zcalls.specs.PlainTree.{plain_tree}
 use Rattle.zserver.specs.declared.message.Message.TheVariants as message
 use Rattle.zserver.specs.declared.process.Process.TheVariants.{Master, Server}
 use Rattle.zserver.specs.View.{ServerView, Neighbour}
@@ -10,19 +12,17 @@ use Rattle.zserver.proofs.Fields.{view_of}
 use Rattle.zworld.specs.declared.event.Event.TheVariants.{Take}
 use Rattle.zworld.specs.Links.{without_front}
 use Rattle.zworld.specs.Events.{process_step, front_step}
-use Rattle.zcalls.specs.Kept.{Plain}
-use Rattle.zcalls.specs.PlainTree.{plain_tree}
+use Rattle.zlegal.proofs.lists.Prefixes.{prefix_same}
 use Rattle.zchain.specs.Flow.{log_machine, LogMessage, Log, or_else, log_at}
 use Rattle.zchain.specs.Chain.{Place, IsPast, LeadsTo, is_fresh, turn_of}
 use Rattle.zchain.specs.Account.{Account, account_by}
 use Rattle.zchain.specs.Sound.{IsSound, IsSoundAfter}
+use Rattle.zchain.proofs.Events.{where_enabled, front_there}
 use Rattle.zmending.specs.Laws.{ServersHearMaster}
-use Rattle.zlegal.proofs.lists.Prefixes.{prefix_same}
 use Rattle.zmending.proofs.orders.OrderSteps.{IsGoodTurn, turn_sound}
 use Rattle.zmending.proofs.orders.Neighbours.{final_log_of, first_log_of, same_final_log, same_first, after_turn, take_tail_order, take_head_order, take_pred_order}
 use Rattle.zmending.proofs.orders.Successors.{take_succ_order}
 use Rattle.zmending.proofs.orders.Handovers.{take_whole_order}
-use Rattle.zchain.proofs.Events.{where_enabled, front_there}
 
 -- a message that the server ignores, and that turns it to nobody
 module _ {P : Type 0} (plain : Plain P) (t : Account) (s : IsSound plain t) (y : ℕ) (m : LogMessage) (rest : List LogMessage)

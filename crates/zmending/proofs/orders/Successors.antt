@@ -1,6 +1,8 @@
 -- The event Take at a server with a log, of the master's NewSucc with a number: it sends what the successor lacks.
 use Rattle.std.proofs.Common.{◌≡◌, ℕ, false, List, [], ◌∷◌, map, Option, Some, None, refl, sym, ap, ◌∙◌, subst, inl, inr}
 use Rattle.zcalls.specs.declared.call.Entry.{Entry}
+use Rattle.zcalls.specs.Lists.{Among}
+use Rattle.zcalls.specs.Kept.{Plain}
 use Rattle.zserver.specs.declared.message.Message.TheVariants as message
 use Rattle.zserver.specs.declared.process.Process.TheVariants.{Master, Server}
 use Rattle.zserver.specs.View.{ServerView, Neighbour}
@@ -8,17 +10,15 @@ use Rattle.zserver.specs.Table.{forward_post, entries_above, new_succ_row}
 use Rattle.zserver.specs.Table as server
 use Rattle.zserver.proofs.Fields.{view_of}
 use Rattle.zworld.specs.declared.event.Event.TheVariants.{Take}
-use Rattle.zcalls.specs.Lists.{Among}
 use Rattle.zworld.specs.Links.{without_front}
 use Rattle.zworld.specs.Events.{process_step}
-use Rattle.zcalls.specs.Kept.{Plain}
-use Rattle.zchain.specs.Flow.{log_machine, LogMessage, Log, log_at}
 use Rattle.zlegal.specs.Prefix.{IsEntry}
-use Rattle.zchain.specs.Chain.{IsOpened, IsMember}
 use Rattle.zlegal.specs.Items.{AllBegun}
+use Rattle.zlegal.proofs.lists.Members.{among_mid}
+use Rattle.zchain.specs.Flow.{log_machine, LogMessage, Log, log_at}
+use Rattle.zchain.specs.Chain.{IsOpened, IsMember}
 use Rattle.zchain.specs.Account.{Account, account_by}
 use Rattle.zchain.specs.Sound.{IsSound, IsSoundAfter}
-use Rattle.zlegal.proofs.lists.Members.{among_mid}
 use Rattle.zchain.proofs.links.Links.{at_same, front_among}
 use Rattle.zchain.proofs.tables.RowViews.{above_among}
 use Rattle.zchain.proofs.steps.Sends.{put_sent}
