@@ -1,6 +1,5 @@
 -- When a store is ready for a call, and what a call leaves of it.
 use Rattle.std.specs.Prelude.{◌≡◌, ℕ, ◌+◌, ◌*◌, ◌<◌, ◌≤◌, Result, Ok, Err}
-use Rattle.ztree.specs.Tree.{Tree}
 use Rattle.ztree.specs.Room.{HasRoom}
 use Rattle.ztree.specs.Lawful.{AllNodes}
 use Rattle.ztree.specs.declared.limits.TheConstants.{ZXID_BOUND}

@@ -1,5 +1,5 @@
 -- What is left by a part, or by the parts of a multi, done to a store.
-use Rattle.std.specs.Prelude.{◌≡◌, ℕ, ◌+◌, ◌≤◌, Option, Some, Result, Ok, Err}
+use Rattle.std.specs.Prelude.{◌≡◌, ◌+◌, ◌≤◌, Option, Some, Result, Ok, Err}
 use Rattle.ztree.specs.Tree.{Tree}
 use Rattle.zstore.specs.StoreView.{StoreView}
 use Rattle.zcalls.specs.declared.refusal.Refusal.{Refusal}
