@@ -7,11 +7,11 @@ use Rattle.zcalls.specs.declared.reply.Reply.{Reply}
 use Rattle.zcalls.specs.Lists.{Among}
 use Rattle.zcalls.specs.Operation.{Operation}
 use Rattle.zcalls.specs.Kept.{Plain}
-use Rattle.zserver.specs.declared.message.Message.TheVariants as message
-use Rattle.zserver.specs.declared.process.Process.TheVariants.{Server, Client}
-use Rattle.zserver.specs.View.{Post}
-use Rattle.zclient.specs.View.{ClientView}
-use Rattle.zclient.specs.Table as client
+use Rattle.zserver_table.specs.declared.message.Message.TheVariants as message
+use Rattle.zserver_table.specs.declared.process.Process.TheVariants.{Server, Client}
+use Rattle.zserver_table.specs.View.{Post}
+use Rattle.zclient_table.specs.View.{ClientView}
+use Rattle.zclient_table.specs.Table as client
 use Rattle.zworld.specs.declared.history.CallEvent.{CallEvent}
 use Rattle.zworld.specs.declared.history.CallEvent.TheVariants.{Begin, Answer}
 use Rattle.zworld.specs.History.{History, HasBegun}

@@ -2,10 +2,10 @@
 use Rattle.std.proofs.Common.{◌≡◌, ℕ, true, false, List, ◌∷◌, refl, sym, subst, inl}
 use Rattle.zcalls.specs.Lists.{Among}
 use Rattle.zcalls.specs.PlainTree.{plain_tree}
-use Rattle.zserver.specs.declared.message.Message.TheVariants as message
-use Rattle.zserver.specs.declared.process.Process.{Process}
-use Rattle.zserver.specs.declared.process.Process.TheVariants.{Master, Server, Client}
-use Rattle.zclient.specs.Table as client
+use Rattle.zserver_table.specs.declared.message.Message.TheVariants as message
+use Rattle.zserver_table.specs.declared.process.Process.{Process}
+use Rattle.zserver_table.specs.declared.process.Process.TheVariants.{Master, Server, Client}
+use Rattle.zclient_table.specs.Table as client
 use Rattle.zworld.specs.declared.event.Event.TheVariants.{Begin, Retry, Take, Fail}
 use Rattle.zworld.specs.Links.{without_front}
 use Rattle.zworld.specs.World.{at}

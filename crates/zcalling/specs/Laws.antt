@@ -1,8 +1,8 @@
 -- The events of clients, and that a server fails.
 use Rattle.std.specs.Prelude.{ℕ}
 use Rattle.zcalls.specs.declared.call.Call.{Call}
-use Rattle.zserver.specs.declared.process.Process.{Process}
-use Rattle.zserver.specs.declared.process.Process.TheVariants.{Client}
+use Rattle.zserver_table.specs.declared.process.Process.{Process}
+use Rattle.zserver_table.specs.declared.process.Process.TheVariants.{Client}
 use Rattle.zworld.specs.declared.event.Event.TheVariants.{Begin, Retry, Take, Fail}
 use Rattle.zchain.specs.Events.{KeepsSound}
 

@@ -5,7 +5,7 @@ use Rattle.std.proofs.Math.Seq.{drop-length}
 use Rattle.zcalls.specs.PlainTree.{plain_tree}
 use Rattle.zcalls.specs.Acts.{after_log, acts_from}
 use Rattle.zcalls.proofs.Among.{test}
-use Rattle.zserver.specs.declared.process.Process.{Process}
+use Rattle.zserver_table.specs.declared.process.Process.{Process}
 use Rattle.zworld.specs.declared.event.Event.{Event}
 use Rattle.zworld.specs.declared.event.Event.TheVariants.{Take}
 use Rattle.zworld.specs.Events.{front_is, has_failed, is_enabled, acts, front_step}

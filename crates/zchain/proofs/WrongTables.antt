@@ -5,9 +5,9 @@ use Rattle.zcalls.specs.Lists.{Among, NoTwo}
 use Rattle.zcalls.specs.Operation.{AreOneUpdate}
 use Rattle.zcalls.specs.PlainTree.{plain_tree}
 use Rattle.zcalls.proofs.ActedLogs.{acted_entries_once}
-use Rattle.zserver.specs.declared.message.Message.TheVariants as message
-use Rattle.zserver.specs.declared.process.Process.TheVariants.{Master, Server}
-use Rattle.zserver.specs.Table.{accept_result}
+use Rattle.zserver_table.specs.declared.message.Message.TheVariants as message
+use Rattle.zserver_table.specs.declared.process.Process.TheVariants.{Master, Server}
+use Rattle.zserver_table.specs.Table.{accept_result}
 use Rattle.zworld.specs.Links.{Links}
 use Rattle.zlegal.specs.Prefix.{IsPrefix}
 use Rattle.zchain.specs.Flow.{final_log}

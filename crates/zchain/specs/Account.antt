@@ -6,9 +6,9 @@ use Rattle.zcalls.specs.declared.call.Entry.{Entry}
 use Rattle.zcalls.specs.declared.call.Query.{Query}
 use Rattle.zcalls.specs.Kept.{Plain}
 use Rattle.zcalls.specs.Acts.{after_log}
-use Rattle.zserver.specs.declared.message.Message.TheVariants as message
-use Rattle.zserver.specs.declared.process.Process.TheVariants.{Server, Client}
-use Rattle.zserver.specs.View.{ServerView}
+use Rattle.zserver_table.specs.declared.message.Message.TheVariants as message
+use Rattle.zserver_table.specs.declared.process.Process.TheVariants.{Server, Client}
+use Rattle.zserver_table.specs.View.{ServerView}
 use Rattle.zworld.specs.declared.event.Event.{Event}
 use Rattle.zworld.specs.declared.event.Event.TheVariants.{Take}
 use Rattle.zworld.specs.World.{opening_world}

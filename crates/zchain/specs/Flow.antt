@@ -3,11 +3,11 @@
 use Rattle.std.specs.Prelude.{ℕ, ◌+◌, ◌==◌, nat_lt, if◌then◌else◌, Option, None, Some, List, [], ◌∷◌, ◌++◌, length}
 use Rattle.zcalls.specs.declared.call.Entry.{Entry}
 use Rattle.zcalls.specs.Kept.{Plain}
-use Rattle.zserver.specs.declared.limits.TheConstants.{MAX_LOG_NUMBER}
-use Rattle.zserver.specs.declared.message.Message.TheVariants as message
-use Rattle.zserver.specs.declared.process.Process.TheVariants.{Server}
-use Rattle.zserver.specs.Machine.{Does, log_of, machine_of}
-use Rattle.zserver.specs.View.{MessageOf, Neighbour}
+use Rattle.zserver_table.specs.declared.limits.TheConstants.{MAX_LOG_NUMBER}
+use Rattle.zserver_table.specs.declared.message.Message.TheVariants as message
+use Rattle.zserver_table.specs.declared.process.Process.TheVariants.{Server}
+use Rattle.zserver_table.specs.Machine.{Does, log_of, machine_of}
+use Rattle.zserver_table.specs.View.{MessageOf, Neighbour}
 use Rattle.zworld.specs.World.{World}
 
 -- a log, where there is one

@@ -1,7 +1,7 @@
 -- What holds before the first event, what each event keeps, and what holds of every list of events by it.
 use Rattle.std.specs.Prelude.{ℕ, List}
 use Rattle.zcalls.specs.PlainTree.{plain_tree}
-use Rattle.zserver.specs.declared.process.Process.{Process}
+use Rattle.zserver_table.specs.declared.process.Process.{Process}
 use Rattle.zworld.specs.declared.event.Event.{Event}
 use Rattle.zworld.specs.declared.event.Event.TheVariants.{Ignore}
 use Rattle.zworld.specs.World.{opening_world}

@@ -2,9 +2,9 @@
 use Rattle.std.specs.Prelude.{◌≡◌, true, List}
 use Rattle.zcalls.specs.declared.call.Call.TheVariants as call
 use Rattle.zcalls.specs.Operation.{operation_of}
-use Rattle.zserver.specs.declared.message.Message.TheVariants as message
-use Rattle.zserver.specs.declared.process.Process.{Process}
-use Rattle.zserver.specs.declared.process.Process.TheVariants.{Master, Server, Client}
+use Rattle.zserver_table.specs.declared.message.Message.TheVariants as message
+use Rattle.zserver_table.specs.declared.process.Process.{Process}
+use Rattle.zserver_table.specs.declared.process.Process.TheVariants.{Master, Server, Client}
 use Rattle.zworld.specs.History.{HasBegun}
 use Rattle.zlegal.specs.Items.{Item, IsGiven, AllBegun}
 use Rattle.zchain.specs.Flow.{LogWorld, LogMessage}

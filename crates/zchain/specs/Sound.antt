@@ -5,9 +5,9 @@ use Rattle.zcalls.specs.declared.call.Entry.{Entry}
 use Rattle.zcalls.specs.declared.reply.Reply.{Reply}
 use Rattle.zcalls.specs.Lists.{Among, ComesBefore, NoTwo}
 use Rattle.zcalls.specs.Kept.{Plain}
-use Rattle.zserver.specs.declared.process.Process.{Process}
-use Rattle.zserver.specs.View.{spare}
-use Rattle.zmaster.specs.View.{members}
+use Rattle.zserver_table.specs.declared.process.Process.{Process}
+use Rattle.zserver_table.specs.View.{spare}
+use Rattle.zmaster_table.specs.View.{members}
 use Rattle.zworld.specs.declared.history.CallEvent.TheVariants.{Answer}
 use Rattle.zworld.specs.History.{HasBegun}
 use Rattle.zworld.specs.Links.{Links}

@@ -1,4 +1,1 @@
-pub mod View
-pub mod Table
-pub mod Laws
-pub mod support
+pub mod Core

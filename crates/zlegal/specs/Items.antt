@@ -9,7 +9,7 @@ use Rattle.zcalls.specs.Lists.{Among, NoTwo}
 use Rattle.zcalls.specs.Operation.{Operation, operation_of}
 use Rattle.zcalls.specs.Kept.{Plain}
 use Rattle.zcalls.specs.Acts.{after_log, acts_of, acts_from}
-use Rattle.zclient.specs.View.{ClientView}
+use Rattle.zclient_table.specs.View.{ClientView}
 use Rattle.zworld.specs.declared.history.CallEvent.{CallEvent}
 use Rattle.zworld.specs.declared.history.CallEvent.TheVariants.{Begin, Answer}
 use Rattle.zworld.specs.History.{History, HasBegun}

@@ -4,11 +4,11 @@ use Rattle.std.proofs.Common.{◌≡◌, ℕ, Bool, true, false, List, ◌∷◌
 use Rattle.zcalls.specs.declared.call.Entry.{Entry}
 use Rattle.zcalls.specs.Lists.{Among}
 use Rattle.zcalls.specs.PlainTree.{plain_tree}
-use Rattle.zserver.specs.declared.message.Message.TheVariants as message
-use Rattle.zserver.specs.declared.process.Process.{Process}
-use Rattle.zserver.specs.declared.process.Process.TheVariants.{Master, Server, Client}
-use Rattle.zmaster.specs.View.{MasterView, is_among}
-use Rattle.zmaster.specs.Table as master
+use Rattle.zserver_table.specs.declared.message.Message.TheVariants as message
+use Rattle.zserver_table.specs.declared.process.Process.{Process}
+use Rattle.zserver_table.specs.declared.process.Process.TheVariants.{Master, Server, Client}
+use Rattle.zmaster_table.specs.View.{MasterView, is_among}
+use Rattle.zmaster_table.specs.Table as master
 use Rattle.zworld.specs.declared.event.Event.TheVariants.{Take, Join}
 use Rattle.zworld.specs.Links.{without_front}
 use Rattle.zworld.specs.Events.{front_step, is_server}

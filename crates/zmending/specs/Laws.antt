@@ -1,7 +1,7 @@
 -- The events that repair and extend the chain: the master's orders at servers, what the master hears, and joins.
 use Rattle.std.specs.Prelude.{ℕ}
-use Rattle.zserver.specs.declared.process.Process.{Process}
-use Rattle.zserver.specs.declared.process.Process.TheVariants.{Master, Server}
+use Rattle.zserver_table.specs.declared.process.Process.{Process}
+use Rattle.zserver_table.specs.declared.process.Process.TheVariants.{Master, Server}
 use Rattle.zworld.specs.declared.event.Event.TheVariants.{Take, Join}
 use Rattle.zchain.specs.Events.{KeepsSound}
 

@@ -3,8 +3,8 @@ use Rattle.std.proofs.Common.{◌≡◌, List, [], ◌∷◌, sym, ap, ◌∙◌
 use Rattle.ztree.specs.Tree.{Tree}
 use Rattle.zcalls.specs.Kept.{KeptState}
 use Rattle.zcalls.specs.PlainTree.{plain_tree}
-use Rattle.zserver.specs.Machine.{kept_tree, replay}
-use Rattle.zserver.proofs.Projection.{log_stands_for_machine}
+use Rattle.zserver_table.specs.Machine.{kept_tree, replay}
+use Rattle.zserver_table.proofs.Projection.{log_stands_for_machine}
 use Rattle.zworld.specs.declared.event.Event.{Event}
 use Rattle.zworld.specs.PlainTree.{IsExplained}
 use Rattle.zworld.specs.World.{World, opening_world}

@@ -7,11 +7,11 @@ use Rattle.zcalls.specs.declared.call.Entry.{Entry}
 use Rattle.zcalls.specs.Lists.{ComesBefore}
 use Rattle.zcalls.specs.PlainTree.{plain_tree}
 use Rattle.zcalls.proofs.ActedLogs.{acted_entries_once}
-use Rattle.zserver.specs.Machine.{kept_tree, replay}
-use Rattle.zserver.specs.View.{ServerView, is_tail}
-use Rattle.zserver.specs.support.Homomorphism.{view_with}
-use Rattle.zserver.proofs.Projection.{log_stands_for_machine}
-use Rattle.zmaster.specs.View.{members}
+use Rattle.zserver_table.specs.Machine.{kept_tree, replay}
+use Rattle.zserver_table.specs.View.{ServerView, is_tail}
+use Rattle.zserver_table.specs.support.Homomorphism.{view_with}
+use Rattle.zserver_table.proofs.Projection.{log_stands_for_machine}
+use Rattle.zmaster_table.specs.View.{members}
 use Rattle.zworld.specs.World.{World, opening_world}
 use Rattle.zworld.specs.Events.{run}
 use Rattle.zworld.specs.support.LogWorld.{world_with}

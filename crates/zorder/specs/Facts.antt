@@ -8,9 +8,9 @@ use Rattle.zcalls.specs.Lists.{Among, ComesBefore, NoTwo}
 use Rattle.zcalls.specs.Operation.{Operation, IsSameCall}
 use Rattle.zcalls.specs.PlainTree.{plain_tree}
 use Rattle.zcalls.specs.Acts.{after_log, acts_of}
-use Rattle.zserver.specs.Machine.{kept_tree}
-use Rattle.zserver.specs.View.{is_tail}
-use Rattle.zmaster.specs.View.{members}
+use Rattle.zserver_table.specs.Machine.{kept_tree}
+use Rattle.zserver_table.specs.View.{is_tail}
+use Rattle.zmaster_table.specs.View.{members}
 use Rattle.zworld.specs.declared.event.Event.{Event}
 use Rattle.zworld.specs.declared.history.CallEvent.TheVariants.{Answer}
 use Rattle.zworld.specs.History.{IsUpdate, HasBegun}

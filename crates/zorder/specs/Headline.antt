@@ -2,7 +2,7 @@
 use Rattle.std.specs.Prelude.{ℕ, List, [], ◌∷◌}
 use Rattle.ztree.specs.Tree.{Tree}
 use Rattle.zcalls.specs.Kept.{KeptState}
-use Rattle.zserver.specs.Machine.{kept_tree}
+use Rattle.zserver_table.specs.Machine.{kept_tree}
 use Rattle.zworld.specs.declared.event.Event.{Event}
 use Rattle.zworld.specs.World.{World, opening_world}
 use Rattle.zworld.specs.Events.{happens, run}

@@ -1,9 +1,9 @@
 -- What was put, and how the tables see it.
 use Rattle.std.specs.Prelude.{◌≡◌, ℕ, ◌+◌, List, ◌++◌, length, map}
-use Rattle.zserver.specs.declared.message.Message.{Message}
-use Rattle.zserver.specs.declared.message.Message.TheVariants as message
-use Rattle.zserver.specs.declared.process.Process.{Process}
-use Rattle.zserver.specs.View.{MessageOf, Post}
+use Rattle.zserver_table.specs.declared.message.Message.{Message}
+use Rattle.zserver_table.specs.declared.message.Message.TheVariants as message
+use Rattle.zserver_table.specs.declared.process.Process.{Process}
+use Rattle.zserver_table.specs.View.{MessageOf, Post}
 
 -- the messages that were put, each with its receiver, and how many more can be put without a growth
 pub record OutView (T : Type 0) : Type 0 where

@@ -6,7 +6,7 @@ use std::alloc::Global;
 use std::collections::VecDeque;
 use std::marker::Model;
 use zpath::Memory;
-use zserver::{Message, Process};
+use zserver_table::{Message, Process};
 
 /// The messages that were put, each with its receiver, and the room that is kept for more.
 #[derive(Drop)]

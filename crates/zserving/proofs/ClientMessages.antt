@@ -4,15 +4,15 @@ use Rattle.std.proofs.Common.{◌≡◌, ◌⊎◌, ℕ, ◌+◌, true, false, i
 use Rattle.zcalls.specs.declared.call.Entry.{Entry}
 use Rattle.zcalls.specs.Lists.{Among, ComesBefore}
 use Rattle.zcalls.specs.Kept.{Plain}
-use Rattle.zserver.specs.declared.message.Message.TheVariants as message
-use Rattle.zserver.specs.declared.process.Process.{Process}
-use Rattle.zserver.specs.declared.process.Process.TheVariants.{Server, Client}
-use Rattle.zserver.specs.View.{ServerView, Neighbour}
-use Rattle.zserver.specs.Table.{ServerResult}
-use Rattle.zserver.specs.Table as server
-use Rattle.zserver.specs.support.Cases.{IsAccepted, IsRow, Processes, Forwards, Ignores, Submits, Updates, Asks, Acknowledges, Shows, Turns, Follows, Leads, Ends}
-use Rattle.zserver.proofs.Cases.{server_case}
-use Rattle.zmaster.specs.View.{members}
+use Rattle.zserver_table.specs.declared.message.Message.TheVariants as message
+use Rattle.zserver_table.specs.declared.process.Process.{Process}
+use Rattle.zserver_table.specs.declared.process.Process.TheVariants.{Server, Client}
+use Rattle.zserver_table.specs.View.{ServerView, Neighbour}
+use Rattle.zserver_table.specs.Table.{ServerResult}
+use Rattle.zserver_table.specs.Table as server
+use Rattle.zserver_table.specs.support.Cases.{IsAccepted, IsRow, Processes, Forwards, Ignores, Submits, Updates, Asks, Acknowledges, Shows, Turns, Follows, Leads, Ends}
+use Rattle.zserver_table.proofs.Cases.{server_case}
+use Rattle.zmaster_table.specs.View.{members}
 use Rattle.zworld.specs.declared.event.Event.TheVariants.{Take}
 use Rattle.zworld.specs.Links.{without_front}
 use Rattle.zworld.specs.Events.{process_step}

@@ -8,13 +8,13 @@ use Rattle.zcalls.specs.declared.call.Query.{Query}
 use Rattle.zcalls.specs.declared.reply.Reply.{Reply}
 use Rattle.zcalls.specs.Kept.{nothing_kept, Plain}
 use Rattle.zcalls.specs.Acts.{after_log, acts_from}
-use Rattle.zserver.specs.declared.message.Message.TheVariants as message
-use Rattle.zserver.specs.declared.process.Process.TheVariants.{Server, Client}
-use Rattle.zserver.specs.Machine.{Does}
-use Rattle.zserver.specs.View.{ServerView, Neighbour}
-use Rattle.zserver.specs.Table.{ServerResult, query_row}
-use Rattle.zserver.specs.Table as server
-use Rattle.zserver.proofs.Fields.{view_of}
+use Rattle.zserver_table.specs.declared.message.Message.TheVariants as message
+use Rattle.zserver_table.specs.declared.process.Process.TheVariants.{Server, Client}
+use Rattle.zserver_table.specs.Machine.{Does}
+use Rattle.zserver_table.specs.View.{ServerView, Neighbour}
+use Rattle.zserver_table.specs.Table.{ServerResult, query_row}
+use Rattle.zserver_table.specs.Table as server
+use Rattle.zserver_table.proofs.Fields.{view_of}
 use Rattle.zworld.specs.declared.event.Event.TheVariants.{Take}
 use Rattle.zworld.specs.History.{HasBegun}
 use Rattle.zworld.specs.Links.{without_front}

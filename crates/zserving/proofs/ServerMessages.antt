@@ -9,14 +9,14 @@ use Rattle.zcalls.specs.Operation.{operation_of}
 use Rattle.zcalls.specs.Acts.{acts_of}
 use Rattle.zcalls.proofs.Among.{among_cases}
 use Rattle.zcalls.proofs.ActedLogs.{reply_is_acted}
-use Rattle.zserver.specs.declared.message.Message.TheVariants as message
-use Rattle.zserver.specs.declared.process.Process.{Process}
-use Rattle.zserver.specs.declared.process.Process.TheVariants.{Master, Server}
-use Rattle.zserver.specs.View.{ServerView, Post}
-use Rattle.zserver.specs.Table.{ServerResult, ack_posts, answer_posts}
-use Rattle.zserver.specs.Table as server
-use Rattle.zserver.specs.support.Cases.{IsAccepted, IsRow, Processes, Forwards, Ignores, Submits, Updates, Asks, Acknowledges, Shows, Turns, Follows, Leads, Ends}
-use Rattle.zserver.proofs.Cases.{server_case}
+use Rattle.zserver_table.specs.declared.message.Message.TheVariants as message
+use Rattle.zserver_table.specs.declared.process.Process.{Process}
+use Rattle.zserver_table.specs.declared.process.Process.TheVariants.{Master, Server}
+use Rattle.zserver_table.specs.View.{ServerView, Post}
+use Rattle.zserver_table.specs.Table.{ServerResult, ack_posts, answer_posts}
+use Rattle.zserver_table.specs.Table as server
+use Rattle.zserver_table.specs.support.Cases.{IsAccepted, IsRow, Processes, Forwards, Ignores, Submits, Updates, Asks, Acknowledges, Shows, Turns, Follows, Leads, Ends}
+use Rattle.zserver_table.proofs.Cases.{server_case}
 use Rattle.zworld.specs.declared.event.Event.TheVariants.{Take}
 use Rattle.zworld.specs.History.{HasBegun}
 use Rattle.zworld.specs.Links.{without_front}

@@ -4,10 +4,10 @@ use Rattle.std.proofs.Common.{◌≡◌, ℕ, true, List, ◌∷◌, Option, Som
 use Rattle.zcalls.specs.declared.call.Entry.{Entry}
 use Rattle.zcalls.specs.Lists.{Among}
 use Rattle.zcalls.specs.Kept.{Plain}
-use Rattle.zserver.specs.declared.process.Process.TheVariants.{Server}
-use Rattle.zserver.specs.View.{Neighbour}
-use Rattle.zserver.specs.Table.{ServerResult, server_step}
-use Rattle.zserver.proofs.Cases.{server_case}
+use Rattle.zserver_table.specs.declared.process.Process.TheVariants.{Server}
+use Rattle.zserver_table.specs.View.{Neighbour}
+use Rattle.zserver_table.specs.Table.{ServerResult, server_step}
+use Rattle.zserver_table.proofs.Cases.{server_case}
 use Rattle.zlegal.specs.Prefix.{IsPrefix}
 use Rattle.zlegal.proofs.lists.Tests.{left_of, right_of}
 use Rattle.zchain.specs.Flow.{log_machine, LogWorld, LogMessage, first_log}

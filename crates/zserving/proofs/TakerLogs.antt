@@ -3,10 +3,10 @@ use Rattle.std.proofs.Common.{◌≡◌, ◌⊎◌, ℕ, ◌==◌, List, ◌∷�
 use Rattle.zcalls.specs.declared.call.Entry.{Entry}
 use Rattle.zcalls.specs.Kept.{Plain}
 use Rattle.zcalls.proofs.Among.{test}
-use Rattle.zserver.specs.declared.process.Process.TheVariants.{Server}
-use Rattle.zserver.specs.View.{ServerView, Neighbour}
-use Rattle.zserver.specs.Table.{server_step}
-use Rattle.zserver.proofs.Cases.{server_case}
+use Rattle.zserver_table.specs.declared.process.Process.TheVariants.{Server}
+use Rattle.zserver_table.specs.View.{ServerView, Neighbour}
+use Rattle.zserver_table.specs.Table.{server_step}
+use Rattle.zserver_table.proofs.Cases.{server_case}
 use Rattle.zlegal.specs.Prefix.{IsPrefix}
 use Rattle.zlegal.proofs.lists.Prefixes.{prefix_same}
 use Rattle.zchain.specs.Flow.{log_machine, LogWorld, LogMessage, Log, log_with_message, flow, snapshot_of, first_snapshot, or_else, log_at, final_log_by, final_log, first_snapshot_by, first_log}

@@ -1,6 +1,6 @@
 -- The events in which servers hear servers and clients.
 use Rattle.std.specs.Prelude.{ℕ}
-use Rattle.zserver.specs.declared.process.Process.TheVariants.{Server, Client}
+use Rattle.zserver_table.specs.declared.process.Process.TheVariants.{Server, Client}
 use Rattle.zworld.specs.declared.event.Event.TheVariants.{Take}
 use Rattle.zchain.specs.Events.{KeepsSound}
 

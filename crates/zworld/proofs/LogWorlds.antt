@@ -4,20 +4,20 @@ use Rattle.std.proofs.Common.{Option, Some, None, refl, sym, ap, ◌∙◌}
 use Rattle.std.proofs.lemmas.List.{map-append, drop-map}
 use Rattle.std.specs.Prelude.{◌&&◌, not, ◌==◌, drop, nat_lt}
 use Rattle.zcalls.specs.declared.reply.Reply.{Reply}
-use Rattle.zserver.specs.declared.message.Message.TheVariants as message
-use Rattle.zserver.specs.declared.process.Process.{Process}
-use Rattle.zserver.specs.declared.process.Process.TheVariants.{Master, Server, Client}
-use Rattle.zserver.specs.Machine.{Does}
-use Rattle.zserver.specs.View.{ServerView, Neighbour, MessageOf, Post, spare, opening_server}
-use Rattle.zserver.specs.Table as server
-use Rattle.zserver.specs.support.Homomorphism.{IsHomomorphism, message_with, posts_with, view_with, server_result_with}
-use Rattle.zserver.proofs.Projection.{table_with}
-use Rattle.zmaster.specs.Table as master
-use Rattle.zmaster.specs.Laws.{master_result_with as master_with}
-use Rattle.zmaster.proofs.Projection.{table_with as master_takes_with, join_with as joins_with}
-use Rattle.zclient.specs.View.{ClientView}
-use Rattle.zclient.specs.Table as client
-use Rattle.zclient.proofs.Projection.{begins_with, retries_with, table_with as client_takes_with}
+use Rattle.zserver_table.specs.declared.message.Message.TheVariants as message
+use Rattle.zserver_table.specs.declared.process.Process.{Process}
+use Rattle.zserver_table.specs.declared.process.Process.TheVariants.{Master, Server, Client}
+use Rattle.zserver_table.specs.Machine.{Does}
+use Rattle.zserver_table.specs.View.{ServerView, Neighbour, MessageOf, Post, spare, opening_server}
+use Rattle.zserver_table.specs.Table as server
+use Rattle.zserver_table.specs.support.Homomorphism.{IsHomomorphism, message_with, posts_with, view_with, server_result_with}
+use Rattle.zserver_table.proofs.Projection.{table_with}
+use Rattle.zmaster_table.specs.Table as master
+use Rattle.zmaster_table.specs.Laws.{master_result_with as master_with}
+use Rattle.zmaster_table.proofs.Projection.{table_with as master_takes_with, join_with as joins_with}
+use Rattle.zclient_table.specs.View.{ClientView}
+use Rattle.zclient_table.specs.Table as client
+use Rattle.zclient_table.proofs.Projection.{begins_with, retries_with, table_with as client_takes_with}
 use Rattle.zworld.specs.declared.event.Event.{Event}
 use Rattle.zworld.specs.declared.event.Event.TheVariants.{Begin, Retry, Take, Ignore, Fail, Join}
 use Rattle.zworld.specs.declared.history.CallEvent.TheVariants as call_event

@@ -1,8 +1,8 @@
 -- What the worked runs open: every row of the three tables. A proof that opens one of these opens the rows on its line.
 use Rattle.std.specs.Prelude.{ℕ}
-use Rattle.zserver.proofs.Tables.{chain_rows, repair_rows}
-use Rattle.zmaster.proofs.Tables.{master_table}
-use Rattle.zclient.proofs.Tables.{client_table}
+use Rattle.zserver_table.proofs.Tables.{chain_rows, repair_rows}
+use Rattle.zmaster_table.proofs.Tables.{master_table}
+use Rattle.zclient_table.proofs.Tables.{client_table}
 
 -- all tables
 unfoldable pub all_tables : ℕ

@@ -7,20 +7,20 @@ use Rattle.zcalls.specs.declared.call.Call.{Call}
 use Rattle.zcalls.specs.declared.reply.Reply.{Reply}
 use Rattle.zcalls.specs.Lists.{Among}
 use Rattle.zcalls.proofs.Among.{test, among_cases}
-use Rattle.zserver.specs.declared.message.Message.TheVariants as message
-use Rattle.zserver.specs.declared.process.Process.{Process}
-use Rattle.zserver.specs.declared.process.Process.TheVariants.{Master, Server, Client}
-use Rattle.zserver.specs.Machine.{Does}
-use Rattle.zserver.specs.View.{ServerView, MessageOf, Post}
-use Rattle.zserver.specs.Table.{server_step}
-use Rattle.zserver.proofs.Cases.{server_case}
-use Rattle.zmaster.specs.View.{MasterView}
-use Rattle.zmaster.specs.Table.{master_step, join_step}
-use Rattle.zmaster.proofs.Cases.{master_case}
-use Rattle.zclient.specs.View.{ClientView}
-use Rattle.zclient.specs.Table.{ClientResult, client_step, begin_step, retry_posts}
-use Rattle.zclient.specs.support.Cases as client
-use Rattle.zclient.proofs.Cases.{client_case}
+use Rattle.zserver_table.specs.declared.message.Message.TheVariants as message
+use Rattle.zserver_table.specs.declared.process.Process.{Process}
+use Rattle.zserver_table.specs.declared.process.Process.TheVariants.{Master, Server, Client}
+use Rattle.zserver_table.specs.Machine.{Does}
+use Rattle.zserver_table.specs.View.{ServerView, MessageOf, Post}
+use Rattle.zserver_table.specs.Table.{server_step}
+use Rattle.zserver_table.proofs.Cases.{server_case}
+use Rattle.zmaster_table.specs.View.{MasterView}
+use Rattle.zmaster_table.specs.Table.{master_step, join_step}
+use Rattle.zmaster_table.proofs.Cases.{master_case}
+use Rattle.zclient_table.specs.View.{ClientView}
+use Rattle.zclient_table.specs.Table.{ClientResult, client_step, begin_step, retry_posts}
+use Rattle.zclient_table.specs.support.Cases as client
+use Rattle.zclient_table.proofs.Cases.{client_case}
 use Rattle.zworld.specs.declared.event.Event.{Event}
 use Rattle.zworld.specs.declared.event.Event.TheVariants.{Begin, Retry, Take, Ignore, Fail, Join}
 use Rattle.zworld.specs.Links.{Links, put, without_front, is_same, addressed}

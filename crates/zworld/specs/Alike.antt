@@ -5,8 +5,8 @@
 use Rattle.std.specs.Prelude.{◌≡◌, ℕ, false, List}
 use Rattle.ztree.specs.Tree.{Tree}
 use Rattle.zcalls.specs.Kept.{KeptState}
-use Rattle.zserver.specs.declared.process.Process.{Process}
-use Rattle.zserver.specs.Machine.{kept_tree}
+use Rattle.zserver_table.specs.declared.process.Process.{Process}
+use Rattle.zserver_table.specs.Machine.{kept_tree}
 use Rattle.zworld.specs.declared.event.Event.{Event}
 use Rattle.zworld.specs.World.{World}
 use Rattle.zworld.specs.declared.outcome.Outcome.{Outcome}

@@ -4,15 +4,15 @@ use Rattle.std.specs.List.{list_any}
 use Rattle.ztree.specs.Tree.{Tree}
 use Rattle.zcalls.specs.Kept.{KeptState}
 use Rattle.zcalls.specs.Lists.{Among}
-use Rattle.zserver.specs.Machine.{kept_tree}
+use Rattle.zserver_table.specs.Machine.{kept_tree}
 use Rattle.zworld.specs.declared.outcome.Outcome.{Outcome}
 use Rattle.zworld.specs.declared.outcome.Outcome.TheVariants.{Stopped, Unheard}
 use Rattle.zworld.specs.declared.settled.Settled.TheVariants.{Quiet}
 use Rattle.zworld.specs.declared.event.Event.{Event}
 use Rattle.zworld.specs.declared.event.Event.TheVariants.{Take, Ignore, Fail}
-use Rattle.zserver.specs.declared.limits.TheConstants.{MAX_SERVERS}
-use Rattle.zserver.specs.declared.process.Process.{Process}
-use Rattle.zserver.specs.declared.process.Process.TheVariants.{Server}
+use Rattle.zserver_table.specs.declared.limits.TheConstants.{MAX_SERVERS}
+use Rattle.zserver_table.specs.declared.process.Process.{Process}
+use Rattle.zserver_table.specs.declared.process.Process.TheVariants.{Server}
 use Rattle.zworld.specs.World.{World, opening_world}
 use Rattle.zworld.specs.Reading.{read, is_fitting}
 use Rattle.zworld.specs.Events.{is_server, is_enabled, run}

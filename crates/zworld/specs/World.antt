@@ -2,10 +2,10 @@
 -- Van Renesse and Schneider, "Chain Replication for Supporting High Throughput and Availability" (OSDI 2004), section 3:
 -- servers fail-stop, and a master that detects failures and doesn't fail. It is over any machine.
 use Rattle.std.specs.Prelude.{ℕ, Bool, false, ◌==◌, if◌then◌else◌, []}
-use Rattle.zserver.specs.Machine.{Does}
-use Rattle.zserver.specs.View.{ServerView, opening_server}
-use Rattle.zmaster.specs.View.{MasterView, opening_master}
-use Rattle.zclient.specs.View.{ClientView, opening_client}
+use Rattle.zserver_table.specs.Machine.{Does}
+use Rattle.zserver_table.specs.View.{ServerView, opening_server}
+use Rattle.zmaster_table.specs.View.{MasterView, opening_master}
+use Rattle.zclient_table.specs.View.{ClientView, opening_client}
 use Rattle.zworld.specs.History.{History}
 use Rattle.zworld.specs.Links.{Links}
 

@@ -10,7 +10,7 @@ ghost use Rattle.zcalls.specs.Step.{step, query_reply};
 ghost use Rattle.zworld.specs.PlainTree.{service_of};
 ghost use Rattle.zworld.specs.Alike.{HaveTheSameEnabled, StayAlike, ReadAlike};
 ghost use Rattle.zworld.specs.Alike.{HaveTheSameOutcomes, AreAlikeThemselves, AlikeIsTransitive};
-ghost use Rattle.zserver.specs.Machine.{kept_tree};
+ghost use Rattle.zserver_table.specs.Machine.{kept_tree};
 ghost use Rattle.zworld.specs.support.Learning.{DoneIsLearnt, IdleIsPassed, PassBegins};
 ghost use Rattle.zworld.specs.support.Learning.{PassesEnd, ReadingIsLearnt};
 ghost use Rattle.zworld.specs.Laws.{FittingOutcomesAreRead, LinksAreVisited, QuietIsQuiet};

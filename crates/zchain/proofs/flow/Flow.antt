@@ -2,8 +2,8 @@
 use Rattle.std.proofs.Common.{◌≡◌, ℕ, ◌+◌, nat_lt, ◌==◌, List, [], ◌∷◌, ◌++◌, length, Some, None, refl, sym, ap, ◌∙◌, subst, inl, inr, append_assoc, arith, eqb-true}
 use Rattle.zcalls.specs.declared.call.Entry.{Entry}
 use Rattle.zcalls.proofs.Among.{test}
-use Rattle.zserver.specs.declared.limits.TheConstants.{MAX_LOG_NUMBER}
-use Rattle.zserver.specs.declared.message.Message.TheVariants as message
+use Rattle.zserver_table.specs.declared.limits.TheConstants.{MAX_LOG_NUMBER}
+use Rattle.zserver_table.specs.declared.message.Message.TheVariants as message
 use Rattle.zlegal.specs.Prefix.{IsPrefix, IsEntry}
 use Rattle.zlegal.proofs.lists.Prefixes.{prefix_same, prefix_of, prefix_append, same_fronts}
 use Rattle.zchain.specs.Flow.{Log, LogMessage, with_entry, log_with_message, flow, snapshot_of, or_else, first_snapshot}

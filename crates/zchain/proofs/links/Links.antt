@@ -3,9 +3,9 @@ use Rattle.std.specs.Prelude.{◌&&◌}
 use Rattle.std.proofs.Common.{◌≡◌, ◌⊎◌, ℕ, true, false, cond, ◌==◌, List, [], ◌∷◌, ◌++◌, drop, map, refl, sym, ap, subst, inl, inr, eqb-true, eq-eqb}
 use Rattle.zcalls.specs.Lists.{Among}
 use Rattle.zcalls.proofs.Among.{test, among_cases}
-use Rattle.zserver.specs.declared.process.Process.{Process}
-use Rattle.zserver.specs.declared.process.Process.TheVariants.{Master, Server, Client}
-use Rattle.zserver.specs.View.{MessageOf, Post}
+use Rattle.zserver_table.specs.declared.process.Process.{Process}
+use Rattle.zserver_table.specs.declared.process.Process.TheVariants.{Master, Server, Client}
+use Rattle.zserver_table.specs.View.{MessageOf, Post}
 use Rattle.zworld.specs.Links.{Links, is_same, addressed, put, without_front}
 use Rattle.zworld.specs.World.{at}
 

@@ -4,8 +4,8 @@ use Rattle.std.proofs.Common.{◌≡◌, ℕ, false, ◌==◌, List, [], ◌∷�
 use Rattle.zcalls.specs.declared.call.Entry.{Entry}
 use Rattle.zcalls.specs.Lists.{ComesBefore, NoTwo}
 use Rattle.zcalls.proofs.Among.{test}
-use Rattle.zserver.specs.View.{Neighbour}
-use Rattle.zmaster.specs.View.{members}
+use Rattle.zserver_table.specs.View.{Neighbour}
+use Rattle.zmaster_table.specs.View.{members}
 use Rattle.zlegal.proofs.lists.Places.{before_second}
 use Rattle.zchain.specs.Flow.{LogWorld, log_at}
 use Rattle.zchain.specs.Chain.{Place, place_from, queue, IsPast, IsMember, LeadsTo, is_fresh}

@@ -1,7 +1,7 @@
 -- Orders that lead from one predecessor to another, and places in the chain.
 use Rattle.std.proofs.Common.{◌≡◌, ◌⊎◌, ℕ, Bool, true, false, cond, ◌==◌, List, [], ◌∷◌, ◌++◌, Option, Some, None, refl, sym, ap, ◌∙◌, subst, inl, inr, eqb-true}
 use Rattle.zcalls.proofs.Among.{test}
-use Rattle.zserver.specs.View.{Neighbour}
+use Rattle.zserver_table.specs.View.{Neighbour}
 use Rattle.zchain.specs.Flow.{LogMessage}
 use Rattle.zchain.specs.Chain.{Place, turn_of, LeadsTo, place_behind, place_from}
 

@@ -4,8 +4,8 @@ use Rattle.std.proofs.Common.{◌≡◌, ◌⊎◌, ℕ, false, ◌==◌, List, 
 use Rattle.zcalls.specs.declared.call.Entry.{Entry}
 use Rattle.zcalls.specs.Lists.{Among, ComesBefore, NoTwo}
 use Rattle.zcalls.proofs.Among.{test}
-use Rattle.zserver.specs.View.{ServerView, Neighbour}
-use Rattle.zmaster.specs.View.{members, is_among}
+use Rattle.zserver_table.specs.View.{ServerView, Neighbour}
+use Rattle.zmaster_table.specs.View.{members, is_among}
 use Rattle.zlegal.proofs.lists.Places.{stands_before, before_next}
 use Rattle.zchain.specs.Flow.{LogWorld, Log, log_at}
 use Rattle.zchain.specs.Chain.{Place, place_behind, place_from, queue, IsPair, IsPast, IsMember, LeadsTo, is_fresh}

@@ -5,10 +5,10 @@ use Rattle.zcalls.specs.declared.call.Entry.{Entry}
 use Rattle.zcalls.specs.Lists.{Among, ComesBefore}
 use Rattle.zcalls.specs.Kept.{Plain}
 use Rattle.zcalls.proofs.Among.{test}
-use Rattle.zserver.specs.declared.process.Process.{Process}
-use Rattle.zserver.specs.declared.process.Process.TheVariants.{Server}
-use Rattle.zserver.specs.View.{ServerView, Neighbour}
-use Rattle.zmaster.specs.View.{members}
+use Rattle.zserver_table.specs.declared.process.Process.{Process}
+use Rattle.zserver_table.specs.declared.process.Process.TheVariants.{Server}
+use Rattle.zserver_table.specs.View.{ServerView, Neighbour}
+use Rattle.zmaster_table.specs.View.{members}
 use Rattle.zlegal.specs.Prefix.{IsPrefix}
 use Rattle.zlegal.specs.Items.{Item, AllBegun, new_items}
 use Rattle.zlegal.proofs.lists.Members.{among_left}

@@ -7,8 +7,8 @@ use Rattle.zcalls.specs.declared.call.Entry.{Entry}
 use Rattle.zcalls.specs.Lists.{Among, NoTwo}
 use Rattle.zcalls.specs.Kept.{Plain}
 use Rattle.zcalls.proofs.Among.{test}
-use Rattle.zserver.specs.View.{ServerView, Neighbour, spare, member}
-use Rattle.zmaster.specs.View.{is_among, members}
+use Rattle.zserver_table.specs.View.{ServerView, Neighbour, spare, member}
+use Rattle.zmaster_table.specs.View.{is_among, members}
 use Rattle.zworld.specs.World.{opening_world}
 use Rattle.zlegal.specs.Prefix.{Pairwise}
 use Rattle.zlegal.proofs.lists.Prefixes.{prefix_nil}

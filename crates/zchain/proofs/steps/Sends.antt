@@ -5,10 +5,10 @@ use Rattle.zcalls.specs.Lists.{ComesBefore}
 use Rattle.zcalls.specs.Kept.{Plain}
 use Rattle.zcalls.specs.Operation.{operation_of}
 use Rattle.zcalls.proofs.Among.{test}
-use Rattle.zserver.specs.declared.message.Message.TheVariants as message
-use Rattle.zserver.specs.declared.process.Process.TheVariants.{Server}
-use Rattle.zserver.specs.View.{Neighbour}
-use Rattle.zmaster.specs.View.{members}
+use Rattle.zserver_table.specs.declared.message.Message.TheVariants as message
+use Rattle.zserver_table.specs.declared.process.Process.TheVariants.{Server}
+use Rattle.zserver_table.specs.View.{Neighbour}
+use Rattle.zmaster_table.specs.View.{members}
 use Rattle.zworld.specs.History.{HasBegun}
 use Rattle.zlegal.specs.Prefix.{IsPrefix, IsEntry}
 use Rattle.zlegal.proofs.lists.Places.{before_second}

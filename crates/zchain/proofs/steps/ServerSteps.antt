@@ -8,11 +8,11 @@ use Rattle.zcalls.specs.Lists.{Among}
 use Rattle.zcalls.specs.Kept.{Plain}
 use Rattle.zcalls.specs.Acts.{after_log, acts_from}
 use Rattle.zcalls.proofs.Among.{test}
-use Rattle.zserver.specs.declared.process.Process.{Process}
-use Rattle.zserver.specs.declared.process.Process.TheVariants.{Master, Server}
-use Rattle.zserver.specs.View.{ServerView, Neighbour, Post}
-use Rattle.zserver.specs.Table.{ack_posts, answer_posts}
-use Rattle.zmaster.specs.View.{is_among}
+use Rattle.zserver_table.specs.declared.process.Process.{Process}
+use Rattle.zserver_table.specs.declared.process.Process.TheVariants.{Master, Server}
+use Rattle.zserver_table.specs.View.{ServerView, Neighbour, Post}
+use Rattle.zserver_table.specs.Table.{ack_posts, answer_posts}
+use Rattle.zmaster_table.specs.View.{is_among}
 use Rattle.zworld.specs.Links.{Links, is_same, addressed, put}
 use Rattle.zlegal.specs.Prefix.{IsPrefix}
 use Rattle.zlegal.specs.Items.{Item, IsGiven, all_at_time, new_items}

@@ -6,16 +6,16 @@ use Rattle.zcalls.specs.declared.call.Entry.{Entry}
 use Rattle.zcalls.specs.Lists.{ComesBefore}
 use Rattle.zcalls.specs.Kept.{Plain}
 use Rattle.zcalls.proofs.Among.{test}
-use Rattle.zserver.specs.declared.limits.TheConstants.{MAX_LOG_NUMBER}
-use Rattle.zserver.specs.declared.message.Message.TheVariants as message
-use Rattle.zserver.specs.declared.process.Process.{Process}
-use Rattle.zserver.specs.declared.process.Process.TheVariants.{Master, Server}
-use Rattle.zserver.specs.View.{ServerView, Neighbour, Transfer}
-use Rattle.zserver.specs.Table.{ServerResult, is_neighbour, accept_result, update_row, ack_row, snapshot_row, server_step}
-use Rattle.zserver.specs.support.Cases.{IsAccepted, IsRow, Processes, Forwards, Ignores, Submits, Updates, Asks, Acknowledges, Shows, Turns, Follows, Leads, Ends}
-use Rattle.zserver.proofs.Fields.{view_of}
-use Rattle.zserver.proofs.Cases.{server_case}
-use Rattle.zmaster.specs.View.{members}
+use Rattle.zserver_table.specs.declared.limits.TheConstants.{MAX_LOG_NUMBER}
+use Rattle.zserver_table.specs.declared.message.Message.TheVariants as message
+use Rattle.zserver_table.specs.declared.process.Process.{Process}
+use Rattle.zserver_table.specs.declared.process.Process.TheVariants.{Master, Server}
+use Rattle.zserver_table.specs.View.{ServerView, Neighbour, Transfer}
+use Rattle.zserver_table.specs.Table.{ServerResult, is_neighbour, accept_result, update_row, ack_row, snapshot_row, server_step}
+use Rattle.zserver_table.specs.support.Cases.{IsAccepted, IsRow, Processes, Forwards, Ignores, Submits, Updates, Asks, Acknowledges, Shows, Turns, Follows, Leads, Ends}
+use Rattle.zserver_table.proofs.Fields.{view_of}
+use Rattle.zserver_table.proofs.Cases.{server_case}
+use Rattle.zmaster_table.specs.View.{members}
 use Rattle.zworld.specs.Links.{Links, is_same, without_front}
 use Rattle.zworld.specs.World.{at}
 use Rattle.zlegal.specs.Prefix.{IsPrefix}

@@ -4,13 +4,13 @@ use Rattle.zcalls.specs.declared.call.Entry.{Entry}
 use Rattle.zcalls.specs.declared.reply.Reply.{Reply}
 use Rattle.zcalls.specs.Kept.{Plain}
 use Rattle.zcalls.proofs.Among.{test}
-use Rattle.zserver.specs.declared.message.Message.TheVariants as message
-use Rattle.zserver.specs.declared.process.Process.{Process}
-use Rattle.zserver.specs.declared.process.Process.TheVariants.{Master, Server, Client}
-use Rattle.zserver.specs.View.{ServerView, Neighbour, Post, opening_server}
-use Rattle.zserver.specs.Table.{ServerResult, ack_posts, answer_posts, forward_post, entries_above, missing_posts, server_step, last_number}
-use Rattle.zserver.specs.support.Cases.{IsAccepted, IsRow, Processes, Forwards, Ignores, Submits, Updates, Asks, Acknowledges, Shows, Turns, Follows, Leads, Ends}
-use Rattle.zserver.proofs.Cases.{server_case}
+use Rattle.zserver_table.specs.declared.message.Message.TheVariants as message
+use Rattle.zserver_table.specs.declared.process.Process.{Process}
+use Rattle.zserver_table.specs.declared.process.Process.TheVariants.{Master, Server, Client}
+use Rattle.zserver_table.specs.View.{ServerView, Neighbour, Post, opening_server}
+use Rattle.zserver_table.specs.Table.{ServerResult, ack_posts, answer_posts, forward_post, entries_above, missing_posts, server_step, last_number}
+use Rattle.zserver_table.specs.support.Cases.{IsAccepted, IsRow, Processes, Forwards, Ignores, Submits, Updates, Asks, Acknowledges, Shows, Turns, Follows, Leads, Ends}
+use Rattle.zserver_table.proofs.Cases.{server_case}
 use Rattle.zworld.specs.declared.event.Event.{Event}
 use Rattle.zworld.specs.World.{opening_world}
 use Rattle.zworld.specs.Events.{happens, run}

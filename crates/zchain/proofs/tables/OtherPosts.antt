@@ -5,14 +5,14 @@ use Rattle.zcalls.specs.declared.call.Call.{Call}
 use Rattle.zcalls.specs.declared.call.Call.TheVariants as call
 use Rattle.zcalls.specs.declared.reply.Reply.{Reply}
 use Rattle.zcalls.proofs.Among.{test}
-use Rattle.zserver.specs.declared.message.Message.TheVariants as message
-use Rattle.zserver.specs.declared.process.Process.{Process}
-use Rattle.zserver.specs.declared.process.Process.TheVariants.{Master, Server, Client}
-use Rattle.zserver.specs.View.{MessageOf, Post, Neighbour}
-use Rattle.zmaster.specs.View.{MasterView, is_among, members, is_joining, head_of, tail_of, with_number}
-use Rattle.zmaster.specs.Table as master
-use Rattle.zclient.specs.View.{ClientView}
-use Rattle.zclient.specs.Table as client
+use Rattle.zserver_table.specs.declared.message.Message.TheVariants as message
+use Rattle.zserver_table.specs.declared.process.Process.{Process}
+use Rattle.zserver_table.specs.declared.process.Process.TheVariants.{Master, Server, Client}
+use Rattle.zserver_table.specs.View.{MessageOf, Post, Neighbour}
+use Rattle.zmaster_table.specs.View.{MasterView, is_among, members, is_joining, head_of, tail_of, with_number}
+use Rattle.zmaster_table.specs.Table as master
+use Rattle.zclient_table.specs.View.{ClientView}
+use Rattle.zclient_table.specs.Table as client
 use Rattle.zchain.proofs.links.Links.{AllPosts, all_none, all_and, all_append, all_map}
 
 -- an order to a server, or a configuration

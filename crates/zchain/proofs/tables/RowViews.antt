@@ -5,11 +5,11 @@ use Rattle.zcalls.specs.Lists.{Among}
 use Rattle.zcalls.specs.Kept.{Plain}
 use Rattle.zcalls.specs.Operation.{operation_of}
 use Rattle.zcalls.proofs.Among.{test}
-use Rattle.zserver.specs.declared.process.Process.{Process}
-use Rattle.zserver.specs.declared.process.Process.TheVariants.{Master, Server}
-use Rattle.zserver.specs.View.{ServerView, Neighbour, spare}
-use Rattle.zserver.specs.Table.{ServerResult, entries_above}
-use Rattle.zserver.specs.support.Cases.{IsAccepted, IsRow, Processes, Forwards, Ignores, Submits, Updates, Asks, Acknowledges, Shows, Turns, Follows, Leads, Ends}
+use Rattle.zserver_table.specs.declared.process.Process.{Process}
+use Rattle.zserver_table.specs.declared.process.Process.TheVariants.{Master, Server}
+use Rattle.zserver_table.specs.View.{ServerView, Neighbour, spare}
+use Rattle.zserver_table.specs.Table.{ServerResult, entries_above}
+use Rattle.zserver_table.specs.support.Cases.{IsAccepted, IsRow, Processes, Forwards, Ignores, Submits, Updates, Asks, Acknowledges, Shows, Turns, Follows, Leads, Ends}
 use Rattle.zworld.specs.History.{HasBegun}
 use Rattle.zworld.specs.Links.{is_same}
 use Rattle.zlegal.specs.Prefix.{IsEntry}

@@ -10,12 +10,12 @@ use Rattle.zcalls.specs.declared.reply.Reply.{Reply}
 use Rattle.zcalls.specs.Operation.{Operation}
 use Rattle.zcalls.specs.Lists.{Among}
 use Rattle.zcalls.specs.PlainTree.{plain_tree}
-use Rattle.zserver.specs.declared.message.Message.TheVariants as message
-use Rattle.zserver.specs.declared.process.Process.{Process}
-use Rattle.zserver.specs.declared.process.Process.TheVariants.{Server, Client}
-use Rattle.zserver.specs.Machine.{Does}
-use Rattle.zserver.specs.View.{ServerView, Neighbour, Transfer, spare}
-use Rattle.zserver.specs.Table.{ServerResult, if_initialised, is_neighbour, no_effect, accept_result, forward_post}
+use Rattle.zserver_table.specs.declared.message.Message.TheVariants as message
+use Rattle.zserver_table.specs.declared.process.Process.{Process}
+use Rattle.zserver_table.specs.declared.process.Process.TheVariants.{Server, Client}
+use Rattle.zserver_table.specs.Machine.{Does}
+use Rattle.zserver_table.specs.View.{ServerView, Neighbour, Transfer, spare}
+use Rattle.zserver_table.specs.Table.{ServerResult, if_initialised, is_neighbour, no_effect, accept_result, forward_post}
 use Rattle.zworld.specs.declared.event.Event.TheVariants.{Take}
 use Rattle.zworld.specs.Links.{Links, is_same, without_front}
 use Rattle.zworld.specs.World.{opening_world}

@@ -6,11 +6,11 @@ use Rattle.zcalls.specs.declared.call.Entry.{Entry}
 use Rattle.zcalls.specs.Lists.{Among, ComesBefore, NoTwo}
 use Rattle.zcalls.specs.Kept.{Plain}
 use Rattle.zcalls.proofs.Among.{test}
-use Rattle.zserver.specs.declared.message.Message.TheVariants as message
-use Rattle.zserver.specs.declared.process.Process.TheVariants.{Master, Server}
-use Rattle.zserver.specs.View.{ServerView, Post, Neighbour, spare}
-use Rattle.zmaster.specs.View.{MasterView, members, is_among, with_number}
-use Rattle.zmaster.specs.Table as master
+use Rattle.zserver_table.specs.declared.message.Message.TheVariants as message
+use Rattle.zserver_table.specs.declared.process.Process.TheVariants.{Master, Server}
+use Rattle.zserver_table.specs.View.{ServerView, Post, Neighbour, spare}
+use Rattle.zmaster_table.specs.View.{MasterView, members, is_among, with_number}
+use Rattle.zmaster_table.specs.Table as master
 use Rattle.zworld.specs.Links.{addressed}
 use Rattle.zlegal.proofs.lists.Members.{among_left, among_right, among_last}
 use Rattle.zlegal.proofs.lists.Distinct.{no_two_last}

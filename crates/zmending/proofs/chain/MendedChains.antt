@@ -4,8 +4,8 @@ use Rattle.std.proofs.Common.{◌≡◌, ◌⊎◌, ℕ, true, false, ◌==◌, 
 use Rattle.zcalls.specs.declared.call.Entry.{Entry}
 use Rattle.zcalls.specs.Lists.{Among, ComesBefore, NoTwo}
 use Rattle.zcalls.proofs.Among.{test}
-use Rattle.zserver.specs.View.{Post, Neighbour}
-use Rattle.zmaster.specs.Table as master
+use Rattle.zserver_table.specs.View.{Post, Neighbour}
+use Rattle.zmaster_table.specs.Table as master
 use Rattle.zlegal.proofs.lists.Members.{among_right}
 use Rattle.zchain.specs.Chain.{Place, place_behind, place_from}
 

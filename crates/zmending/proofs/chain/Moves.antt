@@ -4,11 +4,11 @@ use Rattle.zcalls.specs.declared.call.Entry.{Entry}
 use Rattle.zcalls.specs.Lists.{Among, ComesBefore, NoTwo}
 use Rattle.zcalls.specs.Kept.{Plain}
 use Rattle.zcalls.proofs.Among.{among_cases}
-use Rattle.zserver.specs.declared.message.Message.TheVariants as message
-use Rattle.zserver.specs.declared.process.Process.{Process}
-use Rattle.zserver.specs.declared.process.Process.TheVariants.{Master, Server}
-use Rattle.zserver.specs.View.{Post, Neighbour}
-use Rattle.zmaster.specs.View.{MasterView, members, is_among}
+use Rattle.zserver_table.specs.declared.message.Message.TheVariants as message
+use Rattle.zserver_table.specs.declared.process.Process.{Process}
+use Rattle.zserver_table.specs.declared.process.Process.TheVariants.{Master, Server}
+use Rattle.zserver_table.specs.View.{Post, Neighbour}
+use Rattle.zmaster_table.specs.View.{MasterView, members, is_among}
 use Rattle.zworld.specs.Links.{addressed, put}
 use Rattle.zlegal.specs.Items.{Item}
 use Rattle.zchain.specs.Flow.{LogWorld, LogMessage, Log, or_else, log_at, final_log_by, final_log, first_snapshot_by, first_log}

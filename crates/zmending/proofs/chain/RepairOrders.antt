@@ -3,9 +3,9 @@ use Rattle.std.proofs.Common.{◌≡◌, ◌⊎◌, ℕ, true, false, ◌==◌, 
 use Rattle.zcalls.specs.declared.call.Entry.{Entry}
 use Rattle.zcalls.specs.Lists.{Among}
 use Rattle.zcalls.proofs.Among.{test}
-use Rattle.zserver.specs.declared.message.Message.TheVariants as message
-use Rattle.zserver.specs.declared.process.Process.TheVariants.{Master, Server}
-use Rattle.zserver.specs.View.{Post, Neighbour}
+use Rattle.zserver_table.specs.declared.message.Message.TheVariants as message
+use Rattle.zserver_table.specs.declared.process.Process.TheVariants.{Master, Server}
+use Rattle.zserver_table.specs.View.{Post, Neighbour}
 use Rattle.zworld.specs.Links.{addressed}
 use Rattle.zchain.specs.Flow.{LogWorld, LogMessage}
 use Rattle.zchain.specs.Chain.{Place, place_behind, place_from, turn_of}

@@ -6,12 +6,12 @@ use Rattle.zcalls.specs.declared.call.Entry.{Entry}
 use Rattle.zcalls.specs.Lists.{Among}
 use Rattle.zcalls.specs.Kept.{Plain}
 use Rattle.zcalls.proofs.Among.{test, among_cases}
-use Rattle.zserver.specs.declared.message.Message.TheVariants as message
-use Rattle.zserver.specs.declared.process.Process.{Process}
-use Rattle.zserver.specs.declared.process.Process.TheVariants.{Master, Server, Client}
-use Rattle.zserver.specs.View.{Post, Neighbour}
-use Rattle.zmaster.specs.View.{MasterView, is_among, is_joining, head_of, tail_of}
-use Rattle.zmaster.specs.Table as master
+use Rattle.zserver_table.specs.declared.message.Message.TheVariants as message
+use Rattle.zserver_table.specs.declared.process.Process.{Process}
+use Rattle.zserver_table.specs.declared.process.Process.TheVariants.{Master, Server, Client}
+use Rattle.zserver_table.specs.View.{Post, Neighbour}
+use Rattle.zmaster_table.specs.View.{MasterView, is_among, is_joining, head_of, tail_of}
+use Rattle.zmaster_table.specs.Table as master
 use Rattle.zworld.specs.Links.{is_same, addressed}
 use Rattle.zchain.specs.Flow.{LogWorld, LogMessage}
 use Rattle.zchain.specs.Chain.{queue, IsOpened, IsPast, LeadsTo, is_fresh, turn_of}

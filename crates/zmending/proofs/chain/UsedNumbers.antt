@@ -2,8 +2,8 @@
 use Rattle.std.specs.Prelude.{◌||◌}
 use Rattle.std.proofs.Common.{◌≡◌, ◌⊎◌, ℕ, true, ◌==◌, List, refl, sym, ap, ◌∙◌, inl, inr, eqb-true, eq-eqb}
 use Rattle.zcalls.proofs.Among.{test}
-use Rattle.zmaster.specs.View.{is_among, with_number}
-use Rattle.zmaster.proofs.Numbers.{among_with_number}
+use Rattle.zmaster_table.specs.View.{is_among, with_number}
+use Rattle.zmaster_table.proofs.Numbers.{among_with_number}
 
 -- used numbers with one more
 pub used_is : (x z : ℕ) (used : List ℕ) → is_among z (with_number x used) ≡ true → (is_among z used ≡ true) ⊎ (x ≡ z)

@@ -5,13 +5,13 @@ use Rattle.zcalls.specs.declared.call.Entry.{Entry}
 use Rattle.zcalls.specs.Lists.{ComesBefore}
 use Rattle.zcalls.specs.Kept.{Plain}
 use Rattle.zcalls.proofs.Among.{test}
-use Rattle.zserver.specs.declared.message.Message.TheVariants as message
-use Rattle.zserver.specs.declared.process.Process.TheVariants.{Master, Server}
-use Rattle.zserver.specs.View.{ServerView, Neighbour, Transfer}
-use Rattle.zserver.specs.Table as server
-use Rattle.zserver.specs.Table.{new_succ_row}
-use Rattle.zserver.proofs.Fields.{view_of}
-use Rattle.zmaster.specs.View.{members}
+use Rattle.zserver_table.specs.declared.message.Message.TheVariants as message
+use Rattle.zserver_table.specs.declared.process.Process.TheVariants.{Master, Server}
+use Rattle.zserver_table.specs.View.{ServerView, Neighbour, Transfer}
+use Rattle.zserver_table.specs.Table as server
+use Rattle.zserver_table.specs.Table.{new_succ_row}
+use Rattle.zserver_table.proofs.Fields.{view_of}
+use Rattle.zmaster_table.specs.View.{members}
 use Rattle.zworld.specs.declared.event.Event.TheVariants.{Take}
 use Rattle.zworld.specs.Links.{without_front}
 use Rattle.zworld.specs.Events.{process_step}

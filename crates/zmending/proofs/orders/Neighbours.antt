@@ -5,12 +5,12 @@ use Rattle.zcalls.specs.declared.call.Entry.{Entry}
 use Rattle.zcalls.specs.Lists.{Among}
 use Rattle.zcalls.specs.Kept.{Plain}
 use Rattle.zcalls.proofs.Among.{test}
-use Rattle.zserver.specs.declared.message.Message.TheVariants as message
-use Rattle.zserver.specs.declared.process.Process.TheVariants.{Master, Server}
-use Rattle.zserver.specs.View.{ServerView, Neighbour, Post}
-use Rattle.zserver.specs.Table.{ServerResult, ack_posts, last_number, become_tail_row, become_head_row, new_pred_row}
-use Rattle.zserver.specs.Table as server
-use Rattle.zserver.specs.support.Cases.{acks_all}
+use Rattle.zserver_table.specs.declared.message.Message.TheVariants as message
+use Rattle.zserver_table.specs.declared.process.Process.TheVariants.{Master, Server}
+use Rattle.zserver_table.specs.View.{ServerView, Neighbour, Post}
+use Rattle.zserver_table.specs.Table.{ServerResult, ack_posts, last_number, become_tail_row, become_head_row, new_pred_row}
+use Rattle.zserver_table.specs.Table as server
+use Rattle.zserver_table.specs.support.Cases.{acks_all}
 use Rattle.zworld.specs.declared.event.Event.TheVariants.{Take}
 use Rattle.zworld.specs.Links.{without_front}
 use Rattle.zworld.specs.Events.{process_step}

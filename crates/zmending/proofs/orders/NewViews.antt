@@ -3,9 +3,9 @@ use Rattle.std.proofs.Common.{◌≡◌, ℕ, false, List, ◌∷◌, Option, So
 use Rattle.zcalls.specs.declared.call.Entry.{Entry}
 use Rattle.zcalls.specs.Kept.{Plain}
 use Rattle.zcalls.specs.Lists.{Among}
-use Rattle.zserver.specs.declared.message.Message.TheVariants as message
-use Rattle.zserver.specs.declared.process.Process.TheVariants.{Master, Server}
-use Rattle.zserver.specs.View.{ServerView, Neighbour}
+use Rattle.zserver_table.specs.declared.message.Message.TheVariants as message
+use Rattle.zserver_table.specs.declared.process.Process.TheVariants.{Master, Server}
+use Rattle.zserver_table.specs.View.{ServerView, Neighbour}
 use Rattle.zlegal.proofs.lists.Prefixes.{prefix_same}
 use Rattle.zchain.specs.Flow.{LogMessage, or_else}
 use Rattle.zchain.specs.Chain.{IsOpened, IsPast, LeadsTo, is_fresh}

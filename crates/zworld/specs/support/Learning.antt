@@ -2,7 +2,7 @@
 -- beforehand. What it keeps is one fact: with what was learnt and whatever follows, the definition stands where the
 -- program stands, with what follows.
 use Rattle.std.specs.Prelude.{◌≡◌, Bool, true, false, ◌&&◌, nat_lt, List, [], ◌∷◌, ◌++◌, suc, ℕ}
-use Rattle.zserver.specs.Machine.{Does}
+use Rattle.zserver_table.specs.Machine.{Does}
 use Rattle.zworld.specs.declared.event.Event.{Event}
 use Rattle.zworld.specs.declared.outcome.Outcome.{Outcome}
 use Rattle.zworld.specs.World.{World}

@@ -1,9 +1,9 @@
 //! Worked runs in which a server joins.
 
 ghost use Rattle.std.specs.Prelude.{◌≡◌, [], ◌∷◌, None, Some, false, take};
-ghost use Rattle.zserver.specs.declared.message.Message.TheVariants as message;
-ghost use Rattle.zmaster.specs.declared.join_fault.JoinFault.TheVariants.{Joining, Lost};
-ghost use Rattle.zmaster.specs.Table.{join_fault};
+ghost use Rattle.zserver_table.specs.declared.message.Message.TheVariants as message;
+ghost use Rattle.zmaster_table.specs.declared.join_fault.JoinFault.TheVariants.{Joining, Lost};
+ghost use Rattle.zmaster_table.specs.Table.{join_fault};
 ghost use Rattle.zworld.specs.declared.event.Event.TheVariants.{Join};
 ghost use Rattle.zworld.specs.declared.history.CallEvent.TheVariants as saw;
 ghost use Rattle.zworld.specs.support.Counter.{create, exists, name_reply, count_reply};

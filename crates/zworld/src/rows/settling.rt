@@ -1,8 +1,8 @@
 //! Worked runs of settling and of readings.
 
 ghost use Rattle.std.specs.Prelude.{◌≡◌, true, false, [], ◌∷◌, Some, take};
-ghost use Rattle.zmaster.specs.declared.join_fault.JoinFault.TheVariants.{Lost};
-ghost use Rattle.zmaster.specs.Table.{join_fault};
+ghost use Rattle.zmaster_table.specs.declared.join_fault.JoinFault.TheVariants.{Lost};
+ghost use Rattle.zmaster_table.specs.Table.{join_fault};
 ghost use Rattle.zworld.specs.declared.event.Event.TheVariants.{Begin, Retry, Take, Ignore, Fail};
 ghost use Rattle.zworld.specs.declared.event.Event.TheVariants.{Join};
 ghost use Rattle.zworld.specs.declared.history.CallEvent.TheVariants as saw;

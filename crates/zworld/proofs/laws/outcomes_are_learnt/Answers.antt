@@ -1,4 +1,4 @@
-use Rattle.zserver.specs.Machine.{kept_tree}
+use Rattle.zserver_table.specs.Machine.{kept_tree}
 use Rattle.zworld.proofs.Learning.{done_is_learnt, idle_is_passed, pass_begins, passes_end, reading_is_learnt}
 use Rattle.zworld.proofs.laws.outcomes_are_learnt.Goals as goal
 

@@ -1,4 +1,4 @@
-use Rattle.zserver.specs.Machine.{kept_tree}
+use Rattle.zserver_table.specs.Machine.{kept_tree}
 use Rattle.zworld.proofs.Settling.{settling_is_a_run, settling_keeps_its_limit, quiet_has_nothing_to_take}
 use Rattle.zworld.proofs.laws.settling_is_a_run.Goals as goal
 

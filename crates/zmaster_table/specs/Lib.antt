@@ -1,0 +1,4 @@
+pub mod View
+pub mod Table
+pub mod Laws
+pub mod support
