@@ -1,10 +1,10 @@
 //! Why a call was refused.
 
-use std::error::Error;
 use std::fmt;
+use thiserror::Error;
 
 /// Why a call was refused. A refused call changes nothing.
-#[derive(Clone, Copy, Debug, PartialEq, Eq)]
+#[derive(Clone, Copy, Debug, PartialEq, Eq, Error)]
 pub enum Refusal {
     /// There is no such node.
     NoNode,
@@ -55,5 +55,3 @@ impl fmt::Display for Refusal {
         })
     }
 }
-
-impl Error for Refusal {}

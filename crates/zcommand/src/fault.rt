@@ -3,12 +3,12 @@
 ghost use Rattle.std.specs.Prelude.{◌≡◌};
 
 use std::alloc::AllocError;
-use std::error::Error;
 use std::io::ErrorKind;
 use std::{fmt, io};
+use thiserror::Error;
 
 /// Why words were not understood.
-#[derive(Clone, Copy, Debug, PartialEq, Eq)]
+#[derive(Clone, Copy, Debug, PartialEq, Eq, Error)]
 pub enum WordsFault {
     /// Memory ran out.
     Memory,
@@ -51,8 +51,6 @@ impl fmt::Display for WordsFault {
         f.write_str(self.text())
     }
 }
-
-impl Error for WordsFault {}
 
 impl From<AllocError> for WordsFault {
     ghost use Rattle.zcommand.specs.declared.fault.WordsFault.TheVariants.{Memory};

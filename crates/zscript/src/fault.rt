@@ -4,11 +4,11 @@ ghost use Rattle.std.specs.Prelude.{◌≡◌, Some};
 ghost use Rattle.zscript.specs.declared.fault.PlayFault.TheVariants.{Memory};
 
 use std::alloc::{AllocError, AllocFailed};
-use std::error::Error;
 use std::fmt;
+use thiserror::Error;
 
 /// What ended the playing of a script.
-#[derive(Clone, Copy, Debug, PartialEq, Eq)]
+#[derive(Clone, Copy, Debug, PartialEq, Eq, Error)]
 pub enum PlayFault {
     /// The source failed.
     Read,
@@ -43,8 +43,6 @@ impl fmt::Display for PlayFault {
         f.write_str(self.text())
     }
 }
-
-impl Error for PlayFault {}
 
 impl From<zpath::Memory> for PlayFault {
     ghost from_gives = { λ _ fault. fault ≡ Memory };
