@@ -4,7 +4,8 @@
 use std::process::ExitCode;
 use zscript::{Servers, SliceSource, WriterSink, play};
 
-const SCRIPT: &str = "1 create /a p aGk=\n1 multi set /a 0 eW8= ; create /a/b p -\n1 get /a\n1 ls /a\n";
+const SCRIPT: &str =
+    "1 create /a p aGk=\n1 multi set /a 0 eW8= ; create /a/b p -\n1 get /a\n1 ls /a\n";
 
 fn main(rt: HostRuntime) -> ExitCode {
     let mut source = SliceSource::new(SCRIPT.as_bytes(), 4096);

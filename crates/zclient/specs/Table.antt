@@ -1,8 +1,9 @@
 -- The client table: what a client does at a call, at each message, and when it asks again.
 -- Van Renesse and Schneider, "Chain Replication for Supporting High Throughput and Availability" (OSDI 2004),
 -- section 2: updates go to the head and queries to the tail; a request may be lost, and the client asks again.
-use Rattle.std.specs.Prelude.{ℕ, ◌+◌, ◌-◌, ◌^◌, Bool, false, not, Option, None, Some, List, [], ◌∷◌, if◌then◌else◌, is_some, nat_lt, ◌==◌}
+use Rattle.std.specs.Prelude.{ℕ, ◌+◌, Bool, false, not, Option, None, Some, List, [], ◌∷◌, if◌then◌else◌, is_some, nat_lt, ◌==◌}
 use Rattle.zpath.specs.First.{first_that_holds}
+use Rattle.zcalls.specs.declared.limits.TheConstants.{MAX_CALL_NUMBER}
 use Rattle.zcalls.specs.declared.call.Call.{Call}
 use Rattle.zcalls.specs.declared.call.Call.TheVariants as call
 use Rattle.zcalls.specs.declared.reply.Reply.{Reply}
@@ -30,7 +31,7 @@ outstanding_posts v = elim v.outstanding [ None ↦ [] | Some waits ↦ call_pos
 
 -- why a call can't begin, by the first test that holds; want of memory is not the definition's
 unfoldable pub begin_fault : ClientView → Option BeginFault
-begin_fault v = first_that_holds ((is_some v.outstanding, Busy) ∷ (not (nat_lt v.number (2 ^ 62 - 1)), Exhausted) ∷ [])
+begin_fault v = first_that_holds ((is_some v.outstanding, Busy) ∷ (not (nat_lt v.number MAX_CALL_NUMBER), Exhausted) ∷ [])
 
 -- a call that isn't refused begins: it has the next number, the client waits for it, and it goes out
 unfoldable pub begin_step : {M : Type 0} → ClientView → Call → ClientView × List (Post M)

@@ -1,8 +1,9 @@
 //! Worked rows of the client table: each clause is one, and the bodies do nothing. The clients are those
 //! of `specs/support/Rows.antt`, and the messages those between servers whose machine is a number.
 
-ghost use Rattle.std.specs.Prelude.{◌≡◌, ◌-◌, ◌^◌, ℕ, None, Some, [], ◌∷◌};
+ghost use Rattle.std.specs.Prelude.{◌≡◌, ◌-◌, ℕ, None, Some, [], ◌∷◌};
 ghost use Rattle.zcalls.specs.declared.call.Call.TheVariants as call;
+ghost use Rattle.zcalls.specs.declared.limits.TheConstants.{MAX_CALL_NUMBER};
 ghost use Rattle.zcalls.specs.declared.reply.Reply.TheVariants.{Deleted};
 ghost use Rattle.zserver.specs.declared.message.Message.TheVariants as message;
 ghost use Rattle.zserver.specs.declared.process.Process.TheVariants.{Master, Server};
@@ -25,10 +26,10 @@ pub fn calls_begin()
         ≡ (record (client 8 (Some (8, call.Update update))) { head = None }, []) }
     ensures allowed { begin_fault idle ≡ None }
     ensures busy { begin_fault updating ≡ Some Busy }
-    ensures exhausted { begin_fault (client (2 ^ 62 - 1) None) ≡ Some Exhausted }
-    ensures busy_before_exhausted { begin_fault (client (2 ^ 62 - 1) (Some (7, call.Query query)))
+    ensures exhausted { begin_fault (client MAX_CALL_NUMBER None) ≡ Some Exhausted }
+    ensures busy_before_exhausted { begin_fault (client MAX_CALL_NUMBER (asking.outstanding))
         ≡ Some Busy }
-    ensures last_number { begin_fault (client (2 ^ 62 - 2) None) ≡ None }
+    ensures last_number { begin_fault (client (MAX_CALL_NUMBER - 1) None) ≡ None }
 {}
 
 /// What a client does with a server's answer, and with what it is told of the chain.

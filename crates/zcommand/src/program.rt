@@ -26,26 +26,21 @@ pub fn command<S: Source, K: Sink, F: Sink>(
     ensures status { result ≤ 2 }
 
     // All was played, and nothing was said.
-    ensures played {
-        result ≡ 0 → IsPlayed
-            (source_run S.gave S.failed S.has_ended source.old source.new)
-            (sink_run K.took K.failed sink.old sink.new)
-    }
+    ensures played { result ≡ 0 → IsPlayed
+        (source_run S.gave S.failed S.has_ended source.old source.new)
+        (sink_run K.took K.failed sink.old sink.new) }
     ensures silent { result ≡ 0 → F.took faults.old [] faults.new }
 
     // A fault ended the run, and was told.
-    ensures cut {
-        result ≡ 1 → IsCutAndTold
-            (source_run S.gave S.failed S.has_ended source.old source.new)
-            (sink_run K.took K.failed sink.old sink.new)
-            (sink_run F.took F.failed faults.old faults.new)
-    }
+    ensures cut { result ≡ 1 → IsCutAndTold
+        (source_run S.gave S.failed S.has_ended source.old source.new)
+        (sink_run K.took K.failed sink.old sink.new)
+        (sink_run F.took F.failed faults.old faults.new) }
 
     // The words are not understood, and nothing was read or written.
     ensures idle { result ≡ 2 → (source.new ≡ source.old) × (sink.new ≡ sink.old) }
-    ensures refused {
-        result ≡ 2 → IsTold (sink_run F.took F.failed faults.old faults.new) (codes "zk: bad words")
-    }
+    ensures refused { result ≡ 2 → IsTold
+        (sink_run F.took F.failed faults.old faults.new) (codes "zk: bad words") }
 {
     let Settings::Script(servers) = match settings(alloc, words) {
         Ok(settings) => settings,
@@ -63,9 +58,8 @@ pub fn command<S: Source, K: Sink, F: Sink>(
 /// Says why there are no words to do, and answers the exit status.
 pub fn refuse<F: Sink>(fault: WordsFault, faults: &mut F) -> u8
     ensures status { result ≡ words_fault_status fault }
-    ensures told {
-        IsTold (sink_run F.took F.failed faults.old faults.new) (words_fault_text fault)
-    }
+    ensures told { IsTold
+        (sink_run F.took F.failed faults.old faults.new) (words_fault_text fault) }
 {
     tell(faults, fault.text());
     fault.status()

@@ -5,19 +5,19 @@ use Rattle.zops.specs.Machine.{MachineState}
 use Rattle.zlines.specs.declared.limits.TheConstants.{MAX_LINE}
 use Rattle.zlines.specs.LineWords.{is_long}
 use Rattle.zlines.specs.Request.{request_of}
-use Rattle.zlines.specs.Line.{played, answer, after}
+use Rattle.zlines.specs.Line.{line_result, answer, after}
 
 long : (line : List ℕ) → MAX_LINE < length line → is_long line ≡ true
 long line h = grind (arith, nat_tests)
 
-played-long : (state : MachineState) (line : List ℕ) → MAX_LINE < length line → played state line ≡ (state, codes "bad line")
-unfolding played request_of
-played-long state line h = rw (long line h) refl
+line_result-long : (state : MachineState) (line : List ℕ) → MAX_LINE < length line → line_result state line ≡ (state, codes "bad line")
+unfolding line_result request_of
+line_result-long state line h = rw (long line h) refl
 
 pub answer-long : (state : MachineState) (line : List ℕ) → MAX_LINE < length line → answer state line ≡ codes "bad line" ++ 10 ∷ []
 unfolding answer
-answer-long state line h = ap (λ did. did.1 ++ 10 ∷ []) (played-long state line h)
+answer-long state line h = ap (λ did. did.1 ++ 10 ∷ []) (line_result-long state line h)
 
 pub after-long : (state : MachineState) (line : List ℕ) → MAX_LINE < length line → after state line ≡ state
 unfolding after
-after-long state line h = ap (λ did. did.0) (played-long state line h)
+after-long state line h = ap (λ did. did.0) (line_result-long state line h)

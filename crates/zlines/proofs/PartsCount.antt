@@ -4,10 +4,10 @@ use Rattle.std.specs.Option.{option_map}
 use Rattle.std.specs.Str.{bytes_eq}
 use Rattle.zcalls.specs.declared.call.Part.{Part}
 use Rattle.zlines.specs.declared.part_words.PartWords.{PartWords}
-use Rattle.zcalls.specs.declared.multi.TheConstants.{MAX_PARTS}
+use Rattle.zcalls.specs.declared.limits.TheConstants.{MAX_PARTS}
 use Rattle.zlines.specs.LineWords.{Word}
 use Rattle.zlines.specs.Shape.{Shape, part_shape, and_parts, parts_shape}
-use Rattle.zlines.specs.Request.{Read, then_read, shaped, part_in, parts_in}
+use Rattle.zlines.specs.Request.{Read, then_read, read_of, part_in, parts_in}
 
 -- where a list is read, its length is so
 abbrev pub HasLength : {A : Type 0} → (ℕ → Type 0) → Read (List A) → Type 0
@@ -19,24 +19,24 @@ abbrev pub IsUpTo : ℕ → ℕ → Type 0
 IsUpTo most n = (0 < n) × (n ≤ most)
 
 -- one part in front of some
-one_more : (room : ℕ) (part : PartWords) (more : Option (List PartWords)) → HasLength (IsUpTo room) (shaped more) → HasLength (IsUpTo (suc room)) (shaped (option_map (λ parts. part ∷ parts) more))
+one_more : (room : ℕ) (part : PartWords) (more : Option (List PartWords)) → HasLength (IsUpTo room) (read_of more) → HasLength (IsUpTo (suc room)) (read_of (option_map (λ parts. part ∷ parts) more))
 one_more room part None h = tt
 one_more room part (Some parts) h = (omega arith, omega (arith, h.1))
 
 -- parts that there are by a test
-where_true : (most : ℕ) (b : Bool) (more : Option (List PartWords)) → HasLength (IsUpTo most) (shaped more) → HasLength (IsUpTo most) (shaped (if b then more else None))
+where_true : (most : ℕ) (b : Bool) (more : Option (List PartWords)) → HasLength (IsUpTo most) (read_of more) → HasLength (IsUpTo most) (read_of (if b then more else None))
 where_true most true more h = h
 where_true most false more h = tt
 
 -- a part, and those behind it
-and_more : (room : ℕ) (shape : Shape PartWords) (next : List Word → Option (List PartWords)) → ((words : List Word) → HasLength (IsUpTo room) (shaped (next words))) → HasLength (IsUpTo (suc room)) (shaped (and_parts shape next))
+and_more : (room : ℕ) (shape : Shape PartWords) (next : List Word → Option (List PartWords)) → ((words : List Word) → HasLength (IsUpTo room) (read_of (next words))) → HasLength (IsUpTo (suc room)) (read_of (and_parts shape next))
 and_more room None next h = tt
 and_more room (Some (part, [])) next h = (omega arith, omega arith)
 and_more room (Some (part, word ∷ words)) next h =
     where_true (suc room) (bytes_eq word (codes ";")) (option_map (λ parts. part ∷ parts) (next words)) (one_more room part (next words) (h words))
 
 -- the parts in words
-parts_shape-length : (room : ℕ) (words : List Word) → HasLength (IsUpTo room) (shaped (parts_shape room words))
+parts_shape-length : (room : ℕ) (words : List Word) → HasLength (IsUpTo room) (read_of (parts_shape room words))
 unfolding parts_shape
 parts_shape-length zero words = tt
 parts_shape-length (suc room) [] = tt
@@ -54,7 +54,7 @@ parts_in-length [] = refl
 parts_in-length (words ∷ more) = one_read (length more) (part_in words) (parts_in more) (parts_in-length more)
 
 -- no multi has no part, or more than MAX_PARTS
-pub is_multi : (words : List Word) (raw : List PartWords) (parts : List Part) → shaped (parts_shape MAX_PARTS words) ≡ Ok raw → parts_in raw ≡ Ok parts → (length parts ≡ 0) ⊎ (MAX_PARTS < length parts) → ⊥
+pub is_multi : (words : List Word) (raw : List PartWords) (parts : List Part) → read_of (parts_shape MAX_PARTS words) ≡ Ok raw → parts_in raw ≡ Ok parts → (length parts ≡ 0) ⊎ (MAX_PARTS < length parts) → ⊥
 is_multi words raw parts found is wrong =
     let few = subst (λ read. HasLength (IsUpTo MAX_PARTS) read) found (parts_shape-length MAX_PARTS words) in
     let same = subst (λ read. HasLength (λ m. m ≡ length raw) read) is (parts_in-length raw) in

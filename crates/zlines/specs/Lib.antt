@@ -1,6 +1,6 @@
+pub mod Texts
 pub mod LineWords
 pub mod Shape
-pub mod Change
 pub mod Request
 pub mod Reply
 pub mod Line

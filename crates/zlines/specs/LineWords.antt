@@ -9,8 +9,8 @@ use Rattle.base64.specs.Engines.{standard}
 use Rattle.base64.specs.GeneralPurpose.{decode_of, encode_of}
 use Rattle.base64.specs.declared.decode.DecodeError.{DecodeError}
 use Rattle.zpath.specs.Grammar.{is_empty}
-use Rattle.ztree.specs.declared.node_data.TheConstants.{MAX_DATA}
-use Rattle.zlines.specs.declared.limits.TheConstants.{MAX_LINE, NUMBER_BOUND, CLIENT_BOUND}
+use Rattle.ztree.specs.declared.limits.TheConstants.{MAX_DATA, MAX_CLIENTS}
+use Rattle.zlines.specs.declared.limits.TheConstants.{MAX_LINE, NUMBER_BOUND}
 
 -- the bytes of a word
 abbrev pub Word : Type 0
@@ -48,14 +48,14 @@ client_of word = small (number_of word)
   where
     small : Option ℕ → Option ℕ
     small None = None
-    small (Some n) = if nat_lt n CLIENT_BOUND then Some n else None
+    small (Some n) = if nat_lt n MAX_CLIENTS then Some n else None
 
--- what was decoded, if it has 1 to 4,096 bytes
+-- what was decoded, if it has 1 to MAX_DATA bytes
 abbrev pub full_data : Result (List ℕ) DecodeError → Option (List ℕ)
 full_data (Err fault) = None
 full_data (Ok bytes) = if is_empty bytes || nat_lt MAX_DATA (length bytes) then None else Some bytes
 
--- the data that a word spells: `-` no bytes, else strict base64 of 1 to 4,096 bytes
+-- the data that a word spells: `-` no bytes, else strict base64 of 1 to MAX_DATA bytes
 abbrev pub data_of : Word → Option (List ℕ)
 data_of word = if bytes_eq word (codes "-") then Some [] else full_data (decode_of standard word)
 

@@ -17,12 +17,12 @@ numbers_of s =
     s.czxid ∷ s.mzxid ∷ s.pzxid ∷ s.ctime ∷ s.mtime ∷ s.version ∷ s.cversion ∷ s.owner ∷ s.length ∷ s.children ∷ []
 
 -- each number in decimal, after a space
-abbrev pub spaced : ℕ → List ℕ
-spaced n = 32 ∷ decimal n
+abbrev pub spaced_number : ℕ → List ℕ
+spaced_number n = 32 ∷ decimal n
 
 -- the numbers of a stat, each after a space
 abbrev pub stat_text : Stat → List ℕ
-stat_text s = flat_map spaced (numbers_of s)
+stat_text s = flat_map spaced_number (numbers_of s)
 
 -- what one part of a multi did
 abbrev pub part_text : PartReply → List ℕ

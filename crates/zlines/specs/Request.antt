@@ -15,19 +15,19 @@ use Rattle.zcalls.specs.declared.call.Query.TheVariants.{GetData, Exists, GetChi
 use Rattle.zcalls.specs.declared.call.Call.{Call}
 use Rattle.zcalls.specs.declared.call.Call.TheVariants.{Update, Query}
 use Rattle.ztree.specs.Tree.{Path}
-use Rattle.zcalls.specs.declared.multi.TheConstants.{MAX_PARTS}
+use Rattle.zcalls.specs.declared.limits.TheConstants.{MAX_PARTS}
 use Rattle.zlines.specs.declared.part_words.PartWords.{PartWords}
 use Rattle.zlines.specs.declared.part_words.PartWords.TheVariants.{Change as ChangeOf, Check as CheckOf}
 use Rattle.zlines.specs.declared.part_words.ChangeWords.{ChangeWords}
 use Rattle.zlines.specs.declared.part_words.ChangeWords.TheVariants as words_for
-use Rattle.zlines.specs.declared.change.Change.{Change}
-use Rattle.zlines.specs.declared.change.Change.TheVariants.{Create, Delete, SetData}
-use Rattle.zlines.specs.Change.{update_of, part_of}
+use Rattle.zcalls.specs.declared.change.Change.{Change}
+use Rattle.zcalls.specs.declared.change.Change.TheVariants.{Create, Delete, SetData}
+use Rattle.zcalls.specs.Change.{update_of, part_of}
 use Rattle.zlines.specs.declared.request.Request.{Request}
 use Rattle.zlines.specs.declared.request.LineFault.{LineFault}
 use Rattle.zlines.specs.declared.request.LineFault.TheVariants.{BadLine, BadPath, BadData, Memory}
 use Rattle.zlines.specs.LineWords.{Word, words_of, is_malformed, number_of, client_of, data_of}
-use Rattle.zlines.specs.Shape.{change_shape, alone, parts_shape}
+use Rattle.zlines.specs.Shape.{change_shape, lone_shape, parts_shape}
 
 -- what is read of a line, or why nothing is
 abbrev pub Read : Type 0 → Type 0
@@ -43,9 +43,9 @@ then_read (Err fault) next = Err fault
 then_read (Ok x) next = next x
 
 -- what a word spells; where it spells nothing, the line has not the shape of a line
-abbrev pub shaped : {A : Type 0} → Option A → Read A
-shaped None = Err BadLine
-shaped (Some x) = Ok x
+abbrev pub read_of : {A : Type 0} → Option A → Read A
+read_of None = Err BadLine
+read_of (Some x) = Ok x
 
 -- the path that a word spells, or its fault
 abbrev pub path_in : Word → Read Path
@@ -99,14 +99,14 @@ parts_in (words ∷ more) =
 -- a call of one part; a check is none
 abbrev pub single_in : Word → List Word → Read Call
 single_in verb words =
-    then_read (shaped (alone (change_shape verb words))) (λ words.
+    then_read (read_of (lone_shape (change_shape verb words))) (λ words.
     then_read (change_in words) (λ change.
     Ok (Update (update_of change))))
 
 -- multi PART ; PART ; PART, with 1 to MAX_PARTS parts
 abbrev pub multi_in : List Word → Read Call
 multi_in words =
-    then_read (shaped (parts_shape MAX_PARTS words)) (λ parts.
+    then_read (read_of (parts_shape MAX_PARTS words)) (λ parts.
     then_read (parts_in parts) (λ parts.
     Ok (Update (act.Multi parts))))
 
@@ -121,7 +121,7 @@ query_in query words = then_read (asked_in words) (λ path. Ok (Query (query pat
 
 -- the NUMBER that a call of sessions names: a session, or the ticks that one is to live
 abbrev pub number_in : List Word → Read ℕ
-number_in (word ∷ []) = shaped (number_of word)
+number_in (word ∷ []) = read_of (number_of word)
 number_in words = Err BadLine
 
 -- open, ping or close NUMBER
@@ -154,7 +154,7 @@ command_in client command = if nat_eq client 0 then tick_in command else call_in
 abbrev pub request_in : List Word → Read Request
 request_in [] = Err BadLine
 request_in (client ∷ command) =
-    then_read (shaped (client_of client)) (λ client.
+    then_read (read_of (client_of client)) (λ client.
     then_read (command_in client command) (λ call.
     Ok (record { client = client; call = call })))
 

@@ -75,10 +75,10 @@ part_shape verb words =
     if bytes_eq verb (codes "check") then check_shape words else as_part (change_shape verb words)
 
 -- something, where no word is left behind it
-abbrev pub alone : {A : Type 0} → Shape A → Option A
-alone None = None
-alone (Some (shape, [])) = Some shape
-alone (Some (shape, word ∷ words)) = None
+abbrev pub lone_shape : {A : Type 0} → Shape A → Option A
+lone_shape None = None
+lone_shape (Some (shape, [])) = Some shape
+lone_shape (Some (shape, word ∷ words)) = None
 
 -- a part, and what the words behind it come to, where `;` stands between
 abbrev pub and_parts : Shape PartWords → (List Word → Option (List PartWords)) → Option (List PartWords)

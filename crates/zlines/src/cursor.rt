@@ -51,7 +51,8 @@ impl<'a> Cursor<'a> {
     /// Whether no word is left.
     pub(crate) fn is_done(&self) -> bool
         ensures done { OnTrue result (self.now ≡ []) }
-        ensures more { OnFalse result ((word : List ℕ) × (words : List (List ℕ)) × (self.now ≡ word ∷ words)) }
+        ensures more { OnFalse result ((word : List ℕ) × (words : List (List ℕ)) × (self.now
+            ≡ word ∷ words)) }
     {
         self.left.is_none()
     }

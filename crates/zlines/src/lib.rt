@@ -5,7 +5,6 @@
 //! of `specs/`: `request_of` (Request.antt), `reply_text` (Reply.antt), `answer` and `after` (Line.antt).
 #![tactic(auto)]
 
-mod change;
 mod cursor;
 pub mod laws;
 pub mod limits;

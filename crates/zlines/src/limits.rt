@@ -5,6 +5,3 @@ pub const MAX_LINE: usize = 524_288;
 
 /// Numbers in words are below this.
 pub const NUMBER_BOUND: u64 = 1 << 62;
-
-/// Clients have numbers below this.
-pub const CLIENT_BOUND: u64 = 32;

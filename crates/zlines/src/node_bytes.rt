@@ -1,7 +1,8 @@
 //! Data in words.
 
-ghost use Rattle.std.specs.Prelude.{◌≡◌, ◌++◌, IfOk, IfErr, OnOk, Some, None, string_bytes};
+ghost use Rattle.std.specs.Prelude.{◌≡◌, IfOk, IfErr, OnOk, Some, None};
 ghost use Rattle.zlines.specs.declared.node_bytes.DataFault.TheVariants.{Bad};
+ghost use Rattle.zlines.specs.Texts.{Writes};
 ghost use Rattle.zlines.specs.LineWords.{data_of, data_text};
 
 use base64::DecodeAllocError;
@@ -40,7 +41,7 @@ pub(crate) fn read_data(alloc: Global, word: &str) -> Result<Data, DataFault>
 
 /// Writes data: `-` for no bytes, else base64.
 pub(crate) fn write_data(bytes: &[u8], out: &mut String) -> Result<(), Memory>
-    ensures { OnOk result (string_bytes out.new ≡ string_bytes out.old ++ data_text bytes.now) }
+    ensures { OnOk result (Writes out.old out.new (data_text bytes.now)) }
 {
     if bytes.is_empty() {
         out.push_str("-")?;

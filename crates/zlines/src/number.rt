@@ -17,7 +17,11 @@ pub(crate) fn number(word: &str) -> Option<u64>
     let Ok(number) = word.parse::<u64>() else {
         return None;
     };
-    if number < NUMBER_BOUND { Some(number) } else { None }
+    if number < NUMBER_BOUND {
+        Some(number)
+    } else {
+        None
+    }
 }
 
 // No byte but digits, or no byte at all.

@@ -3,12 +3,11 @@
 ghost use Rattle.std.specs.Prelude.{◌≡◌, Ok, IfOk, IfErr};
 ghost use Rattle.zlines.specs.Request.{IsUnread, path_in, data_in, create_in, delete_in, set_in, check_in, change_in, part_in, parts_in};
 
-use crate::change::Change;
 use crate::node_bytes::{DataFault, read_data};
 use crate::part_words::{ChangeWords, PartWords, Word};
 use crate::request::LineFault;
 use std::alloc::Global;
-use zcalls::{Check, Create, Data, Delete, Expected, Kind, Part, SetData};
+use zcalls::{Change, Check, Create, Data, Delete, Expected, Kind, Part, SetData};
 use zpath::{Path, PathFault};
 
 /// Reads the parts of a multi.

@@ -8,15 +8,16 @@ ghost use Rattle.zlines.specs.LineWords.{is_malformed, client_of};
 ghost use Rattle.zlines.specs.support.Spaced.{is_spaced};
 
 use crate::cursor::Cursor;
-use crate::limits::{CLIENT_BOUND, MAX_LINE};
+use crate::limits::MAX_LINE;
 use crate::number::number;
 use crate::part_reading::{read_change, read_parts, read_path};
 use crate::request::{LineFault, Request};
 use crate::shape::{all_parts, lone_change};
 use std::alloc::Global;
 use std::str;
-use zcalls::{Call, ClientId, Multi, Query, Update};
+use zcalls::{Call, ClientId, Multi, Query, SessionId, Update};
 use zpath::Path;
+use ztree::limits::MAX_CLIENTS;
 
 /// Reads a line: the request that it spells, or why it spells none.
 #[tactic(auto, unfolding(crate::specs::Request::request_of))]
@@ -75,7 +76,7 @@ fn client_in(word: &str) -> Option<ClientId>
     ensures { result ≡ client_of word.now }
 {
     match number(word) {
-        Some(number) if number < CLIENT_BOUND => ClientId::new(number as u8),
+        Some(number) if number < MAX_CLIENTS as u64 => ClientId::new(number as u8),
         _ => None,
     }
 }
@@ -170,7 +171,7 @@ fn read_ping(words: Cursor) -> Result<Call, LineFault>
     ensures fault { IfErr result (IsUnread (session_in Ping words.entry)) }
 {
     let session = read_number(words)?;
-    Ok(Call::Update(Update::Ping(session)))
+    Ok(Call::Update(Update::Ping(SessionId::new(session))))
 }
 
 // close NUMBER
@@ -179,7 +180,7 @@ fn read_close(words: Cursor) -> Result<Call, LineFault>
     ensures fault { IfErr result (IsUnread (session_in Close words.entry)) }
 {
     let session = read_number(words)?;
-    Ok(Call::Update(Update::Close(session)))
+    Ok(Call::Update(Update::Close(SessionId::new(session))))
 }
 
 // The path that a query asks about, and no further word.

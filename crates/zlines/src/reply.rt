@@ -1,8 +1,9 @@
 //! The texts of replies.
 
-ghost use Rattle.std.specs.Prelude.{◌≡◌, ◌++◌, OnOk, string_bytes};
+ghost use Rattle.std.specs.Prelude.{OnOk};
+ghost use Rattle.zlines.specs.Texts.{Writes};
 ghost use Rattle.std.specs.List.{flat_map};
-ghost use Rattle.zlines.specs.Reply.{reply_text, stat_text, parts_text, part_text, next_part_text, spaced, spaced_name};
+ghost use Rattle.zlines.specs.Reply.{reply_text, stat_text, parts_text, part_text, next_part_text, spaced_number, spaced_name};
 
 use crate::node_bytes::write_data;
 use itoa::Buffer;
@@ -11,7 +12,7 @@ use zpath::{Memory, Name};
 
 /// Writes a reply, without the end of its line.
 pub fn write_reply(reply: &Reply, out: &mut String) -> Result<(), Memory>
-    ensures { OnOk result (string_bytes out.new ≡ string_bytes out.old ++ reply_text reply.now) }
+    ensures { OnOk result (Writes out.old out.new (reply_text reply.now)) }
 {
     match reply {
         Reply::Created(path) => write!(out, "ok {path}")?,
@@ -24,7 +25,9 @@ pub fn write_reply(reply: &Reply, out: &mut String) -> Result<(), Memory>
             out.push_str("ok multi ")?;
             write_parts(replies.as_slice(), out)?;
         }
-        Reply::Opened(session, timeout) => write!(out, "ok session {session} timeout {timeout}")?,
+        Reply::Opened(session, timeout) => {
+            write!(out, "ok session {} timeout {timeout}", session.number())?
+        }
         Reply::Pinged => out.push_str("ok pinged")?,
         Reply::Closed => out.push_str("ok closed")?,
         Reply::Ticked(time, ended) => write!(out, "ok tick {time} ended {ended}")?,
@@ -47,7 +50,7 @@ pub fn write_reply(reply: &Reply, out: &mut String) -> Result<(), Memory>
 
 // What the parts of a multi did, with ` ; ` between.
 fn write_parts(replies: &[PartReply], out: &mut String) -> Result<(), Memory>
-    ensures { OnOk result (string_bytes out.new ≡ string_bytes out.old ++ parts_text replies.now) }
+    ensures { OnOk result (Writes out.old out.new (parts_text replies.now)) }
 {
     let [first, more @ ..] = replies else {
         return Ok(());
@@ -58,7 +61,7 @@ fn write_parts(replies: &[PartReply], out: &mut String) -> Result<(), Memory>
 
 // What further parts of a multi did.
 fn write_more_parts(replies: &[PartReply], out: &mut String) -> Result<(), Memory>
-    ensures { OnOk result (string_bytes out.new ≡ string_bytes out.old ++ flat_map next_part_text replies.now) }
+    ensures { OnOk result (Writes out.old out.new (flat_map next_part_text replies.now)) }
 {
     for reply in replies {
         out.push_str(" ; ")?;
@@ -69,7 +72,7 @@ fn write_more_parts(replies: &[PartReply], out: &mut String) -> Result<(), Memor
 
 // What one part of a multi did.
 fn write_part(reply: &PartReply, out: &mut String) -> Result<(), Memory>
-    ensures { OnOk result (string_bytes out.new ≡ string_bytes out.old ++ part_text reply.now) }
+    ensures { OnOk result (Writes out.old out.new (part_text reply.now)) }
 {
     match reply {
         PartReply::Created(path) => write!(out, "{path}")?,
@@ -85,7 +88,7 @@ fn write_part(reply: &PartReply, out: &mut String) -> Result<(), Memory>
 
 // Each name, after a space.
 fn write_names(names: &[Name], out: &mut String) -> Result<(), Memory>
-    ensures { OnOk result (string_bytes out.new ≡ string_bytes out.old ++ flat_map spaced_name names.now) }
+    ensures { OnOk result (Writes out.old out.new (flat_map spaced_name names.now)) }
 {
     for name in names {
         out.push_str(" ")?;
@@ -96,12 +99,12 @@ fn write_names(names: &[Name], out: &mut String) -> Result<(), Memory>
 
 // The ten numbers of a stat, with a space before each.
 fn write_stat(stat: &Stat, out: &mut String) -> Result<(), Memory>
-    ensures { OnOk result (string_bytes out.new ≡ string_bytes out.old ++ stat_text stat.now) }
+    ensures { OnOk result (Writes out.old out.new (stat_text stat.now)) }
 {
     let numbers = [
-        stat.czxid,
-        stat.mzxid,
-        stat.pzxid,
+        stat.czxid.number(),
+        stat.mzxid.number(),
+        stat.pzxid.number(),
         stat.ctime,
         stat.mtime,
         stat.version,
@@ -115,7 +118,7 @@ fn write_stat(stat: &Stat, out: &mut String) -> Result<(), Memory>
 
 // Each number, after a space.
 fn write_numbers(numbers: &[u64], out: &mut String) -> Result<(), Memory>
-    ensures { OnOk result (string_bytes out.new ≡ string_bytes out.old ++ flat_map spaced numbers.now) }
+    ensures { OnOk result (Writes out.old out.new (flat_map spaced_number numbers.now)) }
 {
     let mut buffer = Buffer::new();
     for number in numbers {

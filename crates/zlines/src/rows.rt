@@ -51,10 +51,13 @@ pub fn lines()
     ensures tick_alone { request_of (codes "1 tick") ≡ Err BadLine }
     ensures one_tick { request_of (codes "0 tick 1") ≡ Err BadLine }
     ensures tick { request_of (codes "0 tick") ≡ Ok (record { client = 0; call = Update Tick }) }
-    ensures open_nothing { request_of (codes "1 open 0") ≡ Ok (record { client = 1; call = Update (Open 0) }) }
+    ensures open_nothing { request_of (codes "1 open 0")
+        ≡ Ok (record { client = 1; call = Update (Open 0) }) }
     ensures open_too_much { request_of (codes "1 open 4611686018427387904") ≡ Err BadLine }
-    ensures ping { request_of (codes "2 ping 7") ≡ Ok (record { client = 2; call = Update (Ping 7) }) }
-    ensures close { request_of (codes "2 close 7") ≡ Ok (record { client = 2; call = Update (Close 7) }) }
+    ensures ping { request_of (codes "2 ping 7")
+        ≡ Ok (record { client = 2; call = Update (Ping 7) }) }
+    ensures close { request_of (codes "2 close 7")
+        ≡ Ok (record { client = 2; call = Update (Close 7) }) }
     ensures close_two { request_of (codes "2 close 7 8") ≡ Err BadLine }
     ensures session_first { request_of (codes "1 create a e: aGk") ≡ Err BadLine }
     ensures relative { request_of (codes "1 get a") ≡ Err (BadPath NotAbsolute) }
@@ -65,8 +68,13 @@ pub fn lines()
     ensures mark_is_data { request_of (codes "1 multi create /a p ; ; check /a any") ≡ Err BadData }
     ensures mark_ends { request_of (codes "1 multi check /a any ;") ≡ Err BadLine }
     ensures lone_check { request_of (codes "1 check /a any") ≡ Err BadLine }
-    ensures get { request_of (codes "1 get /a") ≡ Ok (record { client = 1; call = Query (GetData ((97 ∷ []) ∷ [])) }) }
-    ensures create { request_of (codes "31 create / p -") ≡ Ok (record { client = 31; call = Update (Create (record { path = []; kind = Persistent; bytes = [] })) }) }
+    ensures get { request_of (codes "1 get /a")
+        ≡ Ok (record { client = 1; call = Query (GetData ((97 ∷ []) ∷ [])) }) }
+    ensures create { request_of (codes "31 create / p -")
+        ≡ Ok (record {
+          client = 31;
+          call = Update (Create (record { path = []; kind = Persistent; bytes = [] }));
+        }) }
 {}
 
 /// Worked rows of the texts of replies.
@@ -75,5 +83,17 @@ pub fn replies()
     ensures opened { reply_text (Opened 1 2) ≡ codes "ok session 1 timeout 2" }
     ensures ticked { reply_text (Ticked 2 1) ≡ codes "ok tick 2 ended 1" }
     ensures created { reply_text (Created ((97 ∷ []) ∷ (98 ∷ []) ∷ [])) ≡ codes "ok /a/b" }
-    ensures stat { stat_text (record { czxid = 1; mzxid = 1; pzxid = 1; ctime = 0; mtime = 0; version = 0; cversion = 0; owner = 0; length = 2; children = 0 }) ≡ codes " 1 1 1 0 0 0 0 0 2 0" }
+    ensures stat { stat_text (record {
+      czxid = 1;
+      mzxid = 1;
+      pzxid = 1;
+      ctime = 0;
+      mtime = 0;
+      version = 0;
+      cversion = 0;
+      owner = 0;
+      length = 2;
+      children = 0;
+    })
+        ≡ codes " 1 1 1 0 0 0 0 0 2 0" }
 {}

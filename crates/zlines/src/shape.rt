@@ -2,25 +2,26 @@
 
 ghost use Rattle.std.specs.Prelude.{◌≡◌, Ok, Some, None, IfOk, IfErr, IfSome, IfNone, false, nat_eq};
 ghost use Rattle.std.specs.List.{starts_with};
-ghost use Rattle.zlines.specs.Shape.{kind_of, owned_kind_of, version_of, create_shape, delete_shape, set_shape, check_shape, change_shape, part_shape, alone, parts_shape};
+ghost use Rattle.zlines.specs.Shape.{kind_of, owned_kind_of, version_of, create_shape, delete_shape, set_shape, check_shape, change_shape, part_shape, lone_shape, parts_shape};
 ghost use Rattle.zlines.specs.support.Left.{IsBehind};
-ghost use Rattle.zlines.specs.Request.{IsUnread, shaped};
-ghost use Rattle.zcalls.specs.declared.multi.TheConstants.{MAX_PARTS};
+ghost use Rattle.zlines.specs.Request.{IsUnread, read_of};
+ghost use Rattle.zcalls.specs.declared.limits.TheConstants.{MAX_PARTS};
 
 use crate::cursor::Cursor;
 use crate::number::number;
 use crate::part_words::{ChangeWords, PartWords, Word};
 use crate::request::LineFault;
 use std::alloc::Global;
-use zcalls::{Expected, Kind, MAX_PARTS};
+use zcalls::{Expected, Kind, MAX_PARTS, SessionId};
 
 /// The parts that all these words come to, with `;` between them.
 pub(crate) fn all_parts<'a>(
     alloc: Global,
     mut words: Cursor<'a>,
 ) -> Result<Vec<PartWords<'a>>, LineFault>
-    ensures found { IfOk result (λ parts. shaped (parts_shape MAX_PARTS words.entry) ≡ Ok parts.items) }
-    ensures fault { IfErr result (IsUnread (shaped (parts_shape MAX_PARTS words.entry))) }
+    ensures found { IfOk result (λ parts. read_of (parts_shape MAX_PARTS words.entry)
+        ≡ Ok parts.items) }
+    ensures fault { IfErr result (IsUnread (read_of (parts_shape MAX_PARTS words.entry))) }
 {
     let mut parts = Vec::new(alloc);
     let mut room = MAX_PARTS;
@@ -45,7 +46,7 @@ pub(crate) fn all_parts<'a>(
 
 /// The change that all words behind a verb come to.
 pub(crate) fn lone_change<'a>(verb: &str, mut words: Cursor<'a>) -> Option<ChangeWords<'a>>
-    ensures { result ≡ alone (change_shape verb.now words.entry) }
+    ensures { result ≡ lone_shape (change_shape verb.now words.entry) }
 {
     let change = next_change(verb, &mut words)?;
     if words.is_done() { Some(change) } else { None }
@@ -65,7 +66,8 @@ fn next_part<'a>(verb: &str, words: &mut Cursor<'a>) -> Option<PartWords<'a>>
 
 // The change that begins with a verb.
 fn next_change<'a>(verb: &str, words: &mut Cursor<'a>) -> Option<ChangeWords<'a>>
-    ensures part { IfSome result (λ change. change_shape verb.now words.old ≡ Some (change, words.new)) }
+    ensures part { IfSome result (λ change. change_shape verb.now words.old
+        ≡ Some (change, words.new)) }
     ensures none { IfNone result (change_shape verb.now words.old ≡ None) }
 {
     match verb {
@@ -134,10 +136,10 @@ fn owned_kind_in(word: &str) -> Option<Kind>
     ensures { result ≡ owned_kind_of word.now }
 {
     if let Some(session) = behind("e:", word) {
-        return Some(Kind::Ephemeral(number(session)?));
+        return Some(Kind::Ephemeral(SessionId::new(number(session)?)));
     }
     let session = behind("es:", word)?;
-    Some(Kind::EphemeralSequential(number(session)?))
+    Some(Kind::EphemeralSequential(SessionId::new(number(session)?)))
 }
 
 // What follows these bytes in a word that begins with them.

@@ -1,25 +1,30 @@
 //! One line, played on the machine that is lent.
 
-ghost use Rattle.std.specs.Prelude.{◌≡◌, ◌++◌, OnOk, string_bytes};
-ghost use Rattle.zlines.specs.Line.{answer, after, called, updated, fault_text};
+ghost use Rattle.std.specs.Prelude.{◌≡◌, ◌<◌, OnOk};
+ghost use Rattle.zcalls.specs.Step.{query_reply};
+ghost use Rattle.zops.specs.declared.limits.TheConstants.{MAX_APPLIED};
+ghost use Rattle.zops.specs.Machine.{entry_result};
+ghost use Rattle.zlines.specs.Line.{answer, after, request_result, entry_text, update_result, line_fault_text};
+ghost use Rattle.zlines.specs.Reply.{reply_text};
+ghost use Rattle.zlines.specs.Texts.{Writes};
 
 use crate::reading::read_line;
 use crate::reply::write_reply;
 use crate::request::{LineFault, Request};
 use std::alloc::Global;
-use zcalls::{Call, ClientId, Entry, Update};
-use zops::{MAX_APPLIED, Machine};
+use zcalls::{Call, CallNumber, ClientId, Entry, Query, Update};
+use zops::Machine;
 use zpath::Memory;
 
 /// Plays a line: what it asks for is done to the machine, and its answer is written, with an LF.
-#[tactic(auto, unfolding(crate::specs::Line::answer, crate::specs::Line::after, crate::specs::Line::played))]
+#[tactic(auto, unfolding(crate::specs::Line::answer, crate::specs::Line::after, crate::specs::Line::line_result))]
 pub fn answer_line(
     alloc: Global,
     machine: &mut Machine,
     line: &[u8],
     out: &mut String,
 ) -> Result<(), Memory>
-    ensures text { OnOk result (string_bytes out.new ≡ string_bytes out.old ++ answer machine.old.state line.now) }
+    ensures text { OnOk result (Writes out.old out.new (answer machine.old.state line.now)) }
     ensures state { OnOk result (machine.new.state ≡ after machine.old.state line.now) }
 {
     match read_line(alloc, line) {
@@ -33,14 +38,25 @@ pub fn answer_line(
 
 // Does a call, and writes its reply.
 fn answer_call(machine: &mut Machine, request: Request, out: &mut String) -> Result<(), Memory>
-    ensures text { OnOk result (string_bytes out.new ≡ string_bytes out.old ++ (called machine.old.state request.client request.call).1) }
-    ensures state { OnOk result (machine.new.state ≡ (called machine.old.state request.client request.call).0) }
+    ensures text { OnOk result (Writes out.old out.new
+        (request_result machine.old.state request).1) }
+    ensures state { OnOk result (machine.new.state ≡ (request_result machine.old.state request).0) }
 {
     let Request { client, call } = request;
     match call {
         Call::Update(update) => answer_update(machine, client, update, out),
-        Call::Query(query) => write_reply(&machine.ask(&query)?, out),
+        Call::Query(query) => answer_query(machine, query, out),
     }
+}
+
+// Asks a query, and writes its reply.
+fn answer_query(machine: &mut Machine, query: Query, out: &mut String) -> Result<(), Memory>
+    ensures text { OnOk result (Writes out.old out.new
+        (reply_text (query_reply machine.old.state.tree query))) }
+    ensures state { OnOk result (machine.new.state ≡ machine.old.state) }
+{
+    let reply = machine.ask(&query)?;
+    write_reply(&reply, out)
 }
 
 // Applies an update as the next entry, and writes its reply.
@@ -50,28 +66,39 @@ fn answer_update(
     update: Update,
     out: &mut String,
 ) -> Result<(), Memory>
-    ensures text { OnOk result (string_bytes out.new ≡ string_bytes out.old ++ (updated machine.old.state client update).1) }
-    ensures state { OnOk result (machine.new.state ≡ (updated machine.old.state client update).0) }
+    ensures text { OnOk result (Writes out.old out.new
+        (update_result machine.old.state client update).1) }
+    ensures state { OnOk result (machine.new.state
+        ≡ (update_result machine.old.state client update).0) }
 {
-    if machine.applied() >= MAX_APPLIED {
+    let Some(number) = CallNumber::new(machine.applied() + 1) else {
         out.push_str("unanswered")?;
         return Ok(());
-    }
-    let number = machine.applied() + 1;
+    };
     let entry = Entry {
         client,
         number,
         update,
     };
-    if let Some(reply) = machine.apply(entry)? {
-        write_reply(&reply, out)?;
+    answer_entry(machine, entry, out)
+}
+
+// Applies an entry, and writes its reply.
+fn answer_entry(machine: &mut Machine, entry: Entry, out: &mut String) -> Result<(), Memory>
+    requires { machine.old.state.applied < MAX_APPLIED }
+    ensures text { OnOk result (Writes out.old out.new
+        (entry_text (entry_result machine.old.state entry))) }
+    ensures state { OnOk result (machine.new.state ≡ (entry_result machine.old.state entry).0) }
+{
+    match machine.apply(entry)? {
+        Some(reply) => write_reply(&reply, out),
+        None => Ok(()),
     }
-    Ok(())
 }
 
 // Writes why a line asked for nothing.
 fn write_fault(fault: LineFault, out: &mut String) -> Result<(), Memory>
-    ensures { OnOk result (string_bytes out.new ≡ string_bytes out.old ++ fault_text fault) }
+    ensures { OnOk result (Writes out.old out.new (line_fault_text fault)) }
 {
     match fault {
         LineFault::BadLine => out.push_str("bad line")?,

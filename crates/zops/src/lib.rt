@@ -13,13 +13,7 @@ mod part;
 mod query;
 mod run;
 mod session_calls;
-#[cfg(test)]
-mod session_tests;
 mod stop;
-#[cfg(test)]
-mod testing;
-#[cfg(test)]
-mod tests;
 mod update;
 
 pub use limits::MAX_APPLIED;

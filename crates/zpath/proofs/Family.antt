@@ -1,6 +1,7 @@
 -- The front of a path, and a path with one more name.
-use Rattle.std.proofs.Common.{◌≡◌, ℕ, ◌≤◌, ◌+◌, List, [], ◌∷◌, ◌++◌, length, None, refl, ap, ◌∙◌, arith, lit≤, length-append}
+use Rattle.std.proofs.Common.{◌≡◌, ℕ, ◌<◌, ◌≤◌, ◌+◌, List, [], ◌∷◌, ◌++◌, length, get_or, take, None, refl, sym, ap, ◌∙◌, arith, lit≤, length-append, append-nil, add-one}
 use Rattle.std.proofs.lemmas.Grind.{flat_map-append}
+use Rattle.std.proofs.Math.Seq.{take-suc}
 use Rattle.std.proofs.lemmas.List.Sums.{sum_by-cons, sum_by_push}
 use Rattle.std.specs.List.{flat_map, AllByRecursion, sum_by}
 use Rattle.zpath.specs.declared.limits.TheConstants.{MAX_TEXT_LEN, MAX_DEPTH}
@@ -51,6 +52,12 @@ length-segments : (names : List (List ℕ)) → length (flat_map segment_of name
 length-segments [] = refl
 length-segments (name ∷ names) =
     omega (arith, length-append name (flat_map segment_of names), length-segments names, sum_by-cons (λ (name : List ℕ). length name + 1) name names)
+
+-- the segments of one name more
+pub segments-next : (names : List (List ℕ)) (i : ℕ) (name : List ℕ) → i < length names → name ≡ get_or names i name → flat_map segment_of (take i names) ++ segment_of name ≡ flat_map segment_of (take (i + 1) names)
+segments-next names i name inside is =
+    rw (add-one, take-suc names i name inside, ← is)
+    (sym (flat_map-append segment_of (take i names) (name ∷ []) ∙ ap (λ more. flat_map segment_of (take i names) ++ more) (append-nil (segment_of name))))
 
 -- the segments of a path are no longer than its text may be
 pub segments_fit : (path : List (List ℕ)) → IsPath path → sum_by (λ name. length name + 1) path ≤ MAX_TEXT_LEN

@@ -1,4 +1,4 @@
--- The path of a sequential node: a counter's ten digits follow the last name that was asked for (ZooKeeper Programmer's
+-- The path of a sequential node: a counter's digits follow the last name that was asked for (ZooKeeper Programmer's
 -- Guide, section "Sequence Nodes -- Unique Naming"). The limits and the faults' order are those of every path.
 use Rattle.std.specs.Prelude.{ℕ, zero, suc, ◌+◌, ◌/◌, ◌%◌, Bool, ◌||◌, List, [], ◌∷◌, ◌++◌, Option}
 use Rattle.std.specs.List.{list_any}

@@ -84,8 +84,7 @@ module _ (source : SourceRun) (step all : SinkRun) where
   -- memory ran out before a line
   by_line : (bytes : List ℕ) (left : ℕ) → source.gave bytes → source.failed 0 → ((count : ℕ) → step.failed count → all.failed (0 + count)) → StoppedLater all.took opening_machine (lines_after [] bytes) left → (0 < left) × step.failed 0 → IsCutBy source all Memory
   by_line bytes left given sound counts later h =
-      let is = lines_of-carried bytes in
-      (
+      let is = lines_of-carried bytes in (
         inl (record {
           bytes = bytes;
           given = given;

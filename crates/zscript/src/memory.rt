@@ -23,7 +23,8 @@ impl Failure {
         ensures due { (result ≡ true) ↔ (self.old.calls_left ≡ Some 0) }
         ensures once { result ≡ true → self.new.calls_left ≡ None }
         ensures never { self.old.calls_left ≡ None → self.new.calls_left ≡ None }
-        ensures counted { IfSome self.old.calls_left (λ calls. 0 < calls → self.new.calls_left ≡ Some (calls - 1)) }
+        ensures counted { IfSome self.old.calls_left (λ calls. 0 < calls → self.new.calls_left
+            ≡ Some (calls - 1)) }
     {
         match self.calls_left {
             None => false,
@@ -107,11 +108,13 @@ impl Source for SliceSource<'_> {
 
     ghost gave_nothing = { λ s. refl };
 
-    ghost gave_both = { λ s t u a b first second. left_after_both s.left.now t.left.now u.left.now a b first second };
+    ghost gave_both = { λ s t u a b first second.
+        left_after_both s.left.now t.left.now u.left.now a b first second };
 
     ghost failed_never = { λ s. never_raises s.has_failed };
 
-    ghost failed_both = { λ s t u m n first second. raises_both s.has_failed t.has_failed u.has_failed m n first second };
+    ghost failed_both = { λ s t u m n first second.
+        raises_both s.has_failed t.has_failed u.has_failed m n first second };
 }
 
 /// Takes bytes into a vector, and fails where memory runs out.
@@ -176,9 +179,11 @@ impl Sink for VecSink {
 
     ghost took_nothing = { λ s. sym (append-nil s.bytes.items) };
 
-    ghost took_both = { λ s t u a b first second. held_after_both s.bytes.items t.bytes.items u.bytes.items a b first second };
+    ghost took_both = { λ s t u a b first second.
+        held_after_both s.bytes.items t.bytes.items u.bytes.items a b first second };
 
     ghost failed_never = { λ s. never_raises s.has_failed };
 
-    ghost failed_both = { λ s t u m n first second. raises_both s.has_failed t.has_failed u.has_failed m n first second };
+    ghost failed_both = { λ s t u m n first second.
+        raises_both s.has_failed t.has_failed u.has_failed m n first second };
 }

@@ -45,9 +45,8 @@ impl Output {
         ensures cleared { OnOk result (string_len self.new.block ≡ 0) }
         ensures took { OnOk result (K.took sink.old (string_bytes self.old.block) sink.new) }
         ensures sound { OnOk result (K.failed sink.old 0 sink.new) }
-        ensures beginning {
-            TookBeginning (Between K.took sink.old sink.new) (string_bytes self.old.block)
-        }
+        ensures beginning { TookBeginning (Between K.took sink.old sink.new)
+            (string_bytes self.old.block) }
         ensures failed { OnErr result (Failed (Between K.failed sink.old sink.new)) }
     {
         write_all(sink, self.block.as_bytes())?;
@@ -58,14 +57,11 @@ impl Output {
     /// Writes what is held once it fills a block.
     pub(crate) fn flush_full<K: Sink>(&mut self, sink: &mut K) -> Result<(), DeviceFault>
         ensures small { OnOk result (string_len self.new.block < BLOCK) }
-        ensures tells {
-            OnOk result (Tells (Between K.took sink.old sink.new)
-                (string_bytes self.old.block) (string_bytes self.new.block))
-        }
+        ensures tells { OnOk result (Tells (Between K.took sink.old sink.new)
+            (string_bytes self.old.block) (string_bytes self.new.block)) }
         ensures sound { OnOk result (K.failed sink.old 0 sink.new) }
-        ensures beginning {
-            TookBeginning (Between K.took sink.old sink.new) (string_bytes self.old.block)
-        }
+        ensures beginning { TookBeginning (Between K.took sink.old sink.new)
+            (string_bytes self.old.block) }
         ensures failed { OnErr result (Failed (Between K.failed sink.old sink.new)) }
     {
         if self.block.len() < BLOCK {

@@ -36,7 +36,11 @@ impl Model for Player {
 
     ghost coded = { coded_player_view };
 
-    ghost view = { λ p. record { state = p.machine.state; line = p.line.items; held = string_bytes p.output.block } };
+    ghost view = { λ p. record {
+      state = p.machine.state;
+      line = p.line.items;
+      held = string_bytes p.output.block;
+    } };
 
     ghost invariant = { λ p. length p.line.items ≤ KEPT };
 }
@@ -60,9 +64,8 @@ impl Player {
         ensures heard { OnOk result (self.new ≡ player_after self.old bytes.now) }
         ensures took { OnOk result (K.took sink.old (answers_after self.old bytes.now) sink.new) }
         ensures sound { OnOk result (K.failed sink.old 0 sink.new) }
-        ensures stopped {
-            IfErr result (IsBlockStoppedBy self.old bytes.now (sink_run K.took K.failed sink.old sink.new))
-        }
+        ensures stopped { IfErr result (IsBlockStoppedBy self.old bytes.now
+            (sink_run K.took K.failed sink.old sink.new)) }
     {
         let rest = self.play_lines(sink, bytes)?;
         self.keep(rest)?;
@@ -77,9 +80,8 @@ impl Player {
         requires { self.old.held ≡ [] }
         ensures took { OnOk result (K.took sink.old (last_answer self.old) sink.new) }
         ensures sound { OnOk result (K.failed sink.old 0 sink.new) }
-        ensures stopped {
-            IfErr result (IsEndStoppedBy self.old (sink_run K.took K.failed sink.old sink.new))
-        }
+        ensures stopped { IfErr result (IsEndStoppedBy self.old
+            (sink_run K.took K.failed sink.old sink.new)) }
     {
         if self.line.is_empty() {
             return Ok(());
@@ -99,16 +101,13 @@ impl Player {
     ) -> Result<&'a [u8], PlayFault>
         requires { self.old.held ≡ [] }
         ensures state { OnOk result (self.new.state ≡ state_after self.old bytes.entry.now) }
-        ensures line {
-            IfOk result (λ rest. line_left self.old.line bytes.entry.now ≡ self.new.line ++ rest.now)
-        }
-        ensures tells {
-            OnOk result (Tells (Between K.took sink.old sink.new) (answers_after self.old bytes.entry.now) self.new.held)
-        }
+        ensures line { IfOk result (λ rest. line_left self.old.line bytes.entry.now
+            ≡ self.new.line ++ rest.now) }
+        ensures tells { OnOk result (Tells (Between K.took sink.old sink.new)
+            (answers_after self.old bytes.entry.now) self.new.held) }
         ensures sound { OnOk result (K.failed sink.old 0 sink.new) }
-        ensures stopped {
-            IfErr result (AreLinesStoppedBy self.old bytes.entry.now (sink_run K.took K.failed sink.old sink.new))
-        }
+        ensures stopped { IfErr result (AreLinesStoppedBy self.old bytes.entry.now
+            (sink_run K.took K.failed sink.old sink.new)) }
     {
         let mut rest = bytes;
         while let Some((end, more)) = split_line(rest) {
@@ -120,15 +119,14 @@ impl Player {
 
     // Ends the line with these bytes, and plays it. Where nothing is kept of it, it is not copied.
     fn end_line<K: Sink>(&mut self, sink: &mut K, end: &[u8]) -> Result<(), PlayFault>
-        ensures state { OnOk result (self.new.state ≡ after self.old.state (self.old.line ++ end.now)) }
+        ensures state { OnOk result (self.new.state
+            ≡ after self.old.state (self.old.line ++ end.now)) }
         ensures line { OnOk result (self.new.line ≡ []) }
-        ensures tells {
-            OnOk result (Tells (Between K.took sink.old sink.new) (with_answer self.old end.now) self.new.held)
-        }
+        ensures tells { OnOk result (Tells (Between K.took sink.old sink.new)
+            (with_answer self.old end.now) self.new.held) }
         ensures sound { OnOk result (K.failed sink.old 0 sink.new) }
-        ensures stopped {
-            IfErr result (IsLineStoppedBy (with_answer self.old end.now) (sink_run K.took K.failed sink.old sink.new))
-        }
+        ensures stopped { IfErr result (IsLineStoppedBy (with_answer self.old end.now)
+            (sink_run K.took K.failed sink.old sink.new)) }
     {
         self.answer(end)?;
         let Ok(()) = self.output.flush_full(sink) else {
@@ -139,7 +137,8 @@ impl Player {
 
     // The same, but the reply is held.
     fn answer(&mut self, end: &[u8]) -> Result<(), Memory>
-        ensures state { OnOk result (self.new.state ≡ after self.old.state (self.old.line ++ end.now)) }
+        ensures state { OnOk result (self.new.state
+            ≡ after self.old.state (self.old.line ++ end.now)) }
         ensures line { OnOk result (self.new.line ≡ []) }
         ensures held { OnOk result (self.new.held ≡ with_answer self.old end.now) }
     {

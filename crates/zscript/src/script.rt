@@ -24,21 +24,15 @@ pub fn play<S: Source, K: Sink>(
     sink: &mut K,
     _servers: Servers,
 ) -> Result<(), PlayFault>
-    ensures played {
-        OnOk result (IsPlayed
-            (source_run S.gave S.failed S.has_ended source.old source.new)
-            (sink_run K.took K.failed sink.old sink.new))
-    }
-    ensures cut {
-        OnErr result (IsCut
-            (source_run S.gave S.failed S.has_ended source.old source.new)
-            (sink_run K.took K.failed sink.old sink.new))
-    }
-    ensures fault {
-        IfErr result (IsCutBy
-            (source_run S.gave S.failed S.has_ended source.old source.new)
-            (sink_run K.took K.failed sink.old sink.new))
-    }
+    ensures played { OnOk result (IsPlayed
+        (source_run S.gave S.failed S.has_ended source.old source.new)
+        (sink_run K.took K.failed sink.old sink.new)) }
+    ensures cut { OnErr result (IsCut
+        (source_run S.gave S.failed S.has_ended source.old source.new)
+        (sink_run K.took K.failed sink.old sink.new)) }
+    ensures fault { IfErr result (IsCutBy
+        (source_run S.gave S.failed S.has_ended source.old source.new)
+        (sink_run K.took K.failed sink.old sink.new)) }
 {
     let mut block = zeros(alloc, BLOCK)?;
     let mut player = Player::new(alloc)?;
@@ -54,21 +48,15 @@ fn play_blocks<S: Source, K: Sink>(
 ) -> Result<(), PlayFault>
     requires opening { player.old ≡ opening_player }
     requires room { 0 < length block.old }
-    ensures played {
-        OnOk result (IsPlayed
-            (source_run S.gave S.failed S.has_ended source.old source.new)
-            (sink_run K.took K.failed sink.old sink.new))
-    }
-    ensures cut {
-        OnErr result (IsCut
-            (source_run S.gave S.failed S.has_ended source.old source.new)
-            (sink_run K.took K.failed sink.old sink.new))
-    }
-    ensures fault {
-        IfErr result (IsCutBy
-            (source_run S.gave S.failed S.has_ended source.old source.new)
-            (sink_run K.took K.failed sink.old sink.new))
-    }
+    ensures played { OnOk result (IsPlayed
+        (source_run S.gave S.failed S.has_ended source.old source.new)
+        (sink_run K.took K.failed sink.old sink.new)) }
+    ensures cut { OnErr result (IsCut
+        (source_run S.gave S.failed S.has_ended source.old source.new)
+        (sink_run K.took K.failed sink.old sink.new)) }
+    ensures fault { IfErr result (IsCutBy
+        (source_run S.gave S.failed S.has_ended source.old source.new)
+        (sink_run K.took K.failed sink.old sink.new)) }
 {
     loop {
         let Ok(count) = source.read(block) else {

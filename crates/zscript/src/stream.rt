@@ -60,11 +60,14 @@ impl<R: Read> Source for ReaderSource<R> {
 
     ghost gave_nothing = { λ s. consumes_nothing (R.remaining s.reader) };
 
-    ghost gave_both = { λ s t u a b first second. consumes_both (R.remaining s.reader) (R.remaining t.reader) (R.remaining u.reader) a b first second };
+    ghost gave_both = { λ s t u a b first second.
+        consumes_both (R.remaining s.reader) (R.remaining t.reader) (R.remaining u.reader)
+        a b first second };
 
     ghost failed_never = { λ s. never_raises s.has_failed };
 
-    ghost failed_both = { λ s t u m n first second. raises_both s.has_failed t.has_failed u.has_failed m n first second };
+    ghost failed_both = { λ s t u m n first second.
+        raises_both s.has_failed t.has_failed u.has_failed m n first second };
 }
 
 /// Writes to any writer. A write that takes no byte is a failure.
@@ -104,9 +107,12 @@ impl<W: Write> Sink for WriterSink<W> {
 
     ghost took_nothing = { λ s. appends_nothing (W.contents s.writer) };
 
-    ghost took_both = { λ s t u a b first second. appends_both (W.contents s.writer) (W.contents t.writer) (W.contents u.writer) a b first second };
+    ghost took_both = { λ s t u a b first second.
+        appends_both (W.contents s.writer) (W.contents t.writer) (W.contents u.writer)
+        a b first second };
 
     ghost failed_never = { λ s. never_raises s.has_failed };
 
-    ghost failed_both = { λ s t u m n first second. raises_both s.has_failed t.has_failed u.has_failed m n first second };
+    ghost failed_both = { λ s t u m n first second.
+        raises_both s.has_failed t.has_failed u.has_failed m n first second };
 }

@@ -19,7 +19,9 @@ fn knows_the_longest_sequential_name(rt: HostRuntime) -> Result<(), Fail> {
     let script = format!(in rt.alloc();
         "1 create /{name} ps -\n1 create /{name}a ps -\n1 create /b ps -\n1 create / ps -\n"
     )?;
-    let text = format!(in rt.alloc(); "ok /{name}0000000000\nno PathLimit\nok /b0000000001\nno NodeExists\n")?;
+    let text = format!(in rt.alloc();
+        "ok /{name}0000000000\nno PathLimit\nok /b0000000001\nno NodeExists\n"
+    )?;
     plays(&rt, rt.alloc(), &script, &text, 65536);
     Ok(())
 }
@@ -36,7 +38,9 @@ fn knows_the_most_data(rt: HostRuntime) -> Result<(), Fail> {
 fn knows_the_most_parts(rt: HostRuntime) -> Result<(), Fail> {
     let checks = " ; check / 0".repeat(rt.alloc(), 63)?;
     let checked = " ; checked".repeat(rt.alloc(), 63)?;
-    let script = format!(in rt.alloc(); "1 multi check / 0{checks}\n1 multi check / 0{checks} ; check / 0\n")?;
+    let script = format!(in rt.alloc();
+        "1 multi check / 0{checks}\n1 multi check / 0{checks} ; check / 0\n"
+    )?;
     let text = format!(in rt.alloc(); "ok multi checked{checked}\nbad line\n")?;
     plays(&rt, rt.alloc(), &script, &text, 65536);
     Ok(())

@@ -23,8 +23,14 @@ const ROWS: [Row; 13] = [
         ("1 get /a/", "bad path EmptyName"),
         ("1 get /..", "bad path DotName"),
         ("1 get /zookeeper/x", "bad path Reserved"),
-        ("1 get /a/a/a/a/a/a/a/a/a/a/a/a/a/a/a/a/a/a/a/a/a/a/a/a/a/a/a/a/a/a/a/a", "no NoNode"),
-        ("1 get /a/a/a/a/a/a/a/a/a/a/a/a/a/a/a/a/a/a/a/a/a/a/a/a/a/a/a/a/a/a/a/a/a", "bad path TooDeep"),
+        (
+            "1 get /a/a/a/a/a/a/a/a/a/a/a/a/a/a/a/a/a/a/a/a/a/a/a/a/a/a/a/a/a/a/a/a",
+            "no NoNode",
+        ),
+        (
+            "1 get /a/a/a/a/a/a/a/a/a/a/a/a/a/a/a/a/a/a/a/a/a/a/a/a/a/a/a/a/a/a/a/a/a",
+            "bad path TooDeep",
+        ),
     ],
     // A path that is read is looked at before the counter is added to it.
     &[
@@ -51,18 +57,33 @@ const ROWS: [Row; 13] = [
     // A multi that is refused leaves nothing of its parts; one that is done takes one zxid.
     &[
         ("1 create /a p aGk=", "ok /a"),
-        ("1 multi create /m p - ; set /none any - ; delete /a any", "no multi 2 NoNode"),
+        (
+            "1 multi create /m p - ; set /none any - ; delete /a any",
+            "no multi 2 NoNode",
+        ),
         ("1 exists /m", "no NoNode"),
         ("1 exists /", "ok stat 0 0 1 0 0 0 1 0 0 1"),
-        ("1 multi create /m p - ; check /a 0 ; set /a 0 eA== ; delete /m any", "ok multi /m ; checked ; stat 1 2 1 0 0 1 0 0 1 0 ; deleted"),
+        (
+            "1 multi create /m p - ; check /a 0 ; set /a 0 eA== ; delete /m any",
+            "ok multi /m ; checked ; stat 1 2 1 0 0 1 0 0 1 0 ; deleted",
+        ),
         ("1 exists /", "ok stat 0 0 2 0 0 0 3 0 0 1"),
     ],
     // Each part finds what those before it did, and one that is refused gives back the counter.
     &[
-        ("1 multi create /q p - ; create /q/n- ps - ; create /q/n- ps -", "ok multi /q ; /q/n-0000000000 ; /q/n-0000000001"),
+        (
+            "1 multi create /q p - ; create /q/n- ps - ; create /q/n- ps -",
+            "ok multi /q ; /q/n-0000000000 ; /q/n-0000000001",
+        ),
         ("1 exists /q", "ok stat 1 1 1 0 0 0 2 0 0 2"),
-        ("1 multi check /q 0 ; check /q 0", "ok multi checked ; checked"),
-        ("1 multi create /q/n- ps - ; check /q 7", "no multi 2 BadVersion"),
+        (
+            "1 multi check /q 0 ; check /q 0",
+            "ok multi checked ; checked",
+        ),
+        (
+            "1 multi create /q/n- ps - ; check /q 7",
+            "no multi 2 BadVersion",
+        ),
         ("1 create /q/n- ps -", "ok /q/n-0000000002"),
         ("1 exists /q/n-0000000002", "ok stat 3 3 3 0 0 0 0 0 0 0"),
     ],
@@ -128,7 +149,10 @@ const ROWS: [Row; 13] = [
         ("1 create /a p YQ", "bad data"),
         ("1 set /a 0 =", "bad data"),
         ("1 multi create /a p = ; delete b any", "bad data"),
-        ("1 multi delete b any ; create /a p =", "bad path NotAbsolute"),
+        (
+            "1 multi delete b any ; create /a p =",
+            "bad path NotAbsolute",
+        ),
         ("1 multi set b any =", "bad path NotAbsolute"),
         ("1 multi create a p - ; put", "bad line"),
         ("1 create /a p YQ==", "ok /a"),

@@ -106,8 +106,14 @@ const ROWS: [Row; 10] = [
     // A part of a multi can be of a session.
     &[
         ("1 open 2", "ok session 1 timeout 2"),
-        ("1 multi create /q p - ; create /q/n- es:1 - ; create /q/m e:1 -", "ok multi /q ; /q/n-0000000000 ; /q/m"),
-        ("2 multi create /r p - ; create /r/n e:1 -", "no multi 2 SessionGone"),
+        (
+            "1 multi create /q p - ; create /q/n- es:1 - ; create /q/m e:1 -",
+            "ok multi /q ; /q/n-0000000000 ; /q/m",
+        ),
+        (
+            "2 multi create /r p - ; create /r/n e:1 -",
+            "no multi 2 SessionGone",
+        ),
         ("1 ls /q", "ok 2 m n-0000000000"),
         ("1 multi check / any ; tick", "bad line"),
     ],

@@ -4,7 +4,7 @@
 pub const MAX_SERVERS: u8 = 8;
 
 /// The greatest number of an entry in a log.
-pub const MAX_LOG_NUMBER: u64 = 4_611_686_018_427_387_903;
+pub const MAX_LOG_NUMBER: u64 = (1 << 62) - 1;
 
 /// The greatest epoch.
-pub const MAX_EPOCH: u64 = 4_611_686_018_427_387_903;
+pub const MAX_EPOCH: u64 = (1 << 62) - 1;

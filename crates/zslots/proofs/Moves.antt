@@ -10,11 +10,11 @@ use Rattle.zslots.specs.Links.{links_at, no_links, with_next_at, with_prev_at, w
 use Rattle.zslots.specs.Ids.{NotIn, NoTwo, last_or, first_of}
 use Rattle.zslots.specs.Chains.{Chain, IsBetween}
 use Rattle.zslots.proofs.Maps.{same_or_other, get-insert-here, get-insert-elsewhere, same_items}
-use Rattle.zslots.proofs.Surgery.{NoneIn, NoneShared, NotIn-parts, NoTwo-parts, last-cross, first-cross, NoneShared-rest, NoneShared-head, NoneShared-cons, HasLinks, SameBut, chain-from, chain-swap, chain-rest, chain-first, with_ends-same, with_ends-left, with_ends-right, get-with_prev_at-elsewhere, get-with_prev_at-here}
+use Rattle.zslots.proofs.Surgery.{NoneIn, NoneShared, NotIn-parts, NoTwo-parts, last-none_shared, first-none_shared, NoneShared-rest, NoneShared-head, NoneShared-cons, HasLinks, SameBut, chain-from, chain-swap, chain-rest, chain-first, with_ends-same, with_ends-left, with_ends-right, get-with_prev_at-elsewhere, get-with_prev_at-here}
 
-cross_nil : (xs : List Id) → NoneShared xs []
-cross_nil [] = tt
-cross_nil (x ∷ xs) = (tt, cross_nil xs)
+NoneShared-nil : (xs : List Id) → NoneShared xs []
+NoneShared-nil [] = tt
+NoneShared-nil (x ∷ xs) = (tt, NoneShared-nil xs)
 
 -- an end that is in neither list differs from what is in the first
 pub end_other : (q : Id) (at : Option Id) → NoneIn at (q ∷ []) → Some q ≢ at
@@ -24,7 +24,7 @@ end_other q (Some p) n e = n.0 (cc)
 -- a first of one list is no last of another
 pub ends_differ : (xs ys : List Id) (q : Id) → NoneShared xs ys → Some q ≡ last_or None xs → Some q ≢ first_of ys
 ends_differ xs [] q c e f = cc
-ends_differ xs (y ∷ ys) q c e f = by (last_or None xs) (last-cross None xs (y ∷ ys) tt c) e
+ends_differ xs (y ∷ ys) q c e f = by (last_or None xs) (last-none_shared None xs (y ∷ ys) tt c) e
   where
     by : (o : Option Id) → NoneIn o (y ∷ ys) → Some q ≡ o → ⊥
     by None n e = cc
@@ -55,8 +55,8 @@ module _ {T : Type 0} (links : T → Links) (with_links : T → Links → T) (re
       let c = NoneShared-rest front id back parts.2 in
       let n = with_ends links with_links m (last_or None front) (first_of back) (first_of back) (last_or None front) in
       let same = with_ends-same links with_links reads m (last_or None front) (first_of back) (first_of back) (last_or None front) in
-      let rest = chain-from links m n (last_or None front) (Some id) (last_or None front) (first_of back) back same (last-cross None front back tt c) parts.1.1 (chain-at m first front id back ch).1 (with_ends-back m front back _ _ c) in
-      chain-swap links m n (first_of back) None first (first_of back) front (id ∷ back) back same (first-cross front back c) parts.0 ch (with_ends-front m front back _ _ c) rest
+      let rest = chain-from links m n (last_or None front) (Some id) (last_or None front) (first_of back) back same (last-none_shared None front back tt c) parts.1.1 (chain-at m first front id back ch).1 (with_ends-back m front back _ _ c) in
+      chain-swap links m n (first_of back) None first (first_of back) front (id ∷ back) back same (first-none_shared front back c) parts.0 ch (with_ends-front m front back _ _ c) rest
 
   -- the join that puts an item into a chain
   pub chain-in : (m : Items T) (first : Option Id) (front : List Id) (id : Id) (back : List Id) → NoTwo (front ++ back) → NotIn id (front ++ back) → IsBetween links m id front back → Chain links m None first (front ++ back) → Chain links (with_ends links with_links m (last_or None front) (Some id) (first_of back) (Some id)) None (first_of (front ++ id ∷ back)) (front ++ id ∷ back)
@@ -68,12 +68,12 @@ module _ {T : Type 0} (links : T → Links) (with_links : T → Links → T) (re
       let same = with_ends-same links with_links reads m (last_or None front) (Some id) (first_of back) (Some id) in
       let behind = chain-rest links m None first front back ch in
       let start = subst (λ o. Chain links m (last_or None front) o back) (chain-first links m _ _ back behind.1) behind.1 in
-      let rest = chain-from links m n (last_or None front) (last_or None front) (Some id) (first_of back) back same (last-cross None front back tt c) parts.1 start (with_ends-back m front back _ _ c) in
-      let left = end_other id _ (last-cross None front (id ∷ []) tt (NoneShared-cons front id [] none.0 (cross_nil front))) in
-      let right = end_other id _ (first-cross (id ∷ []) back (none.1, tt)) in
+      let rest = chain-from links m n (last_or None front) (last_or None front) (Some id) (first_of back) back same (last-none_shared None front back tt c) parts.1 start (with_ends-back m front back _ _ c) in
+      let left = end_other id _ (last-none_shared None front (id ∷ []) tt (NoneShared-cons front id [] none.0 (NoneShared-nil front))) in
+      let right = end_other id _ (first-none_shared (id ∷ []) back (none.1, tt)) in
       let found = same id left right ∙ between.1 in
       let middle : Chain links n (last_or None front) (Some id) (id ∷ back) = (refl, between.0, found, ap (λ k. k.prev) between.2, subst (λ o. Chain links n (Some id) o back) (sym (ap (λ k. k.next) between.2)) rest) in
-      chain-swap links m n (first_of back) None first (Some id) front back (id ∷ back) same (first-cross front back c) parts.0 ch (with_ends-front m front back _ _ c) middle
+      chain-swap links m n (first_of back) None first (Some id) front back (id ∷ back) same (first-none_shared front back c) parts.0 ch (with_ends-front m front back _ _ c) middle
 
   pub links_at-between : (m : Items T) (id : Id) (front back : List Id) → IsBetween links m id front back → links_at links m id ≡ record { next = first_of back; prev = last_or None front }
   links_at-between m id front back b = ap (λ o. option_map_or links o no_links) b.1 ∙ b.2
@@ -97,7 +97,7 @@ module _ {T : Type 0} (links : T → Links) (with_links : T → Links → T) (re
       let y = with_links x (record { next = first; prev = None }) in
       let n = insert m1 id y in
       let start = chain-first links m None first ids ch in
-      let apart : Some id ≢ first = end_other id first (subst (λ o. NoneIn o (id ∷ [])) (sym start) (first-cross (id ∷ []) ids (free, tt))) in
+      let apart : Some id ≢ first = end_other id first (subst (λ o. NoneIn o (id ∷ [])) (sym start) (first-none_shared (id ∷ []) ids (free, tt))) in
       let before = get-with_prev_at-elsewhere links with_links reads m first (Some id) id apart ∙ e in
       let made : with_front links with_links m first id ≡ n = ap (λ o. option_map_or (λ x. insert m1 id (with_links x (record { next = first; prev = None }))) o m1) before in
       let same : SameBut links m n (Some id) first = λ q l r. get-insert-elsewhere m1 id y q (λ w. l (ap Some w)) ∙ get-with_prev_at-elsewhere links with_links reads m first (Some id) q r in
@@ -213,8 +213,8 @@ module _ {T : Type 0} (links : T → Links) (with_links : T → Links → T) (re
       let parts = NoTwo-parts front (id ∷ back) a in
       let l = links_at links m id in
       let is : l ≡ record { next = first_of back; prev = last_or None front } = links_at-between links with_links reads m id front back at.0 in
-      let left = subst (λ o. Some id ≢ o.prev) (sym is) (end_other id _ (last-cross None front (id ∷ []) tt (NoneShared-cons front id [] (NoneShared-head front id back parts.2) (cross_nil front)))) in
-      let right = subst (λ o. Some id ≢ o.next) (sym is) (end_other id _ (first-cross (id ∷ []) back (parts.1.0, tt))) in
+      let left = subst (λ o. Some id ≢ o.prev) (sym is) (end_other id _ (last-none_shared None front (id ∷ []) tt (NoneShared-cons front id [] (NoneShared-head front id back parts.2) (NoneShared-nil front)))) in
+      let right = subst (λ o. Some id ≢ o.next) (sym is) (end_other id _ (first-none_shared (id ∷ []) back (parts.1.0, tt))) in
       ap (λ o. option_map_or links o no_links) (with_ends-same links with_links reads m l.prev l.next l.next l.prev id left right)
 
   -- to put an item back where it was taken out leaves all as it was

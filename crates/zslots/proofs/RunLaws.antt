@@ -1,10 +1,10 @@
 -- What a run of calls on a `Slots` leaves of its Ids.
-use Rattle.std.proofs.Common.{◌≡◌, ◌≢◌, ◌⊎◌, inl, inr, ℕ, ◌+◌, ◌<◌, ◌≤◌, List, [], ◌∷◌, Option, Some, None, IsSome, refl, sym, ap, ◌∙◌, arith}
+use Rattle.std.proofs.Common.{◌≡◌, ◌≢◌, ◌⊎◌, inl, inr, ℕ, ◌+◌, ◌<◌, ◌≤◌, List, [], ◌∷◌, Option, Some, None, IsSome, sym, ap, ◌∙◌, arith}
 use mathlib.Core.Path.{subst}
-use Rattle.std.specs.FinMap.{get-empty, get, insert, remove}
+use Rattle.std.specs.FinMap.{get-empty, get, remove}
 use Rattle.zslots.specs.declared.id.Id.{Id}
 use Rattle.zslots.specs.Ids.{id_cmp, Ids, NotIn, NoTwo}
-use Rattle.zslots.specs.SlotsView.{SlotsView, Items, empty_slots, NamesGivenIds}
+use Rattle.zslots.specs.SlotsView.{SlotsView, empty_slots, NamesGivenIds}
 use Rattle.zslots.specs.Runs.{Change, IsChange, IsRun, ids_of_run}
 use Rattle.zslots.specs.Runs.Change.{Insert, Remove, Write}
 use Rattle.zslots.proofs.Maps.{same_or_other, get-insert-elsewhere, get-remove-here, get-remove-elsewhere}

@@ -47,15 +47,15 @@ NoTwo-both [] ys a b c = b
 NoTwo-both (x ∷ xs) ys a b c = (NotIn-both x xs ys a.0 c.0, NoTwo-both xs ys a.1 b c.1)
 
 -- the last of a list is in no list that it doesn't meet
-pub last-cross : (before : Option Id) (xs ys : List Id) → NoneIn before ys → NoneShared xs ys → NoneIn (last_or before xs) ys
-last-cross before [] ys b c = b
-last-cross before (x ∷ xs) ys b c = last-cross (Some x) xs ys c.0 c.1
+pub last-none_shared : (before : Option Id) (xs ys : List Id) → NoneIn before ys → NoneShared xs ys → NoneIn (last_or before xs) ys
+last-none_shared before [] ys b c = b
+last-none_shared before (x ∷ xs) ys b c = last-none_shared (Some x) xs ys c.0 c.1
 
 -- what the second list begins with isn't in the first
-pub first-cross : (xs ys : List Id) → NoneShared xs ys → NoneIn (first_of ys) xs
-first-cross xs [] c = tt
-first-cross [] (y ∷ ys) c = tt
-first-cross (x ∷ xs) (y ∷ ys) c = (λ e. c.0.0 (sym e), first-cross xs (y ∷ ys) c.1)
+pub first-none_shared : (xs ys : List Id) → NoneShared xs ys → NoneIn (first_of ys) xs
+first-none_shared xs [] c = tt
+first-none_shared [] (y ∷ ys) c = tt
+first-none_shared (x ∷ xs) (y ∷ ys) c = (λ e. c.0.0 (sym e), first-none_shared xs (y ∷ ys) c.1)
 
 pub NoneShared-rest : (xs : List Id) (y : Id) (ys : List Id) → NoneShared xs (y ∷ ys) → NoneShared xs ys
 NoneShared-rest [] y ys c = tt

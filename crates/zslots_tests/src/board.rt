@@ -29,49 +29,55 @@ impl Board {
         }
     }
 
-    /// What a line does, as a text: a word, and the place of an Id in the order in which they were given.
+    /// What a line does, as a text: a word, and a number or the place of an Id in the order in which they were given.
     pub fn answer(&mut self, alloc: Global, line: &str) -> Result<String, AllocError> {
         let (word, number) = line.split_once(' ').unwrap_or((line, "0"));
         let number = number.parse::<u64>().unwrap_or(0);
         match word {
-            "reserve" => said(alloc, self.slots.reserve(8).is_ok()),
-            "insert" => self.insert(alloc, number),
+            "insert" => self.insert_and_count(alloc, number),
             "copy" => self.copy(alloc),
-            "left" => self.show_left(alloc),
-            "right" => self.show_right(alloc),
+            "left" => left_numbers(alloc, &self.left, &self.slots),
+            "right" => right_numbers(alloc, &self.right, &self.slots),
             _ => self.answer_at(alloc, word, number),
         }
     }
 
-    // The same where the word is about an Id that was given.
+    // The same where the word is about an Id that was given, or makes room for the first ones.
     fn answer_at(&mut self, alloc: Global, word: &str, place: u64) -> Result<String, AllocError> {
-        let Some(id) = self.ids.get(place as usize).copied() else {
-            return String::from_str(alloc, "no such Id");
-        };
-        match word {
-            "get" => self.get(alloc, id),
-            "double" => said(alloc, self.double(id)),
-            "remove" => said(alloc, self.slots.remove(id).is_some()),
-            "unlink" => said(alloc, self.unlink(id)),
-            "relink" => said(alloc, self.relink(id)),
-            _ => String::from_str(alloc, "no such word"),
+        match self.ids.get(place as usize).copied() {
+            Some(id) if word == "get" => self.get(alloc, id),
+            Some(id) => said(alloc, self.change(word, id)),
+            None => said(alloc, word == "reserve" && self.slots.reserve(8).is_ok()),
         }
     }
 
+    // Whether the word's change was made.
+    fn change(&mut self, word: &str, id: Id) -> bool {
+        match word {
+            "double" => self.double(id),
+            "remove" => self.slots.remove(id).is_some(),
+            "unlink" => self.unlink(id),
+            "relink" => self.relink(id),
+            _ => false,
+        }
+    }
+
+    fn insert_and_count(&mut self, alloc: Global, number: u64) -> Result<String, AllocError> {
+        self.insert(number)?;
+        format!(in alloc; "{} {}", self.slots.given(), self.left.len())
+    }
+
     // A new item at the front of both lists.
-    fn insert(&mut self, alloc: Global, number: u64) -> Result<String, AllocError> {
+    fn insert(&mut self, number: u64) -> Result<(), AllocError> {
         if self.slots.given() >= MOST || self.left.len() >= LONGEST || self.right.len() >= LONGEST {
-            return said(alloc, false);
+            return Ok(());
         }
-        match self.slots.insert(Item::new(number)) {
-            Ok(id) => {
-                self.left.push_front(&mut self.slots, id);
-                self.right.push_front(&mut self.slots, id);
-                self.ids.push(id)?;
-                format!(in alloc; "{} {}", self.slots.given(), self.left.len())
-            }
-            Err(item) => format!(in alloc; "no memory for {}", item.number),
+        if let Ok(id) = self.slots.insert(Item::new(number)) {
+            self.left.push_front(&mut self.slots, id);
+            self.right.push_front(&mut self.slots, id);
+            self.ids.push(id)?;
         }
+        Ok(())
     }
 
     fn get(&self, alloc: Global, id: Id) -> Result<String, AllocError> {
@@ -107,27 +113,27 @@ impl Board {
         true
     }
 
-    // How many Ids the copy gave, and the items of list 1 in it.
+    // The items of list 1 in a copy.
     fn copy(&self, alloc: Global) -> Result<String, AllocError> {
         match self.slots.copy() {
-            Ok(copy) => {
-                let ids = ids_of(alloc, &self.right, &copy)?;
-                let text = numbers(alloc, &copy, ids.as_slice())?;
-                format!(in alloc; "{}:{text}", copy.given())
-            }
-            Err(_) => String::from_str(alloc, "no memory"),
+            Ok(copy) if copy.given() == self.slots.given() => right_numbers(
+                alloc,
+                &self.right,
+                &copy,
+            ),
+            _ => String::from_str(alloc, "no copy"),
         }
     }
+}
 
-    fn show_left(&self, alloc: Global) -> Result<String, AllocError> {
-        let ids = ids_of(alloc, &self.left, &self.slots)?;
-        numbers(alloc, &self.slots, ids.as_slice())
-    }
+fn left_numbers(alloc: Global, list: &List<0>, slots: &Slots<Item>) -> Result<String, AllocError> {
+    let ids = ids_of(alloc, list, slots)?;
+    numbers(alloc, slots, ids.as_slice())
+}
 
-    fn show_right(&self, alloc: Global) -> Result<String, AllocError> {
-        let ids = ids_of(alloc, &self.right, &self.slots)?;
-        numbers(alloc, &self.slots, ids.as_slice())
-    }
+fn right_numbers(alloc: Global, list: &List<1>, slots: &Slots<Item>) -> Result<String, AllocError> {
+    let ids = ids_of(alloc, list, slots)?;
+    numbers(alloc, slots, ids.as_slice())
 }
 
 // The Ids of a list, in order.

@@ -11,8 +11,12 @@ use std::io;
 fn main(rt: HostRuntime) -> io::Result<()> {
     let mut board = Board::new(rt.alloc());
     for line in rt.lines(rt.alloc()) {
-        let text = board.answer(rt.alloc(), line?.as_str())?;
-        println!(rt; "{text}")?;
+        answer(&rt, &mut board, line?.as_str())?;
     }
     Ok(())
+}
+
+fn answer(rt: &HostRuntime, board: &mut Board, line: &str) -> io::Result<()> {
+    let text = board.answer(rt.alloc(), line)?;
+    println!(rt; "{text}")
 }

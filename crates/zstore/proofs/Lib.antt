@@ -1,11 +1,2 @@
-pub mod Search
-pub mod Laid
-pub mod ChildRows
-pub mod UnderWay
-pub mod Keyed
-pub mod Alive
-pub mod Owned
-pub mod Shown
-pub mod Naming
-pub mod Kept
-pub mod Families
+pub mod rows
+pub mod ids

@@ -46,8 +46,8 @@ impl Store {
         Some(node.bytes.as_slice())
     }
 
-    /// What is told of the node that an Id names; none where it names none. All rows are looked at,
-    /// to count the children.
+    /// What is told of the node that an Id names; none where it names none. The rows beneath it are
+    /// looked at, to count the children.
     pub fn stat(&self, id: Id) -> Option<Stat>
         ensures stat { IfSome result (IsStatOf self.now id) }
         ensures live { OnSome result (IsSome (path_of self.now id)) }

@@ -1,7 +1,12 @@
 //! The steps of the tests: one change each, where what it asks for is tested.
 
-ghost use Rattle.std.specs.Prelude.{IfOk, OnOk, IsSome};
-ghost use Rattle.zstore.specs.StoreView.{path_of};
+ghost use Rattle.std.specs.Prelude.{◌≡◌, ◌≢◌, ◌<◌, false, [], Some, IfOk, OnOk, IsSome};
+ghost use Rattle.std.specs.FinMap as finite;
+ghost use Rattle.ztree.specs.Tree.{parent_of};
+ghost use Rattle.ztree.specs.Lawful.{IsPersistent, IsOwner};
+ghost use Rattle.ztree.specs.Room.{HasRoomForChild};
+ghost use Rattle.ztree.specs.declared.limits.TheConstants.{MAX_NODES};
+ghost use Rattle.zstore.specs.StoreView.{path_of, node_of, AtNode};
 ghost use Rattle.zstore_tests.specs.Low.{IsLow};
 
 use std::alloc::Global;
@@ -22,21 +27,9 @@ pub fn add(
     ensures low { IsLow store.old.tree → OnOk result (IsLow store.new.tree) }
 {
     let path = Path::parse(alloc, text)?;
-    let Some(above) = path.parent(alloc)? else {
-        return Err("the path is below the root".into());
-    };
-    let Some(parent) = store.find(&above) else {
-        return Err("there is a parent".into());
-    };
-    let node = store.node(parent).ok_or("the parent lives")?;
-    assert!(rt; node.cversion < 9);
-    assert!(rt; node.seq < 9);
-    assert!(rt; node.owner == 0);
-    assert!(rt; owner == 0 || store.session(SessionId::new(owner)).is_some());
+    let parent = parent_of(alloc, store, &path)?;
+    may_gain_a_child(rt, store, parent, owner);
     assert!(rt; store.find(&path).is_none());
-    assert!(rt; store.nodes() < MAX_NODES);
-    assert!(rt; store.given() < 9);
-    assert!(rt; store.zxid().number() < 9);
     let bytes = Data::new(bytes.as_bytes().to_vec(alloc)?)?;
     store.add(parent, path, bytes, owner, false)?;
     store.raise();
@@ -51,19 +44,13 @@ pub fn take_away(
     text: &str,
 ) -> Result<(), Fail> {
     let path = Path::parse(alloc, text)?;
-    let Some(above) = path.parent(alloc)? else {
-        return Err("the path is below the root".into());
+    let parent = parent_of(alloc, store, &path)?;
+    let Some(id) = store.find(&path) else {
+        return Err("there is a node".into());
     };
-    let (Some(id), Some(parent)) = (store.find(&path), store.find(&above)) else {
-        return Err("there are a node and its parent".into());
-    };
-    let Some(node) = store.node(parent) else {
-        return Err("the parent lives".into());
-    };
-    assert!(rt; node.cversion < 9);
+    has_few_changes(rt, store, parent);
     let children = store.children(id)?;
     assert!(rt; children.is_empty());
-    assert!(rt; store.zxid().number() < 9);
     store.drop_leaf(id);
     assert!(rt; store.find(&path).is_none() && store.node(id).is_none());
     store.raise();
@@ -161,6 +148,53 @@ pub fn names(alloc: Global, store: &Store, text: &str) -> Result<String, Fail> {
         line.push(' ')?;
     }
     Ok(line)
+}
+
+// The node right above a path.
+fn parent_of(alloc: Global, store: &Store, path: &Path) -> Result<Id, Fail>
+    ensures below_root { OnOk result (path.now ≢ []) }
+    ensures above { IfOk result (λ id. path_of store.now id ≡ Some (parent_of path.now)) }
+{
+    let Some(above) = path.parent(alloc)? else {
+        return Err("the path is below the root".into());
+    };
+    let Some(parent) = store.find(&above) else {
+        return Err("there is a parent".into());
+    };
+    Ok(parent)
+}
+
+// There were few changes, of the node's children too.
+fn has_few_changes(rt: &impl Abort, store: &Store, id: Id)
+    ensures changes { store.now.tree.zxid < 9 }
+    ensures node { AtNode store.now id (λ n. n.cversion < 9) }
+{
+    assert!(rt; store.zxid().number() < 9);
+    if let Some(node) = store.node(id) {
+        assert!(rt; node.cversion < 9);
+    }
+}
+
+// A node of that owner may come beneath the node.
+fn may_gain_a_child(rt: &impl Abort, store: &Store, parent: Id, owner: u64)
+    requires live { IsSome (path_of store.now parent) }
+    ensures parent { IsPersistent (node_of store.now parent) }
+    ensures owner { IsOwner store.now.tree.sessions owner }
+    ensures counters { AtNode store.now parent (HasRoomForChild false) }
+    ensures few { finite.len store.now.tree.nodes < MAX_NODES }
+    ensures changes { store.now.tree.zxid < 9 }
+    ensures given { store.now.given < 9 }
+{
+    assert!(rt; store.nodes() < MAX_NODES);
+    assert!(rt; store.given() < 9);
+    assert!(rt; store.zxid().number() < 9);
+    assert!(rt; owner == 0 || store.session(SessionId::new(owner)).is_some());
+    let Some(node) = store.node(parent) else {
+        unreachable!()
+    };
+    assert!(rt; node.cversion < 9);
+    assert!(rt; node.seq < 9);
+    assert!(rt; node.owner == 0);
 }
 
 // The node at the path that a text spells.

@@ -10,6 +10,7 @@ pub mod laws;
 pub mod limits;
 mod node;
 mod node_data;
+mod rows;
 mod session;
 mod session_id;
 mod zxid;

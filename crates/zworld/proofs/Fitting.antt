@@ -15,7 +15,7 @@ use Rattle.zworld.specs.Reading.{is_query, read_delivery, is_fitting, read}
 use Rattle.zworld.specs.Laws.{reading_by}
 
 -- both tests pass
-both : (b c : Bool) → (b && c) ≡ true → (b ≡ true) × (c ≡ true)
+pub both : (b c : Bool) → (b && c) ≡ true → (b ≡ true) × (c ≡ true)
 both true true passed = (refl, refl)
 both true false passed = absurd (true≢false (sym passed))
 both false c passed = absurd (true≢false (sym passed))

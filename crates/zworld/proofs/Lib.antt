@@ -9,3 +9,7 @@ pub mod LogWorlds
 pub mod FirstUpdate
 pub mod Learning
 pub mod Fitting
+pub mod WithinTables
+pub mod Within
+pub mod Visited
+pub mod Epochs

@@ -1,18 +1,21 @@
 -- What holds of settling and of readings, in every world: each statement is a contract in `src/laws.rt`.
-use Rattle.std.specs.Prelude.{◌≡◌, ℕ, ◌+◌, true, false, List, length}
+use Rattle.std.specs.Prelude.{◌≡◌, ◌⊎◌, ◌≤◌, ◌*◌, [], ℕ, ◌+◌, true, false, List, length}
 use Rattle.std.specs.List.{list_any}
 use Rattle.ztree.specs.Tree.{Tree}
 use Rattle.zcalls.specs.Kept.{KeptState}
+use Rattle.zcalls.specs.Lists.{Among}
 use Rattle.zserver.specs.Machine.{kept_tree}
 use Rattle.zworld.specs.declared.outcome.Outcome.{Outcome}
 use Rattle.zworld.specs.declared.outcome.Outcome.TheVariants.{Stopped, Unheard}
 use Rattle.zworld.specs.declared.settled.Settled.TheVariants.{Quiet}
 use Rattle.zworld.specs.declared.event.Event.{Event}
 use Rattle.zworld.specs.declared.event.Event.TheVariants.{Take, Ignore, Fail}
+use Rattle.zserver.specs.declared.limits.TheConstants.{MAX_SERVERS}
+use Rattle.zserver.specs.declared.process.Process.{Process}
 use Rattle.zserver.specs.declared.process.Process.TheVariants.{Server}
-use Rattle.zworld.specs.World.{World}
+use Rattle.zworld.specs.World.{World, opening_world}
 use Rattle.zworld.specs.Reading.{read, is_fitting}
-use Rattle.zworld.specs.Events.{is_enabled, run}
+use Rattle.zworld.specs.Events.{is_server, is_enabled, run}
 use Rattle.zworld.specs.Settle.{Settling, settle, settled, deliveries}
 
 -- settling the world of the service
@@ -48,3 +51,26 @@ reading_by event outcome = event
 abbrev pub FittingOutcomesAreRead : Type 0
 FittingOutcomesAreRead =
     (w : World (KeptState Tree)) (event : Event) (outcome : Outcome) → is_fitting w event outcome ≡ true → read w event outcome ≡ reading_by event outcome
+
+-- the world after events, from the opening with so many servers and clients
+abbrev pub world_after : ℕ → ℕ → List Event → World (KeptState Tree)
+world_after servers clients events = run kept_tree (opening_world kept_tree servers clients) events
+
+-- from an opening, every link that holds a message is among those that settling visits
+abbrev pub LinksAreVisited : Type 0
+LinksAreVisited =
+    (servers clients : ℕ) (events : List Event) (from to : Process) → is_server servers ≡ true
+    → ((world_after servers clients events).links from to ≡ []) ⊎ Among (Take from to) (deliveries clients)
+
+-- and the master gives at most three epochs for each server that there can be
+abbrev pub EpochsAreFew : Type 0
+EpochsAreFew =
+    (servers clients : ℕ) (events : List Event) → is_server servers ≡ true
+    → (world_after servers clients events).master.epoch ≤ 3 * MAX_SERVERS
+
+-- so where settling ends quiet, no message on any link can be taken
+abbrev pub QuietIsQuiet : Type 0
+QuietIsQuiet =
+    (servers clients limit : ℕ) (events : List Event) (outcomes : List Outcome) (from to : Process) → is_server servers ≡ true
+    → settled (settling_of (world_after servers clients events) limit outcomes) ≡ Quiet
+    → is_enabled (settling_of (world_after servers clients events) limit outcomes).world (Take from to) ≡ false

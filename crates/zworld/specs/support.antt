@@ -1,5 +1,6 @@
 pub mod LogWorld
 pub mod Learning
+pub mod Within
 pub mod Counter
 pub mod OrderRows
 pub mod RunRows

@@ -13,7 +13,8 @@ ghost use Rattle.zworld.specs.Alike.{HaveTheSameOutcomes, AreAlikeThemselves, Al
 ghost use Rattle.zserver.specs.Machine.{kept_tree};
 ghost use Rattle.zworld.specs.support.Learning.{DoneIsLearnt, IdleIsPassed, PassBegins};
 ghost use Rattle.zworld.specs.support.Learning.{PassesEnd, ReadingIsLearnt};
-ghost use Rattle.zworld.specs.Laws.{FittingOutcomesAreRead};
+ghost use Rattle.zworld.specs.Laws.{FittingOutcomesAreRead, LinksAreVisited, QuietIsQuiet};
+ghost use Rattle.zworld.specs.Laws.{EpochsAreFew};
 ghost use Rattle.zworld.specs.Laws.{SettlingIsARun, SettlingKeepsItsLimit, QuietHasNothingToTake};
 ghost use Rattle.zworld.specs.support.LogWorld.{LogWorldHasTheSameEnabled, LogWorldStandsForWorld};
 
@@ -41,6 +42,18 @@ pub fn settling_is_a_run()
     ensures run { SettlingIsARun }
     ensures limit { SettlingKeepsItsLimit }
     ensures quiet { QuietHasNothingToTake }
+{}
+
+/// From an opening, settling visits every link that holds a message; so where it ends quiet, there is none left to
+/// take.
+pub fn settling_visits_every_link()
+    ensures visited { LinksAreVisited }
+    ensures quiet { QuietIsQuiet }
+{}
+
+/// From an opening the master gives few epochs: three for each server that there can be.
+pub fn epochs_are_few()
+    ensures { EpochsAreFew }
 {}
 
 /// Settling and reading can learn each outcome when its event is done: the definition, given what was learnt and

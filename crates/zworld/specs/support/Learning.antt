@@ -62,4 +62,4 @@ ReadingIsLearnt {M} machine =
     (events : List Event) (outcome : Outcome)
     → ReadsOn machine whole learnt readings w (event ∷ events)
     → ReadsOn machine whole (learnt ++ outcome ∷ []) (readings ++ read w event outcome ∷ [])
-      (happens machine w (read w event outcome)) events
+    (happens machine w (read w event outcome)) events

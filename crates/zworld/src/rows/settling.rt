@@ -1,6 +1,6 @@
 //! Worked runs of settling and of readings.
 
-ghost use Rattle.std.specs.Prelude.{◌≡◌, [], ◌∷◌, Some, take};
+ghost use Rattle.std.specs.Prelude.{◌≡◌, true, false, [], ◌∷◌, Some, take};
 ghost use Rattle.zmaster.specs.declared.join_fault.JoinFault.TheVariants.{Lost};
 ghost use Rattle.zmaster.specs.Table.{join_fault};
 ghost use Rattle.zworld.specs.declared.event.Event.TheVariants.{Begin, Retry, Take, Ignore, Fail};
@@ -9,9 +9,10 @@ ghost use Rattle.zworld.specs.declared.history.CallEvent.TheVariants as saw;
 ghost use Rattle.zworld.specs.declared.settled.Settled.TheVariants.{Quiet, Limit};
 ghost use Rattle.zworld.specs.support.Counter.{create, exists, name_reply, count_reply};
 ghost use Rattle.zworld.specs.declared.outcome.Outcome.TheVariants.{Acted, Stopped, Unheard};
+ghost use Rattle.zworld.specs.Reading.{is_fitting};
 ghost use Rattle.zworld.specs.Settle.{settled};
 ghost use Rattle.zworld.specs.Laws.{SettlingIsARun, SettlingKeepsItsLimit, QuietHasNothingToTake};
-ghost use Rattle.zworld.specs.support.RunRows.{m, s1, s2, c0, c1};
+ghost use Rattle.zworld.specs.support.RunRows.{after, m, s1, s2, c0, c1};
 ghost use Rattle.zworld.specs.support.SettleRows.{settled_after, read_after, two_begin, two_settle};
 ghost use Rattle.zworld.specs.support.SettleRows.{lost_request, lost_state};
 
@@ -66,6 +67,21 @@ pub fn events_are_read()
     ensures client_does_not_stop { read_after 1 (Begin 1 create ∷ Take c1 s1 ∷ Take s1 c1 ∷ [])
         (Stopped ∷ Acted ∷ Stopped ∷ [])
         ≡ Begin 1 create ∷ Take c1 s1 ∷ Take s1 c1 ∷ [] }
+{}
+
+/// Which outcomes fit: a server can stop at all but a query, and a query alone is unheard, where they can be taken.
+pub fn outcomes_fit()
+    ensures all_act { is_fitting (after 1 []) (Take c1 s1) Acted ≡ true }
+    ensures update_stops { is_fitting (after 1 (Begin 1 create ∷ [])) (Take c1 s1) Stopped ≡ true }
+    ensures update_is_heard { is_fitting (after 1 (Begin 1 create ∷ [])) (Take c1 s1) Unheard
+        ≡ false }
+    ensures query_stops_nobody { is_fitting (after 1 (Begin 1 exists ∷ [])) (Take c1 s1) Stopped
+        ≡ false }
+    ensures query_is_unheard { is_fitting (after 1 (Begin 1 exists ∷ [])) (Take c1 s1) Unheard
+        ≡ true }
+    ensures nothing_to_stop_at { is_fitting (after 1 []) (Take c1 s1) Stopped ≡ false }
+    ensures retry_does_not_stop { is_fitting (after 1 (Begin 1 create ∷ [])) (Retry 1) Stopped
+        ≡ false }
 {}
 
 /// Settling where memory is refused: a server that stops doesn't take its message, and an unheard query is asked again.

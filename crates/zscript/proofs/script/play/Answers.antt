@@ -22,4 +22,3 @@ returns-in_err-player-clause-fault g c = let p = err_from_is_err_and c.from_resi
 
 pub returns-in_err-player-clause-cut : goal.returns-in_err-player-clause-cut
 returns-in_err-player-clause-cut g c = let p = err_from_is_err_and c.from_residual-in_err-player.result c.from_residual-in_err-player.ensures.1 in rw p.1 (idle g c).cut
-

@@ -23,25 +23,25 @@ pub returns-in_default-clause-fault : goal.returns-in_default-clause-fault
 returns-in_default-clause-fault g c =
     let so_far = c.loop-count.invariant.so_far in
     (ended_read
-      (source_run g.S.Source.gave g.S.Source.failed g.S.Source.has_ended c.args.source.now c.read.new.self)
-      (sink_run g.K.Sink.took g.K.Sink.failed c.args.sink.now c.loop-count.sink)
-      so_far.0
-      (rw append-nil at (g.met.S.Source.gave_both _ _ _ _ _ so_far.1 c.in_default.ensures.nothing))
-      so_far.2
-      (g.met.S.Source.failed_both _ _ _ 0 1 c.loop-count.invariant.source_sound c.in_default.ensures.failed)
-      c.loop-count.invariant.sink_sound).by
+    (source_run g.S.Source.gave g.S.Source.failed g.S.Source.has_ended c.args.source.now c.read.new.self)
+    (sink_run g.K.Sink.took g.K.Sink.failed c.args.sink.now c.loop-count.sink)
+    so_far.0
+    (rw append-nil at (g.met.S.Source.gave_both _ _ _ _ _ so_far.1 c.in_default.ensures.nothing))
+    so_far.2
+    (g.met.S.Source.failed_both _ _ _ 0 1 c.loop-count.invariant.source_sound c.in_default.ensures.failed)
+    c.loop-count.invariant.sink_sound).by
 
 pub returns-in_default-clause-cut : goal.returns-in_default-clause-cut
 returns-in_default-clause-cut g c =
     let so_far = c.loop-count.invariant.so_far in
     (ended_read
-      (source_run g.S.Source.gave g.S.Source.failed g.S.Source.has_ended c.args.source.now c.read.new.self)
-      (sink_run g.K.Sink.took g.K.Sink.failed c.args.sink.now c.loop-count.sink)
-      so_far.0
-      (rw append-nil at (g.met.S.Source.gave_both _ _ _ _ _ so_far.1 c.in_default.ensures.nothing))
-      so_far.2
-      (g.met.S.Source.failed_both _ _ _ 0 1 c.loop-count.invariant.source_sound c.in_default.ensures.failed)
-      c.loop-count.invariant.sink_sound).cut
+    (source_run g.S.Source.gave g.S.Source.failed g.S.Source.has_ended c.args.source.now c.read.new.self)
+    (sink_run g.K.Sink.took g.K.Sink.failed c.args.sink.now c.loop-count.sink)
+    so_far.0
+    (rw append-nil at (g.met.S.Source.gave_both _ _ _ _ _ so_far.1 c.in_default.ensures.nothing))
+    so_far.2
+    (g.met.S.Source.failed_both _ _ _ 0 1 c.loop-count.invariant.source_sound c.in_default.ensures.failed)
+    c.loop-count.invariant.sink_sound).cut
 
 at_last : (g : Over) (c : goal.After-from_residual g) → Ended (source_run g.S.Source.gave g.S.Source.failed g.S.Source.has_ended c.args.source.now c.read.new.self) (sink_run g.K.Sink.took g.K.Sink.failed c.args.sink.now c.finish.new.sink) c.in_err-finish.field-0.0
 at_last g c =

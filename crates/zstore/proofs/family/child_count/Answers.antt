@@ -4,8 +4,8 @@ use Rattle.std.specs.List.{count_by}
 use Rattle.zstore.specs.declared.row.Row.{Row}
 use Rattle.ztree.specs.Tree.{Path, child_name}
 use Rattle.zstore.specs.support.Rows.{names_beneath}
-use Rattle.zstore.proofs.ChildRows.{length-children}
-use Rattle.zstore.proofs.Shown.{at_itself}
+use Rattle.zstore.proofs.rows.ChildRows.{length-children}
+use Rattle.zstore.proofs.rows.Shown.{at_itself}
 use Rattle.zstore.proofs.family.child_count.Goals as goal
 
 pub returns : goal.returns

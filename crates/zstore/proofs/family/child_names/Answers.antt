@@ -4,7 +4,7 @@ use Rattle.std.specs.List.{cons_option}
 use Rattle.zstore.specs.declared.row.Row.{Row}
 use Rattle.ztree.specs.Tree.{Name, child_name}
 use Rattle.zstore.specs.support.Rows.{names_beneath}
-use Rattle.zstore.proofs.ChildRows.{names_beneath-push}
+use Rattle.zstore.proofs.rows.ChildRows.{names_beneath-push}
 use Rattle.zstore.proofs.family.child_names.Goals as goal
 
 pub loop-row-preserved : goal.loop-row-preserved

@@ -3,8 +3,8 @@ use Rattle.std.proofs.lemmas.List.{take_all, length-drop}
 use Rattle.std.proofs.lemmas.List.Sorted.{IsPartitionPoint-from_clause}
 use Rattle.zstore.specs.declared.row.Row.{Row}
 use Rattle.zstore.specs.support.Rows.{is_beneath}
-use Rattle.zstore.proofs.Families.{children-searched}
-use Rattle.zstore.proofs.Shown.{at_itself}
+use Rattle.zstore.proofs.rows.Families.{children-searched}
+use Rattle.zstore.proofs.rows.Shown.{at_itself}
 use Rattle.zstore.proofs.family.family.Goals as goal
 
 pub returns : goal.returns

@@ -1,5 +1,5 @@
 use Rattle.std.proofs.Common.{rules}
-use Rattle.zstore.proofs.ChildRows.{is_beneath-starts_with}
+use Rattle.zstore.proofs.rows.ChildRows.{is_beneath-starts_with}
 use Rattle.zstore.proofs.family.is_beneath.Goals as goal
 
 pub returns : goal.returns

@@ -1,7 +1,7 @@
 use Rattle.zpath.specs.Grammar.{path_cmp}
 use Rattle.zstore.specs.support.Rows.{node_rows}
 use Rattle.ztree.proofs.Sorted.{found_at, paths_total}
-use Rattle.zstore.proofs.Search.{at_rows}
+use Rattle.zstore.proofs.rows.Search.{at_rows}
 use Rattle.zstore.proofs.place.gap_of.Goals as goal
 
 pub returns-in-Ok : goal.returns-in-Ok

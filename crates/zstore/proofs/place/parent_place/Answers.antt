@@ -6,7 +6,7 @@ use Rattle.zstore.specs.declared.row.Row.{Row}
 use Rattle.zstore.specs.support.Rows.{IsAt, IsGapFor, node_rows}
 use Rattle.ztree.specs.Tree.{parent_of}
 use Rattle.ztree.proofs.Sorted.{find_gap, paths_total}
-use Rattle.zstore.proofs.Search.{searched, gap_rows}
+use Rattle.zstore.proofs.rows.Search.{searched, gap_rows}
 use Rattle.ztree.proofs.Nodes.{parent_of-front}
 use Rattle.zstore.proofs.place.parent_place.Goals as goal
 

@@ -2,7 +2,7 @@ use Rattle.std.proofs.Common.{rules}
 use Rattle.std.proofs.lemmas.Fn.{always_returns_same}
 use Rattle.zpath.specs.Grammar.{path_cmp}
 use Rattle.zstore.specs.declared.row.Row.{Row}
-use Rattle.zstore.proofs.Search.{searched}
+use Rattle.zstore.proofs.rows.Search.{searched}
 use Rattle.zstore.proofs.place.place_of.Goals as goal
 
 pub returns : goal.returns

@@ -1,5 +1,5 @@
 use Rattle.std.proofs.Common.{arith}
-use Rattle.zstore.proofs.Laid.{find_nowhere}
+use Rattle.zstore.proofs.rows.Laid.{find_nowhere}
 use Rattle.zstore.proofs.place.row_of.Goals as goal
 
 pub returns-clause-absent : goal.returns-clause-absent

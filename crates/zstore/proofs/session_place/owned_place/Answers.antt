@@ -1,6 +1,6 @@
 use Rattle.std.proofs.Common.{◌∙◌}
 use Rattle.std.specs.Cmp.{unsigned_Decides}
-use Rattle.zstore.proofs.Owned.{owned_here}
+use Rattle.zstore.proofs.rows.Owned.{owned_here}
 use Rattle.zstore.proofs.session_place.owned_place.Goals as goal
 
 pub returns-then-row-number-clause-found : goal.returns-then-row-number-clause-found

@@ -3,7 +3,7 @@ use Rattle.std.specs.List.{cons_option}
 use Rattle.std.proofs.lemmas.List.{take_more}
 use Rattle.zstore.specs.declared.row.SessionRow.{SessionRow}
 use Rattle.zstore.specs.support.Rows.{session_row, id_if_due, due_among}
-use Rattle.zstore.proofs.Alive.{due_among-push}
+use Rattle.zstore.proofs.rows.Alive.{due_among-push}
 use Rattle.zstore.proofs.session_place.reached.Goals as goal
 
 pub loop-row-preserved : goal.loop-row-preserved

@@ -1,4 +1,4 @@
-use Rattle.zstore.proofs.Alive.{not_alive_twice}
+use Rattle.zstore.proofs.rows.Alive.{not_alive_twice}
 use Rattle.zstore.proofs.session_place.session_gap.Goals as goal
 
 pub returns-in-Ok : goal.returns-in-Ok

@@ -2,7 +2,7 @@ use Rattle.std.proofs.Common.{rules}
 use Rattle.std.proofs.lemmas.Fn.{always_returns_same}
 use Rattle.std.specs.Ordering.{nat_cmp}
 use Rattle.zstore.specs.declared.row.SessionRow.{SessionRow}
-use Rattle.zstore.proofs.Alive.{alive_searched}
+use Rattle.zstore.proofs.rows.Alive.{alive_searched}
 use Rattle.zstore.proofs.session_place.session_place.Goals as goal
 
 pub returns : goal.returns

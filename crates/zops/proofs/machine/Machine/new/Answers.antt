@@ -9,3 +9,6 @@ invariant_of-result c = record {
   applied_few = omega arith;
   given_few = omega (arith, c.in_ok-store.ensures.given);
 }
+
+pub returns-clause-bounded : goal.returns-clause-bounded
+returns-clause-bounded c = subst IsBounded (sym c.in_ok-store.ensures.opening) opening_bounded

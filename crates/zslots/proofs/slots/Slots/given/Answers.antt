@@ -1,7 +1,10 @@
-use Rattle.std.proofs.Common.{sym, ap, ◌∙◌, arith}
+use Rattle.std.proofs.Common.{rules, ap, ◌∙◌, arith}
 use Rattle.std.specs.FinMap as finite
 use Rattle.zslots.proofs.Items.{some_there, slot_found}
 use Rattle.zslots.proofs.slots.Slots.given.Goals as goal
+
+pub returns-clause-given : goal.returns-clause-given
+returns-clause-given g c = search rules
 
 pub returns-clause-known : goal.returns-clause-known
 returns-clause-known g c =

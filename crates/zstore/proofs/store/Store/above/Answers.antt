@@ -6,7 +6,7 @@ use Rattle.zstore.specs.declared.row.Row.{Row}
 use Rattle.zstore.specs.StoreView.{StoreView}
 use Rattle.zstore.specs.support.Rows.{node_rows}
 use Rattle.ztree.specs.Tree.{parent_of}
-use Rattle.zstore.proofs.Shown.{if_none, path_of-held}
+use Rattle.zstore.proofs.rows.Shown.{if_none, path_of-held}
 use Rattle.zstore.proofs.store.Store.above.Goals as goal
 
 pub returns-in_err-at-clause-absent : goal.returns-in_err-at-clause-absent

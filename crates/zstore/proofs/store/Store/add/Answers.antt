@@ -5,7 +5,7 @@ use Rattle.ztree.specs.Tree.{Tree, parent_of, new_node, with_change_at, with_chi
 use Rattle.zstore.specs.StoreView.{StoreView}
 use Rattle.std.specs.Option.{option_and_then}
 use Rattle.ztree.proofs.Nodes.{get-insert-other, parent_is_other}
-use Rattle.zstore.proofs.Naming.{still_named}
+use Rattle.zstore.proofs.ids.Naming.{still_named}
 use Rattle.zstore.proofs.store.Store.add.Goals as goal
 
 pub child_changed-requires-clause-live : goal.child_changed-requires-clause-live

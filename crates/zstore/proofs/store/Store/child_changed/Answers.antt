@@ -6,8 +6,8 @@ use Rattle.ztree.specs.Tree.{with_child}
 use Rattle.zstore.specs.support.Rows.{place_row}
 use mir.Val.{bool_byte}
 use Rattle.ztree.proofs.Nodes.{changed_at-some}
-use Rattle.zstore.proofs.Shown.{nodes_of, some_is_not_none, get-at, path_of-held, node_of-held, path_of-gone, nodes_of-set, places_of-set}
-use Rattle.zstore.proofs.Kept.{kept_set}
+use Rattle.zstore.proofs.rows.Shown.{nodes_of, some_is_not_none, get-at, path_of-held, node_of-held, path_of-gone, nodes_of-set, places_of-set}
+use Rattle.zstore.proofs.rows.Kept.{kept_set}
 use Rattle.zstore.proofs.store.Store.child_changed.Goals as goal
 
 byte_is : (b : Bool) → bool_byte b ≡ cond b 1 0

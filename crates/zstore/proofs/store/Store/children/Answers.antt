@@ -4,7 +4,7 @@ use Rattle.zstore.specs.declared.row.Row.{Row}
 use Rattle.zstore.specs.StoreView.{StoreView}
 use Rattle.ztree.specs.Tree.{Path, new_node, child_name, children}
 use Rattle.zstore.specs.support.Rows.{names_beneath}
-use Rattle.zstore.proofs.Shown.{if_ok, keys-shown, path_of-held, path_of-gone}
+use Rattle.zstore.proofs.rows.Shown.{if_ok, keys-shown, path_of-held, path_of-gone}
 use Rattle.ztree.proofs.Maps.{not_none}
 use Rattle.zstore.proofs.store.Store.children.Goals as goal
 

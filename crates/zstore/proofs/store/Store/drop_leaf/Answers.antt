@@ -6,7 +6,7 @@ use Rattle.std.specs.FinMap.{FinMap, get-remove}
 use Rattle.ztree.specs.Tree.{Tree, Path, parent_of, has_node, without_child}
 use Rattle.zstore.specs.StoreView.{path_of}
 use Rattle.ztree.proofs.Ending.{has_node-changed}
-use Rattle.zstore.proofs.UnderWay.{while_there_same}
+use Rattle.zstore.proofs.ids.UnderWay.{while_there_same}
 use Rattle.ztree.proofs.Sorted.{paths_total}
 use Rattle.zstore.proofs.store.Store.drop_leaf.Goals as goal
 

@@ -1,8 +1,8 @@
 use Rattle.std.proofs.Common.{ap, ◌∙◌, sym}
 use Rattle.zstore.specs.StoreView.{StoreView}
 use Rattle.ztree.specs.Sessions.{due_sessions}
-use Rattle.zstore.proofs.Alive.{due-shown}
-use Rattle.zstore.proofs.Shown.{if_ok}
+use Rattle.zstore.proofs.rows.Alive.{due-shown}
+use Rattle.zstore.proofs.rows.Shown.{if_ok}
 use Rattle.zstore.proofs.store.Store.due.Goals as goal
 
 pub returns : goal.returns

@@ -4,7 +4,7 @@ use Rattle.std.specs.FinMap as finite
 use Rattle.ztree.proofs.Maps.{same_some}
 use Rattle.ztree.proofs.Ephemerals.{first_is_there, ephemerals-dropped}
 use Rattle.ztree.proofs.LawfulEnd.{live_above, first_is_leaf}
-use Rattle.zstore.proofs.UnderWay.{under_way_next}
+use Rattle.zstore.proofs.ids.UnderWay.{under_way_next}
 use Rattle.zstore.proofs.store.Store.end_session.Goals as goal
 
 pub drop_leaf-requires-clause-below_root : goal.drop_leaf-requires-clause-below_root

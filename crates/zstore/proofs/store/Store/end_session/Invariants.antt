@@ -1,6 +1,6 @@
 use Rattle.std.proofs.Common.{length}
 use Rattle.ztree.specs.Tree.{ephemerals}
-use Rattle.zstore.proofs.UnderWay.{IsUnderWay}
+use Rattle.zstore.proofs.ids.UnderWay.{IsUnderWay}
 use Rattle.zstore.proofs.store.Store.end_session.Given as goal
 
 abbrev pub invariant-loop-ephemeral : goal.invariant-loop-ephemeral

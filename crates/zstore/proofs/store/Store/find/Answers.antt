@@ -4,7 +4,7 @@ use Rattle.zstore.specs.declared.id.Id.{Id}
 use Rattle.zstore.specs.declared.row.Row.{Row}
 use Rattle.zstore.specs.StoreView.{StoreView}
 use Rattle.ztree.specs.Tree.{has_node}
-use Rattle.zstore.proofs.Shown.{nodes_of, get-at, get-gap, path_of-held}
+use Rattle.zstore.proofs.rows.Shown.{nodes_of, get-at, get-gap, path_of-held}
 use Rattle.zstore.proofs.store.Store.find.Goals as goal
 
 pub returns-in-Ok-clause-found : goal.returns-in-Ok-clause-found

@@ -5,8 +5,8 @@ use Rattle.zstore.specs.StoreView.{StoreView}
 use Rattle.ztree.specs.Tree.{ephemerals}
 use Rattle.ztree.specs.Lawful.{IsLawful}
 use Rattle.zstore.specs.support.Rows.{owned_by}
-use Rattle.zstore.proofs.Shown.{if_none, path_of-held}
-use Rattle.zstore.proofs.Owned.{ephemerals-shown}
+use Rattle.zstore.proofs.rows.Shown.{if_none, path_of-held}
+use Rattle.zstore.proofs.rows.Owned.{ephemerals-shown}
 use Rattle.zstore.proofs.store.Store.first_owned.Goals as goal
 
 pub returns-clause-found : goal.returns-clause-found

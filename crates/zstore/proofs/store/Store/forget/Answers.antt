@@ -4,8 +4,8 @@ use Rattle.zstore.specs.StoreView.{StoreView}
 use Rattle.ztree.specs.Tree.{Sessions, ephemerals}
 use Rattle.ztree.specs.Lawful.{IsLawful}
 use Rattle.zstore.specs.support.Rows.{tree_of}
-use Rattle.zstore.proofs.Shown.{nodes_of}
-use Rattle.zstore.proofs.Alive.{alive_remove, alive_nowhere}
+use Rattle.zstore.proofs.rows.Shown.{nodes_of}
+use Rattle.zstore.proofs.rows.Alive.{alive_remove, alive_nowhere}
 use Rattle.ztree.proofs.Maps.{not_none}
 use Rattle.ztree.proofs.LawfulEnd.{lawful_forgotten}
 use Rattle.zstore.proofs.store.Store.forget.Goals as goal

@@ -8,8 +8,8 @@ use Rattle.ztree.specs.declared.limits.TheConstants.{MAX_NODES}
 use Rattle.ztree.specs.Tree.{has_node, parent_of}
 use Rattle.ztree.specs.Lawful.{IsPersistent, IsOwner}
 use Rattle.zstore.specs.support.Rows.{node_rows}
-use Rattle.zstore.proofs.Shown.{nodes_of-insert, places_of-insert, fresh_place, none_of}
-use Rattle.zstore.proofs.Kept.{kept_insert}
+use Rattle.zstore.proofs.rows.Shown.{nodes_of-insert, places_of-insert, fresh_place, none_of}
+use Rattle.zstore.proofs.rows.Kept.{kept_insert}
 use Rattle.zstore.proofs.store.Store.insert.Goals as goal
 
 pub gap_of-at-requires : goal.gap_of-at-requires

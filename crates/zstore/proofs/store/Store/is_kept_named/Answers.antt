@@ -3,7 +3,7 @@ use Rattle.std.specs.Cmp.{nat_cmp_total}
 use Rattle.std.specs.FinMap.{get-from_entries}
 use Rattle.zstore.specs.StoreView.{StoreView, ForgetsGone}
 use Rattle.zstore.specs.support.Rows.{place_rows}
-use Rattle.zstore.proofs.Kept.{still_there}
+use Rattle.zstore.proofs.rows.Kept.{still_there}
 use Rattle.zstore.proofs.store.Store.is_kept_named.Goals as goal
 
 pub returns : goal.returns

@@ -2,7 +2,7 @@ use Rattle.std.proofs.Common.{[], refl}
 use Rattle.std.specs.Ordering.{nat_cmp}
 use Rattle.ztree.specs.Tree.{new_node}
 use Rattle.ztree.proofs.Nodes.{no_entries, one_entry}
-use Rattle.zstore.proofs.Kept.{kept_opening}
+use Rattle.zstore.proofs.rows.Kept.{kept_opening}
 use Rattle.zstore.proofs.store.Store.new.Goals as goal
 
 pub returns-clause-opening : goal.returns-clause-opening

@@ -1,6 +1,6 @@
 use Rattle.std.proofs.Common.{sym, ap, ◌∙◌, Some}
 use Rattle.zstore.specs.declared.row.Row.{Row}
-use Rattle.zstore.proofs.Shown.{if_none, node_of-held, path_of-gone}
+use Rattle.zstore.proofs.rows.Shown.{if_none, node_of-held, path_of-gone}
 use Rattle.zstore.proofs.store.Store.node.Goals as goal
 
 pub returns-in_err-at-clause-gone : goal.returns-in_err-at-clause-gone

@@ -1,7 +1,7 @@
 use Rattle.std.proofs.Common.{◌≡◌, sym, ap, ◌∙◌, length, rules}
 use Rattle.std.specs.FinMap as finite
 use Rattle.zstore.specs.StoreView.{StoreView}
-use Rattle.zstore.proofs.Shown.{len-shown}
+use Rattle.zstore.proofs.rows.Shown.{len-shown}
 use Rattle.zstore.proofs.store.Store.nodes.Goals as goal
 
 pub returns : goal.returns

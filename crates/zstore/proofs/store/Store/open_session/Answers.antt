@@ -9,8 +9,8 @@ use Rattle.ztree.specs.Tree.{Sessions}
 use Rattle.ztree.specs.Sessions.{new_session}
 use Rattle.ztree.specs.Lawful.{IsLawful}
 use Rattle.zstore.specs.support.Rows.{tree_of, session_rows}
-use Rattle.zstore.proofs.Shown.{nodes_of}
-use Rattle.zstore.proofs.Alive.{alive_insert}
+use Rattle.zstore.proofs.rows.Shown.{nodes_of}
+use Rattle.zstore.proofs.rows.Alive.{alive_insert}
 use Rattle.ztree.proofs.Lawful.{lawful_opened}
 use Rattle.zstore.proofs.store.Store.open_session.Goals as goal
 

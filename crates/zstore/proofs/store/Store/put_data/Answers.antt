@@ -5,8 +5,8 @@ use Rattle.zstore.specs.StoreView.{StoreView}
 use Rattle.ztree.specs.Tree.{with_data}
 use Rattle.zstore.specs.support.Rows.{place_row}
 use Rattle.ztree.proofs.Nodes.{changed_at-some}
-use Rattle.zstore.proofs.Shown.{nodes_of, some_is_not_none, get-at, path_of-held, node_of-held, path_of-gone, nodes_of-set, places_of-set}
-use Rattle.zstore.proofs.Kept.{kept_set}
+use Rattle.zstore.proofs.rows.Shown.{nodes_of, some_is_not_none, get-at, path_of-held, node_of-held, path_of-gone, nodes_of-set, places_of-set}
+use Rattle.zstore.proofs.rows.Kept.{kept_set}
 use Rattle.zstore.proofs.store.Store.put_data.Goals as goal
 
 pub overflow_add-node : goal.overflow_add-node

@@ -2,7 +2,7 @@ use Rattle.std.proofs.Common.{sym, ap, ◌∙◌, Some}
 use Rattle.std.specs.FinMap as finite
 use Rattle.zstore.specs.declared.row.SessionRow.{SessionRow}
 use Rattle.zstore.specs.StoreView.{StoreView}
-use Rattle.zstore.proofs.Alive.{alive_at, alive_nowhere}
+use Rattle.zstore.proofs.rows.Alive.{alive_at, alive_nowhere}
 use Rattle.zstore.proofs.store.Store.session.Goals as goal
 
 pub returns-in-Ok : goal.returns-in-Ok

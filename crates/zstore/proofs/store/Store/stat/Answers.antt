@@ -2,7 +2,7 @@ use Rattle.std.proofs.Common.{◌≡◌, get_or, sym, ap, ◌∙◌, Some, rules
 use Rattle.zstore.specs.declared.row.Row.{Row}
 use Rattle.zstore.specs.StoreView.{StoreView}
 use Rattle.ztree.specs.Tree.{stat_at, stat_with}
-use Rattle.zstore.proofs.Shown.{nodes_of, if_none, stat-at, path_of-held, path_of-gone}
+use Rattle.zstore.proofs.rows.Shown.{nodes_of, if_none, stat-at, path_of-held, path_of-gone}
 use Rattle.zstore.proofs.store.Store.stat.Goals as goal
 
 pub returns-in_err-at-clause-gone : goal.returns-in_err-at-clause-gone

@@ -1,4 +1,4 @@
-use Rattle.std.proofs.Common.{Some, get_or, sym, ap, ◌∙◌, refl}
+use Rattle.std.proofs.Common.{Some, get_or, sym, ap, ◌∙◌, refl, rules}
 use Rattle.std.specs.Ordering.{nat_cmp}
 use Rattle.std.specs.FinMap as finite
 use Rattle.std.specs.Cmp.{nat_cmp_total}
@@ -9,8 +9,8 @@ use Rattle.zstore.specs.declared.row.Row.{Row}
 use Rattle.zstore.specs.StoreView.{StoreView, while_there}
 use Rattle.ztree.specs.Tree.{children}
 use Rattle.zstore.specs.support.Rows.{place_rows}
-use Rattle.zstore.proofs.Shown.{nodes_of, if_none, path_of-held, path_of-gone, nodes_of-remove, places_of-remove}
-use Rattle.zstore.proofs.Kept.{kept_remove, forgets_removed}
+use Rattle.zstore.proofs.rows.Shown.{nodes_of, if_none, path_of-held, path_of-gone, nodes_of-remove, places_of-remove}
+use Rattle.zstore.proofs.rows.Kept.{kept_remove, forgets_removed}
 use Rattle.zstore.proofs.store.Store.take.Goals as goal
 
 pub returns-in_err-at-clause-gone : goal.returns-in_err-at-clause-gone
@@ -60,3 +60,6 @@ returns-clause-gone_alone c =
     get-from_entries nat_cmp_total (place_rows left) id.number
     ∙ forgets_removed rows s.sessions.items s.time s.zxid s.given c.self.invariant c.in_ok-at.at c.remove-row.result found.0 id.number
     ∙ ap (option_and_then (while_there (nodes_of left))) (sym (get-from_entries nat_cmp_total (place_rows rows) id.number)))
+
+pub returns-clause-given : goal.returns-clause-given
+returns-clause-given c = search rules

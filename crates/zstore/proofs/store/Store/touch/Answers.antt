@@ -10,7 +10,7 @@ use Rattle.ztree.specs.Tree.{Tree, Sessions}
 use Rattle.ztree.specs.Sessions.{renewed_session, with_renewed_session}
 use Rattle.ztree.specs.Lawful.{IsLawful}
 use Rattle.zstore.specs.support.Rows.{tree_of, session_rows}
-use Rattle.zstore.proofs.Alive.{sessions_of, alive_at, alive_set, alive_nowhere, touched-some}
+use Rattle.zstore.proofs.rows.Alive.{sessions_of, alive_at, alive_set, alive_nowhere, touched-some}
 use Rattle.ztree.proofs.Maps.{not_none}
 use Rattle.ztree.proofs.Lawful.{lawful_touched}
 use Rattle.zstore.proofs.store.Store.touch.Goals as goal

@@ -1,0 +1,29 @@
+-- What the client table leaves open: when there is no memory, and how a reply is handed out.
+use Rattle.std.specs.Prelude.{◌≡◌, ◌<◌, Option, None, Some, List, [], ◌∷◌}
+use Rattle.std.specs.Option.{IsSome}
+use Rattle.zcalls.specs.declared.reply.Reply.{Reply}
+use Rattle.zserver.specs.declared.message.Message.{Message}
+use Rattle.zserver.specs.declared.message.Message.TheVariants as message
+use Rattle.zserver.specs.declared.process.Process.{Process}
+use Rattle.zserver.specs.declared.process.Process.TheVariants.{Master}
+use Rattle.zserver.specs.View.{Post}
+use Rattle.zclient.specs.declared.begin_fault.BeginFault.{BeginFault}
+use Rattle.zclient.specs.declared.begin_fault.BeginFault.TheVariants.{Memory}
+use Rattle.zclient.specs.View.{ClientView}
+use Rattle.zclient.specs.Table.{begin_fault}
+use Rattle.zout.specs.Posts.{table_message}
+
+-- a call is refused with this: by the table, or for memory where the table allows it
+abbrev pub IsBeginFault : ClientView → BeginFault → Type 0
+IsBeginFault v Memory = begin_fault v ≡ None
+IsBeginFault v fault = begin_fault v ≡ Some fault
+
+-- a message for which a call has to be sent again: a later configuration, while the client waits for a call
+abbrev pub IsResend : {T : Type 0} → ClientView → Process → Message T → Type 0
+IsResend v Master (message.Config epoch head tail) = (v.epoch < epoch) × IsSome v.outstanding
+IsResend v from other = ⊥
+
+-- the one post or none, as a table has it
+abbrev pub posts_of : {T : Type 0} → Option (Process × Message T) → List (Post T)
+posts_of None = []
+posts_of (Some post) = (post.0, table_message post.1) ∷ []

@@ -1,0 +1,225 @@
+//! The core of a client.
+
+ghost use Rattle.std.specs.Prelude.{◌≡◌, ◌<◌, ℕ, None, [], IfErr, IfOk, IsSome, OnErr, OnOk, is_some};
+ghost use Rattle.std.specs.Option.{option_map};
+ghost use Rattle.zclient.specs.View.{opening_client};
+ghost use Rattle.zclient.specs.Table.{begin_fault, begin_step, client_step, answer_row, config_row, outstanding_posts, retry_posts};
+ghost use Rattle.zout.specs.Posts.{Puts, table_message};
+ghost use Rattle.cclient.specs.Core.{IsBeginFault, IsResend};
+
+use crate::post::{call_post, put_post};
+use std::alloc::Global;
+use std::marker::Model;
+use zcalls::{Call, CallNumber, Reply};
+use zclient::BeginFault;
+use zout::Out;
+use zpath::Memory;
+use zserver::{Epoch, Message, Process, ServerId};
+
+/// What a client knows: its last call's number, the call that it waits for, and the chain's ends.
+#[derive(Drop)]
+pub struct ClientCore {
+    alloc: Global,
+    number: CallNumber,
+    outstanding: Option<(CallNumber, Call)>,
+    epoch: Epoch,
+    head: Option<ServerId>,
+    tail: Option<ServerId>,
+}
+
+impl Model for ClientCore {
+    ghost use Rattle.zclient.specs.View.{ClientView};
+
+    ghost Value = { ClientView };
+
+    ghost view = { λ client. record {
+      number = client.number;
+      outstanding = client.outstanding;
+      epoch = client.epoch;
+      head = client.head;
+      tail = client.tail;
+    } };
+}
+
+impl ClientCore {
+    /// A client of the opening chain, whose last server is this. It takes no memory.
+    pub fn new(alloc: Global, last: ServerId) -> ClientCore
+        ensures { (clients client : ℕ) → client < clients → result ≡ opening_client last clients client }
+    {
+        ClientCore {
+            alloc,
+            number: no_call(),
+            outstanding: None,
+            epoch: first_epoch(),
+            head: Some(first_server()),
+            tail: Some(last),
+        }
+    }
+
+    /// Begins a call, and answers its number. All growth is made before anything is put or changed.
+    #[tactic(auto, unfolding(zclient::specs::Table::begin_step, zclient::specs::Table::begin_fault))]
+    pub fn begin<T: Drop>(&mut self, call: Call, out: &mut Out<T>) -> Result<CallNumber, BeginFault>
+        ensures number { IfOk result (λ number. number ≡ self.new.number) }
+        ensures next { OnOk result (self.new ≡ (begin_step {M = T} self.old call).0) }
+        ensures puts { OnOk result (Puts out.old out.new (begin_step self.old call).1) }
+        ensures allowed { OnOk result (begin_fault self.old ≡ None) }
+        ensures fault { IfErr result (IsBeginFault self.old) }
+        ensures same { OnErr result (self.new ≡ self.old) }
+        ensures silent { OnErr result (out.new.posts ≡ out.old.posts) }
+    {
+        if self.outstanding.is_some() {
+            return Err(BeginFault::Busy);
+        }
+        let Some(number) = CallNumber::new(self.number.number() + 1) else {
+            return Err(BeginFault::Exhausted);
+        };
+        let Ok(post) = call_post(self.alloc, &self.head, &self.tail, number, &call) else {
+            return Err(BeginFault::Memory);
+        };
+        let Ok(()) = out.reserve(1) else {
+            return Err(BeginFault::Memory);
+        };
+        put_post(out, post);
+        self.number = number;
+        self.outstanding = Some((number, call));
+        Ok(number)
+    }
+
+    /// Takes a message, and hands out the reply that it waited for. Where a call has to be sent again and
+    /// there is no memory for it, hands the message back.
+    #[tactic(auto, unfolding(zclient::specs::Table::client_step))]
+    pub fn take<T: Drop>(
+        &mut self,
+        from: Process,
+        message: Message<T>,
+        out: &mut Out<T>,
+    ) -> Result<Option<Reply>, Message<T>>
+        ensures next { OnOk result (self.new ≡ (client_step self.old from (table_message message)).0) }
+        ensures puts { OnOk result (Puts out.old out.new (client_step self.old from (table_message message)).1) }
+        ensures reply { IfOk result (λ reply. reply
+            ≡ option_map (λ given. given.1) (client_step self.old from (table_message message)).2) }
+        ensures back { IfErr result (λ back. back ≡ message) }
+        ensures resends { OnErr result (IsResend self.old from message) }
+        ensures same { OnErr result (self.new ≡ self.old) }
+        ensures silent { OnErr result (out.new.posts ≡ out.old.posts) }
+    {
+        match (from, message) {
+            (Process::Server(_), Message::Answer(number, reply)) => Ok(self.answer::<T>(
+                number, reply,
+            )),
+            (Process::Master, Message::Config(epoch, head, tail)) => match self.config(
+                &epoch, &head, &tail, out,
+            ) {
+                Ok(()) => Ok(None),
+                Err(Memory) => Err(Message::Config(epoch, head, tail)),
+            },
+            _ => Ok(None),
+        }
+    }
+
+    /// Sends the call that it waits for once more; answers whether there is one.
+    #[tactic(auto, unfolding(zclient::specs::Table::retry_posts))]
+    pub fn retry<T: Drop>(&self, out: &mut Out<T>) -> Result<bool, Memory>
+        ensures waits { IfOk result (λ waits. waits ≡ is_some self.now.outstanding) }
+        ensures puts { OnOk result (Puts out.old out.new (retry_posts self.now)) }
+        ensures waited { OnErr result (IsSome self.now.outstanding) }
+        ensures silent { OnErr result (out.new.posts ≡ out.old.posts) }
+    {
+        self.send(&self.head, &self.tail, out)?;
+        Ok(self.outstanding.is_some())
+    }
+
+    // Sends the call that it waits for, where there is one, to these ends of the chain.
+    fn send<T: Drop>(
+        &self,
+        head: &Option<ServerId>,
+        tail: &Option<ServerId>,
+        out: &mut Out<T>,
+    ) -> Result<(), Memory>
+        ensures puts { OnOk result (Puts out.old out.new
+            (outstanding_posts (record self.now { head = head.now; tail = tail.now }))) }
+        ensures waited { OnErr result (IsSome self.now.outstanding) }
+        ensures silent { OnErr result (out.new.posts ≡ out.old.posts) }
+    {
+        let Some((number, call)) = &self.outstanding else {
+            return Ok(());
+        };
+        let post = call_post(self.alloc, head, tail, *number, call)?;
+        out.reserve(1)?;
+        put_post(out, post);
+        Ok(())
+    }
+
+    // Answer: to the call that it waits for, the wait is over, and the reply is handed out.
+    #[tactic(auto, unfolding(zclient::specs::Table::answer_row))]
+    fn answer<T: Drop>(&mut self, number: CallNumber, reply: Reply) -> Option<Reply>
+        ensures next { self.new ≡ (answer_row {M = T} self.old number reply).0 }
+        ensures silent { (answer_row {M = T} self.old number reply).1 ≡ [] }
+        ensures reply { result ≡ option_map (λ given. given.1) (answer_row {M = T} self.old number reply).2 }
+    {
+        if let Some((waited, _)) = &self.outstanding
+            && waited.number() == number.number()
+        {
+            self.outstanding = None;
+            return Some(reply);
+        }
+        None
+    }
+
+    // Config: a later one holds from now on, and a call that it waits for goes out again.
+    #[tactic(auto, unfolding(zclient::specs::Table::config_row))]
+    fn config<T: Drop>(
+        &mut self,
+        epoch: &Epoch,
+        head: &Option<ServerId>,
+        tail: &Option<ServerId>,
+        out: &mut Out<T>,
+    ) -> Result<(), Memory>
+        ensures next { OnOk result (self.new ≡ (config_row {M = T} self.old epoch.now head.now tail.now).0) }
+        ensures puts { OnOk result (Puts out.old out.new (config_row self.old epoch.now head.now tail.now).1) }
+        ensures no_reply { OnOk result ((config_row {M = T} self.old epoch.now head.now tail.now).2 ≡ None) }
+        ensures later { OnErr result (self.old.epoch < epoch.now) }
+        ensures waited { OnErr result (IsSome self.old.outstanding) }
+        ensures same { OnErr result (self.new ≡ self.old) }
+        ensures silent { OnErr result (out.new.posts ≡ out.old.posts) }
+    {
+        if epoch.number() <= self.epoch.number() {
+            return Ok(());
+        }
+        self.send(head, tail, out)?;
+        self.epoch = *epoch;
+        self.head = *head;
+        self.tail = *tail;
+        Ok(())
+    }
+}
+
+// The number before the first call's.
+fn no_call() -> CallNumber
+    ensures { result ≡ 0 }
+{
+    match CallNumber::new(0) {
+        Some(number) => number,
+        None => unreachable!(),
+    }
+}
+
+// The epoch of the opening chain.
+fn first_epoch() -> Epoch
+    ensures { result ≡ 0 }
+{
+    match Epoch::new(0) {
+        Some(epoch) => epoch,
+        None => unreachable!(),
+    }
+}
+
+// The opening chain's first server.
+fn first_server() -> ServerId
+    ensures { result ≡ 1 }
+{
+    match ServerId::new(1) {
+        Some(server) => server,
+        None => unreachable!(),
+    }
+}

@@ -1,0 +1,51 @@
+//! A call on its way.
+
+ghost use Rattle.std.specs.Prelude.{◌≡◌, ◌<◌, IfOk};
+ghost use Rattle.zclient.specs.Table.{call_posts};
+ghost use Rattle.zout.specs.Posts.{Puts};
+ghost use Rattle.cclient.specs.Core.{posts_of};
+
+use std::alloc::Global;
+use zcalls::{Call, CallNumber};
+use zout::Out;
+use zpath::Memory;
+use zserver::{Message, Process, ServerId};
+
+/// The message that sends a call: an update to the head, a query to the tail. None where there is no such
+/// server.
+pub(crate) fn call_post<T: Drop>(
+    alloc: Global,
+    head: &Option<ServerId>,
+    tail: &Option<ServerId>,
+    number: CallNumber,
+    call: &Call,
+) -> Result<Option<(Process, Message<T>)>, Memory>
+    ensures { IfOk result (λ post. posts_of post ≡ call_posts head.now tail.now number call.now) }
+{
+    match call {
+        Call::Update(update) => {
+            let Some(head) = head else {
+                return Ok(None);
+            };
+            let copy = update.copied(alloc)?;
+            Ok(Some((Process::Server(*head), Message::Submit(number, copy))))
+        }
+        Call::Query(query) => {
+            let Some(tail) = tail else {
+                return Ok(None);
+            };
+            let copy = query.copied(alloc)?;
+            Ok(Some((Process::Server(*tail), Message::Query(number, copy))))
+        }
+    }
+}
+
+/// Puts the one message or none, for which room is kept.
+pub(crate) fn put_post<T: Drop>(out: &mut Out<T>, post: Option<(Process, Message<T>)>)
+    requires { 0 < out.old.room }
+    ensures { Puts out.old out.new (posts_of post) }
+{
+    if let Some((receiver, message)) = post {
+        out.put_reserved(receiver, message);
+    }
+}

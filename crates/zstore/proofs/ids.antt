@@ -1,0 +1,3 @@
+-- Lemmas on Ids: what they name while nodes come and go.
+pub mod Naming
+pub mod UnderWay
