@@ -50,7 +50,7 @@ impl SessionRow {
 pub(crate) fn copied_rows(alloc: Global, rows: &[Row]) -> Result<Vec<Row>, Memory>
     ensures { IfOk result (λ copy. copy.items ≡ rows.now) }
 {
-    let mut copy = Vec::new(alloc);
+    let mut copy = Vec::with_capacity(alloc, rows.len())?;
     for row in rows {
         copy.push(row.copied(alloc)?)?;
     }
@@ -61,7 +61,7 @@ pub(crate) fn copied_rows(alloc: Global, rows: &[Row]) -> Result<Vec<Row>, Memor
 pub(crate) fn copied_sessions(alloc: Global, rows: &[SessionRow]) -> Result<Vec<SessionRow>, Memory>
     ensures { IfOk result (λ copy. copy.items ≡ rows.now) }
 {
-    let mut copy = Vec::new(alloc);
+    let mut copy = Vec::with_capacity(alloc, rows.len())?;
     for row in rows {
         copy.push(row.copied())?;
     }
