@@ -5,7 +5,7 @@ ghost use Rattle.std.specs.Option.{option_map};
 ghost use Rattle.zclient_table.specs.View.{opening_client};
 ghost use Rattle.zclient_table.specs.Table.{begin_fault, begin_step, client_step, answer_row, config_row, outstanding_posts, retry_posts};
 ghost use Rattle.zout.specs.Posts.{Puts, table_message};
-ghost use Rattle.zclient_table.specs.Core.{IsBeginFault, IsResend};
+ghost use Rattle.zclient.specs.Core.{IsBeginFault, IsResend};
 
 use crate::post::{call_post, put_post};
 use std::alloc::Global;

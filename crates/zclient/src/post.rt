@@ -3,7 +3,7 @@
 ghost use Rattle.std.specs.Prelude.{◌≡◌, ◌<◌, IfOk};
 ghost use Rattle.zclient_table.specs.Table.{call_posts};
 ghost use Rattle.zout.specs.Posts.{Puts};
-ghost use Rattle.zclient_table.specs.Core.{posts_of};
+ghost use Rattle.zclient.specs.Core.{posts_of};
 
 use std::alloc::Global;
 use zcalls::{Call, CallNumber};
