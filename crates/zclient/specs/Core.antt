@@ -1,7 +1,6 @@
 -- What the client table leaves open: when there is no memory, and how a reply is handed out.
 use Rattle.std.specs.Prelude.{◌≡◌, ◌<◌, Option, None, Some, List, [], ◌∷◌}
 use Rattle.std.specs.Option.{IsSome}
-use Rattle.zcalls.specs.declared.reply.Reply.{Reply}
 use Rattle.zserver_table.specs.declared.message.Message.{Message}
 use Rattle.zserver_table.specs.declared.message.Message.TheVariants as message
 use Rattle.zserver_table.specs.declared.process.Process.{Process}

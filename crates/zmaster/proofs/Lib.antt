@@ -1,0 +1,3 @@
+pub mod Marks
+pub mod Mending
+pub mod Rows

@@ -1,0 +1,126 @@
+-- The rows of the master table, by what was found.
+use Rattle.std.proofs.Common.{◌≡◌, ℕ, ◌+◌, ◌≤◌, true, false, ◌==◌, nat_lt, List, [], ◌∷◌, ◌++◌, Option, Some, None, length, zero, suc, refl, sym, ◌∙◌, arith, inl, inr}
+use Rattle.std.proofs.lemmas.Bool.Decides.{nat_tests}
+use Rattle.std.specs.List.{last_or}
+use Rattle.std.proofs.lemmas.List.FromFn.{length-map-range_with_len, map-range_with_len_more}
+use Rattle.zmaster_table.specs.declared.join_fault.JoinFault.{JoinFault}
+use Rattle.zmaster_table.specs.declared.join_fault.JoinFault.TheVariants.{Used}
+use Rattle.zcalls.proofs.Among.{test}
+use Rattle.zserver_table.specs.declared.message.Message.TheVariants as message
+use Rattle.zserver_table.specs.declared.process.Process.TheVariants.{Server, Client}
+use Rattle.zserver_table.specs.View.{Neighbour, Post}
+use Rattle.zmaster_table.specs.View.{MasterView, is_among, members, is_joining, with_number, head_of, tail_of}
+use Rattle.zmaster_table.specs.Table.{before, without_next, have_row, joined_row, gone_row, join_step, join_fault, and_tell_clients}
+use Rattle.zmaster.specs.support.Mending.{joins, IsPlace, mended_at, mended_behind_at, chain_fault}
+use Rattle.zmaster.specs.support.Telling.{config_posts_to}
+use Rattle.std.specs.List.{remove}
+use Rattle.zmaster.proofs.Mending.{place_among, mended_place}
+
+-- both ways to ask who joins
+joins_is : (v : MasterView) (joining : Option ℕ) (s : ℕ) → is_joining (record v { joining = joining }) s ≡ joins joining s
+joins_is v None s = refl
+joins_is v (Some j) s = refl
+
+module _ {M : Type 0} (v : MasterView) (s : ℕ) where
+  pub have_none : (epoch : ℕ) (last : Option ℕ) → before s epoch v.chain ≡ None → have_row {M = M} v s epoch last ≡ (v, [])
+  unfolding have_row
+  have_none epoch last is = rw (is, have_row) refl
+
+  pub have_some : (epoch : ℕ) (last : Option ℕ) (p : ℕ) → before s epoch v.chain ≡ Some p
+      → have_row {M = M} v s epoch last ≡ (v, (Server p, message.NewSucc epoch s last) ∷ [])
+  unfolding have_row
+  have_some epoch last p is = rw (is, have_row) refl
+
+  pub joined_none : joins v.joining s ≡ false → joined_row {M = M} v s ≡ (v, [])
+  unfolding joined_row
+  joined_none is = let other : is_joining v s ≡ false = joins_is v v.joining s ∙ is in rw other refl
+
+  pub joined_some : joins v.joining s ≡ true → joined_row {M = M} v s ≡ and_tell_clients (record v { joining = None; epoch = v.epoch + 1 }) []
+  unfolding joined_row
+  joined_some is = let yes : is_joining v s ≡ true = joins_is v v.joining s ∙ is in rw yes refl
+
+  pub gone_outside : is_among s (members v) ≡ false → gone_row {M = M} v s ≡ (record v { used = with_number s v.used }, [])
+  unfolding gone_row
+  gone_outside is = rw is refl
+
+  pub gone_joining : (at : ℕ) → IsPlace s at v.chain → joins v.joining s ≡ true
+      → gone_row {M = M} v s ≡ and_tell_clients (record v { chain = (mended_at {M = M} (v.epoch + 1) at (remove v.chain at)).0; joining = None; epoch = v.epoch + 1 }) (mended_at (v.epoch + 1) at (remove v.chain at)).1
+  unfolding gone_row
+  gone_joining at place is =
+      let among : is_among s (members v) ≡ true = place_among s at v.chain place in
+      let yes : is_joining v s ≡ true = joins_is v v.joining s ∙ is in
+      rw (among, yes, mended_place {M = M} (v.epoch + 1) s at v.chain place) refl
+
+  pub gone_other : (at : ℕ) → IsPlace s at v.chain → joins v.joining s ≡ false
+      → gone_row {M = M} v s ≡ and_tell_clients (record v { chain = (mended_at {M = M} (v.epoch + 1) at (remove v.chain at)).0; epoch = v.epoch + 1 }) (mended_at (v.epoch + 1) at (remove v.chain at)).1
+  unfolding gone_row
+  gone_other at place is =
+      let among : is_among s (members v) ≡ true = place_among s at v.chain place in
+      let no : is_joining v s ≡ false = joins_is v v.joining s ∙ is in
+      rw (among, no, mended_place {M = M} (v.epoch + 1) s at v.chain place) refl
+
+  pub join_behind : (last : ℕ) → last_or None (members v) ≡ Some last
+      → join_step {M = M} v s ≡ (record v { chain = v.chain ++ (s, v.epoch + 1) ∷ []; joining = Some s; used = with_number s v.used; epoch = v.epoch + 1 }, (Server s, message.NewPred (v.epoch + 1) last) ∷ [])
+  unfolding join_step
+  join_behind last is = rw (is, join_step) refl
+
+  pub join_nowhere : last_or None (members v) ≡ None → join_step {M = M} v s ≡ (v, [])
+  unfolding join_step
+  join_nowhere is = rw (is, join_step) refl
+
+-- at most one message tells of a mended chain
+next_few : (M : Type 0) (epoch p : ℕ) (rest : List Neighbour) → length (without_next {M = M} epoch p rest).1 ≤ 1
+next_few M epoch p [] = omega arith
+next_few M epoch p (t ∷ rest) = omega arith
+
+behind_few : (M : Type 0) (epoch p at : ℕ) (rest : List Neighbour) → length (mended_behind_at {M = M} epoch p at rest).1 ≤ 1
+behind_few M epoch p zero rest = next_few M epoch p rest
+behind_few M epoch p (suc at) [] = omega arith
+behind_few M epoch p (suc at) (t ∷ rest) = behind_few M epoch t.0 at rest
+
+pub mended_few : (M : Type 0) (epoch at : ℕ) (chain : List Neighbour) → length (mended_at {M = M} epoch at chain).1 ≤ 1
+mended_few M epoch zero [] = omega arith
+mended_few M epoch zero (t ∷ rest) = omega arith
+mended_few M epoch (suc at) [] = omega arith
+mended_few M epoch (suc at) (t ∷ rest) = behind_few M epoch t.0 at rest
+
+-- why a server can't join
+faults : (s : ℕ) (chain : List Neighbour) (joining : Option ℕ) (used : List ℕ) (epoch clients : ℕ) → is_among s used ≡ false
+    → join_fault (record { chain = chain; joining = joining; used = used; epoch = epoch; clients = clients }) s ≡ chain_fault joining chain
+unfolding join_fault
+faults s [] None used epoch clients new = rw new refl
+faults s [] (Some j) used epoch clients new = rw new refl
+faults s (t ∷ []) None used epoch clients new = rw new refl
+faults s (t ∷ []) (Some j) used epoch clients new = rw new refl
+faults s (t ∷ (u ∷ rest)) None used epoch clients new =
+    let some : (length (t ∷ (u ∷ rest)) == 0) ≡ false = grind (arith, nat_tests) in
+    rw (new, some) refl
+faults s (t ∷ (u ∷ rest)) (Some j) used epoch clients new =
+    let long : nat_lt 1 (length (t ∷ (u ∷ rest))) ≡ true = grind (arith, nat_tests) in
+    rw (new, long) refl
+
+pub fault_of_chain : (v : MasterView) (s : ℕ) → is_among s v.used ≡ false → join_fault v s ≡ chain_fault v.joining v.chain
+fault_of_chain v s new = faults s v.chain v.joining v.used v.epoch v.clients new
+
+pub fault_used : (v : MasterView) (s : ℕ) → is_among s v.used ≡ true → join_fault v s ≡ Some Used
+unfolding join_fault
+fault_used v s old = rw old refl
+
+-- what the first clients are told
+pub config_count : (M : Type 0) (v : MasterView) (count : ℕ) → length (config_posts_to {M = M} v count) ≡ count
+config_count M v count = length-map-range_with_len {X = Post M} (λ c. (Client c, message.Config v.epoch (head_of v) (tail_of v))) 0 count
+
+pub config_more : (M : Type 0) (v : MasterView) (count : ℕ)
+    → config_posts_to {M = M} v (count + 1) ≡ config_posts_to v count ++ (Client count, message.Config v.epoch (head_of v) (tail_of v)) ∷ []
+config_more M v count =
+    map-range_with_len_more {X = Post M} (λ c. (Client c, message.Config v.epoch (head_of v) (tail_of v))) 0 count count (omega arith)
+
+-- who isn't refused has a new number
+pub free_is_new : (v : MasterView) (s : ℕ) → join_fault v s ≡ None → is_among s v.used ≡ false
+free_is_new v s free = elim (test (is_among s v.used)) [
+  | inl old ↦
+      let refused : ◌≡◌ {A = Option JoinFault} (Some Used) None = sym (fault_used v s old) ∙ free in
+      let never : ⊥ = cc in
+      absurd never
+  | inr new ↦ new
+]

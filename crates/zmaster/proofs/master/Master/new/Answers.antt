@@ -1,0 +1,11 @@
+use Rattle.std.proofs.Common.{sym, subst}
+use Rattle.zmaster_table.specs.View.{MasterView}
+use Rattle.zmaster_table.specs.Laws.{IsBounded}
+use Rattle.zmaster_table.proofs.Bounds.{opening_is_bounded}
+use Rattle.zmaster.proofs.master.Master.new.Goals as goal
+
+pub invariant_of-result : goal.invariant_of-result
+invariant_of-result c = (
+  subst (λ (v : MasterView). IsBounded v) (sym c.new-known.ensures) (opening_is_bounded c.args.last c.args.clients),
+  c.count.ensures.used,
+)

@@ -1,0 +1,39 @@
+-- How a chain is mended once the member at a place has gone: the same as the table's, which looks for the member itself.
+use Rattle.std.specs.Prelude.{◌≡◌, ℕ, zero, suc, Bool, true, false, Option, None, Some, List, [], ◌∷◌, ◌==◌, is_some, if◌then◌else◌}
+use Rattle.zserver_table.specs.View.{Neighbour}
+use Rattle.zmaster_table.specs.declared.join_fault.JoinFault.{JoinFault}
+use Rattle.zmaster_table.specs.declared.join_fault.JoinFault.TheVariants.{Joining, NoChain, Lost}
+use Rattle.zmaster_table.specs.Table.{MendedChain, without_first, without_next}
+
+-- the joining one, if any, is this
+abbrev pub joins : Option ℕ → ℕ → Bool
+joins None s = false
+joins (Some joining) s = joining == s
+
+-- the server stands first at this place
+abbrev pub IsPlace : ℕ → ℕ → List Neighbour → Type 0
+IsPlace s at [] = ⊥
+IsPlace s zero (t ∷ rest) = (t.0 == s) ≡ true
+IsPlace s (suc at) (t ∷ rest) = ((t.0 == s) ≡ false) × IsPlace s at rest
+
+-- the members behind p, from which the one at this place has gone out
+abbrev pub mended_behind_at : {M : Type 0} → ℕ → ℕ → ℕ → List Neighbour → MendedChain M
+mended_behind_at epoch p zero rest = without_next epoch p rest
+mended_behind_at epoch p (suc at) [] = ([], [])
+mended_behind_at {M} epoch p (suc at) (t ∷ rest) =
+    let mended = mended_behind_at {M = M} epoch t.0 at rest in
+    (t ∷ mended.0, mended.1)
+
+-- the members, from which the one at this place has gone out
+abbrev pub mended_at : {M : Type 0} → ℕ → ℕ → List Neighbour → MendedChain M
+mended_at epoch zero members = without_first epoch members
+mended_at epoch (suc at) [] = ([], [])
+mended_at {M} epoch (suc at) (t ∷ rest) =
+    let mended = mended_behind_at {M = M} epoch t.0 at rest in
+    (t ∷ mended.0, mended.1)
+
+-- why nobody can join a chain, by its length
+abbrev pub chain_fault : Option ℕ → List Neighbour → Option JoinFault
+chain_fault joining [] = Some NoChain
+chain_fault joining (only ∷ []) = if joins joining only.0 then Some Lost else None
+chain_fault joining (t ∷ (u ∷ rest)) = if is_some joining then Some Joining else None

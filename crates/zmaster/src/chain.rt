@@ -1,0 +1,119 @@
+//! The chain of servers: where a member stands, and how the chain is mended.
+
+ghost use Rattle.std.specs.Prelude.{◌≡◌, ◌+◌, ◌<◌, ◌≤◌, ◌==◌, not, length, map, filter, slice_get};
+ghost use Rattle.std.specs.List.{last_or, position};
+ghost use Rattle.zmaster_table.specs.Table.{before};
+ghost use Rattle.zout.specs.Posts.{PutsInRoom};
+ghost use Rattle.zmaster.specs.support.Mending.{joins, mended_at, chain_fault};
+
+use crate::limits::SERVERS;
+use crate::member::Member;
+use arrayvec::ArrayVec;
+use zmaster_table::JoinFault;
+use zout::Out;
+use zserver_table::{Epoch, Message, Process, ServerId};
+
+/// The members from the head down.
+pub(crate) type Members = ArrayVec<Member, SERVERS>;
+
+/// Where the server stands in the chain.
+pub(crate) fn place_of(members: &[Member], server: &ServerId) -> Option<usize>
+    ensures { result ≡ position (λ member. member.0 == server.now) members.now }
+{
+    members
+        .iter()
+        .position(|member| member.id().number() == server.number())
+}
+
+/// The member before the server, where their pair has this epoch; none before the first.
+pub(crate) fn member_before(
+    members: &[Member],
+    server: &ServerId,
+    epoch: &Epoch,
+) -> Option<ServerId>
+    ensures { result ≡ before server.now epoch.now members.now }
+{
+    let (first, rest) = members.split_first()?;
+    let next = rest.first()?;
+    if next.id().number() == server.number() && next.epoch().number() == epoch.number() {
+        return Some(first.id());
+    }
+    member_before(rest, server, epoch)
+}
+
+/// Whether this is the one that joins.
+pub(crate) fn is_the_joining(joining: &Option<ServerId>, server: &ServerId) -> bool
+    ensures { result ≡ joins joining.now server.now }
+{
+    match joining {
+        Some(joining) => joining.number() == server.number(),
+        None => false,
+    }
+}
+
+/// Why nobody can join this chain: another one is joining, or nobody is there to give the state.
+pub(crate) fn chain_fault(members: &[Member], joining: &Option<ServerId>) -> Option<JoinFault>
+    ensures { result ≡ chain_fault joining.now members.now }
+{
+    match members {
+        [] => Some(JoinFault::NoChain),
+        [only] if is_the_joining(joining, &only.id()) => Some(JoinFault::Lost),
+        [_] => None,
+        _ if joining.is_some() => Some(JoinFault::Joining),
+        _ => None,
+    }
+}
+
+/// The last member that isn't joining, or else the one that was found before.
+pub(crate) fn last_with_state(
+    members: &[Member],
+    joining: &Option<ServerId>,
+    found: Option<ServerId>,
+) -> Option<ServerId>
+    ensures { result ≡ last_or found
+        (filter (λ s. not (joins joining.now s)) (map (λ member. member.0) members.now)) }
+{
+    let Some((first, rest)) = members.split_first() else {
+        return found;
+    };
+    if is_the_joining(joining, &first.id()) {
+        return last_with_state(rest, joining, found);
+    }
+    last_with_state(rest, joining, Some(first.id()))
+}
+
+/// The last member, or else the one that was found before.
+pub(crate) fn last_member(members: &[Member], found: Option<ServerId>) -> Option<ServerId>
+    ensures { result ≡ last_or found (map (λ member. member.0) members.now) }
+{
+    let Some((first, rest)) = members.split_first() else {
+        return found;
+    };
+    last_member(rest, Some(first.id()))
+}
+
+/// Mends a chain from which the member at this place has gone, and tells its neighbours.
+pub(crate) fn mend<T: Drop>(members: &mut Members, at: usize, epoch: &Epoch, out: &mut Out<T>)
+    requires within { at ≤ length members.old.items }
+    requires room { 0 < out.old.room }
+    ensures chain { members.new.items ≡ (mended_at {M = T} epoch.now at members.old.items).0 }
+    ensures puts { PutsInRoom out.old out.new (mended_at epoch.now at members.old.items).1 }
+{
+    if at == 0 {
+        if let Some(head) = members.first() {
+            out.put_reserved(Process::Server(head.id()), Message::BecomeHead(*epoch));
+        }
+        return;
+    }
+    let before = members[at - 1].id();
+    if at == members.len() {
+        out.put_reserved(Process::Server(before), Message::BecomeTail(*epoch));
+        return;
+    }
+    out.put_reserved(
+        Process::Server(members[at].id()),
+        Message::NewPred(*epoch, before),
+    );
+    let next = members[at].id();
+    members[at] = Member::new(next, *epoch);
+}

@@ -1,0 +1,228 @@
+//! What the master knows, and the rows of its table.
+
+ghost use Rattle.std.specs.Prelude.{◌≡◌, ◌+◌, ◌<◌, ◌≤◌, ℕ, length};
+ghost use Rattle.zserver_table.specs.declared.limits.TheConstants.{MAX_EPOCH, MAX_SERVERS};
+ghost use Rattle.zmaster_table.specs.View.{opening_master, head_of, tail_of, with_number};
+ghost use Rattle.zmaster_table.specs.Table.{config_posts, join_fault, join_step, master_step, have_row, joined_row, gone_row};
+ghost use Rattle.zout.specs.Posts.{PutsInRoom, table_message};
+ghost use Rattle.zmaster.specs.declared.limits.TheConstants.{MAX_CLIENTS, MAX_POSTS};
+
+use crate::chain::{
+    Members, chain_fault, is_the_joining, last_member, last_with_state, member_before, mend,
+    place_of,
+};
+use crate::limits::{MAX_CLIENTS, MAX_POSTS, SERVERS};
+use crate::member::{Member, first_epoch};
+use crate::used::{is_used, mark_used, width};
+use std::marker::Model;
+use zmaster_table::JoinFault;
+use zout::Out;
+use zserver_table::{ClientId, Epoch, LogNumber, Message, Process, ServerId};
+
+/// What the master knows. That the epochs which it gives are few is the business of its owner.
+#[derive(Drop)]
+pub(crate) struct Knowledge {
+    chain: Members,
+    joining: Option<ServerId>,
+    used: [bool; SERVERS],
+    epoch: Epoch,
+    clients: u8,
+}
+
+impl Model for Knowledge {
+    ghost use Rattle.std.specs.Prelude.{◌≤◌};
+    ghost use Rattle.zmaster_table.specs.View.{MasterView};
+    ghost use Rattle.zmaster.specs.support.Marks.{numbers_from};
+    ghost use Rattle.zmaster.specs.declared.limits.TheConstants.{MAX_CLIENTS};
+
+    ghost Value = { MasterView };
+
+    ghost view = { λ known. record {
+      chain = known.chain.items;
+      joining = known.joining;
+      used = numbers_from 1 known.used;
+      epoch = known.epoch;
+      clients = known.clients;
+    } };
+
+    ghost invariant = { λ known. known.clients ≤ MAX_CLIENTS };
+}
+
+impl Knowledge {
+    /// The opening: the chain is the servers from 1 up to this one, and there are so many clients.
+    pub(crate) fn new(last: ServerId, clients: u8) -> Knowledge
+        requires { clients ≤ MAX_CLIENTS }
+        ensures { result ≡ opening_master last clients }
+    {
+        let mut chain = Members::new();
+        let mut used = [false; SERVERS];
+        for number in 1..last.number() + 1 {
+            let Some(server) = ServerId::new(number) else {
+                unreachable!();
+            };
+            mark_used(&mut used, &server);
+            chain.push(Member::new(server, first_epoch()));
+        }
+        Knowledge {
+            chain,
+            joining: None,
+            used,
+            epoch: first_epoch(),
+            clients,
+        }
+    }
+
+    /// The numbers of servers are few.
+    pub(crate) fn count(&self) -> usize
+        ensures chain { result ≡ length self.now.chain }
+        ensures used { length self.now.used ≤ MAX_SERVERS }
+    {
+        let _ = width(&self.used);
+        self.chain.len()
+    }
+
+    /// Takes a message: the master table.
+    #[tactic(auto, using(zout::proofs::Posts::put_none), unfolding(zmaster_table::specs::Table::master_step))]
+    pub(crate) fn take<T: Drop>(&mut self, from: &Process, message: &Message<T>, out: &mut Out<T>)
+        requires epochs { self.old.epoch < MAX_EPOCH }
+        requires room { MAX_POSTS ≤ out.old.room }
+        ensures next { self.new ≡ (master_step self.old from.now (table_message message.now)).0 }
+        ensures puts { PutsInRoom out.old out.new
+            (master_step self.old from.now (table_message message.now)).1 }
+    {
+        let Process::Server(server) = from else {
+            return;
+        };
+        match message {
+            Message::Have(epoch, last) => self.have(server, epoch, last, out),
+            Message::Joined(_) => self.joined(server, out),
+            Message::Gone => self.gone(server, out),
+            _ => {}
+        }
+    }
+
+    // Have: the server before the sender hears of its new successor, and what that has.
+    fn have<T: Drop>(
+        &self,
+        server: &ServerId,
+        epoch: &Epoch,
+        last: &Option<LogNumber>,
+        out: &mut Out<T>,
+    )
+        requires { 0 < out.old.room }
+        ensures same { (have_row {M = T} self.now server.now epoch.now last.now).0 ≡ self.now }
+        ensures puts { PutsInRoom out.old out.new (have_row self.now server.now epoch.now last.now).1 }
+    {
+        if let Some(before) = member_before(&self.chain, server, epoch) {
+            out.put_reserved(
+                Process::Server(before),
+                Message::NewSucc(*epoch, *server, *last),
+            );
+        }
+    }
+
+    // Joined: from the one that is joining; the clients hear of it.
+    fn joined<T: Drop>(&mut self, server: &ServerId, out: &mut Out<T>)
+        requires epochs { self.old.epoch < MAX_EPOCH }
+        requires room { MAX_POSTS ≤ out.old.room }
+        ensures next { self.new ≡ (joined_row {M = T} self.old server.now).0 }
+        ensures puts { PutsInRoom out.old out.new (joined_row self.old server.now).1 }
+    {
+        if is_the_joining(&self.joining, server) {
+            self.joining = None;
+            self.epoch = next_epoch(&self.epoch);
+            self.tell(out);
+        }
+    }
+
+    // Gone: outside the chain the number is used; in the chain, it is mended in a new epoch, and told.
+    fn gone<T: Drop>(&mut self, server: &ServerId, out: &mut Out<T>)
+        requires epochs { self.old.epoch < MAX_EPOCH }
+        requires room { MAX_POSTS ≤ out.old.room }
+        ensures next { self.new ≡ (gone_row {M = T} self.old server.now).0 }
+        ensures puts { PutsInRoom out.old out.new (gone_row self.old server.now).1 }
+    {
+        let Some(at) = place_of(&self.chain, server) else {
+            mark_used(&mut self.used, server);
+            return;
+        };
+        let epoch = next_epoch(&self.epoch);
+        self.chain.remove(at);
+        mend(&mut self.chain, at, &epoch, out);
+        if is_the_joining(&self.joining, server) {
+            self.joining = None;
+        }
+        self.epoch = epoch;
+        self.tell(out);
+    }
+
+    /// Why a server can't join.
+    pub(crate) fn join_fault(&self, server: &ServerId) -> Option<JoinFault>
+        ensures { result ≡ join_fault self.now server.now }
+    {
+        if is_used(&self.used, server) {
+            return Some(JoinFault::Used);
+        }
+        chain_fault(&self.chain, &self.joining)
+    }
+
+    /// A join that isn't refused.
+    pub(crate) fn join<T: Drop>(&mut self, server: ServerId, out: &mut Out<T>)
+        requires epochs { self.old.epoch < MAX_EPOCH }
+        requires new { length self.old.chain < length (with_number server self.old.used) }
+        requires room { MAX_POSTS ≤ out.old.room }
+        ensures next { self.new ≡ (join_step {M = T} self.old server).0 }
+        ensures puts { PutsInRoom out.old out.new (join_step self.old server).1 }
+    {
+        let Some(before) = last_member(&self.chain, None) else {
+            return;
+        };
+        let epoch = next_epoch(&self.epoch);
+        mark_used(&mut self.used, &server);
+        self.epoch = epoch;
+        self.joining = Some(server);
+        self.chain.push(Member::new(server, epoch));
+        out.put_reserved(Process::Server(server), Message::NewPred(epoch, before));
+    }
+
+    // Every client, by number, hears of the epoch, the head and the tail.
+    fn tell<T: Drop>(&self, out: &mut Out<T>)
+        requires { self.now.clients ≤ out.old.room }
+        ensures { PutsInRoom out.old out.new (config_posts self.now) }
+    {
+        for number in 0..self.clients {
+            let Some(client) = ClientId::new(number) else {
+                unreachable!();
+            };
+            out.put_reserved(
+                Process::Client(client),
+                Message::Config(self.epoch, self.head(), self.tail()),
+            );
+        }
+    }
+
+    // The head that clients are told.
+    fn head(&self) -> Option<ServerId>
+        ensures { result ≡ head_of self.now }
+    {
+        Some(self.chain.first()?.id())
+    }
+
+    // The tail that clients are told.
+    fn tail(&self) -> Option<ServerId>
+        ensures { result ≡ tail_of self.now }
+    {
+        last_with_state(&self.chain, &self.joining, self.head())
+    }
+}
+
+// The next epoch.
+fn next_epoch(epoch: &Epoch) -> Epoch
+    requires { epoch.now < MAX_EPOCH }
+    ensures { result ≡ epoch.now + 1 }
+{
+    match Epoch::new(epoch.number() + 1) {
+        Some(next) => next,
+        None => unreachable!(),
+    }
+}

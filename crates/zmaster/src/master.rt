@@ -1,0 +1,74 @@
+//! The master.
+
+ghost use Rattle.std.specs.Prelude.{◌≡◌, ◌≤◌, IfErr, OnErr, OnOk, None, Some};
+ghost use Rattle.zmaster_table.specs.View.{opening_master};
+ghost use Rattle.zmaster_table.specs.Table.{join_fault, join_step, master_step};
+ghost use Rattle.zout.specs.Posts.{PutsInRoom, table_message};
+ghost use Rattle.zmaster.specs.declared.limits.TheConstants.{MAX_CLIENTS, MAX_POSTS};
+
+use crate::knowledge::Knowledge;
+use crate::limits::{MAX_CLIENTS, MAX_POSTS};
+use std::marker::Model;
+use zmaster_table::JoinFault;
+use zout::Out;
+use zserver_table::{Message, Process, ServerId};
+
+/// The master. Whatever it hears, it gives at most three epochs for each number of a server.
+#[derive(Drop)]
+pub struct Master {
+    known: Knowledge,
+}
+
+impl Model for Master {
+    ghost use Rattle.std.specs.Prelude.{◌≤◌, length};
+    ghost use Rattle.zserver_table.specs.declared.limits.TheConstants.{MAX_SERVERS};
+    ghost use Rattle.zmaster_table.specs.View.{MasterView};
+    ghost use Rattle.zmaster_table.specs.Laws.{IsBounded};
+
+    ghost Value = { MasterView };
+
+    ghost view = { λ master. master.known };
+
+    ghost invariant = { λ master. IsBounded master.known × (length master.known.used ≤ MAX_SERVERS) };
+}
+
+impl Master {
+    /// The master of the opening chain, whose last server is this, with so many clients. It takes no
+    /// memory.
+    pub fn new(last: ServerId, clients: u8) -> Master
+        requires { clients ≤ MAX_CLIENTS }
+        ensures { result ≡ opening_master last clients }
+    {
+        let known = Knowledge::new(last, clients);
+        let _ = known.count();
+        Master { known }
+    }
+
+    /// Takes a message. It takes no memory, and always acts.
+    pub fn take<T: Drop>(&mut self, from: Process, message: Message<T>, out: &mut Out<T>)
+        requires { MAX_POSTS ≤ out.old.room }
+        ensures next { self.new ≡ (master_step self.old from (table_message message)).0 }
+        ensures puts { PutsInRoom out.old out.new (master_step self.old from (table_message message)).1 }
+    {
+        self.known.take(&from, &message, out);
+        let _ = self.known.count();
+    }
+
+    /// Lets a server join behind the last of the chain, or says why it can't. It takes no memory.
+    pub fn join<T: Drop>(&mut self, server: ServerId, out: &mut Out<T>) -> Result<(), JoinFault>
+        requires { MAX_POSTS ≤ out.old.room }
+        ensures next { OnOk result (self.new ≡ (join_step {M = T} self.old server).0) }
+        ensures puts { OnOk result (PutsInRoom out.old out.new (join_step self.old server).1) }
+        ensures allowed { OnOk result (join_fault self.old server ≡ None) }
+        ensures fault { IfErr result (λ fault. join_fault self.old server ≡ Some fault) }
+        ensures same { OnErr result (self.new ≡ self.old) }
+        ensures silent { OnErr result (out.new ≡ out.old) }
+    {
+        if let Some(fault) = self.known.join_fault(&server) {
+            return Err(fault);
+        }
+        self.known.join(server, out);
+        let _ = self.known.count();
+        Ok(())
+    }
+}

@@ -1,0 +1,71 @@
+//! A member of the chain.
+
+ghost use Rattle.std.specs.Prelude.{◌≡◌};
+
+use std::marker::Model;
+use zserver_table::{Epoch, ServerId};
+
+/// A member of the chain, with the epoch of its pair with the one before it.
+#[derive(Drop)]
+pub(crate) struct Member {
+    id: ServerId,
+    epoch: Epoch,
+}
+
+impl Model for Member {
+    ghost use Rattle.std.specs.Prelude.{ℕ};
+
+    ghost Value = { ℕ × ℕ };
+
+    ghost view = { λ member. (member.id, member.epoch) };
+}
+
+impl Member {
+    pub(crate) fn new(id: ServerId, epoch: Epoch) -> Member
+        ensures { result ≡ (id, epoch) }
+    {
+        Member { id, epoch }
+    }
+
+    pub(crate) fn id(&self) -> ServerId
+        ensures { result ≡ self.now.0 }
+    {
+        self.id
+    }
+
+    pub(crate) fn epoch(&self) -> Epoch
+        ensures { result ≡ self.now.1 }
+    {
+        self.epoch
+    }
+}
+
+/// What fills the places that no member has.
+impl Default for Member {
+    fn default() -> Member {
+        Member {
+            id: first_server(),
+            epoch: first_epoch(),
+        }
+    }
+}
+
+/// The opening chain's first server.
+pub(crate) fn first_server() -> ServerId
+    ensures { result ≡ 1 }
+{
+    match ServerId::new(1) {
+        Some(server) => server,
+        None => unreachable!(),
+    }
+}
+
+/// The epoch of the opening chain.
+pub(crate) fn first_epoch() -> Epoch
+    ensures { result ≡ 0 }
+{
+    match Epoch::new(0) {
+        Some(epoch) => epoch,
+        None => unreachable!(),
+    }
+}

@@ -1,0 +1,30 @@
+//! The numbers of servers that were ever used, as a row of marks.
+
+ghost use Rattle.std.specs.Prelude.{◌≡◌, ◌≤◌, length};
+ghost use Rattle.zserver_table.specs.declared.limits.TheConstants.{MAX_SERVERS};
+ghost use Rattle.zmaster_table.specs.View.{is_among, with_number};
+ghost use Rattle.zmaster.specs.support.Marks.{numbers_from};
+
+use crate::limits::SERVERS;
+use zserver_table::ServerId;
+
+/// Whether the number is marked.
+pub(crate) fn is_used(used: &[bool; SERVERS], server: &ServerId) -> bool
+    ensures { result ≡ is_among server.now (numbers_from 1 used.now) }
+{
+    used[server.number() as usize - 1]
+}
+
+/// Marks the number.
+pub(crate) fn mark_used(used: &mut [bool; SERVERS], server: &ServerId)
+    ensures { numbers_from 1 used.new ≡ with_number server.now (numbers_from 1 used.old) }
+{
+    used[server.number() as usize - 1] = true;
+}
+
+/// How many numbers can be marked.
+pub(crate) fn width(used: &[bool; SERVERS]) -> usize
+    ensures { length (numbers_from 1 used.now) ≤ MAX_SERVERS }
+{
+    used.len()
+}
