@@ -7,7 +7,7 @@ ghost use Rattle.zclient_table.specs.Table.{begin_fault, begin_step, client_step
 ghost use Rattle.zout.specs.Posts.{Puts, table_message};
 ghost use Rattle.zclient.specs.Core.{IsBeginFault, IsResend};
 
-use crate::post::{call_post, put_post};
+use crate::post::send_call;
 use std::alloc::Global;
 use std::marker::Model;
 use zcalls::{Call, CallNumber, Reply};
@@ -44,7 +44,8 @@ impl Model for ClientCore {
 impl ClientCore {
     /// A client of the opening chain, whose last server is this. It takes no memory.
     pub fn new(alloc: Global, last: ServerId) -> ClientCore
-        ensures { (clients client : ℕ) → client < clients → result ≡ opening_client last clients client }
+        ensures { (clients client : ℕ) → client < clients
+            → result ≡ opening_client last clients client }
     {
         ClientCore {
             alloc,
@@ -73,13 +74,9 @@ impl ClientCore {
         let Some(number) = CallNumber::new(self.number.number() + 1) else {
             return Err(BeginFault::Exhausted);
         };
-        let Ok(post) = call_post(self.alloc, &self.head, &self.tail, number, &call) else {
+        let Ok(()) = send_call(self.alloc, &self.head, &self.tail, number, &call, out) else {
             return Err(BeginFault::Memory);
         };
-        let Ok(()) = out.reserve(1) else {
-            return Err(BeginFault::Memory);
-        };
-        put_post(out, post);
         self.number = number;
         self.outstanding = Some((number, call));
         Ok(number)
@@ -94,8 +91,10 @@ impl ClientCore {
         message: Message<T>,
         out: &mut Out<T>,
     ) -> Result<Option<Reply>, Message<T>>
-        ensures next { OnOk result (self.new ≡ (client_step self.old from (table_message message)).0) }
-        ensures puts { OnOk result (Puts out.old out.new (client_step self.old from (table_message message)).1) }
+        ensures next { OnOk result
+            (self.new ≡ (client_step self.old from (table_message message)).0) }
+        ensures puts { OnOk result
+            (Puts out.old out.new (client_step self.old from (table_message message)).1) }
         ensures reply { IfOk result (λ reply. reply
             ≡ option_map (λ given. given.1) (client_step self.old from (table_message message)).2) }
         ensures back { IfErr result (λ back. back ≡ message) }
@@ -144,10 +143,7 @@ impl ClientCore {
         let Some((number, call)) = &self.outstanding else {
             return Ok(());
         };
-        let post = call_post(self.alloc, head, tail, *number, call)?;
-        out.reserve(1)?;
-        put_post(out, post);
-        Ok(())
+        send_call(self.alloc, head, tail, *number, call, out)
     }
 
     // Answer: to the call that it waits for, the wait is over, and the reply is handed out.
@@ -155,7 +151,8 @@ impl ClientCore {
     fn answer<T: Drop>(&mut self, number: CallNumber, reply: Reply) -> Option<Reply>
         ensures next { self.new ≡ (answer_row {M = T} self.old number reply).0 }
         ensures silent { (answer_row {M = T} self.old number reply).1 ≡ [] }
-        ensures reply { result ≡ option_map (λ given. given.1) (answer_row {M = T} self.old number reply).2 }
+        ensures reply { result
+            ≡ option_map (λ given. given.1) (answer_row {M = T} self.old number reply).2 }
     {
         if let Some((waited, _)) = &self.outstanding
             && waited.number() == number.number()
@@ -175,9 +172,12 @@ impl ClientCore {
         tail: &Option<ServerId>,
         out: &mut Out<T>,
     ) -> Result<(), Memory>
-        ensures next { OnOk result (self.new ≡ (config_row {M = T} self.old epoch.now head.now tail.now).0) }
-        ensures puts { OnOk result (Puts out.old out.new (config_row self.old epoch.now head.now tail.now).1) }
-        ensures no_reply { OnOk result ((config_row {M = T} self.old epoch.now head.now tail.now).2 ≡ None) }
+        ensures next { OnOk result
+            (self.new ≡ (config_row {M = T} self.old epoch.now head.now tail.now).0) }
+        ensures puts { OnOk result
+            (Puts out.old out.new (config_row self.old epoch.now head.now tail.now).1) }
+        ensures no_reply { OnOk result
+            ((config_row {M = T} self.old epoch.now head.now tail.now).2 ≡ None) }
         ensures later { OnErr result (self.old.epoch < epoch.now) }
         ensures waited { OnErr result (IsSome self.old.outstanding) }
         ensures same { OnErr result (self.new ≡ self.old) }

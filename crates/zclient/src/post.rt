@@ -1,6 +1,6 @@
 //! A call on its way.
 
-ghost use Rattle.std.specs.Prelude.{◌≡◌, ◌<◌, IfOk};
+ghost use Rattle.std.specs.Prelude.{◌≡◌, ◌<◌, IfOk, OnErr, OnOk};
 ghost use Rattle.zclient_table.specs.Table.{call_posts};
 ghost use Rattle.zout.specs.Posts.{Puts};
 ghost use Rattle.zclient.specs.Core.{posts_of};
@@ -13,7 +13,7 @@ use zserver_table::{Message, Process, ServerId};
 
 /// The message that sends a call: an update to the head, a query to the tail. None where there is no such
 /// server.
-pub(crate) fn call_post<T: Drop>(
+fn call_post<T: Drop>(
     alloc: Global,
     head: &Option<ServerId>,
     tail: &Option<ServerId>,
@@ -41,11 +41,29 @@ pub(crate) fn call_post<T: Drop>(
 }
 
 /// Puts the one message or none, for which room is kept.
-pub(crate) fn put_post<T: Drop>(out: &mut Out<T>, post: Option<(Process, Message<T>)>)
+fn put_post<T: Drop>(out: &mut Out<T>, post: Option<(Process, Message<T>)>)
     requires { 0 < out.old.room }
     ensures { Puts out.old out.new (posts_of post) }
 {
     if let Some((receiver, message)) = post {
         out.put_reserved(receiver, message);
     }
+}
+
+/// Sends a call to these ends of the chain. All growth is made before it is put.
+pub(crate) fn send_call<T: Drop>(
+    alloc: Global,
+    head: &Option<ServerId>,
+    tail: &Option<ServerId>,
+    number: CallNumber,
+    call: &Call,
+    out: &mut Out<T>,
+) -> Result<(), Memory>
+    ensures puts { OnOk result (Puts out.old out.new (call_posts head.now tail.now number call.now)) }
+    ensures silent { OnErr result (out.new.posts ≡ out.old.posts) }
+{
+    let post = call_post(alloc, head, tail, number, call)?;
+    out.reserve(1)?;
+    put_post(out, post);
+    Ok(())
 }

@@ -4,6 +4,6 @@
 //! `Snapshot` hands over is a type parameter, so no machine is known here.
 #![tactic(auto)]
 
-mod out;
+mod list;
 
-pub use out::Out;
+pub use list::Out;

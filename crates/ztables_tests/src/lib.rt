@@ -1,0 +1,10 @@
+//! Tests of `zout`, of `zclient` and of the copies of `zcalls`: what no clause says. Each call that
+//! allocates can succeed, and its answer is compared.
+#![tactic(auto)]
+
+#[cfg(test)]
+mod client;
+#[cfg(test)]
+mod copies;
+#[cfg(test)]
+mod lists;
