@@ -59,7 +59,8 @@ pub(crate) fn send_call<T: Drop>(
     call: &Call,
     out: &mut Out<T>,
 ) -> Result<(), Memory>
-    ensures puts { OnOk result (Puts out.old out.new (call_posts head.now tail.now number call.now)) }
+    ensures puts { OnOk result (Puts out.old out.new
+        (call_posts head.now tail.now number call.now)) }
     ensures silent { OnErr result (out.new.posts ≡ out.old.posts) }
 {
     let post = call_post(alloc, head, tail, number, call)?;

@@ -111,7 +111,8 @@ impl Knowledge {
     )
         requires { 0 < out.old.room }
         ensures same { (have_row {M = T} self.now server.now epoch.now last.now).0 ≡ self.now }
-        ensures puts { PutsInRoom out.old out.new (have_row self.now server.now epoch.now last.now).1 }
+        ensures puts { PutsInRoom out.old out.new
+            (have_row self.now server.now epoch.now last.now).1 }
     {
         if let Some(before) = member_before(&self.chain, server, epoch) {
             out.put_reserved(

@@ -29,7 +29,7 @@ impl Model for Master {
 
     ghost view = { λ master. master.known };
 
-    ghost invariant = { λ master. IsBounded master.known × (length master.known.used ≤ MAX_SERVERS) };
+    ghost invariant = { λ m. IsBounded m.known × (length m.known.used ≤ MAX_SERVERS) };
 }
 
 impl Master {
@@ -48,7 +48,8 @@ impl Master {
     pub fn take<T: Drop>(&mut self, from: Process, message: Message<T>, out: &mut Out<T>)
         requires { MAX_POSTS ≤ out.old.room }
         ensures next { self.new ≡ (master_step self.old from (table_message message)).0 }
-        ensures puts { PutsInRoom out.old out.new (master_step self.old from (table_message message)).1 }
+        ensures puts { PutsInRoom out.old out.new
+            (master_step self.old from (table_message message)).1 }
     {
         self.known.take(&from, &message, out);
         let _ = self.known.count();
