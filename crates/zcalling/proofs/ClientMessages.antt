@@ -13,10 +13,10 @@ use Rattle.zserver_table.specs.declared.process.Process.TheVariants.{Master, Ser
 use Rattle.zserver_table.specs.View.{Post}
 use Rattle.zclient_table.specs.View.{ClientView}
 use Rattle.zclient_table.specs.Table as client
-use Rattle.zworld.specs.declared.history.CallEvent.{CallEvent}
-use Rattle.zworld.specs.declared.history.CallEvent.TheVariants.{Begin, Answer}
-use Rattle.zworld.specs.History.{History, HasBegun}
-use Rattle.zworld.specs.Events.{client_took}
+use Rattle.zworld_model.specs.declared.history.CallEvent.{CallEvent}
+use Rattle.zworld_model.specs.declared.history.CallEvent.TheVariants.{Begin, Answer}
+use Rattle.zworld_model.specs.History.{History, HasBegun}
+use Rattle.zworld_model.specs.Events.{client_took}
 use Rattle.zlegal.specs.Items.{IsGiven, IsSameEvent}
 use Rattle.zlegal.proofs.lists.Members.{among_left, among_last}
 use Rattle.zlegal.proofs.lists.Distinct.{no_two_last}

@@ -12,11 +12,11 @@ use Rattle.zserver_table.specs.declared.process.Process.TheVariants.{Server, Cli
 use Rattle.zserver_table.specs.View.{Post}
 use Rattle.zclient_table.specs.View.{ClientView}
 use Rattle.zclient_table.specs.Table as client
-use Rattle.zworld.specs.declared.history.CallEvent.{CallEvent}
-use Rattle.zworld.specs.declared.history.CallEvent.TheVariants.{Begin, Answer}
-use Rattle.zworld.specs.History.{History, HasBegun}
-use Rattle.zworld.specs.Links.{put}
-use Rattle.zworld.specs.World.{at}
+use Rattle.zworld_model.specs.declared.history.CallEvent.{CallEvent}
+use Rattle.zworld_model.specs.declared.history.CallEvent.TheVariants.{Begin, Answer}
+use Rattle.zworld_model.specs.History.{History, HasBegun}
+use Rattle.zworld_model.specs.Links.{put}
+use Rattle.zworld_model.specs.World.{at}
 use Rattle.zlegal.specs.Items.{Item, IsAnsweredBy, AreBegunInTime, AreAnsweredInTime, IsSameEvent, EventsDiffer, AreNumbered}
 use Rattle.zlegal.proofs.lists.Members.{among_left, among_right, among_last, among_take}
 use Rattle.zlegal.proofs.lists.Distinct.{no_two_last}

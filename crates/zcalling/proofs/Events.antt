@@ -6,10 +6,10 @@ use Rattle.zserver_table.specs.declared.message.Message.TheVariants as message
 use Rattle.zserver_table.specs.declared.process.Process.{Process}
 use Rattle.zserver_table.specs.declared.process.Process.TheVariants.{Master, Server, Client}
 use Rattle.zclient_table.specs.Table as client
-use Rattle.zworld.specs.declared.event.Event.TheVariants.{Begin, Retry, Take, Fail}
-use Rattle.zworld.specs.Links.{without_front}
-use Rattle.zworld.specs.World.{at}
-use Rattle.zworld.specs.Events.{acts, front_step}
+use Rattle.zworld_model.specs.declared.event.Event.TheVariants.{Begin, Retry, Take, Fail}
+use Rattle.zworld_model.specs.Links.{without_front}
+use Rattle.zworld_model.specs.World.{at}
+use Rattle.zworld_model.specs.Events.{acts, front_step}
 use Rattle.zchain.specs.Flow.{log_machine, LogMessage}
 use Rattle.zchain.specs.Chain.{IsMember}
 use Rattle.zchain.specs.Account.{Account}

@@ -3,7 +3,7 @@ use Rattle.std.specs.Prelude.{ℕ}
 use Rattle.zcalls.specs.declared.call.Call.{Call}
 use Rattle.zserver_table.specs.declared.process.Process.{Process}
 use Rattle.zserver_table.specs.declared.process.Process.TheVariants.{Client}
-use Rattle.zworld.specs.declared.event.Event.TheVariants.{Begin, Retry, Take, Fail}
+use Rattle.zworld_model.specs.declared.event.Event.TheVariants.{Begin, Retry, Take, Fail}
 use Rattle.zchain.specs.Events.{KeepsSound}
 
 -- a client takes a message: Answer, Config, or one that doesn't count

@@ -6,9 +6,9 @@ use Rattle.zcalls.specs.PlainTree.{plain_tree}
 use Rattle.zcalls.specs.Acts.{after_log, acts_from}
 use Rattle.zcalls.proofs.Among.{test}
 use Rattle.zserver_table.specs.declared.process.Process.{Process}
-use Rattle.zworld.specs.declared.event.Event.{Event}
-use Rattle.zworld.specs.declared.event.Event.TheVariants.{Take}
-use Rattle.zworld.specs.Events.{front_is, has_failed, is_enabled, acts, front_step}
+use Rattle.zworld_model.specs.declared.event.Event.{Event}
+use Rattle.zworld_model.specs.declared.event.Event.TheVariants.{Take}
+use Rattle.zworld_model.specs.Events.{front_is, has_failed, is_enabled, acts, front_step}
 use Rattle.zlegal.specs.Items.{all_at_time, new_items}
 use Rattle.zlegal.proofs.lists.Tests.{left_of, right_of, not_true}
 use Rattle.zlegal.proofs.lists.Prefixes.{prefix_same}

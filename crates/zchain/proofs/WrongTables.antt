@@ -8,7 +8,7 @@ use Rattle.zcalls.proofs.ActedLogs.{acted_entries_once}
 use Rattle.zserver_table.specs.declared.message.Message.TheVariants as message
 use Rattle.zserver_table.specs.declared.process.Process.TheVariants.{Master, Server}
 use Rattle.zserver_table.specs.Table.{accept_result}
-use Rattle.zworld.specs.Links.{Links}
+use Rattle.zworld_model.specs.Links.{Links}
 use Rattle.zlegal.specs.Prefix.{IsPrefix}
 use Rattle.zchain.specs.Flow.{final_log}
 use Rattle.zchain.specs.Chain.{IsAhead}

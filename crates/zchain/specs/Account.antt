@@ -9,10 +9,10 @@ use Rattle.zcalls.specs.Acts.{after_log}
 use Rattle.zserver_table.specs.declared.message.Message.TheVariants as message
 use Rattle.zserver_table.specs.declared.process.Process.TheVariants.{Server, Client}
 use Rattle.zserver_table.specs.View.{ServerView}
-use Rattle.zworld.specs.declared.event.Event.{Event}
-use Rattle.zworld.specs.declared.event.Event.TheVariants.{Take}
-use Rattle.zworld.specs.World.{opening_world}
-use Rattle.zworld.specs.Events.{is_enabled, acts}
+use Rattle.zworld_model.specs.declared.event.Event.{Event}
+use Rattle.zworld_model.specs.declared.event.Event.TheVariants.{Take}
+use Rattle.zworld_model.specs.World.{opening_world}
+use Rattle.zworld_model.specs.Events.{is_enabled, acts}
 use Rattle.zlegal.specs.Items.{Item, new_items}
 use Rattle.zchain.specs.Flow.{log_machine, LogWorld, LogMessage, Log}
 

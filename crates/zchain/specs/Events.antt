@@ -1,6 +1,6 @@
 -- What it is that an event keeps a run sound.
 use Rattle.zcalls.specs.PlainTree.{plain_tree}
-use Rattle.zworld.specs.declared.event.Event.{Event}
+use Rattle.zworld_model.specs.declared.event.Event.{Event}
 use Rattle.zchain.specs.Last.{LastsAreLengths}
 use Rattle.zchain.specs.Account.{Account, next_account}
 use Rattle.zchain.specs.Sound.{IsSound, IsSoundAfter}

@@ -8,7 +8,7 @@ use Rattle.zserver_table.specs.declared.message.Message.TheVariants as message
 use Rattle.zserver_table.specs.declared.process.Process.TheVariants.{Server}
 use Rattle.zserver_table.specs.Machine.{Does, log_of, machine_of}
 use Rattle.zserver_table.specs.View.{MessageOf, Neighbour}
-use Rattle.zworld.specs.World.{World}
+use Rattle.zworld_model.specs.World.{World}
 
 -- a log, where there is one
 abbrev pub Log : Type 0

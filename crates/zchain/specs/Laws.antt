@@ -2,10 +2,10 @@
 use Rattle.std.specs.Prelude.{ℕ, List}
 use Rattle.zcalls.specs.PlainTree.{plain_tree}
 use Rattle.zserver_table.specs.declared.process.Process.{Process}
-use Rattle.zworld.specs.declared.event.Event.{Event}
-use Rattle.zworld.specs.declared.event.Event.TheVariants.{Ignore}
-use Rattle.zworld.specs.World.{opening_world}
-use Rattle.zworld.specs.Events.{run}
+use Rattle.zworld_model.specs.declared.event.Event.{Event}
+use Rattle.zworld_model.specs.declared.event.Event.TheVariants.{Ignore}
+use Rattle.zworld_model.specs.World.{opening_world}
+use Rattle.zworld_model.specs.Events.{run}
 use Rattle.zchain.specs.Flow.{log_machine}
 use Rattle.zchain.specs.Last.{LastsAreLengths}
 use Rattle.zchain.specs.Account.{opening_account}

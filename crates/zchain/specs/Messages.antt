@@ -5,7 +5,7 @@ use Rattle.zcalls.specs.Operation.{operation_of}
 use Rattle.zserver_table.specs.declared.message.Message.TheVariants as message
 use Rattle.zserver_table.specs.declared.process.Process.{Process}
 use Rattle.zserver_table.specs.declared.process.Process.TheVariants.{Master, Server, Client}
-use Rattle.zworld.specs.History.{HasBegun}
+use Rattle.zworld_model.specs.History.{HasBegun}
 use Rattle.zlegal.specs.Items.{Item, IsGiven, AllBegun}
 use Rattle.zchain.specs.Flow.{LogWorld, LogMessage}
 use Rattle.zchain.specs.Chain.{IsOpened}

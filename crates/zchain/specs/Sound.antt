@@ -8,10 +8,10 @@ use Rattle.zcalls.specs.Kept.{Plain}
 use Rattle.zserver_table.specs.declared.process.Process.{Process}
 use Rattle.zserver_table.specs.View.{spare}
 use Rattle.zmaster_table.specs.View.{members}
-use Rattle.zworld.specs.declared.history.CallEvent.TheVariants.{Answer}
-use Rattle.zworld.specs.History.{HasBegun}
-use Rattle.zworld.specs.Links.{Links}
-use Rattle.zworld.specs.PlainTree.{service_of}
+use Rattle.zworld_model.specs.declared.history.CallEvent.TheVariants.{Answer}
+use Rattle.zworld_model.specs.History.{HasBegun}
+use Rattle.zworld_model.specs.Links.{Links}
+use Rattle.zworld_model.specs.PlainTree.{service_of}
 use Rattle.zlegal.specs.Prefix.{IsPrefix, IsEntry}
 use Rattle.zlegal.specs.Items.{Item, Replays, AreCommitted, TimesRise, AreBegunInTime, AreAnsweredInTime, EventsDiffer, AreNumbered, AllBegun}
 use Rattle.zchain.specs.Flow.{LogWorld, log_at, first_log}

@@ -10,10 +10,10 @@ use Rattle.zcalls.specs.Operation.{Operation, operation_of}
 use Rattle.zcalls.specs.Kept.{Plain}
 use Rattle.zcalls.specs.Acts.{after_log, acts_of, acts_from}
 use Rattle.zclient_table.specs.View.{ClientView}
-use Rattle.zworld.specs.declared.history.CallEvent.{CallEvent}
-use Rattle.zworld.specs.declared.history.CallEvent.TheVariants.{Begin, Answer}
-use Rattle.zworld.specs.History.{History, HasBegun}
-use Rattle.zworld.specs.LegalOrder.{Service, operation_step}
+use Rattle.zworld_model.specs.declared.history.CallEvent.{CallEvent}
+use Rattle.zworld_model.specs.declared.history.CallEvent.TheVariants.{Begin, Answer}
+use Rattle.zworld_model.specs.History.{History, HasBegun}
+use Rattle.zworld_model.specs.LegalOrder.{Service, operation_step}
 use Rattle.zlegal.specs.Prefix.{Pairwise}
 
 -- a call that took effect

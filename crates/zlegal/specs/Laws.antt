@@ -3,8 +3,8 @@ use Rattle.std.specs.Prelude.{List}
 use Rattle.ztree.specs.Tree.{opening_tree}
 use Rattle.zcalls.specs.declared.call.Entry.{Entry}
 use Rattle.zcalls.specs.PlainTree.{plain_tree}
-use Rattle.zworld.specs.History.{History}
-use Rattle.zworld.specs.PlainTree.{IsExplained, service_of}
+use Rattle.zworld_model.specs.History.{History}
+use Rattle.zworld_model.specs.PlainTree.{IsExplained, service_of}
 use Rattle.zlegal.specs.Items.{Item, Replays, AreCommitted, TimesRise, AreBegunInTime, AreAnsweredInTime, EventsDiffer}
 
 -- the plain tree explains a history where a list of items goes with it, and a committed log

@@ -9,9 +9,9 @@ use Rattle.zserver_table.specs.declared.process.Process.{Process}
 use Rattle.zserver_table.specs.declared.process.Process.TheVariants.{Master, Server, Client}
 use Rattle.zmaster_table.specs.View.{MasterView, is_among}
 use Rattle.zmaster_table.specs.Table as master
-use Rattle.zworld.specs.declared.event.Event.TheVariants.{Take, Join}
-use Rattle.zworld.specs.Links.{without_front}
-use Rattle.zworld.specs.Events.{front_step, is_server}
+use Rattle.zworld_model.specs.declared.event.Event.TheVariants.{Take, Join}
+use Rattle.zworld_model.specs.Links.{without_front}
+use Rattle.zworld_model.specs.Events.{front_step, is_server}
 use Rattle.zlegal.proofs.lists.Tests.{right_of}
 use Rattle.zchain.specs.Flow.{log_machine, LogMessage}
 use Rattle.zchain.specs.Messages.{IsJustified}

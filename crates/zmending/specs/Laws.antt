@@ -2,7 +2,7 @@
 use Rattle.std.specs.Prelude.{ℕ}
 use Rattle.zserver_table.specs.declared.process.Process.{Process}
 use Rattle.zserver_table.specs.declared.process.Process.TheVariants.{Master, Server}
-use Rattle.zworld.specs.declared.event.Event.TheVariants.{Take, Join}
+use Rattle.zworld_model.specs.declared.event.Event.TheVariants.{Take, Join}
 use Rattle.zchain.specs.Events.{KeepsSound}
 
 -- a server takes a message of the master, whatever it is

@@ -5,13 +5,13 @@ use Rattle.zcalls.specs.Kept.{KeptState}
 use Rattle.zcalls.specs.PlainTree.{plain_tree}
 use Rattle.zserver_table.specs.Machine.{kept_tree, replay}
 use Rattle.zserver_table.proofs.Projection.{log_stands_for_machine}
-use Rattle.zworld.specs.declared.event.Event.{Event}
-use Rattle.zworld.specs.PlainTree.{IsExplained}
-use Rattle.zworld.specs.World.{World, opening_world}
-use Rattle.zworld.specs.Events.{happens, run}
-use Rattle.zworld.specs.Alike.{IsAlike}
-use Rattle.zworld.proofs.Alike.{stay_alike, alike_through}
-use Rattle.zworld.proofs.LogWorlds.{runs_with}
+use Rattle.zworld_model.specs.declared.event.Event.{Event}
+use Rattle.zworld_model.specs.PlainTree.{IsExplained}
+use Rattle.zworld_model.specs.World.{World, opening_world}
+use Rattle.zworld_model.specs.Events.{happens, run}
+use Rattle.zworld_model.specs.Alike.{IsAlike}
+use Rattle.zworld_model.proofs.Alike.{stay_alike, alike_through}
+use Rattle.zworld_model.proofs.LogWorlds.{runs_with}
 use Rattle.zlegal.proofs.order.PlainTree.{items_explain}
 use Rattle.zchain.specs.Flow.{LogWorld}
 use Rattle.zchain.specs.Account.{opening_account}

@@ -3,9 +3,9 @@ use Rattle.std.proofs.Common.{◌≡◌, Bool, true, false, if◌then◌else◌,
 use Rattle.zcalls.specs.Kept.{Plain}
 use Rattle.zcalls.specs.PlainTree.{plain_tree}
 use Rattle.zserver_table.specs.declared.process.Process.TheVariants.{Master, Server, Client}
-use Rattle.zworld.specs.declared.event.Event.{Event}
-use Rattle.zworld.specs.declared.event.Event.TheVariants.{Begin, Retry, Take, Ignore, Fail, Join}
-use Rattle.zworld.specs.Events.{is_enabled, acts, run}
+use Rattle.zworld_model.specs.declared.event.Event.{Event}
+use Rattle.zworld_model.specs.declared.event.Event.TheVariants.{Begin, Retry, Take, Ignore, Fail, Join}
+use Rattle.zworld_model.specs.Events.{is_enabled, acts, run}
 use Rattle.zlegal.specs.Prefix.{IsPrefix}
 use Rattle.zlegal.proofs.lists.Prefixes.{prefix_same, prefix_of}
 use Rattle.zchain.specs.Flow.{log_machine}

@@ -12,10 +12,10 @@ use Rattle.zserver_table.specs.View.{ServerView, is_tail}
 use Rattle.zserver_table.specs.support.Homomorphism.{view_with}
 use Rattle.zserver_table.proofs.Projection.{log_stands_for_machine}
 use Rattle.zmaster_table.specs.View.{members}
-use Rattle.zworld.specs.World.{World, opening_world}
-use Rattle.zworld.specs.Events.{run}
-use Rattle.zworld.specs.support.LogWorld.{world_with}
-use Rattle.zworld.proofs.LogWorlds.{runs_with}
+use Rattle.zworld_model.specs.World.{World, opening_world}
+use Rattle.zworld_model.specs.Events.{run}
+use Rattle.zworld_model.specs.support.LogWorld.{world_with}
+use Rattle.zworld_model.proofs.LogWorlds.{runs_with}
 use Rattle.zlegal.specs.Prefix.{IsPrefix}
 use Rattle.zlegal.proofs.lists.Tests.{left_of, right_of}
 use Rattle.zlegal.proofs.lists.Places.{two_places}

@@ -13,10 +13,10 @@ use Rattle.zcalls.specs.Acts.{after_log, acts_from}
 use Rattle.zcalls.proofs.Among.{test}
 use Rattle.zcalls.proofs.Acting.{Outcome, outcome}
 use Rattle.zcalls.proofs.Acting.Outcome.{Acts, Stays}
-use Rattle.zworld.specs.declared.history.CallEvent.TheVariants.{Answer}
-use Rattle.zworld.specs.History.{IsUpdate, HasBegun}
-use Rattle.zworld.specs.LegalOrder.{operation_step}
-use Rattle.zworld.specs.PlainTree.{service_of}
+use Rattle.zworld_model.specs.declared.history.CallEvent.TheVariants.{Answer}
+use Rattle.zworld_model.specs.History.{IsUpdate, HasBegun}
+use Rattle.zworld_model.specs.LegalOrder.{operation_step}
+use Rattle.zworld_model.specs.PlainTree.{service_of}
 use Rattle.zlegal.specs.Items.{Item, is_update, updates_of, Replays}
 use Rattle.zlegal.proofs.lists.Members.{among_take}
 use Rattle.zlegal.proofs.order.LegalOrders.{one_call, given}

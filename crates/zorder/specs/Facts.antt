@@ -11,11 +11,11 @@ use Rattle.zcalls.specs.Acts.{after_log, acts_of}
 use Rattle.zserver_table.specs.Machine.{kept_tree}
 use Rattle.zserver_table.specs.View.{is_tail}
 use Rattle.zmaster_table.specs.View.{members}
-use Rattle.zworld.specs.declared.event.Event.{Event}
-use Rattle.zworld.specs.declared.history.CallEvent.TheVariants.{Answer}
-use Rattle.zworld.specs.History.{IsUpdate, HasBegun}
-use Rattle.zworld.specs.World.{opening_world}
-use Rattle.zworld.specs.Events.{run}
+use Rattle.zworld_model.specs.declared.event.Event.{Event}
+use Rattle.zworld_model.specs.declared.history.CallEvent.TheVariants.{Answer}
+use Rattle.zworld_model.specs.History.{IsUpdate, HasBegun}
+use Rattle.zworld_model.specs.World.{opening_world}
+use Rattle.zworld_model.specs.Events.{run}
 use Rattle.zlegal.specs.Prefix.{IsPrefix}
 use Rattle.zchain.specs.Flow.{log_at}
 use Rattle.zchain.specs.Account.{Account, account_after, opening_account}

@@ -3,11 +3,11 @@ use Rattle.std.specs.Prelude.{ℕ, List, [], ◌∷◌}
 use Rattle.ztree.specs.Tree.{Tree}
 use Rattle.zcalls.specs.Kept.{KeptState}
 use Rattle.zserver_table.specs.Machine.{kept_tree}
-use Rattle.zworld.specs.declared.event.Event.{Event}
-use Rattle.zworld.specs.World.{World, opening_world}
-use Rattle.zworld.specs.Events.{happens, run}
-use Rattle.zworld.specs.Alike.{IsAlike}
-use Rattle.zworld.specs.PlainTree.{IsExplained}
+use Rattle.zworld_model.specs.declared.event.Event.{Event}
+use Rattle.zworld_model.specs.World.{World, opening_world}
+use Rattle.zworld_model.specs.Events.{happens, run}
+use Rattle.zworld_model.specs.Alike.{IsAlike}
+use Rattle.zworld_model.specs.PlainTree.{IsExplained}
 
 -- for every list of events, the plain tree explains the history of the run
 abbrev pub EveryHistoryIsExplained : Type 0

@@ -13,9 +13,9 @@ use Rattle.zserver_table.specs.Table as server
 use Rattle.zserver_table.specs.support.Cases.{IsAccepted, IsRow, Processes, Forwards, Ignores, Submits, Updates, Asks, Acknowledges, Shows, Turns, Follows, Leads, Ends}
 use Rattle.zserver_table.proofs.Cases.{server_case}
 use Rattle.zmaster_table.specs.View.{members}
-use Rattle.zworld.specs.declared.event.Event.TheVariants.{Take}
-use Rattle.zworld.specs.Links.{without_front}
-use Rattle.zworld.specs.Events.{process_step}
+use Rattle.zworld_model.specs.declared.event.Event.TheVariants.{Take}
+use Rattle.zworld_model.specs.Links.{without_front}
+use Rattle.zworld_model.specs.Events.{process_step}
 use Rattle.zlegal.specs.Prefix.{IsPrefix}
 use Rattle.zlegal.specs.Items.{Item, new_items}
 use Rattle.zlegal.proofs.lists.Tests.{left_of}

@@ -4,8 +4,8 @@ use Rattle.zcalls.specs.declared.call.Query.{Query}
 use Rattle.zcalls.specs.PlainTree.{plain_tree}
 use Rattle.zserver_table.specs.declared.message.Message.TheVariants as message
 use Rattle.zserver_table.specs.declared.process.Process.TheVariants.{Server, Client}
-use Rattle.zworld.specs.declared.event.Event.TheVariants.{Take}
-use Rattle.zworld.specs.Events.{front_step}
+use Rattle.zworld_model.specs.declared.event.Event.TheVariants.{Take}
+use Rattle.zworld_model.specs.Events.{front_step}
 use Rattle.zchain.specs.Flow.{log_machine, LogMessage, Log}
 use Rattle.zchain.specs.Last.{LastsAreLengths}
 use Rattle.zchain.specs.Account.{Account, tail_log, query_items_of_front, account_by}

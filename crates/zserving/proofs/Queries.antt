@@ -15,12 +15,12 @@ use Rattle.zserver_table.specs.View.{ServerView, Neighbour}
 use Rattle.zserver_table.specs.Table.{ServerResult, query_row}
 use Rattle.zserver_table.specs.Table as server
 use Rattle.zserver_table.proofs.Fields.{view_of}
-use Rattle.zworld.specs.declared.event.Event.TheVariants.{Take}
-use Rattle.zworld.specs.History.{HasBegun}
-use Rattle.zworld.specs.Links.{without_front}
-use Rattle.zworld.specs.World.{at}
-use Rattle.zworld.specs.Events.{process_step, server_does}
-use Rattle.zworld.specs.PlainTree.{service_of}
+use Rattle.zworld_model.specs.declared.event.Event.TheVariants.{Take}
+use Rattle.zworld_model.specs.History.{HasBegun}
+use Rattle.zworld_model.specs.Links.{without_front}
+use Rattle.zworld_model.specs.World.{at}
+use Rattle.zworld_model.specs.Events.{process_step, server_does}
+use Rattle.zworld_model.specs.PlainTree.{service_of}
 use Rattle.zlegal.specs.Items.{Item, updates_of, Replays, AreBegunInTime, all_at_time, new_items}
 use Rattle.zlegal.specs.Prefix.{IsPrefix}
 use Rattle.zlegal.proofs.lists.Members.{among_last, among_left, among_mid}

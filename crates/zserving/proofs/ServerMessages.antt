@@ -17,10 +17,10 @@ use Rattle.zserver_table.specs.Table.{ServerResult, ack_posts, answer_posts}
 use Rattle.zserver_table.specs.Table as server
 use Rattle.zserver_table.specs.support.Cases.{IsAccepted, IsRow, Processes, Forwards, Ignores, Submits, Updates, Asks, Acknowledges, Shows, Turns, Follows, Leads, Ends}
 use Rattle.zserver_table.proofs.Cases.{server_case}
-use Rattle.zworld.specs.declared.event.Event.TheVariants.{Take}
-use Rattle.zworld.specs.History.{HasBegun}
-use Rattle.zworld.specs.Links.{without_front}
-use Rattle.zworld.specs.Events.{process_step}
+use Rattle.zworld_model.specs.declared.event.Event.TheVariants.{Take}
+use Rattle.zworld_model.specs.History.{HasBegun}
+use Rattle.zworld_model.specs.Links.{without_front}
+use Rattle.zworld_model.specs.Events.{process_step}
 use Rattle.zlegal.specs.Items.{Item, IsGiven, new_items}
 use Rattle.zlegal.proofs.acts.NewItems.{update_among}
 use Rattle.zchain.specs.Flow.{log_machine, LogWorld, LogMessage, length_of}

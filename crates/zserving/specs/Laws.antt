@@ -1,7 +1,7 @@
 -- The events in which servers hear servers and clients.
 use Rattle.std.specs.Prelude.{ℕ}
 use Rattle.zserver_table.specs.declared.process.Process.TheVariants.{Server, Client}
-use Rattle.zworld.specs.declared.event.Event.TheVariants.{Take}
+use Rattle.zworld_model.specs.declared.event.Event.TheVariants.{Take}
 use Rattle.zchain.specs.Events.{KeepsSound}
 
 -- a server takes a message of a server: Update, Ack, Snapshot, or one that doesn't count

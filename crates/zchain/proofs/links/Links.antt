@@ -6,8 +6,8 @@ use Rattle.zcalls.proofs.Among.{test, among_cases}
 use Rattle.zserver_table.specs.declared.process.Process.{Process}
 use Rattle.zserver_table.specs.declared.process.Process.TheVariants.{Master, Server, Client}
 use Rattle.zserver_table.specs.View.{MessageOf, Post}
-use Rattle.zworld.specs.Links.{Links, is_same, addressed, put, without_front}
-use Rattle.zworld.specs.World.{at}
+use Rattle.zworld_model.specs.Links.{Links, is_same, addressed, put, without_front}
+use Rattle.zworld_model.specs.World.{at}
 
 -- one process
 pub same_process : (p q : Process) → is_same p q ≡ true → p ≡ q

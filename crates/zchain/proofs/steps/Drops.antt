@@ -9,9 +9,9 @@ use Rattle.zserver_table.specs.declared.message.Message.TheVariants as message
 use Rattle.zserver_table.specs.declared.process.Process.{Process}
 use Rattle.zserver_table.specs.declared.process.Process.TheVariants.{Master, Server}
 use Rattle.zserver_table.specs.View.{Neighbour}
-use Rattle.zworld.specs.declared.event.Event.TheVariants.{Ignore}
-use Rattle.zworld.specs.Links.{is_same, without_front}
-use Rattle.zworld.specs.Events.{front_is, is_request, has_failed}
+use Rattle.zworld_model.specs.declared.event.Event.TheVariants.{Ignore}
+use Rattle.zworld_model.specs.Links.{is_same, without_front}
+use Rattle.zworld_model.specs.Events.{front_is, is_request, has_failed}
 use Rattle.zlegal.proofs.lists.Tests.{left_of, right_of}
 use Rattle.zchain.specs.Flow.{LogWorld, LogMessage, Log, flow, first_snapshot, or_else, log_at, final_log_by, first_snapshot_by}
 use Rattle.zchain.specs.Chain.{IsAhead, IsOpened, Place, IsPast, LeadsTo, is_fresh, HasDistinctEpochs, HasNoTailOrderBehind}

@@ -9,7 +9,7 @@ use Rattle.zcalls.specs.Kept.{Plain}
 use Rattle.zcalls.proofs.Among.{test}
 use Rattle.zserver_table.specs.View.{ServerView, Neighbour, spare, member}
 use Rattle.zmaster_table.specs.View.{is_among, members}
-use Rattle.zworld.specs.World.{opening_world}
+use Rattle.zworld_model.specs.World.{opening_world}
 use Rattle.zlegal.specs.Prefix.{Pairwise}
 use Rattle.zlegal.proofs.lists.Prefixes.{prefix_nil}
 use Rattle.zlegal.proofs.lists.Places.{of_pairwise}

@@ -7,7 +7,7 @@ use Rattle.zserver_table.specs.declared.message.Message.TheVariants as message
 use Rattle.zserver_table.specs.declared.process.Process.{Process}
 use Rattle.zserver_table.specs.declared.process.Process.TheVariants.{Server}
 use Rattle.zserver_table.specs.View.{MessageOf, Post, Neighbour}
-use Rattle.zworld.specs.Links.{Links, is_same, put}
+use Rattle.zworld_model.specs.Links.{Links, is_same, put}
 use Rattle.zlegal.specs.Items.{Item}
 use Rattle.zchain.specs.Flow.{LogWorld, LogMessage, Log, flow, snapshot_of, first_snapshot, or_else, log_at, final_log_by, final_log, first_snapshot_by, first_log}
 use Rattle.zchain.specs.Chain.{IsAhead}

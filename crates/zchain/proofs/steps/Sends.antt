@@ -9,7 +9,7 @@ use Rattle.zserver_table.specs.declared.message.Message.TheVariants as message
 use Rattle.zserver_table.specs.declared.process.Process.TheVariants.{Server}
 use Rattle.zserver_table.specs.View.{Neighbour}
 use Rattle.zmaster_table.specs.View.{members}
-use Rattle.zworld.specs.History.{HasBegun}
+use Rattle.zworld_model.specs.History.{HasBegun}
 use Rattle.zlegal.specs.Prefix.{IsPrefix, IsEntry}
 use Rattle.zlegal.proofs.lists.Places.{before_second}
 use Rattle.zlegal.proofs.lists.Prefixes.{prefix_of}

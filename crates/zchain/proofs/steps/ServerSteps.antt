@@ -13,7 +13,7 @@ use Rattle.zserver_table.specs.declared.process.Process.TheVariants.{Master, Ser
 use Rattle.zserver_table.specs.View.{ServerView, Neighbour, Post}
 use Rattle.zserver_table.specs.Table.{ack_posts, answer_posts}
 use Rattle.zmaster_table.specs.View.{is_among}
-use Rattle.zworld.specs.Links.{Links, is_same, addressed, put}
+use Rattle.zworld_model.specs.Links.{Links, is_same, addressed, put}
 use Rattle.zlegal.specs.Prefix.{IsPrefix}
 use Rattle.zlegal.specs.Items.{Item, IsGiven, all_at_time, new_items}
 use Rattle.zlegal.proofs.lists.Prefixes.{prefix_of, prefix_same}

@@ -16,8 +16,8 @@ use Rattle.zserver_table.specs.support.Cases.{IsAccepted, IsRow, Processes, Forw
 use Rattle.zserver_table.proofs.Fields.{view_of}
 use Rattle.zserver_table.proofs.Cases.{server_case}
 use Rattle.zmaster_table.specs.View.{members}
-use Rattle.zworld.specs.Links.{Links, is_same, without_front}
-use Rattle.zworld.specs.World.{at}
+use Rattle.zworld_model.specs.Links.{Links, is_same, without_front}
+use Rattle.zworld_model.specs.World.{at}
 use Rattle.zlegal.specs.Prefix.{IsPrefix}
 use Rattle.zlegal.proofs.lists.Prefixes.{prefix_of}
 use Rattle.zchain.specs.Flow.{log_machine, LogWorld, LogMessage, Log, log_with_message, flow, first_snapshot, or_else, log_at, final_log_by, final_log, first_snapshot_by, first_log, length_of}

@@ -9,9 +9,9 @@ use Rattle.zserver_table.specs.declared.process.Process.{Process}
 use Rattle.zserver_table.specs.declared.process.Process.TheVariants.{Master, Server}
 use Rattle.zserver_table.specs.View.{ServerView, spare}
 use Rattle.zmaster_table.specs.View.{members}
-use Rattle.zworld.specs.Links.{is_same}
-use Rattle.zworld.specs.World.{at}
-use Rattle.zworld.specs.PlainTree.{service_of}
+use Rattle.zworld_model.specs.Links.{is_same}
+use Rattle.zworld_model.specs.World.{at}
+use Rattle.zworld_model.specs.PlainTree.{service_of}
 use Rattle.zlegal.specs.Prefix.{IsPrefix, IsEntry}
 use Rattle.zlegal.specs.Items.{Item, Replays, AreCommitted, TimesRise, AreBegunInTime, AreAnsweredInTime, AllBegun}
 use Rattle.zchain.specs.Flow.{LogWorld, log_at, final_log}

@@ -13,11 +13,11 @@ use Rattle.zserver_table.specs.Table as server
 use Rattle.zmaster_table.specs.Table as master
 use Rattle.zclient_table.specs.View.{ClientView}
 use Rattle.zclient_table.specs.Table as client
-use Rattle.zworld.specs.declared.event.Event.{Event}
-use Rattle.zworld.specs.declared.event.Event.TheVariants.{Begin, Retry, Take, Ignore, Fail, Join}
-use Rattle.zworld.specs.Links.{Links, put, without_front}
-use Rattle.zworld.specs.World.{World}
-use Rattle.zworld.specs.Events.{is_enabled, client_does, with_answer, process_step, front_step, acts, happens, run}
+use Rattle.zworld_model.specs.declared.event.Event.{Event}
+use Rattle.zworld_model.specs.declared.event.Event.TheVariants.{Begin, Retry, Take, Ignore, Fail, Join}
+use Rattle.zworld_model.specs.Links.{Links, put, without_front}
+use Rattle.zworld_model.specs.World.{World}
+use Rattle.zworld_model.specs.Events.{is_enabled, client_does, with_answer, process_step, front_step, acts, happens, run}
 use Rattle.zchain.proofs.links.Links.{put_among, front_among, at_cases, AllPosts, all_none, all_and}
 use Rattle.zchain.proofs.tables.OtherPosts.{IsOrder, IsRequest, master_orders, join_orders, begin_requests, retry_requests, client_requests}
 

@@ -11,9 +11,9 @@ use Rattle.zserver_table.specs.View.{ServerView, Neighbour, Post, opening_server
 use Rattle.zserver_table.specs.Table.{ServerResult, ack_posts, answer_posts, forward_post, entries_above, missing_posts, server_step, last_number}
 use Rattle.zserver_table.specs.support.Cases.{IsAccepted, IsRow, Processes, Forwards, Ignores, Submits, Updates, Asks, Acknowledges, Shows, Turns, Follows, Leads, Ends}
 use Rattle.zserver_table.proofs.Cases.{server_case}
-use Rattle.zworld.specs.declared.event.Event.{Event}
-use Rattle.zworld.specs.World.{opening_world}
-use Rattle.zworld.specs.Events.{happens, run}
+use Rattle.zworld_model.specs.declared.event.Event.{Event}
+use Rattle.zworld_model.specs.World.{opening_world}
+use Rattle.zworld_model.specs.Events.{happens, run}
 use Rattle.zchain.specs.Flow.{log_machine, LogWorld, LogMessage, Log, length_of}
 use Rattle.zchain.specs.Last.{HasExactLast, IsExact, LastsAreLengths}
 use Rattle.zchain.proofs.links.Links.{AllPosts, all_none, all_and, all_append, all_map}

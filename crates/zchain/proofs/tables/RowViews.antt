@@ -10,8 +10,8 @@ use Rattle.zserver_table.specs.declared.process.Process.TheVariants.{Master, Ser
 use Rattle.zserver_table.specs.View.{ServerView, Neighbour, spare}
 use Rattle.zserver_table.specs.Table.{ServerResult, entries_above}
 use Rattle.zserver_table.specs.support.Cases.{IsAccepted, IsRow, Processes, Forwards, Ignores, Submits, Updates, Asks, Acknowledges, Shows, Turns, Follows, Leads, Ends}
-use Rattle.zworld.specs.History.{HasBegun}
-use Rattle.zworld.specs.Links.{is_same}
+use Rattle.zworld_model.specs.History.{HasBegun}
+use Rattle.zworld_model.specs.Links.{is_same}
 use Rattle.zlegal.specs.Prefix.{IsEntry}
 use Rattle.zlegal.specs.Items.{Item, AllBegun}
 use Rattle.zlegal.proofs.lists.Members.{among_last}

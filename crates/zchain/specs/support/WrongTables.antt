@@ -16,10 +16,10 @@ use Rattle.zserver_table.specs.declared.process.Process.TheVariants.{Server, Cli
 use Rattle.zserver_table.specs.Machine.{Does}
 use Rattle.zserver_table.specs.View.{ServerView, Neighbour, Transfer, spare}
 use Rattle.zserver_table.specs.Table.{ServerResult, if_initialised, is_neighbour, no_effect, accept_result, forward_post}
-use Rattle.zworld.specs.declared.event.Event.TheVariants.{Take}
-use Rattle.zworld.specs.Links.{Links, is_same, without_front}
-use Rattle.zworld.specs.World.{opening_world}
-use Rattle.zworld.specs.Events.{server_does}
+use Rattle.zworld_model.specs.declared.event.Event.TheVariants.{Take}
+use Rattle.zworld_model.specs.Links.{Links, is_same, without_front}
+use Rattle.zworld_model.specs.World.{opening_world}
+use Rattle.zworld_model.specs.Events.{server_does}
 use Rattle.zlegal.specs.Prefix.{IsPrefix}
 use Rattle.zlegal.specs.Items.{updates_of}
 use Rattle.zchain.specs.Flow.{LogWorld, LogMessage, Log, log_machine}

@@ -11,8 +11,8 @@ use Rattle.zcalls.specs.Acts.{after_log, acts_from, acts_of}
 use Rattle.zcalls.proofs.ActedLogs.{after, acted_more}
 use Rattle.zcalls.proofs.Acting.{Outcome, outcome}
 use Rattle.zcalls.proofs.Acting.Outcome.{Acts, Stays}
-use Rattle.zworld.specs.LegalOrder.{operation_step}
-use Rattle.zworld.specs.PlainTree.{service_of}
+use Rattle.zworld_model.specs.LegalOrder.{operation_step}
+use Rattle.zworld_model.specs.PlainTree.{service_of}
 use Rattle.zlegal.specs.Prefix.{IsPrefix}
 use Rattle.zlegal.specs.Items.{Item, all_at_time, is_update, updates_of, Replays}
 

@@ -9,8 +9,8 @@ use Rattle.zcalls.specs.Acts.{after_log, acts_from}
 use Rattle.zcalls.proofs.Among.{test, among_cases}
 use Rattle.zcalls.proofs.Acting.{Outcome, outcome, acted_entry}
 use Rattle.zcalls.proofs.Acting.Outcome.{Acts, Stays}
-use Rattle.zworld.specs.History.{History, HasBegun}
-use Rattle.zworld.specs.PlainTree.{service_of}
+use Rattle.zworld_model.specs.History.{History, HasBegun}
+use Rattle.zworld_model.specs.PlainTree.{service_of}
 use Rattle.zlegal.specs.Prefix.{IsPrefix}
 use Rattle.zlegal.specs.Items.{Item, at_time, all_at_time, is_update, updates_of, Replays, AreCommitted, TimesRise, AreBegunInTime, AreAnsweredInTime, AllBegun, new_items}
 use Rattle.zlegal.proofs.lists.Members.{among_left, among_drop, among_whole}

@@ -7,8 +7,8 @@ use Rattle.zcalls.specs.Lists.{Among, ComesBefore}
 use Rattle.zcalls.specs.Operation.{Operation}
 use Rattle.zcalls.specs.Kept.{Plain}
 use Rattle.zcalls.proofs.Among.{test}
-use Rattle.zworld.specs.LegalOrder.{Service, operation_step, replies_from, states_from}
-use Rattle.zworld.specs.PlainTree.{service_of, call_step}
+use Rattle.zworld_model.specs.LegalOrder.{Service, operation_step, replies_from, states_from}
+use Rattle.zworld_model.specs.PlainTree.{service_of, call_step}
 use Rattle.zlegal.specs.Items.{Item, is_update, updates_of, Replays, TimesRise}
 
 -- some queries of a list are left out

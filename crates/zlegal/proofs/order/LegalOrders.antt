@@ -6,11 +6,11 @@ use Rattle.zcalls.specs.declared.reply.Reply.{Reply}
 use Rattle.zcalls.specs.Lists.{Among, ComesBefore, NoTwo}
 use Rattle.zcalls.specs.Operation.{AreOneUpdate, Operation, IsSameCall}
 use Rattle.zcalls.specs.Kept.{Plain}
-use Rattle.zworld.specs.declared.history.CallEvent.{CallEvent}
-use Rattle.zworld.specs.declared.history.CallEvent.TheVariants.{Begin, Answer}
-use Rattle.zworld.specs.History.{History, IsUpdate, HasBegun, IsAnswered, EndsBefore}
-use Rattle.zworld.specs.LegalOrder.{operation_step, IsReplayed, IsLegalOrder, replies_from}
-use Rattle.zworld.specs.PlainTree.{service_of}
+use Rattle.zworld_model.specs.declared.history.CallEvent.{CallEvent}
+use Rattle.zworld_model.specs.declared.history.CallEvent.TheVariants.{Begin, Answer}
+use Rattle.zworld_model.specs.History.{History, IsUpdate, HasBegun, IsAnswered, EndsBefore}
+use Rattle.zworld_model.specs.LegalOrder.{operation_step, IsReplayed, IsLegalOrder, replies_from}
+use Rattle.zworld_model.specs.PlainTree.{service_of}
 use Rattle.zlegal.specs.Items.{Item, is_update, updates_of, Replays, IsItemOf, IsGiven, IsGivenBy, IsAnsweredBy, AreAnsweredInTime, IsSameEvent, TimesRise, AreBegunInTime, EventsDiffer}
 use Rattle.zlegal.proofs.lists.Members.{among_mid, among_insert, among_inserted, among_take}
 use Rattle.zlegal.proofs.lists.Places.{before_second}

@@ -13,9 +13,9 @@ use Rattle.zcalls.proofs.LawfulParts.{IsGood}
 use Rattle.zcalls.proofs.LawfulCalls.{step-good}
 use Rattle.zcalls.proofs.Bounds.{no_sessions}
 use Rattle.zcalls.proofs.ActedLogs.{acted_entries_once}
-use Rattle.zworld.specs.History.{History}
-use Rattle.zworld.specs.LegalOrder.{operation_step, IsLegalOrder, states_from}
-use Rattle.zworld.specs.PlainTree.{service_of}
+use Rattle.zworld_model.specs.History.{History}
+use Rattle.zworld_model.specs.LegalOrder.{operation_step, IsLegalOrder, states_from}
+use Rattle.zworld_model.specs.PlainTree.{service_of}
 use Rattle.zlegal.specs.Laws.{ItemsExplain}
 use Rattle.zlegal.proofs.order.LegalOrders.{legal_order}
 

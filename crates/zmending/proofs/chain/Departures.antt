@@ -10,7 +10,7 @@ use Rattle.zserver_table.specs.declared.process.Process.TheVariants.{Master, Ser
 use Rattle.zserver_table.specs.View.{Post, Neighbour}
 use Rattle.zmaster_table.specs.View.{MasterView, members, is_among, is_joining, with_number}
 use Rattle.zmaster_table.specs.Table as master
-use Rattle.zworld.specs.Links.{addressed}
+use Rattle.zworld_model.specs.Links.{addressed}
 use Rattle.zlegal.proofs.lists.Members.{among_left, among_right, among_insert, among_inserted}
 use Rattle.zlegal.proofs.lists.Places.{before_insert}
 use Rattle.zlegal.proofs.lists.Distinct.{no_two_without}

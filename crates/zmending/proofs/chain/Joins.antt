@@ -11,7 +11,7 @@ use Rattle.zserver_table.specs.declared.process.Process.TheVariants.{Master, Ser
 use Rattle.zserver_table.specs.View.{ServerView, Post, Neighbour, spare}
 use Rattle.zmaster_table.specs.View.{MasterView, members, is_among, with_number}
 use Rattle.zmaster_table.specs.Table as master
-use Rattle.zworld.specs.Links.{addressed}
+use Rattle.zworld_model.specs.Links.{addressed}
 use Rattle.zlegal.proofs.lists.Members.{among_left, among_right, among_last}
 use Rattle.zlegal.proofs.lists.Distinct.{no_two_last}
 use Rattle.zlegal.proofs.lists.Places.{before_last}

@@ -9,7 +9,7 @@ use Rattle.zserver_table.specs.declared.process.Process.{Process}
 use Rattle.zserver_table.specs.declared.process.Process.TheVariants.{Master, Server}
 use Rattle.zserver_table.specs.View.{Post, Neighbour}
 use Rattle.zmaster_table.specs.View.{MasterView, members, is_among}
-use Rattle.zworld.specs.Links.{addressed, put}
+use Rattle.zworld_model.specs.Links.{addressed, put}
 use Rattle.zlegal.specs.Items.{Item}
 use Rattle.zchain.specs.Flow.{LogWorld, LogMessage, Log, or_else, log_at, final_log_by, final_log, first_snapshot_by, first_log}
 use Rattle.zchain.specs.Chain.{queue, IsAhead, IsOpened, IsMember, IsUsed, IsPair, place_from, HasNoTailOrder, HoldsBehind, HasNoTailOrderBehind, IsNewEpoch, HasDistinctEpochs}

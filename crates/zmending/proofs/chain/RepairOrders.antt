@@ -6,7 +6,7 @@ use Rattle.zcalls.proofs.Among.{test}
 use Rattle.zserver_table.specs.declared.message.Message.TheVariants as message
 use Rattle.zserver_table.specs.declared.process.Process.TheVariants.{Master, Server}
 use Rattle.zserver_table.specs.View.{Post, Neighbour}
-use Rattle.zworld.specs.Links.{addressed}
+use Rattle.zworld_model.specs.Links.{addressed}
 use Rattle.zchain.specs.Flow.{LogWorld, LogMessage}
 use Rattle.zchain.specs.Chain.{Place, place_behind, place_from, turn_of}
 use Rattle.zchain.specs.Messages.{IsJustified}

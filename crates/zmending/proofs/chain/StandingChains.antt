@@ -12,7 +12,7 @@ use Rattle.zserver_table.specs.declared.process.Process.TheVariants.{Master, Ser
 use Rattle.zserver_table.specs.View.{Post, Neighbour}
 use Rattle.zmaster_table.specs.View.{MasterView, is_among, is_joining, head_of, tail_of}
 use Rattle.zmaster_table.specs.Table as master
-use Rattle.zworld.specs.Links.{is_same, addressed}
+use Rattle.zworld_model.specs.Links.{is_same, addressed}
 use Rattle.zchain.specs.Flow.{LogWorld, LogMessage}
 use Rattle.zchain.specs.Chain.{queue, IsOpened, IsPast, LeadsTo, is_fresh, turn_of}
 use Rattle.zchain.specs.Messages.{IsJustified}

@@ -12,9 +12,9 @@ use Rattle.zserver_table.specs.Table as server
 use Rattle.zserver_table.specs.Table.{new_succ_row}
 use Rattle.zserver_table.proofs.Fields.{view_of}
 use Rattle.zmaster_table.specs.View.{members}
-use Rattle.zworld.specs.declared.event.Event.TheVariants.{Take}
-use Rattle.zworld.specs.Links.{without_front}
-use Rattle.zworld.specs.Events.{process_step}
+use Rattle.zworld_model.specs.declared.event.Event.TheVariants.{Take}
+use Rattle.zworld_model.specs.Links.{without_front}
+use Rattle.zworld_model.specs.Events.{process_step}
 use Rattle.zlegal.specs.Prefix.{IsPrefix}
 use Rattle.zlegal.proofs.lists.Places.{before_second}
 use Rattle.zlegal.proofs.lists.Prefixes.{prefix_same}

@@ -11,9 +11,9 @@ use Rattle.zserver_table.specs.View.{ServerView, Neighbour, Post}
 use Rattle.zserver_table.specs.Table.{ServerResult, ack_posts, last_number, become_tail_row, become_head_row, new_pred_row}
 use Rattle.zserver_table.specs.Table as server
 use Rattle.zserver_table.specs.support.Cases.{acks_all}
-use Rattle.zworld.specs.declared.event.Event.TheVariants.{Take}
-use Rattle.zworld.specs.Links.{without_front}
-use Rattle.zworld.specs.Events.{process_step}
+use Rattle.zworld_model.specs.declared.event.Event.TheVariants.{Take}
+use Rattle.zworld_model.specs.Links.{without_front}
+use Rattle.zworld_model.specs.Events.{process_step}
 use Rattle.zlegal.specs.Items.{Item, new_items}
 use Rattle.zlegal.proofs.lists.Prefixes.{prefix_same}
 use Rattle.zchain.specs.Flow.{log_machine, LogWorld, LogMessage, Log, or_else, log_at, final_log_by, final_log, first_snapshot_by, first_log}

@@ -9,9 +9,9 @@ use Rattle.zserver_table.specs.View.{ServerView, Neighbour}
 use Rattle.zserver_table.specs.Table as server
 use Rattle.zserver_table.specs.Table.{new_succ_row}
 use Rattle.zserver_table.proofs.Fields.{view_of}
-use Rattle.zworld.specs.declared.event.Event.TheVariants.{Take}
-use Rattle.zworld.specs.Links.{without_front}
-use Rattle.zworld.specs.Events.{process_step, front_step}
+use Rattle.zworld_model.specs.declared.event.Event.TheVariants.{Take}
+use Rattle.zworld_model.specs.Links.{without_front}
+use Rattle.zworld_model.specs.Events.{process_step, front_step}
 use Rattle.zlegal.proofs.lists.Prefixes.{prefix_same}
 use Rattle.zchain.specs.Flow.{log_machine, LogMessage, Log, or_else, log_at}
 use Rattle.zchain.specs.Chain.{Place, IsPast, LeadsTo, is_fresh, turn_of}

@@ -9,9 +9,9 @@ use Rattle.zserver_table.specs.View.{ServerView, Neighbour}
 use Rattle.zserver_table.specs.Table.{forward_post, entries_above, new_succ_row}
 use Rattle.zserver_table.specs.Table as server
 use Rattle.zserver_table.proofs.Fields.{view_of}
-use Rattle.zworld.specs.declared.event.Event.TheVariants.{Take}
-use Rattle.zworld.specs.Links.{without_front}
-use Rattle.zworld.specs.Events.{process_step}
+use Rattle.zworld_model.specs.declared.event.Event.TheVariants.{Take}
+use Rattle.zworld_model.specs.Links.{without_front}
+use Rattle.zworld_model.specs.Events.{process_step}
 use Rattle.zlegal.specs.Prefix.{IsEntry}
 use Rattle.zlegal.specs.Items.{AllBegun}
 use Rattle.zlegal.proofs.lists.Members.{among_mid}

@@ -1,0 +1,219 @@
+-- Worlds that are alike have the same events enabled, and stay alike.
+use Rattle.std.proofs.Common.{◌≡◌, ℕ, Bool, true, false, if◌then◌else◌, List, [], ◌∷◌, ◌++◌, Option, Some, None, refl, sym, ap, subst, ◌∙◌}
+use mathlib.Core.Bool.{true≢false}
+use Rattle.std.specs.Prelude.{◌&&◌, not, ◌==◌, drop}
+use Rattle.zcalls.specs.declared.reply.Reply.{Reply}
+use Rattle.zserver_table.specs.declared.message.Message.TheVariants as message
+use Rattle.zserver_table.specs.declared.process.Process.{Process}
+use Rattle.zserver_table.specs.declared.process.Process.TheVariants.{Master, Server, Client}
+use Rattle.zserver_table.specs.Machine.{Does}
+use Rattle.zserver_table.specs.View.{ServerView, MessageOf, Post}
+use Rattle.zserver_table.specs.Table as server
+use Rattle.zclient_table.specs.Table as client
+use Rattle.zworld_model.specs.declared.event.Event.{Event}
+use Rattle.zworld_model.specs.declared.event.Event.TheVariants.{Begin, Retry, Take, Ignore, Fail, Join}
+use Rattle.zworld_model.specs.Links.{Links, put, without_front, is_same, addressed}
+use Rattle.zworld_model.specs.World.{World, at}
+use Rattle.zworld_model.specs.Events.{front_is, is_request, has_failed, is_enabled, with_answer, server_does, client_does, process_step, front_step, acts, happens, run}
+use Rattle.zworld_model.specs.declared.outcome.Outcome.{Outcome}
+use Rattle.zworld_model.specs.declared.outcome.Outcome.TheVariants.{Acted, Stopped, Unheard}
+use Rattle.zworld_model.specs.Reading.{is_query, read_delivery, is_delivery, is_fitting, read}
+use Rattle.zworld_model.specs.Alike.{IsAlike}
+
+-- the links agree where it matters in the world
+abbrev Agree : {M : Type 0} → World M → Links M → Links M → Type 0
+Agree v links others = (from to : Process) → has_failed v to ≡ false → links from to ≡ others from to
+
+-- what is put keeps that
+put_agrees : {M : Type 0} (v : World M) (links others : Links M) (sender : Process) (posts : List (Post M))
+    → Agree v links others → Agree v (put links sender posts) (put others sender posts)
+put_agrees v links others sender posts agree from to alive = ap (λ link. if is_same from sender then link ++ addressed to posts else link) (agree from to alive)
+
+-- and so does a front that is taken
+front_agrees : {M : Type 0} (v : World M) (links others : Links M) (sender taker : Process)
+    → Agree v links others → Agree v (without_front links sender taker) (without_front others sender taker)
+front_agrees v links others sender taker agree from to alive = ap (λ link. if is_same from sender && is_same to taker then drop 1 link else link) (agree from to alive)
+
+-- an answer that is told keeps worlds alike
+answered_alike : {M : Type 0} (v w : World M) (c : ℕ) (reply : Option (ℕ × Reply)) → IsAlike v w → IsAlike (with_answer v c reply) (with_answer w c reply)
+answered_alike v w c None alike = alike
+answered_alike v w c (Some reply) alike = record {
+  rest = ap (λ u. with_answer u c (Some reply)) alike.rest;
+  servers = alike.servers;
+  links = alike.links;
+}
+
+-- a taker of an enabled delivery has not failed
+not_failed : (front failed : Bool) → (front && not failed) ≡ true → failed ≡ false
+not_failed front false enabled = refl
+not_failed true true enabled = absurd (true≢false (sym enabled))
+not_failed false true enabled = absurd (true≢false (sym enabled))
+
+-- what agrees where the taker has not failed tells alike whether a delivery is enabled
+same_where_alive : (failed front other : Bool) → (failed ≡ false → front ≡ other) → (front && not failed) ≡ (other && not failed)
+same_where_alive false front other same = ap (λ b. b && true) (same refl)
+same_where_alive true true true same = refl
+same_where_alive true true false same = refl
+same_where_alive true false true same = refl
+same_where_alive true false false same = refl
+
+-- a world, and the one that has other servers and links in it, which agree with its own where it matters
+module _ {M : Type 0} (machine : Does M) (v : World M) (others : ℕ → ServerView M) (links : Links M)
+    (same_views : (s : ℕ) → v.failed s ≡ false → v.servers s ≡ others s) (agree : Agree v v.links links) where
+  -- the other world
+  abbrev other : World M
+  other = record v { servers = others; links = links }
+
+  -- both worlds, without the front of a link
+  abbrev popped : Process → Process → World M
+  popped from to = record v { links = without_front v.links from to }
+
+  abbrev other_popped : Process → Process → World M
+  other_popped from to = record other { links = without_front links from to }
+
+  -- a server's new view and what it puts
+  server_does_alike : (from : Process) (s : ℕ) (did : ServerView M × List (Post M))
+      → IsAlike (server_does (popped from (Server s)) s did) (server_does (other_popped from (Server s)) s did)
+  server_does_alike from s did = record {
+    rest = refl;
+    servers = λ t alive. ap (λ view. if t == s then did.0 else view) (same_views t alive);
+    links = put_agrees v _ _ (Server s) did.1 (front_agrees v _ _ from (Server s) agree);
+  }
+
+  -- what a taker that has not failed does
+  takes_alike : (from to : Process) (message : MessageOf M) → has_failed v to ≡ false
+      → IsAlike (process_step machine (popped from to) from to message) (process_step machine (other_popped from to) from to message)
+  takes_alike from Master message alive = record {
+    rest = refl;
+    servers = same_views;
+    links = put_agrees v _ _ Master _ (front_agrees v _ _ from Master agree);
+  }
+  takes_alike from (Server s) message alive =
+      let did : ServerView M → ServerView M × List (Post M) = λ view. server.server_step machine view from message in
+      subst (λ view. IsAlike (server_does (popped from (Server s)) s (did (v.servers s))) (server_does (other_popped from (Server s)) s (did view)))
+      (same_views s alive) (server_does_alike from s (did (v.servers s)))
+  takes_alike from (Client c) message alive =
+      let took : client.ClientResult M = client.client_step (v.clients c) from message in
+      answered_alike (client_does (popped from (Client c)) c took.0 took.1) (client_does (other_popped from (Client c)) c took.0 took.1) c took.2
+      (record { rest = refl; servers = same_views; links = put_agrees v _ _ (Client c) _ (front_agrees v _ _ from (Client c) agree) })
+
+  -- the worlds as they are
+  as_they_are : IsAlike v other
+  as_they_are = record { rest = refl; servers = same_views; links = agree }
+
+  -- a front that is taken, by what the link has in both
+  takes_front_alike : (from to : Process) (link : List (MessageOf M)) → has_failed v to ≡ false
+      → IsAlike (front_step machine v from to link) (front_step machine other from to link)
+  takes_front_alike from to [] alive = as_they_are
+  takes_front_alike from to (message ∷ more) alive = takes_alike from to message alive
+
+  -- who hasn't failed after one more failure had not failed before it
+  was_alive : (s t : ℕ) (b : Bool) → (t == s) ≡ b → at s true v.failed t ≡ false → v.failed t ≡ false
+  was_alive s t true is alive = absurd (true≢false (sym (ap (λ x. if x then true else v.failed t) is) ∙ alive))
+  was_alive s t false is alive = sym (ap (λ x. if x then true else v.failed t) is) ∙ alive
+
+  -- and so no process
+  none_failed : (s : ℕ) (to : Process) → has_failed (record v { failed = at s true v.failed }) to ≡ false → has_failed v to ≡ false
+  none_failed s Master alive = refl
+  none_failed s (Server t) alive = was_alive s t (t == s) refl alive
+  none_failed s (Client c) alive = refl
+
+  -- what an event does that can happen in the first world
+  acts_alike : (event : Event) → is_enabled v event ≡ true → IsAlike (acts machine v event) (acts machine other event)
+  acts_alike (Begin c call) enabled = record { rest = refl; servers = same_views; links = put_agrees v _ _ (Client c) _ agree }
+  acts_alike (Retry c) enabled = record { rest = refl; servers = same_views; links = put_agrees v _ _ (Client c) _ agree }
+  acts_alike (Take from to) enabled =
+      let alive = not_failed _ (has_failed v to) enabled in
+      subst (λ link. IsAlike (front_step machine v from to (v.links from to)) (front_step machine other from to link)) (agree from to alive)
+      (takes_front_alike from to (v.links from to) alive)
+  acts_alike (Ignore from to) enabled = record { rest = refl; servers = same_views; links = front_agrees v _ _ from to agree }
+  acts_alike (Fail s) enabled = record {
+    rest = refl;
+    servers = λ t alive. same_views t (was_alive s t (t == s) refl alive);
+    links = λ from to alive. put_agrees v _ _ (Server s) ((Master, message.Gone) ∷ []) agree from to (none_failed s to alive);
+  }
+  acts_alike (Join s) enabled = record { rest = refl; servers = same_views; links = put_agrees v _ _ Master _ agree }
+
+  -- the same events can happen in both
+  enabled_alike : (event : Event) → is_enabled v event ≡ is_enabled other event
+  enabled_alike (Begin c call) = refl
+  enabled_alike (Retry c) = refl
+  enabled_alike (Take from to) = same_where_alive (has_failed v to) _ _ (λ alive. ap (front_is (λ message. true)) (agree from to alive))
+  enabled_alike (Ignore from to) = same_where_alive (has_failed v to) _ _ (λ alive. ap (front_is is_request) (agree from to alive))
+  enabled_alike (Fail s) = refl
+  enabled_alike (Join s) = refl
+
+  -- an event that is enabled in both, or in neither
+  happens_as : (event : Event) (b : Bool) → is_enabled v event ≡ b → is_enabled other event ≡ b
+      → IsAlike (happens machine v event) (happens machine other event)
+  happens_as event true here there = rw (here, there) (acts_alike event here)
+  happens_as event false here there = rw (here, there) as_they_are
+
+  -- an event
+  happens_alike : (event : Event) → IsAlike (happens machine v event) (happens machine other event)
+  happens_alike event = happens_as event (is_enabled v event) refl (sym (enabled_alike event))
+
+-- worlds that are alike have the same events enabled
+pub have_the_same_enabled : {M : Type 0} (machine : Does M) (v w : World M) (event : Event) → IsAlike v w → is_enabled v event ≡ is_enabled w event
+have_the_same_enabled machine v w event alike =
+    enabled_alike machine v w.servers w.links alike.servers alike.links event ∙ ap (λ u. is_enabled u event) (sym alike.rest)
+
+-- and stay alike
+pub stay_alike : {M : Type 0} (machine : Does M) (v w : World M) (events : List Event) → IsAlike v w → IsAlike (run machine v events) (run machine w events)
+stay_alike machine v w [] alike = alike
+stay_alike machine v w (event ∷ events) alike =
+    stay_alike machine (happens machine v event) (happens machine w event) events
+    (subst (λ u. IsAlike (happens machine v event) (happens machine u event)) (sym alike.rest)
+    (happens_alike machine v w.servers w.links alike.servers alike.links event))
+
+-- a world is like itself
+pub alike_itself : {M : Type 0} (w : World M) → IsAlike w w
+alike_itself w = record { rest = refl; servers = λ s alive. refl; links = λ from to alive. refl }
+
+-- who failed in one failed in the other
+same_failed : {M : Type 0} (u v : World M) → IsAlike u v → (to : Process) → has_failed u to ≡ has_failed v to
+same_failed u v alike to = ap (λ x. has_failed x to) (sym alike.rest)
+
+pub alike_through : {M : Type 0} (u v w : World M) → IsAlike u v → IsAlike v w → IsAlike u w
+alike_through {M} u v w first second = record {
+  rest = second.rest ∙ ap (λ (x : World M). record x { servers = w.servers; links = w.links }) first.rest;
+  servers = λ s alive. first.servers s alive ∙ second.servers s (sym (same_failed u v first (Server s)) ∙ alive);
+  links = λ from to alive. first.links from to alive ∙ second.links from to (sym (same_failed u v first to) ∙ alive);
+}
+
+-- a choice of equal things, where its test passes in both
+same_choice : {A : Type 0} (b c : Bool) (x y z : A) → b ≡ c → (b ≡ true → x ≡ y) → (if b then x else z) ≡ (if c then y else z)
+same_choice true true x y z same equal = equal refl
+same_choice false false x y z same equal = refl
+same_choice true false x y z same equal = absurd (true≢false same)
+same_choice false true x y z same equal = absurd (true≢false (sym same))
+
+-- an enabled delivery has one front in both
+same_link : {M : Type 0} (v w : World M) → IsAlike v w → (from to : Process) → is_enabled v (Take from to) ≡ true → v.links from to ≡ w.links from to
+same_link v w alike from to enabled = alike.links from to (not_failed _ (has_failed v to) enabled)
+
+-- an event reads alike
+pub read_alike : {M : Type 0} (machine : Does M) (v w : World M) (event : Event) (outcome : Outcome) → IsAlike v w → read v event outcome ≡ read w event outcome
+read_alike machine v w (Take from (Server s)) outcome alike =
+    same_choice _ _ _ _ (Take from (Server s)) (have_the_same_enabled machine v w (Take from (Server s)) alike)
+    (λ enabled. ap (λ link. read_delivery from s (front_is is_query link) outcome) (same_link v w alike from (Server s) enabled))
+read_alike machine v w event outcome alike = refl
+
+-- both tests of a delivery
+same_both : (b c x y : Bool) → b ≡ c → (b ≡ true → x ≡ y) → (b && x) ≡ (c && y)
+same_both true true x y same equal = equal refl
+same_both false false x y same equal = refl
+same_both true false x y same equal = absurd (true≢false same)
+same_both false true x y same equal = absurd (true≢false (sym same))
+
+delivery_alike : {M : Type 0} (machine : Does M) (v w : World M) (event : Event) (test : MessageOf M → Bool) → IsAlike v w → is_delivery v event test ≡ is_delivery w event test
+delivery_alike machine v w (Take from (Server s)) test alike =
+    same_both _ _ _ _ (have_the_same_enabled machine v w (Take from (Server s)) alike)
+    (λ enabled. ap (front_is test) (same_link v w alike from (Server s) enabled))
+delivery_alike machine v w event test alike = refl
+
+-- and can have the same outcomes
+pub outcomes_alike : {M : Type 0} (machine : Does M) (v w : World M) (event : Event) (outcome : Outcome) → IsAlike v w → is_fitting v event outcome ≡ is_fitting w event outcome
+outcomes_alike machine v w event Acted alike = refl
+outcomes_alike machine v w event Stopped alike = delivery_alike machine v w event (λ message. not (is_query message)) alike
+outcomes_alike machine v w event Unheard alike = delivery_alike machine v w event is_query alike

@@ -1,0 +1,91 @@
+-- In every run from an opening the master keeps its bounds, so it gives few epochs.
+use Rattle.std.proofs.Common.{◌≡◌, ℕ, ◌+◌, ◌<◌, ◌≤◌, true, List, [], ◌∷◌, Option, Some, None, length, refl, sym, inl, inr, arith}
+use mathlib.Core.Bool.{true≢false}
+use Rattle.std.specs.Prelude.{is_none}
+use Rattle.std.specs.List.{AllByRecursion}
+use Rattle.zcalls.specs.declared.reply.Reply.{Reply}
+use Rattle.zcalls.proofs.Among.{test}
+use Rattle.zserver_table.specs.declared.limits.TheConstants.{MAX_SERVERS}
+use Rattle.zserver_table.specs.declared.process.Process.{Process}
+use Rattle.zserver_table.specs.declared.process.Process.TheVariants.{Master, Server, Client}
+use Rattle.zserver_table.specs.Machine.{Does, kept_tree}
+use Rattle.zserver_table.specs.View.{MessageOf}
+use Rattle.zmaster_table.specs.Laws.{IsRisingFrom, IsBounded}
+use Rattle.zmaster_table.specs.Table.{join_fault}
+use Rattle.zmaster_table.proofs.Bounds.{opening_is_bounded, messages_keep, joins_keep}
+use Rattle.zclient_table.specs.Table.{ClientResult, client_step}
+use Rattle.zworld_model.specs.declared.event.Event.{Event}
+use Rattle.zworld_model.specs.declared.event.Event.TheVariants.{Begin, Retry, Take, Ignore, Fail, Join}
+use Rattle.zworld_model.specs.Links.{without_front}
+use Rattle.zworld_model.specs.World.{World, opening_world}
+use Rattle.zworld_model.specs.Events.{is_server, is_enabled, process_step, front_step, acts, happens, run, with_answer, client_does}
+use Rattle.zworld_model.specs.Laws.{world_after, EpochsAreFew}
+use Rattle.zworld_model.specs.support.Within.{IsServer}
+use Rattle.zworld_model.proofs.Fitting.{both}
+use Rattle.zworld_model.proofs.Visited.{at_least_one, at_most, after_within}
+
+-- an answer that is told is nothing to the master
+answer_keeps : {M : Type 0} (w : World M) (c : ℕ) (reply : Option (ℕ × Reply)) → IsBounded w.master → IsBounded (with_answer w c reply).master
+answer_keeps w c None bounded = bounded
+answer_keeps w c (Some reply) bounded = bounded
+
+-- no fault
+is_none_of : {A : Type 0} (o : Option A) → is_none o ≡ true → o ≡ None
+is_none_of None none = refl
+is_none_of (Some x) none = absurd (true≢false (sym none))
+
+module _ {M : Type 0} (machine : Does M) where
+  taken_keeps : (w : World M) (from to : Process) (m : MessageOf M) → IsBounded w.master → IsBounded (process_step machine w from to m).master
+  taken_keeps w from Master m bounded = messages_keep w.master from m bounded
+  taken_keeps w from (Server s) m bounded = bounded
+  taken_keeps w from (Client c) m bounded =
+      let did : ClientResult M = client_step (w.clients c) from m in
+      answer_keeps (client_does w c did.0 did.1) c did.2 bounded
+
+  front_keeps : (w : World M) (from to : Process) (link : List (MessageOf M)) → IsBounded w.master → IsBounded (front_step machine w from to link).master
+  front_keeps w from to [] bounded = bounded
+  front_keeps w from to (m ∷ more) bounded = taken_keeps (record w { links = without_front w.links from to }) from to m bounded
+
+  acts_keeps : (w : World M) (event : Event) → IsBounded w.master → is_enabled w event ≡ true → IsBounded (acts machine w event).master
+  acts_keeps w (Begin c call) bounded enabled = bounded
+  acts_keeps w (Retry c) bounded enabled = bounded
+  acts_keeps w (Take from to) bounded enabled = front_keeps w from to (w.links from to) bounded
+  acts_keeps w (Ignore from to) bounded enabled = bounded
+  acts_keeps w (Fail s) bounded enabled = bounded
+  acts_keeps w (Join s) bounded enabled =
+      joins_keep M w.master s (is_none_of (join_fault w.master s) (both (is_server s) (is_none (join_fault w.master s)) enabled).1) bounded
+
+  happens_keeps : (w : World M) (event : Event) → IsBounded w.master → IsBounded (happens machine w event).master
+  happens_keeps w event bounded = elim (test (is_enabled w event)) [
+    | inl enabled ↦ rw enabled (acts_keeps w event bounded enabled)
+    | inr idle ↦ rw idle bounded
+  ]
+
+  run_keeps : (w : World M) (events : List Event) → IsBounded w.master → IsBounded (run machine w events).master
+  run_keeps w [] bounded = bounded
+  run_keeps w (event ∷ events) bounded = run_keeps (happens machine w event) events (happens_keeps w event bounded)
+
+-- numbers of servers that rise are few
+few_from : (first : ℕ) (numbers : List ℕ) → IsRisingFrom first numbers → AllByRecursion IsServer numbers → first ≤ MAX_SERVERS + 1
+    → length numbers + first ≤ MAX_SERVERS + 1
+few_from first [] rising all low = omega (arith, low)
+few_from first (number ∷ numbers) rising all low =
+    let limit : number ≤ MAX_SERVERS = at_most number all.0 in
+    let rest : length numbers + (number + 1) ≤ MAX_SERVERS + 1 = few_from (number + 1) numbers rising.1 all.1 (omega (arith, limit)) in
+    let above : first ≤ number = rising.0 in
+    omega (arith, rest, above)
+
+few_used : (numbers : List ℕ) → IsRisingFrom 0 numbers → AllByRecursion IsServer numbers → length numbers ≤ MAX_SERVERS
+few_used [] rising all = omega arith
+few_used (number ∷ numbers) rising all =
+    let some : 0 < number = at_least_one number all.0 in
+    let few : length (number ∷ numbers) + 1 ≤ MAX_SERVERS + 1 = few_from 1 (number ∷ numbers) (some, rising.1) all (omega arith) in
+    omega (arith, few)
+
+pub epochs_are_few : EpochsAreFew
+epochs_are_few servers clients events is =
+    let bounded : IsBounded (world_after servers clients events).master =
+    run_keeps kept_tree (opening_world kept_tree servers clients) events (opening_is_bounded servers clients) in
+    let few : length (world_after servers clients events).master.used ≤ MAX_SERVERS =
+    few_used (world_after servers clients events).master.used bounded.rising (after_within servers clients events is).used in
+    omega (arith, bounded.epochs, few)

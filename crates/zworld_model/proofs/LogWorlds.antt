@@ -1,0 +1,200 @@
+-- A world whose machines are mapped goes on as the world does, by a map that keeps what machines do.
+use Rattle.std.proofs.Common.{◌≡◌, ℕ, ◌+◌, ◌-◌, Bool, true, false, if◌then◌else◌, List, [], ◌∷◌, ◌++◌, map}
+use Rattle.std.proofs.Common.{Option, Some, None, refl, sym, ap, ◌∙◌}
+use Rattle.std.proofs.lemmas.List.{map-append, drop-map}
+use Rattle.std.specs.Prelude.{◌&&◌, not, ◌==◌, drop, nat_lt}
+use Rattle.zcalls.specs.declared.reply.Reply.{Reply}
+use Rattle.zserver_table.specs.declared.message.Message.TheVariants as message
+use Rattle.zserver_table.specs.declared.process.Process.{Process}
+use Rattle.zserver_table.specs.declared.process.Process.TheVariants.{Master, Server, Client}
+use Rattle.zserver_table.specs.Machine.{Does}
+use Rattle.zserver_table.specs.View.{ServerView, Neighbour, MessageOf, Post, spare, opening_server}
+use Rattle.zserver_table.specs.Table as server
+use Rattle.zserver_table.specs.support.Homomorphism.{IsHomomorphism, message_with, posts_with, view_with, server_result_with}
+use Rattle.zserver_table.proofs.Projection.{table_with}
+use Rattle.zmaster_table.specs.Table as master
+use Rattle.zmaster_table.specs.Laws.{master_result_with as master_with}
+use Rattle.zmaster_table.proofs.Projection.{table_with as master_takes_with, join_with as joins_with}
+use Rattle.zclient_table.specs.View.{ClientView}
+use Rattle.zclient_table.specs.Table as client
+use Rattle.zclient_table.proofs.Projection.{begins_with, retries_with, table_with as client_takes_with}
+use Rattle.zworld_model.specs.declared.event.Event.{Event}
+use Rattle.zworld_model.specs.declared.event.Event.TheVariants.{Begin, Retry, Take, Ignore, Fail, Join}
+use Rattle.zworld_model.specs.declared.history.CallEvent.TheVariants as call_event
+use Rattle.zworld_model.specs.Links.{Links, put, without_front, is_same, addressed}
+use Rattle.zworld_model.specs.World.{World, at, opening_world}
+use Rattle.zworld_model.specs.Events.{front_is, is_request, has_failed, is_enabled, process_step, front_step, acts, happens, run}
+use Rattle.zworld_model.specs.Events.{server_does, master_does, client_does, with_answer, client_took, client_began}
+use Rattle.zworld_model.specs.support.LogWorld.{world_with}
+
+module _ {M N : Type 0} (h : M → N) where
+  -- links with mapped messages
+  abbrev links_with : Links M → Links N
+  links_with links from to = map (message_with h) (links from to)
+
+  -- what is addressed to a receiver
+  kept_if : (b : Bool) (post : MessageOf M) (more : List (MessageOf M)) (others : List (MessageOf N)) → others ≡ map (message_with h) more
+      → (if b then message_with h post ∷ others else others) ≡ map (message_with h) (if b then post ∷ more else more)
+  kept_if true post more others same = ap (λ rest. message_with h post ∷ rest) same
+  kept_if false post more others same = same
+
+  addressed_with : (to : Process) (posts : List (Post M)) → addressed to (posts_with h posts) ≡ map (message_with h) (addressed to posts)
+  addressed_with to [] = refl
+  addressed_with to (post ∷ posts) = kept_if (is_same to post.0) post.1 (addressed to posts) (addressed to (posts_with h posts)) (addressed_with to posts)
+
+  -- what is put
+  put_if : (b : Bool) (link more : List (MessageOf M)) (others : List (MessageOf N)) → others ≡ map (message_with h) more
+      → (if b then map (message_with h) link ++ others else map (message_with h) link) ≡ map (message_with h) (if b then link ++ more else link)
+  put_if true link more others same = ap (λ rest. map (message_with h) link ++ rest) same ∙ sym (map-append (message_with h) link more)
+  put_if false link more others same = refl
+
+  put_with : (links : Links M) (sender : Process) (posts : List (Post M)) (from to : Process)
+      → put (links_with links) sender (posts_with h posts) from to ≡ map (message_with h) (put links sender posts from to)
+  put_with links sender posts from to = put_if (is_same from sender) (links from to) (addressed to posts) (addressed to (posts_with h posts)) (addressed_with to posts)
+
+  -- a front that is taken
+  front_if : (b : Bool) (link : List (MessageOf M))
+      → (if b then drop 1 (map (message_with h) link) else map (message_with h) link) ≡ map (message_with h) (if b then drop 1 link else link)
+  front_if true link = drop-map (message_with h) 1 link
+  front_if false link = refl
+
+  front_with : (links : Links M) (sender taker from to : Process)
+      → without_front (links_with links) sender taker from to ≡ map (message_with h) (without_front links sender taker from to)
+  front_with links sender taker from to = front_if (is_same from sender && is_same to taker) (links from to)
+
+  -- the world without the front of a link
+  popped_with : (w : World M) (from to : Process)
+      → record (world_with h w) { links = without_front (links_with w.links) from to } ≡ world_with h (record w { links = without_front w.links from to })
+  popped_with w from to = λ i. record (world_with h w) { links = λ p q. front_with w.links from to p q i }
+
+  -- what each process does
+  at_if : (b : Bool) (new old : ServerView M) → (if b then view_with h new else view_with h old) ≡ view_with h (if b then new else old)
+  at_if true new old = refl
+  at_if false new old = refl
+
+  server_does_with : (w : World M) (s : ℕ) (did : server.ServerResult M) → server_does (world_with h w) s (server_result_with h did) ≡ world_with h (server_does w s did)
+  server_does_with w s did = λ i. record (world_with h w) {
+    servers = λ t. at_if (t == s) did.0 (w.servers t) i;
+    links = λ from to. put_with w.links (Server s) did.1 from to i;
+  }
+
+  master_does_with : (w : World M) (did : master.MasterResult M) → master_does (world_with h w) (master_with h did) ≡ world_with h (master_does w did)
+  master_does_with w did = λ i. record (world_with h w) { master = did.0; links = λ from to. put_with w.links Master did.1 from to i }
+
+  client_does_with : (w : World M) (c : ℕ) (view : ClientView) (posts : List (Post M))
+      → client_does (world_with h w) c view (posts_with h posts) ≡ world_with h (client_does w c view posts)
+  client_does_with w c view posts = λ i. record (world_with h w) { clients = at c view w.clients; links = λ from to. put_with w.links (Client c) posts from to i }
+
+  answered_with : (w : World M) (c : ℕ) (reply : Option (ℕ × Reply)) → with_answer (world_with h w) c reply ≡ world_with h (with_answer w c reply)
+  answered_with w c None = refl
+  answered_with w c (Some reply) = refl
+
+  -- the front of a link passes the same tests
+  request_with : (m : MessageOf M) → is_request (message_with h m) ≡ is_request m
+  request_with (message.Submit number update) = refl
+  request_with (message.Query number query) = refl
+  request_with (message.Answer number reply) = refl
+  request_with (message.Update epoch n entry) = refl
+  request_with (message.Ack epoch n) = refl
+  request_with (message.Snapshot epoch transfer) = refl
+  request_with (message.NewPred epoch pred) = refl
+  request_with (message.Have epoch last) = refl
+  request_with (message.NewSucc epoch succ last) = refl
+  request_with (message.BecomeHead epoch) = refl
+  request_with (message.BecomeTail epoch) = refl
+  request_with (message.Joined epoch) = refl
+  request_with message.Gone = refl
+  request_with (message.Config epoch head tail) = refl
+
+  front_test : (link : List (MessageOf M)) → front_is is_request (map (message_with h) link) ≡ front_is is_request link
+  front_test [] = refl
+  front_test (m ∷ more) = request_with m
+
+  front_there : (link : List (MessageOf M)) → front_is (λ m. true) (map (message_with h) link) ≡ front_is (λ m. true) link
+  front_there [] = refl
+  front_there (m ∷ more) = refl
+
+  failed_with : (w : World M) (p : Process) → has_failed (world_with h w) p ≡ has_failed w p
+  failed_with w Master = refl
+  failed_with w (Server s) = refl
+  failed_with w (Client c) = refl
+
+  -- the same events are enabled
+  pub enabled_with : (w : World M) (event : Event) → is_enabled (world_with h w) event ≡ is_enabled w event
+  enabled_with w (Begin c call) = refl
+  enabled_with w (Retry c) = refl
+  enabled_with w (Take from to) = λ i. front_there (w.links from to) i && not (failed_with w to i)
+  enabled_with w (Ignore from to) = λ i. front_test (w.links from to) i && not (failed_with w to i)
+  enabled_with w (Fail s) = refl
+  enabled_with w (Join s) = refl
+
+  module _ {d : Does M} {e : Does N} (same : IsHomomorphism d e h) where
+    -- a message is taken
+    takes_with : (w : World M) (from to : Process) (m : MessageOf M) → process_step e (world_with h w) from to (message_with h m) ≡ world_with h (process_step d w from to m)
+    takes_with w from Master m = ap (master_does (world_with h w)) (master_takes_with h w.master from m) ∙ master_does_with w (master.master_step w.master from m)
+    takes_with w from (Server s) m =
+        ap (server_does (world_with h w) s) (table_with h same (w.servers s) from m) ∙ server_does_with w s (server.server_step d (w.servers s) from m)
+    takes_with w from (Client c) m =
+        let did : client.ClientResult M = client.client_step (w.clients c) from m in
+        ap (client_took (world_with h w) c) (client_takes_with h (w.clients c) from m)
+        ∙ ap (λ u. with_answer u c did.2) (client_does_with w c did.0 did.1) ∙ answered_with (client_does w c did.0 did.1) c did.2
+
+    takes_front_with : (w : World M) (from to : Process) (link : List (MessageOf M))
+        → front_step e (world_with h w) from to (map (message_with h) link) ≡ world_with h (front_step d w from to link)
+    takes_front_with w from to [] = refl
+    takes_front_with w from to (m ∷ more) =
+        ap (λ u. process_step e u from to (message_with h m)) (popped_with w from to) ∙ takes_with (record w { links = without_front w.links from to }) from to m
+
+    -- what an event does
+    acts_with : (w : World M) (event : Event) → acts e (world_with h w) event ≡ world_with h (acts d w event)
+    acts_with w (Begin c call) =
+        let did : ClientView × List (Post M) = client.begin_step (w.clients c) call in
+        ap (client_began (world_with h w) c call) (begins_with h (w.clients c) call)
+        ∙ ap (λ (u : World N). record u { history = w.history ++ call_event.Begin c did.0.number call ∷ [] }) (client_does_with w c did.0 did.1)
+    acts_with w (Retry c) =
+        ap (client_does (world_with h w) c (w.clients c)) (retries_with h (w.clients c)) ∙ client_does_with w c (w.clients c) (client.retry_posts (w.clients c))
+    acts_with w (Take from to) = takes_front_with w from to (w.links from to)
+    acts_with w (Ignore from to) = popped_with w from to
+    acts_with w (Fail s) =
+        λ i. record (world_with h w) { failed = at s true w.failed; links = λ from to. put_with w.links (Server s) ((Master, message.Gone) ∷ []) from to i }
+    acts_with w (Join s) = ap (master_does (world_with h w)) (joins_with h w.master s) ∙ master_does_with w (master.join_step w.master s)
+
+    -- where it can happen
+    happens_if : (b : Bool) (w acted : World M) (acted' : World N) → acted' ≡ world_with h acted
+        → (if b then acted' else world_with h w) ≡ world_with h (if b then acted else w)
+    happens_if true w acted acted' did = did
+    happens_if false w acted acted' did = refl
+
+    happens_with : (w : World M) (event : Event) → happens e (world_with h w) event ≡ world_with h (happens d w event)
+    happens_with w event = rw (enabled_with w event) (happens_if (is_enabled w event) w (acts d w event) (acts e (world_with h w) event) (acts_with w event))
+
+    -- a run
+    pub run_with : (w : World M) (events : List Event) → run e (world_with h w) events ≡ world_with h (run d w events)
+    run_with w [] = refl
+    run_with w (event ∷ events) = ap (λ u. run e u events) (happens_with w event) ∙ run_with (happens d w event) events
+
+    -- the opening
+    view_if : (b : Bool) (x y : ServerView M) (x' y' : ServerView N) → x' ≡ view_with h x → y' ≡ view_with h y
+        → (if b then x' else y') ≡ view_with h (if b then x else y)
+    view_if true x y x' y' p q = p
+    view_if false x y x' y' p q = q
+
+    abbrev before : ℕ → Option Neighbour
+    before s = if s == 1 then None else Some (s - 1, 0)
+
+    abbrev behind : ℕ → ℕ → Option Neighbour
+    behind servers s = if s == servers then None else Some (s + 1, 0)
+
+    opening_server_with : (servers s : ℕ) → opening_server e servers s ≡ view_with h (opening_server d servers s)
+    opening_server_with servers s =
+        view_if (s == 0) spare _ spare _ refl
+        (view_if (nat_lt servers s) spare _ spare _ refl
+        (ap (λ start. record { machine = Some start; last = 0; sent = []; pred = before s; succ = behind servers s }) (sym same.start)))
+
+    pub opening_with : (servers clients : ℕ) → opening_world e servers clients ≡ world_with h (opening_world d servers clients)
+    opening_with servers clients = λ i. record (opening_world e servers clients) { servers = λ s. opening_server_with servers s i }
+
+-- a run from the opening is the mapped one
+pub runs_with : {M N : Type 0} (h : M → N) {d : Does M} {e : Does N} (same : IsHomomorphism d e h) (servers clients : ℕ) (events : List Event)
+    → run e (opening_world e servers clients) events ≡ world_with h (run d (opening_world d servers clients) events)
+runs_with h {d} {e} same servers clients events = ap (λ w. run e w events) (opening_with h same servers clients) ∙ run_with h same (opening_world d servers clients) events

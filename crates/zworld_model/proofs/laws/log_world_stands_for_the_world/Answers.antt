@@ -1,0 +1,10 @@
+use Rattle.zserver_table.specs.Machine.{kept_tree, replay}
+use Rattle.zserver_table.proofs.Projection.{log_stands_for_machine}
+use Rattle.zworld_model.proofs.LogWorlds.{enabled_with, runs_with}
+use Rattle.zworld_model.proofs.laws.log_world_stands_for_the_world.Goals as goal
+
+pub returns : goal.returns
+returns c = record {
+  world = runs_with (replay kept_tree) (log_stands_for_machine kept_tree);
+  enabled = enabled_with (replay kept_tree);
+}

@@ -1,0 +1,24 @@
+use Rattle.std.proofs.Common.{refl}
+use Rattle.zworld_model.proofs.Tables.{all_tables}
+use Rattle.zworld_model.proofs.rows.runs.only_enabled_events_happen.Goals as goal
+
+pub returns : goal.returns
+unfolding all_tables
+returns c = record {
+  busy_client = refl;
+  strange_client = refl;
+  nothing_to_retry = refl;
+  empty_link = refl;
+  server_messages_are_not_ignored = refl;
+  failed_taker = refl;
+  failed_ignorer = refl;
+  failed_twice = refl;
+  spare_can_fail = refl;
+  server_0_does_not_fail = refl;
+  server_9_does_not_fail = refl;
+  server_9_does_not_join = refl;
+  server_8_joins = refl;
+  member_joins = refl;
+  spare_joins = refl;
+  unchanged = refl;
+}

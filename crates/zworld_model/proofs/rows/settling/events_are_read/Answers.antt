@@ -1,0 +1,14 @@
+use Rattle.std.proofs.Common.{refl}
+use Rattle.zworld_model.proofs.Tables.{all_tables}
+use Rattle.zworld_model.proofs.rows.settling.events_are_read.Goals as goal
+
+pub returns : goal.returns
+unfolding all_tables
+returns c = record {
+  stopped = refl;
+  unheard = refl;
+  update_is_heard = refl;
+  query_stops_nobody = refl;
+  nothing_to_stop_at = refl;
+  client_does_not_stop = refl;
+}

@@ -1,0 +1,15 @@
+use Rattle.std.proofs.Common.{refl}
+use Rattle.zworld_model.proofs.Tables.{all_tables}
+use Rattle.zworld_model.proofs.rows.settling.outcomes_fit.Goals as goal
+
+pub returns : goal.returns
+unfolding all_tables
+returns c = record {
+  all_act = refl;
+  update_stops = refl;
+  update_is_heard = refl;
+  query_stops_nobody = refl;
+  query_is_unheard = refl;
+  nothing_to_stop_at = refl;
+  retry_does_not_stop = refl;
+}

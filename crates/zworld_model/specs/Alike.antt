@@ -1,0 +1,46 @@
+-- Worlds that are alike: they differ at most in what can't matter any more, the views of servers that have failed and the
+-- messages on links into them. So a program may drop both, and the definition of the events keeps them.
+-- That servers fail for good: van Renesse and Schneider, "Chain Replication for Supporting High Throughput and
+-- Availability" (OSDI 2004), section 3.
+use Rattle.std.specs.Prelude.{◌≡◌, ℕ, false, List}
+use Rattle.ztree.specs.Tree.{Tree}
+use Rattle.zcalls.specs.Kept.{KeptState}
+use Rattle.zserver_table.specs.declared.process.Process.{Process}
+use Rattle.zserver_table.specs.Machine.{kept_tree}
+use Rattle.zworld_model.specs.declared.event.Event.{Event}
+use Rattle.zworld_model.specs.World.{World}
+use Rattle.zworld_model.specs.declared.outcome.Outcome.{Outcome}
+use Rattle.zworld_model.specs.Events.{has_failed, is_enabled, run}
+use Rattle.zworld_model.specs.Reading.{read, is_fitting}
+
+-- the worlds are alike
+pub record IsAlike {M : Type 0} (v w : World M) : Type 0 where
+  -- but for servers and links they are the same
+  pub rest : w ≡ record v { servers = w.servers; links = w.links }
+  -- so are the views of the servers that have not failed
+  pub servers : (s : ℕ) → v.failed s ≡ false → v.servers s ≡ w.servers s
+  -- and the links into processes that have not failed
+  pub links : (from to : Process) → has_failed v to ≡ false → v.links from to ≡ w.links from to
+
+-- the same events are enabled in worlds that are alike
+abbrev pub HaveTheSameEnabled : Type 0
+HaveTheSameEnabled = (v w : World (KeptState Tree)) (event : Event) → IsAlike v w → is_enabled v event ≡ is_enabled w event
+
+-- worlds that are alike stay so, whatever happens to both
+abbrev pub StayAlike : Type 0
+StayAlike = (v w : World (KeptState Tree)) (events : List Event) → IsAlike v w → IsAlike (run kept_tree v events) (run kept_tree w events)
+
+-- an event reads alike in worlds that are alike, and can have the same outcomes
+abbrev pub ReadAlike : Type 0
+ReadAlike = (v w : World (KeptState Tree)) (event : Event) (outcome : Outcome) → IsAlike v w → read v event outcome ≡ read w event outcome
+
+abbrev pub HaveTheSameOutcomes : Type 0
+HaveTheSameOutcomes =
+    (v w : World (KeptState Tree)) (event : Event) (outcome : Outcome) → IsAlike v w → is_fitting v event outcome ≡ is_fitting w event outcome
+
+-- a world is like itself, and what is like a world that is like a third one is like that one
+abbrev pub AreAlikeThemselves : Type 0
+AreAlikeThemselves = (w : World (KeptState Tree)) → IsAlike w w
+
+abbrev pub AlikeIsTransitive : Type 0
+AlikeIsTransitive = (u v w : World (KeptState Tree)) → IsAlike u v → IsAlike v w → IsAlike u w

@@ -1,0 +1,89 @@
+-- Settling: the one fixed order in which a world's messages are delivered until it is quiet. A pass goes over all links
+-- and takes one message from each that can be taken when the pass comes to it. Passes are made until no message can be
+-- taken; then each client with an outstanding call sends it once more; then passes are made again. It ends early, at its
+-- limit, as soon as so many events were done. The order, the one retry and the limit are this project's profile.
+use Rattle.std.specs.Prelude.{ℕ, zero, suc, ◌-◌, Bool, true, false, ◌&&◌, ◌||◌, not, nat_lt, ◌==◌, if◌then◌else◌}
+use Rattle.std.specs.Prelude.{List, [], ◌∷◌, ◌++◌, map, flat_map, drop}
+use Rattle.std.specs.List.{range_with_len, list_any}
+use Rattle.zserver_table.specs.declared.limits.TheConstants.{MAX_SERVERS}
+use Rattle.zserver_table.specs.declared.process.Process.{Process}
+use Rattle.zserver_table.specs.declared.process.Process.TheVariants.{Master, Server, Client}
+use Rattle.zserver_table.specs.Machine.{Does}
+use Rattle.zworld_model.specs.declared.event.Event.{Event}
+use Rattle.zworld_model.specs.declared.event.Event.TheVariants.{Retry, Take}
+use Rattle.zworld_model.specs.declared.outcome.Outcome.{Outcome}
+use Rattle.zworld_model.specs.declared.outcome.Outcome.TheVariants.{Acted}
+use Rattle.zworld_model.specs.declared.settled.Settled.{Settled}
+use Rattle.zworld_model.specs.declared.settled.Settled.TheVariants.{Quiet, Limit}
+use Rattle.zworld_model.specs.World.{World}
+use Rattle.zworld_model.specs.Events.{is_enabled, happens}
+use Rattle.zworld_model.specs.Reading.{read}
+
+-- the processes in order: the master, the servers, the clients, each by number
+abbrev pub processes : ℕ → List Process
+processes client_count = Master ∷ map Server (range_with_len 1 MAX_SERVERS) ++ map Client (range_with_len 0 client_count)
+
+-- a delivery on each link, in the order of (from, to)
+abbrev pub deliveries : ℕ → List Event
+deliveries client_count = flat_map (λ from. map (λ to. Take from to) (processes client_count)) (processes client_count)
+
+-- a retry of each client, by number
+abbrev pub retry_events : ℕ → List Event
+retry_events client_count = map Retry (range_with_len 0 client_count)
+
+-- how far settling has come: the world, the events done, as they were read, how many more may be done, and what will
+-- become of each of them (where nothing is told, the taker acts)
+pub record Settling (M : Type 0) : Type 0 where
+  pub world : World M
+  pub events : List Event
+  pub left : ℕ
+  pub outcomes : List Outcome
+
+-- what will become of the next event
+abbrev pub next_outcome : List Outcome → Outcome
+next_outcome [] = Acted
+next_outcome (outcome ∷ outcomes) = outcome
+
+-- one more event is done
+abbrev pub with_event : {M : Type 0} → Does M → Settling M → Event → Settling M
+with_event machine s event =
+    record {
+      world = happens machine s.world event;
+      events = s.events ++ event ∷ [];
+      left = s.left - 1;
+      outcomes = drop 1 s.outcomes;
+    }
+
+-- an event is done, as it is read, if it is enabled and one more may be done
+abbrev pub with_try : {M : Type 0} → Does M → Settling M → Event → Settling M
+with_try machine s event =
+    if nat_lt 0 s.left && is_enabled s.world event then with_event machine s (read s.world event (next_outcome s.outcomes)) else s
+
+-- events in turn, each tried when its turn comes
+abbrev pub with_tries : {M : Type 0} → Does M → Settling M → List Event → Settling M
+with_tries machine s [] = s
+with_tries machine s (event ∷ events) = with_tries machine (with_try machine s event) events
+
+-- no more may be done, or no message can be taken
+abbrev pub is_over : {M : Type 0} → Settling M → List Event → Bool
+is_over s deliveries = s.left == 0 || not (list_any (is_enabled s.world) deliveries)
+
+-- passes until it is over; each takes at least one message, so at most as many passes as events are needed
+abbrev pub passes : {M : Type 0} → Does M → List Event → ℕ → Settling M → Settling M
+passes machine deliveries zero s = s
+passes machine deliveries (suc more) s =
+    elim (is_over s deliveries) [ true ↦ s | false ↦ passes machine deliveries more (with_tries machine s deliveries) ]
+
+-- settling before anything is done
+abbrev pub opening_settling : {M : Type 0} → World M → ℕ → List Outcome → Settling M
+opening_settling w limit outcomes = record { world = w; events = []; left = limit; outcomes = outcomes }
+
+-- settling with a limit: passes, one retry of each client with an outstanding call, and passes again
+abbrev pub settle : {M : Type 0} → Does M → World M → ℕ → List Outcome → Settling M
+settle machine w limit outcomes =
+    passes machine (deliveries w.master.clients) limit
+    (with_tries machine (passes machine (deliveries w.master.clients) limit (opening_settling w limit outcomes)) (retry_events w.master.clients))
+
+-- how it ended: at the limit as soon as so many events were done, also where nothing would have been left
+abbrev pub settling_end : {M : Type 0} → Settling M → Settled
+settling_end s = if s.left == 0 then Limit else Quiet

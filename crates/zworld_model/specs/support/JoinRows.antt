@@ -1,0 +1,62 @@
+-- Worked runs in which a server joins, over a machine that counts, with two clients (0 and 1).
+use Rattle.std.specs.Prelude.{List, [], ◌∷◌}
+use Rattle.zworld_model.specs.declared.event.Event.{Event}
+use Rattle.zworld_model.specs.declared.event.Event.TheVariants.{Begin, Take, Fail, Join}
+use Rattle.zworld_model.specs.support.Counter.{create, exists}
+use Rattle.zworld_model.specs.support.RunRows.{m, s1, s2, s3, c1}
+
+-- one server has an update; s2 joins behind it; client 1 asks s1 when that has handed the state over, and is told to ask s2
+abbrev pub state_is_handed_over : List Event
+state_is_handed_over =
+    Begin 1 create
+    ∷ Take c1 s1
+    ∷ Take s1 c1
+    ∷ Join 2
+    ∷ Take m s2
+    ∷ Take s2 m
+    ∷ Take m s1
+    ∷ Begin 1 exists
+    ∷ Take c1 s1
+    ∷ Take s1 s2
+    ∷ Take s2 m
+    ∷ Take m c1
+    ∷ Take c1 s2
+    ∷ Take s2 c1
+    ∷ []
+
+-- two servers have an update; s3 joins behind s2, which puts its snapshot and fails; meanwhile s1 took one more update.
+-- When s3 has heard that s1 is before it, the old snapshot arrives; then s1 sends its own
+abbrev pub snapshot_is_stale : List Event
+snapshot_is_stale =
+    Begin 1 create
+    ∷ Take c1 s1
+    ∷ Take s1 s2
+    ∷ Take s2 c1
+    ∷ Join 3
+    ∷ Take m s3
+    ∷ Take s3 m
+    ∷ Take m s2
+    ∷ Begin 1 create
+    ∷ Take c1 s1
+    ∷ Fail 2
+    ∷ Take s2 m
+    ∷ Take m s3
+    ∷ Take s2 s3
+    ∷ Take s3 m
+    ∷ Take m s1
+    ∷ Take s1 s3
+    ∷ []
+
+-- the only server fails before the joining one has the state; client 1 hears of the chain that is left, and asks it
+abbrev pub state_is_lost : List Event
+state_is_lost =
+    Join 2
+    ∷ Fail 1
+    ∷ Begin 1 exists
+    ∷ Take s1 m
+    ∷ Take m s2
+    ∷ Take m s2
+    ∷ Take s2 m
+    ∷ Take m c1
+    ∷ Take c1 s2
+    ∷ []

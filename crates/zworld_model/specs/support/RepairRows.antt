@@ -1,0 +1,71 @@
+-- Worked runs in which a server of three fails, over a machine that counts, with two clients (0 and 1).
+use Rattle.std.specs.Prelude.{List, [], ◌∷◌}
+use Rattle.zworld_model.specs.declared.event.Event.{Event}
+use Rattle.zworld_model.specs.declared.event.Event.TheVariants.{Begin, Take, Fail}
+use Rattle.zworld_model.specs.support.Counter.{create}
+use Rattle.zworld_model.specs.support.RunRows.{m, s1, s2, s3, c1}
+
+-- the head fails after it forwarded client 1's update: s2 is the head, and the update goes on
+abbrev pub head_fails : List Event
+head_fails =
+    Begin 1 create
+    ∷ Take c1 s1
+    ∷ Take s1 s2
+    ∷ Fail 1
+    ∷ Take s1 m
+    ∷ Take m s2
+    ∷ Take s2 s3
+    ∷ Take s3 c1
+    ∷ []
+
+-- the same, where the client hears of the new head first, and asks again
+abbrev pub head_fails_and_is_asked_again : List Event
+head_fails_and_is_asked_again =
+    Begin 1 create
+    ∷ Take c1 s1
+    ∷ Take s1 s2
+    ∷ Fail 1
+    ∷ Take s1 m
+    ∷ Take m s2
+    ∷ Take m c1
+    ∷ Take c1 s2
+    ∷ Take s2 s3
+    ∷ Take s2 s3
+    ∷ Take s3 c1
+    ∷ Take s3 c1
+    ∷ []
+
+-- the head fails, and s2 hears of it before it takes what the head forwarded
+abbrev pub head_fails_first : List Event
+head_fails_first = Begin 1 create ∷ Take c1 s1 ∷ Fail 1 ∷ Take s1 m ∷ Take m s2 ∷ Take s1 s2 ∷ []
+
+-- the tail fails before it had client 1's update: s2 is the tail, and has processed what it forwarded; asked again, it
+-- gives the kept reply
+abbrev pub tail_fails : List Event
+tail_fails =
+    Begin 1 create
+    ∷ Take c1 s1
+    ∷ Take s1 s2
+    ∷ Fail 3
+    ∷ Take s3 m
+    ∷ Take m s2
+    ∷ Take m c1
+    ∷ Take c1 s1
+    ∷ Take s1 s2
+    ∷ Take s2 c1
+    ∷ []
+
+-- the middle fails before it had client 1's update: s3 tells the master what it has, and s1 sends s3 what it lacks
+abbrev pub middle_fails : List Event
+middle_fails =
+    Begin 1 create
+    ∷ Take c1 s1
+    ∷ Fail 2
+    ∷ Take s2 m
+    ∷ Take m s3
+    ∷ Take s3 m
+    ∷ Take m s1
+    ∷ Take s1 s3
+    ∷ Take s3 c1
+    ∷ Take s3 s1
+    ∷ []

@@ -1,0 +1,101 @@
+-- Worked runs of a chain in which nobody fails, over a machine that counts, with two clients (0 and 1).
+use Rattle.std.specs.Prelude.{ℕ, List, [], ◌∷◌}
+use Rattle.zcalls.specs.declared.call.Entry.{Entry}
+use Rattle.zserver_table.specs.declared.process.Process.{Process}
+use Rattle.zserver_table.specs.declared.process.Process.TheVariants.{Master, Server, Client}
+use Rattle.zserver_table.specs.View.{ServerView, MessageOf}
+use Rattle.zworld_model.specs.declared.event.Event.{Event}
+use Rattle.zworld_model.specs.declared.event.Event.TheVariants.{Begin, Retry, Take}
+use Rattle.zworld_model.specs.History.{History}
+use Rattle.zworld_model.specs.World.{World, opening_world}
+use Rattle.zworld_model.specs.Events.{run}
+use Rattle.zworld_model.specs.support.Counter.{Counting, counting_machine, create_update, create}
+
+-- the processes: the master, servers and clients
+abbrev pub m : Process
+m = Master
+
+abbrev pub s1 : Process
+s1 = Server 1
+
+abbrev pub s2 : Process
+s2 = Server 2
+
+abbrev pub s3 : Process
+s3 = Server 3
+
+abbrev pub s4 : Process
+s4 = Server 4
+
+abbrev pub c0 : Process
+c0 = Client 0
+
+abbrev pub c1 : Process
+c1 = Client 1
+
+-- the world after events, from the opening with so many servers
+abbrev pub after : ℕ → List Event → World Counting
+after servers events = run counting_machine (opening_world counting_machine servers 2) events
+
+-- what callers saw of them
+abbrev pub seen : ℕ → List Event → History
+seen servers events = (after servers events).history
+
+-- what they left on a link
+abbrev pub link : ℕ → List Event → Process → Process → List (MessageOf Counting)
+link servers events from to = (after servers events).links from to
+
+-- what they left a server with
+abbrev pub view : ℕ → List Event → ℕ → ServerView Counting
+view servers events s = (after servers events).servers s
+
+-- the entry of client 1's first call, and that of client 0's
+abbrev pub first_entry : Entry
+first_entry = record { client = 1; number = 1; update = create_update }
+
+abbrev pub other_entry : Entry
+other_entry = record { client = 0; number = 1; update = create_update }
+
+-- an update goes down the chain, the tail answers it, and its acknowledgement goes up
+abbrev pub update_in_turn : List Event
+update_in_turn =
+    Begin 1 create
+    ∷ Take c1 s1
+    ∷ Take s1 s2
+    ∷ Take s2 s3
+    ∷ Take s3 c1
+    ∷ Take s3 s2
+    ∷ Take s2 s1
+    ∷ []
+
+-- two clients' updates go down the chain one behind the other
+abbrev pub two_updates : List Event
+two_updates =
+    Begin 0 create
+    ∷ Begin 1 create
+    ∷ Take c0 s1
+    ∷ Take c1 s1
+    ∷ Take s1 s2
+    ∷ Take s1 s2
+    ∷ Take s2 s3
+    ∷ Take s2 s3
+    ∷ Take s3 c1
+    ∷ Take s3 c0
+    ∷ []
+
+-- an update arrives twice, since its client asks again; then the client makes another
+abbrev pub retried_update : List Event
+retried_update =
+    Begin 1 create
+    ∷ Take c1 s1
+    ∷ Retry 1
+    ∷ Take c1 s1
+    ∷ Take s1 s2
+    ∷ Take s1 s2
+    ∷ Take s2 c1
+    ∷ Take s2 c1
+    ∷ Begin 1 create
+    ∷ Take c1 s1
+    ∷ Take s1 s2
+    ∷ Take s2 c1
+    ∷ []

@@ -1,0 +1,47 @@
+-- Worked runs of settling, and of readings, over a machine that counts, with two clients (0 and 1).
+use Rattle.std.specs.Prelude.{ℕ, List, [], ◌∷◌}
+use Rattle.zworld_model.specs.declared.event.Event.{Event}
+use Rattle.zworld_model.specs.declared.event.Event.TheVariants.{Begin, Take, Ignore, Fail, Join}
+use Rattle.zworld_model.specs.World.{opening_world}
+use Rattle.zworld_model.specs.declared.outcome.Outcome.{Outcome}
+use Rattle.zworld_model.specs.Reading.{read_all}
+use Rattle.zworld_model.specs.Settle.{Settling, settle}
+use Rattle.zworld_model.specs.support.Counter.{Counting, counting_machine, create, exists}
+use Rattle.zworld_model.specs.support.RunRows.{after, s1, s2, s3, c0, c1}
+
+-- settling after events, with a limit, and what becomes of its events
+abbrev pub settled_after : ℕ → List Event → ℕ → List Outcome → Settling Counting
+settled_after servers events limit outcomes = settle counting_machine (after servers events) limit outcomes
+
+-- the events from the opening as they are read, after what became of them
+abbrev pub read_after : ℕ → List Event → List Outcome → List Event
+read_after servers events outcomes = read_all counting_machine (opening_world counting_machine servers 2) events outcomes
+
+-- two clients begin an update each
+abbrev pub two_begin : List Event
+two_begin = Begin 0 create ∷ Begin 1 create ∷ []
+
+-- how that settles on three servers: what is put earlier in a pass can be taken in it, and each link gives one message
+abbrev pub two_settle : List Event
+two_settle =
+    Take c0 s1
+    ∷ Take c1 s1
+    ∷ Take s1 s2
+    ∷ Take s2 s3
+    ∷ Take s3 s2
+    ∷ Take s3 c0
+    ∷ Take s1 s2
+    ∷ Take s2 s1
+    ∷ Take s2 s3
+    ∷ Take s3 s2
+    ∷ Take s3 c1
+    ∷ Take s2 s1
+    ∷ []
+
+-- a request is lost, and settling asks again
+abbrev pub lost_request : List Event
+lost_request = Begin 1 create ∷ Ignore c1 s1 ∷ []
+
+-- the state is lost with its only server, while another one joins; then a client asks
+abbrev pub lost_state : List Event
+lost_state = Join 2 ∷ Fail 1 ∷ Begin 1 exists ∷ []

@@ -1,0 +1,82 @@
+//! What holds of the definitions themselves: each function's contract is a law, and its body does nothing.
+
+ghost use Rattle.std.specs.Prelude.{◌≡◌, ℕ};
+ghost use Rattle.ztree.specs.Tree.{Tree, opening_tree};
+ghost use Rattle.zcalls.specs.declared.call.Query.{Query};
+ghost use Rattle.zcalls.specs.declared.call.Update.{Update};
+ghost use Rattle.zcalls.specs.declared.call.Call.TheVariants as call;
+ghost use Rattle.zcalls.specs.PlainTree.{plain_tree};
+ghost use Rattle.zcalls.specs.Step.{step, query_reply};
+ghost use Rattle.zworld_model.specs.PlainTree.{service_of};
+ghost use Rattle.zworld_model.specs.Alike.{HaveTheSameEnabled, StayAlike, ReadAlike};
+ghost use Rattle.zworld_model.specs.Alike.{HaveTheSameOutcomes, AreAlikeThemselves, AlikeIsTransitive};
+ghost use Rattle.zserver_table.specs.Machine.{kept_tree};
+ghost use Rattle.zworld_model.specs.support.Learning.{DoneIsLearnt, IdleIsPassed, PassBegins};
+ghost use Rattle.zworld_model.specs.support.Learning.{PassesEnd, ReadingIsLearnt};
+ghost use Rattle.zworld_model.specs.Laws.{FittingOutcomesAreRead, LinksAreVisited, QuietIsQuiet};
+ghost use Rattle.zworld_model.specs.Laws.{EpochsAreFew};
+ghost use Rattle.zworld_model.specs.Laws.{SettlingIsARun, SettlingKeepsItsLimit, QuietHasNothingToTake};
+ghost use Rattle.zworld_model.specs.support.LogWorld.{LogWorldHasTheSameEnabled, LogWorldStandsForWorld};
+
+/// After every list of events the world over trees is the world over logs, each log replayed; the same events are
+/// enabled in both, and they have one history.
+pub fn log_world_stands_for_the_world()
+    ensures world { LogWorldStandsForWorld }
+    ensures enabled { LogWorldHasTheSameEnabled }
+{}
+
+/// Worlds that are alike have the same events enabled, and stay alike in every run; so they have one history. Events
+/// read alike in them, and can have the same outcomes.
+pub fn failed_servers_do_not_matter()
+    ensures enabled { HaveTheSameEnabled }
+    ensures alike { StayAlike }
+    ensures reading { ReadAlike }
+    ensures outcomes { HaveTheSameOutcomes }
+    ensures itself { AreAlikeThemselves }
+    ensures through { AlikeIsTransitive }
+{}
+
+/// In every world settling is a run, and does no more events than its limit; where it ends quiet, no message can be
+/// taken.
+pub fn settling_is_a_run()
+    ensures run { SettlingIsARun }
+    ensures limit { SettlingKeepsItsLimit }
+    ensures quiet { QuietHasNothingToTake }
+{}
+
+/// From an opening, settling visits every link that holds a message; so where it ends quiet, there is none left to
+/// take.
+pub fn settling_visits_every_link()
+    ensures visited { LinksAreVisited }
+    ensures quiet { QuietIsQuiet }
+{}
+
+/// From an opening the master gives few epochs: three for each server that there can be.
+pub fn epochs_are_few()
+    ensures { EpochsAreFew }
+{}
+
+/// Settling and reading can learn each outcome when its event is done: the definition, given what was learnt and
+/// whatever follows, stands where a program stands that goes on with what follows.
+pub fn outcomes_are_learnt()
+    ensures done { DoneIsLearnt kept_tree }
+    ensures idle { IdleIsPassed kept_tree }
+    ensures begins { PassBegins kept_tree }
+    ensures ends { PassesEnd kept_tree }
+    ensures reading { ReadingIsLearnt kept_tree }
+{}
+
+/// Where an outcome fits, an event reads as it says: a server that stops has failed, a query unheard is ignored.
+pub fn fitting_outcomes_are_read()
+    ensures { FittingOutcomesAreRead }
+{}
+
+/// The plain tree as a service of one call after the other: where it starts, an update by the plain step, and a
+/// query, which leaves the tree.
+pub fn calls_do_the_plain_step()
+    ensures opening { (service_of plain_tree).opening ≡ opening_tree }
+    ensures update { (t : Tree) (client : ℕ) (update : Update)
+        → (service_of plain_tree).step t client (call.Update update) ≡ step t client update }
+    ensures query { (t : Tree) (client : ℕ) (query : Query)
+        → (service_of plain_tree).step t client (call.Query query) ≡ (t, query_reply t query) }
+{}

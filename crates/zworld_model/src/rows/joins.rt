@@ -1,0 +1,41 @@
+//! Worked runs in which a server joins.
+
+ghost use Rattle.std.specs.Prelude.{◌≡◌, [], ◌∷◌, None, Some, false, take};
+ghost use Rattle.zserver_table.specs.declared.message.Message.TheVariants as message;
+ghost use Rattle.zmaster_table.specs.declared.join_fault.JoinFault.TheVariants.{Joining, Lost};
+ghost use Rattle.zmaster_table.specs.Table.{join_fault};
+ghost use Rattle.zworld_model.specs.declared.event.Event.TheVariants.{Join};
+ghost use Rattle.zworld_model.specs.declared.history.CallEvent.TheVariants as saw;
+ghost use Rattle.zworld_model.specs.support.Counter.{create, exists, name_reply, count_reply};
+ghost use Rattle.zworld_model.specs.Events.{is_enabled};
+ghost use Rattle.zworld_model.specs.support.RunRows.{after, seen, link, view, m, s1, s2, s3, c1};
+ghost use Rattle.zworld_model.specs.support.JoinRows.{state_is_handed_over, snapshot_is_stale};
+ghost use Rattle.zworld_model.specs.support.JoinRows.{state_is_lost};
+
+/// A server joins behind the tail: from the event on in which the old tail puts its snapshot, it answers nobody; the new
+/// tail does once it has the state.
+pub fn joining_server_is_handed_the_state()
+    ensures one_joins { join_fault (after 1 (take 4 state_is_handed_over)).master 3 ≡ Some Joining }
+    ensures silent { link 1 (take 9 state_is_handed_over) s1 c1 ≡ [] }
+    ensures told { link 1 (take 11 state_is_handed_over) m c1
+        ≡ message.Config 2 (Some 1) (Some 2) ∷ [] }
+    ensures handed_over { (view 1 (take 10 state_is_handed_over) 2).last ≡ 1 }
+    ensures seen { seen 1 state_is_handed_over
+        ≡ saw.Begin 1 1 create ∷ saw.Answer 1 1 (name_reply 0) ∷ saw.Begin 1 2 exists
+        ∷ saw.Answer 1 2 (count_reply 1) ∷ [] }
+{}
+
+/// The snapshot of a predecessor that failed is ignored: it lacks what the new one has taken.
+pub fn stale_snapshot_is_ignored()
+    ensures no_state { (view 2 (take 14 snapshot_is_stale) 3).machine ≡ None }
+    ensures taken { link 2 (take 14 snapshot_is_stale) s2 s3 ≡ [] }
+    ensures whole_state { (view 2 snapshot_is_stale 3).last ≡ 2 }
+{}
+
+/// The state is lost with the only server that had it: nobody is answered, and no server can join.
+pub fn state_is_lost_with_its_only_server()
+    ensures silent { link 1 state_is_lost s2 c1 ≡ [] }
+    ensures unanswered { seen 1 state_is_lost ≡ saw.Begin 1 1 exists ∷ [] }
+    ensures refused { join_fault (after 1 state_is_lost).master 3 ≡ Some Lost }
+    ensures not_enabled { is_enabled (after 1 state_is_lost) (Join 3) ≡ false }
+{}

@@ -1,0 +1,46 @@
+//! Worked rows of the legal order, and the first histories that the plain tree explains.
+
+ghost use Rattle.std.specs.Prelude.{[], ◌∷◌};
+ghost use Rattle.zcalls.specs.declared.call.Query.{Query};
+ghost use Rattle.zcalls.specs.declared.call.Update.{Update};
+ghost use Rattle.zworld_model.specs.PlainTree.{IsExplained};
+ghost use Rattle.zworld_model.specs.support.OrderRows.{ExplainsTheRun, first_down, second_down, Explains};
+ghost use Rattle.zworld_model.specs.support.OrderRows.{true_order, first_create, lost_create};
+ghost use Rattle.zworld_model.specs.support.OrderRows.{lost_exists};
+ghost use Rattle.zworld_model.specs.support.OrderRows.{last_exists, strange_create, query_is_first};
+ghost use Rattle.zworld_model.specs.support.OrderRows.{update_is_first};
+
+/// A worked row of the legal order: an unanswered update stands in it, and an unanswered query doesn't.
+pub fn legal_order_is_taken()
+    ensures explained { Explains 2 2 true_order }
+{}
+
+/// Orders that explain no history: each breaks one clause of the legal order, and no other.
+pub fn other_orders_are_refused()
+    ensures answered_left_out { Explains 2 2 (first_create ∷ lost_create ∷ []) → ⊥ }
+    ensures call_twice { Explains 2 2 (first_create ∷ lost_create ∷ last_exists ∷ last_exists ∷ [])
+        → ⊥ }
+    ensures unanswered_query { Explains 2 2
+        (first_create ∷ lost_create ∷ lost_exists ∷ last_exists ∷ [])
+        → ⊥ }
+    ensures never_begun { Explains 2 2 (first_create ∷ strange_create ∷ last_exists ∷ []) → ⊥ }
+    ensures wrong_reply { Explains 2 1 true_order → ⊥ }
+    ensures against_time { Explains 2 0 (last_exists ∷ first_create ∷ []) → ⊥ }
+    ensures unlawful_state { Explains 1 2 true_order → ⊥ }
+{}
+
+/// A run and its order: of two updates that go down the chain one behind the other the first comes first, whichever
+/// answer is taken first.
+pub fn run_has_one_order()
+    ensures explained { ExplainsTheRun (first_down ∷ second_down ∷ []) }
+    ensures no_other { ExplainsTheRun (second_down ∷ first_down ∷ []) → ⊥ }
+{}
+
+/// The plain tree explains a history in which nobody calls; one in which a query of the opening tree is asked and
+/// answered; and one in which an update is answered, and then a query from the tree after it.
+pub fn plain_tree_explains()
+    ensures silence { IsExplained [] }
+    ensures first_query { (query : Query) → IsExplained (query_is_first query) }
+    ensures first_update { (update : Update) (query : Query)
+        → IsExplained (update_is_first update query) }
+{}
