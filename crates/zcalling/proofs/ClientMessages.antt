@@ -10,7 +10,7 @@ use Rattle.zcalls.proofs.Among.{test}
 use Rattle.zserver_table.specs.declared.message.Message.TheVariants as message
 use Rattle.zserver_table.specs.declared.process.Process.{Process}
 use Rattle.zserver_table.specs.declared.process.Process.TheVariants.{Master, Server, Client}
-use Rattle.zserver_table.specs.View.{Post}
+use Rattle.zserver_table.specs.View.{Transfer, Post}
 use Rattle.zclient_table.specs.View.{ClientView}
 use Rattle.zclient_table.specs.Table as client
 use Rattle.zworld_model.specs.declared.history.CallEvent.{CallEvent}
@@ -93,7 +93,7 @@ module _ {P : Type 0} (plain : Plain P) (t : Account) (s : IsSound plain t) (c n
 
 -- what a client does with a message
 module _ {P : Type 0} (plain : Plain P) (t : Account) (s : IsSound plain t) (c : ℕ) where
-  abbrev after : client.ClientResult (List Entry) → Account
+  abbrev after : client.ClientResult (Transfer (List Entry)) → Account
   after did = record t { world = client_took t.world c did }
 
   unchanged : IsSound plain (after (client.no_effect (t.world.clients c)))

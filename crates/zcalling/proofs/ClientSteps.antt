@@ -9,7 +9,7 @@ use Rattle.zcalls.specs.Operation.{Operation}
 use Rattle.zcalls.specs.Kept.{Plain}
 use Rattle.zserver_table.specs.declared.message.Message.TheVariants as message
 use Rattle.zserver_table.specs.declared.process.Process.TheVariants.{Server, Client}
-use Rattle.zserver_table.specs.View.{Post}
+use Rattle.zserver_table.specs.View.{Transfer, Post}
 use Rattle.zclient_table.specs.View.{ClientView}
 use Rattle.zclient_table.specs.Table as client
 use Rattle.zworld_model.specs.declared.history.CallEvent.{CallEvent}
@@ -195,8 +195,8 @@ module _ (w : LogWorld) (items : List Item) (c : ℕ) where
 -- the event Begin
 pub begin_sound : {P : Type 0} (plain : Plain P) (t : Account) → IsSound plain t → (c : ℕ) (new : Call)
     → IsSound plain (record t {
-      world = with_client t.world c (client.begin_step {M = List Entry} (t.world.clients c) new).0 (client.begin_step (t.world.clients c) new).1
-          (t.world.history ++ Begin c (client.begin_step {M = List Entry} (t.world.clients c) new).0.number new ∷ []);
+      world = with_client t.world c (client.begin_step {T = Transfer (List Entry)} (t.world.clients c) new).0 (client.begin_step (t.world.clients c) new).1
+          (t.world.history ++ Begin c (client.begin_step {T = Transfer (List Entry)} (t.world.clients c) new).0.number new ∷ []);
     })
 unfolding client.begin_step
 begin_sound plain t s c new =

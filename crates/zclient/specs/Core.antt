@@ -5,12 +5,11 @@ use Rattle.zserver_table.specs.declared.message.Message.{Message}
 use Rattle.zserver_table.specs.declared.message.Message.TheVariants as message
 use Rattle.zserver_table.specs.declared.process.Process.{Process}
 use Rattle.zserver_table.specs.declared.process.Process.TheVariants.{Master}
-use Rattle.zserver_table.specs.View.{Post}
+use Rattle.zserver_table.specs.View.{PostOf}
 use Rattle.zclient_table.specs.declared.begin_fault.BeginFault.{BeginFault}
 use Rattle.zclient_table.specs.declared.begin_fault.BeginFault.TheVariants.{Memory}
 use Rattle.zclient_table.specs.View.{ClientView}
 use Rattle.zclient_table.specs.Table.{begin_fault}
-use Rattle.zout.specs.Posts.{table_message}
 
 -- a call is refused with this: by the table, or for memory where the table allows it
 abbrev pub IsBeginFault : ClientView → BeginFault → Type 0
@@ -22,7 +21,7 @@ abbrev pub IsResend : {T : Type 0} → ClientView → Process → Message T → 
 IsResend v Master (message.Config epoch head tail) = (v.epoch < epoch) × IsSome v.outstanding
 IsResend v from other = ⊥
 
--- the one post or none, as a table has it
-abbrev pub posts_of : {T : Type 0} → Option (Process × Message T) → List (Post T)
+-- the one post or none, as a list
+abbrev pub posts_of : {T : Type 0} → Option (PostOf T) → List (PostOf T)
 posts_of None = []
-posts_of (Some post) = (post.0, table_message post.1) ∷ []
+posts_of (Some post) = post ∷ []

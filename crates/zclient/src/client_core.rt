@@ -4,7 +4,7 @@ ghost use Rattle.std.specs.Prelude.{◌≡◌, ◌<◌, ℕ, None, [], IfErr, If
 ghost use Rattle.std.specs.Option.{option_map};
 ghost use Rattle.zclient_table.specs.View.{opening_client};
 ghost use Rattle.zclient_table.specs.Table.{begin_fault, begin_step, client_step, answer_row, config_row, outstanding_posts, retry_posts};
-ghost use Rattle.zout.specs.Posts.{Puts, table_message};
+ghost use Rattle.zout.specs.Posts.{Puts};
 ghost use Rattle.zclient.specs.Core.{IsBeginFault, IsResend};
 
 use crate::post::send_call;
@@ -61,7 +61,7 @@ impl ClientCore {
     #[tactic(auto, unfolding(zclient_table::specs::Table::begin_step, zclient_table::specs::Table::begin_fault))]
     pub fn begin<T: Drop>(&mut self, call: Call, out: &mut Out<T>) -> Result<CallNumber, BeginFault>
         ensures number { IfOk result (λ number. number ≡ self.new.number) }
-        ensures next { OnOk result (self.new ≡ (begin_step {M = T} self.old call).0) }
+        ensures next { OnOk result (self.new ≡ (begin_step {T = T} self.old call).0) }
         ensures puts { OnOk result (Puts out.old out.new (begin_step self.old call).1) }
         ensures allowed { OnOk result (begin_fault self.old ≡ None) }
         ensures fault { IfErr result (IsBeginFault self.old) }
@@ -92,11 +92,11 @@ impl ClientCore {
         out: &mut Out<T>,
     ) -> Result<Option<Reply>, Message<T>>
         ensures next { OnOk result
-            (self.new ≡ (client_step self.old from (table_message message)).0) }
+            (self.new ≡ (client_step self.old from message).0) }
         ensures puts { OnOk result
-            (Puts out.old out.new (client_step self.old from (table_message message)).1) }
+            (Puts out.old out.new (client_step self.old from message).1) }
         ensures reply { IfOk result (λ reply. reply
-            ≡ option_map (λ given. given.1) (client_step self.old from (table_message message)).2) }
+            ≡ option_map (λ given. given.1) (client_step self.old from message).2) }
         ensures back { IfErr result (λ back. back ≡ message) }
         ensures resends { OnErr result (IsResend self.old from message) }
         ensures same { OnErr result (self.new ≡ self.old) }
@@ -149,10 +149,10 @@ impl ClientCore {
     // Answer: to the call that it waits for, the wait is over, and the reply is handed out.
     #[tactic(auto, unfolding(zclient_table::specs::Table::answer_row))]
     fn answer<T: Drop>(&mut self, number: CallNumber, reply: Reply) -> Option<Reply>
-        ensures next { self.new ≡ (answer_row {M = T} self.old number reply).0 }
-        ensures silent { (answer_row {M = T} self.old number reply).1 ≡ [] }
+        ensures next { self.new ≡ (answer_row {T = T} self.old number reply).0 }
+        ensures silent { (answer_row {T = T} self.old number reply).1 ≡ [] }
         ensures reply { result
-            ≡ option_map (λ given. given.1) (answer_row {M = T} self.old number reply).2 }
+            ≡ option_map (λ given. given.1) (answer_row {T = T} self.old number reply).2 }
     {
         if let Some((waited, _)) = &self.outstanding
             && waited.number() == number.number()
@@ -173,11 +173,11 @@ impl ClientCore {
         out: &mut Out<T>,
     ) -> Result<(), Memory>
         ensures next { OnOk result
-            (self.new ≡ (config_row {M = T} self.old epoch.now head.now tail.now).0) }
+            (self.new ≡ (config_row {T = T} self.old epoch.now head.now tail.now).0) }
         ensures puts { OnOk result
             (Puts out.old out.new (config_row self.old epoch.now head.now tail.now).1) }
         ensures no_reply { OnOk result
-            ((config_row {M = T} self.old epoch.now head.now tail.now).2 ≡ None) }
+            ((config_row {T = T} self.old epoch.now head.now tail.now).2 ≡ None) }
         ensures later { OnErr result (self.old.epoch < epoch.now) }
         ensures waited { OnErr result (IsSome self.old.outstanding) }
         ensures same { OnErr result (self.new ≡ self.old) }

@@ -4,10 +4,10 @@ use mathlib.Core.Bool.{true≢false}
 use Rattle.zcalls.specs.declared.call.Call.{Call}
 use Rattle.zcalls.specs.declared.reply.Reply.{Reply}
 use Rattle.zcalls.proofs.Among.{test}
+use Rattle.zserver_table.specs.declared.message.Message.{Message}
 use Rattle.zserver_table.specs.declared.message.Message.TheVariants as message
 use Rattle.zserver_table.specs.declared.process.Process.{Process}
 use Rattle.zserver_table.specs.declared.process.Process.TheVariants.{Master, Server}
-use Rattle.zserver_table.specs.View.{MessageOf}
 use Rattle.zclient_table.specs.View.{ClientView}
 use Rattle.zclient_table.specs.Table.{is_waiting_for, answer_row, config_row, client_step}
 use Rattle.zclient_table.specs.support.Cases.{IsClientRow, Ignores, Answers, Configures}
@@ -18,8 +18,8 @@ waits : (v : ClientView) (outstanding : Option (ℕ × Call)) (number : ℕ) →
 waits v None number is = absurd (true≢false (sym is))
 waits v (Some waited) number is = (waited.1, ap (λ n. Some (n, waited.1)) (eqb-true _ _ is))
 
-module _ {M : Type 0} (v : ClientView) where
-  answered : (s number : ℕ) (reply : Reply) → IsClientRow {M = M} v (Server s) (message.Answer number reply) (answer_row v number reply)
+module _ {T : Type 0} (v : ClientView) where
+  answered : (s number : ℕ) (reply : Reply) → IsClientRow {T = T} v (Server s) (message.Answer number reply) (answer_row v number reply)
   unfolding answer_row
   answered s number reply = elim (test (is_waiting_for v number)) [
     | inl is ↦
@@ -28,7 +28,7 @@ module _ {M : Type 0} (v : ClientView) where
     | inr not ↦ rw not (Ignores (Server s) (message.Answer number reply))
   ]
 
-  configured : (epoch : ℕ) (head tail : Option ℕ) → IsClientRow {M = M} v Master (message.Config epoch head tail) (config_row v epoch head tail)
+  configured : (epoch : ℕ) (head tail : Option ℕ) → IsClientRow {T = T} v Master (message.Config epoch head tail) (config_row v epoch head tail)
   unfolding config_row
   configured epoch head tail = elim (test (nat_lt v.epoch epoch)) [
     | inl is ↦ rw is (Configures epoch head tail (ltb-true _ _ is))
@@ -36,7 +36,7 @@ module _ {M : Type 0} (v : ClientView) where
   ]
 
   -- the table is these rows
-  pub client_case : (from : Process) (m : MessageOf M) → IsClientRow v from m (client_step v from m)
+  pub client_case : (from : Process) (m : Message T) → IsClientRow v from m (client_step v from m)
   unfolding client_step
   client_case (Server s) (message.Answer number reply) = answered s number reply
   client_case Master (message.Config epoch head tail) = configured epoch head tail

@@ -7,7 +7,7 @@ use Rattle.zcalls.specs.declared.reply.Reply.{Reply}
 use Rattle.zserver_table.specs.declared.message.Message.TheVariants as message
 use Rattle.zserver_table.specs.declared.process.Process.{Process}
 use Rattle.zserver_table.specs.declared.process.Process.TheVariants.{Master, Server}
-use Rattle.zserver_table.specs.View.{MessageOf}
+use Rattle.zserver_table.specs.View.{Transfer, MessageOf}
 use Rattle.zserver_table.specs.support.Homomorphism.{message_with, posts_with}
 use Rattle.zclient_table.specs.View.{ClientView}
 use Rattle.zclient_table.specs.Table.{outstanding_posts, call_posts, begin_step, ClientResult, no_effect, is_waiting_for, answer_row, config_row, client_step, retry_posts}
@@ -30,7 +30,7 @@ module _ {M N : Type 0} (h : M → N) where
   send_with : (v : ClientView) → outstanding_posts v ≡ posts_with h (outstanding_posts v)
   send_with v = send_fields v.number v.outstanding v.epoch v.head v.tail
 
-  if_with : (b : Bool) (x y : ClientResult M) (x' y' : ClientResult N) → x' ≡ client_result_with h x → y' ≡ client_result_with h y → (if b then x' else y') ≡ client_result_with h (if b then x else y)
+  if_with : (b : Bool) (x y : ClientResult (Transfer M)) (x' y' : ClientResult (Transfer N)) → x' ≡ client_result_with h x → y' ≡ client_result_with h y → (if b then x' else y') ≡ client_result_with h (if b then x else y)
   if_with true x y x' y' p q = p
   if_with false x y x' y' p q = q
 
@@ -47,7 +47,7 @@ module _ {M N : Type 0} (h : M → N) where
       if_with (nat_lt v.epoch epoch) (w, outstanding_posts w, None) (no_effect v) (w, outstanding_posts w, None) (no_effect v) (λ i. (w, send_with w i, None)) refl
 
   -- a call, a retry, and the table
-  pub begins_with : (v : ClientView) (c : Call) → begin_step v c ≡ ((begin_step {M = M} v c).0, posts_with h (begin_step v c).1)
+  pub begins_with : (v : ClientView) (c : Call) → begin_step v c ≡ ((begin_step {T = Transfer M} v c).0, posts_with h (begin_step v c).1)
   unfolding begin_step
   begins_with v c =
       let w : ClientView = record v { number = v.number + 1; outstanding = Some (v.number + 1, c) } in

@@ -4,13 +4,13 @@ use Rattle.zcalls.specs.declared.call.Call.{Call}
 use Rattle.zcalls.specs.declared.call.Entry.{Entry}
 use Rattle.zserver_table.specs.declared.process.Process.{Process}
 use Rattle.zserver_table.specs.Machine.{Does, replay}
-use Rattle.zserver_table.specs.View.{MessageOf}
+use Rattle.zserver_table.specs.View.{Transfer, MessageOf}
 use Rattle.zserver_table.specs.support.Homomorphism.{message_with, posts_with}
 use Rattle.zclient_table.specs.View.{ClientView}
 use Rattle.zclient_table.specs.Table.{ClientResult, begin_step, client_step, retry_posts}
 
 -- the same view and reply, and posts whose machines are mapped
-abbrev pub client_result_with : {M N : Type 0} → (M → N) → ClientResult M → ClientResult N
+abbrev pub client_result_with : {M N : Type 0} → (M → N) → ClientResult (Transfer M) → ClientResult (Transfer N)
 client_result_with h taken = (taken.0, posts_with h taken.1, taken.2)
 
 -- what a client does with a message is the same, whether the machines in messages are logs or what the logs lead to
@@ -21,7 +21,7 @@ TableKeepsLogs does =
 
 -- and so is a call
 abbrev pub CallKeepsLogs : {M : Type 0} → Does M → Type 0
-CallKeepsLogs does = (v : ClientView) (c : Call) → begin_step v c ≡ ((begin_step {M = List Entry} v c).0, posts_with (replay does) (begin_step v c).1)
+CallKeepsLogs does = (v : ClientView) (c : Call) → begin_step v c ≡ ((begin_step {T = Transfer (List Entry)} v c).0, posts_with (replay does) (begin_step v c).1)
 
 -- and a retry
 abbrev pub RetryKeepsLogs : {M : Type 0} → Does M → Type 0

@@ -40,55 +40,55 @@ place_among s at [] place = absurd place
 place_among s zero (t ∷ rest) place = rw place refl
 place_among s (suc at) (t ∷ rest) place = rw place.0 (place_among s at rest place.1)
 
-module _ {M : Type 0} (epoch s : ℕ) where
+module _ {T : Type 0} (epoch s : ℕ) where
   -- the chain behind p
   behind_place : (p at : ℕ) (chain : List Neighbour) → IsPlace s at chain
-      → mended_chain_behind {M = M} epoch s p chain ≡ mended_behind_at epoch p at (remove chain at)
+      → mended_chain_behind {T = T} epoch s p chain ≡ mended_behind_at epoch p at (remove chain at)
   behind_place p at [] place = absurd place
   behind_place p zero (t ∷ rest) place = rw place refl
-  behind_place p (suc at) (t ∷ rest) place = rw place.0 (ap (λ (m : MendedChain M). (t ∷ m.0, m.1)) (behind_place t.0 at rest place.1))
+  behind_place p (suc at) (t ∷ rest) place = rw place.0 (ap (λ (m : MendedChain T). (t ∷ m.0, m.1)) (behind_place t.0 at rest place.1))
 
   -- the whole chain
   pub mended_place : (at : ℕ) (chain : List Neighbour) → IsPlace s at chain
-      → mended_chain {M = M} epoch s chain ≡ mended_at epoch at (remove chain at)
+      → mended_chain {T = T} epoch s chain ≡ mended_at epoch at (remove chain at)
   mended_place at [] place = absurd place
   mended_place zero (t ∷ rest) place = rw place refl
-  mended_place (suc at) (t ∷ rest) place = rw place.0 (ap (λ (m : MendedChain M). (t ∷ m.0, m.1)) (behind_place t.0 at rest place.1))
+  mended_place (suc at) (t ∷ rest) place = rw place.0 (ap (λ (m : MendedChain T). (t ∷ m.0, m.1)) (behind_place t.0 at rest place.1))
 
-module _ {M : Type 0} (epoch : ℕ) where
+module _ {T : Type 0} (epoch : ℕ) where
   -- the last has gone: the one before it is the tail
   behind_end : (p : Neighbour) (at : ℕ) (rest : List Neighbour) (before : Neighbour) → at ≡ length rest → before ≡ get_or (p ∷ rest) at before
-      → mended_behind_at {M = M} epoch p.0 at rest ≡ (rest, (Server before.0, message.BecomeTail epoch) ∷ [])
+      → mended_behind_at {T = T} epoch p.0 at rest ≡ (rest, (Server before.0, message.BecomeTail epoch) ∷ [])
   behind_end p zero [] before end is = rw is refl
   behind_end p zero (t ∷ rest) before end is = absurd (omega arith)
   behind_end p (suc at) [] before end is = absurd (omega arith)
-  behind_end p (suc at) (t ∷ rest) before end is = ap (λ (m : MendedChain M). (t ∷ m.0, m.1)) (behind_end t at rest before (omega arith) is)
+  behind_end p (suc at) (t ∷ rest) before end is = ap (λ (m : MendedChain T). (t ∷ m.0, m.1)) (behind_end t at rest before (omega arith) is)
 
   pub mended_end : (at place : ℕ) (members : List Neighbour) (before : Neighbour) → place + 1 ≡ at → at ≡ length members → before ≡ get_or members place before
-      → mended_at {M = M} epoch at members ≡ (members, (Server before.0, message.BecomeTail epoch) ∷ [])
+      → mended_at {T = T} epoch at members ≡ (members, (Server before.0, message.BecomeTail epoch) ∷ [])
   mended_end zero place members before follows end is = absurd (omega arith)
   mended_end (suc at) place [] before follows end is = absurd (omega arith)
   mended_end (suc at) place (t ∷ rest) before follows end is =
       let same : place ≡ at = omega arith in
-      ap (λ (m : MendedChain M). (t ∷ m.0, m.1)) (behind_end t at rest before (omega arith) (is ∙ ap (λ k. get_or (t ∷ rest) k before) same))
+      ap (λ (m : MendedChain T). (t ∷ m.0, m.1)) (behind_end t at rest before (omega arith) (is ∙ ap (λ k. get_or (t ∷ rest) k before) same))
 
   -- one between two others has gone: the next one is a pair with the one before
   behind_between : (p : Neighbour) (at : ℕ) (rest : List Neighbour) (before next : Neighbour) → at < length rest
       → before ≡ get_or (p ∷ rest) at before → next ≡ get_or rest at next
-      → mended_behind_at {M = M} epoch p.0 at rest ≡ (slice_set rest at (next.0, epoch), (Server next.0, message.NewPred epoch before.0) ∷ [])
+      → mended_behind_at {T = T} epoch p.0 at rest ≡ (slice_set rest at (next.0, epoch), (Server next.0, message.NewPred epoch before.0) ∷ [])
   behind_between p at [] before next within is stands = absurd (omega arith)
   behind_between p zero (t ∷ rest) before next within is stands = rw (is, stands) refl
   behind_between p (suc at) (t ∷ rest) before next within is stands =
-      ap (λ (m : MendedChain M). (t ∷ m.0, m.1)) (behind_between t at rest before next (omega arith) is stands)
+      ap (λ (m : MendedChain T). (t ∷ m.0, m.1)) (behind_between t at rest before next (omega arith) is stands)
 
   pub mended_between : (at place : ℕ) (members : List Neighbour) (before next : Neighbour) → place + 1 ≡ at → at < length members
       → before ≡ get_or members place before → next ≡ get_or members at next
-      → mended_at {M = M} epoch at members ≡ (slice_set members at (next.0, epoch), (Server next.0, message.NewPred epoch before.0) ∷ [])
+      → mended_at {T = T} epoch at members ≡ (slice_set members at (next.0, epoch), (Server next.0, message.NewPred epoch before.0) ∷ [])
   mended_between zero place members before next follows within is stands = absurd (omega arith)
   mended_between (suc at) place [] before next follows within is stands = absurd (omega arith)
   mended_between (suc at) place (t ∷ rest) before next follows within is stands =
       let same : place ≡ at = omega arith in
-      ap (λ (m : MendedChain M). (t ∷ m.0, m.1))
+      ap (λ (m : MendedChain T). (t ∷ m.0, m.1))
       (behind_between t at rest before next (omega arith) (is ∙ ap (λ k. get_or (t ∷ rest) k before) same) stands)
 
 -- a list that is written in whole

@@ -8,7 +8,7 @@ use Rattle.zmaster_table.specs.declared.join_fault.JoinFault.TheVariants.{Used}
 use Rattle.zcalls.proofs.Among.{test}
 use Rattle.zserver_table.specs.declared.message.Message.TheVariants as message
 use Rattle.zserver_table.specs.declared.process.Process.TheVariants.{Server, Client}
-use Rattle.zserver_table.specs.View.{Neighbour, Post}
+use Rattle.zserver_table.specs.View.{Neighbour, PostOf}
 use Rattle.zmaster_table.specs.View.{MasterView, is_among, members, is_joining, with_number, head_of, tail_of}
 use Rattle.zmaster_table.specs.Table.{before, without_next, have_row, joined_row, gone_row, join_step, join_fault, and_tell_clients}
 use Rattle.zmaster.specs.support.Mending.{joins, IsPlace, mended_at, mended_behind_at, chain_fault}
@@ -21,68 +21,68 @@ joins_is : (v : MasterView) (joining : Option ℕ) (s : ℕ) → is_joining (rec
 joins_is v None s = refl
 joins_is v (Some j) s = refl
 
-module _ {M : Type 0} (v : MasterView) (s : ℕ) where
-  pub have_none : (epoch : ℕ) (last : Option ℕ) → before s epoch v.chain ≡ None → have_row {M = M} v s epoch last ≡ (v, [])
+module _ {T : Type 0} (v : MasterView) (s : ℕ) where
+  pub have_none : (epoch : ℕ) (last : Option ℕ) → before s epoch v.chain ≡ None → have_row {T = T} v s epoch last ≡ (v, [])
   unfolding have_row
   have_none epoch last is = rw (is, have_row) refl
 
   pub have_some : (epoch : ℕ) (last : Option ℕ) (p : ℕ) → before s epoch v.chain ≡ Some p
-      → have_row {M = M} v s epoch last ≡ (v, (Server p, message.NewSucc epoch s last) ∷ [])
+      → have_row {T = T} v s epoch last ≡ (v, (Server p, message.NewSucc epoch s last) ∷ [])
   unfolding have_row
   have_some epoch last p is = rw (is, have_row) refl
 
-  pub joined_none : joins v.joining s ≡ false → joined_row {M = M} v s ≡ (v, [])
+  pub joined_none : joins v.joining s ≡ false → joined_row {T = T} v s ≡ (v, [])
   unfolding joined_row
   joined_none is = let other : is_joining v s ≡ false = joins_is v v.joining s ∙ is in rw other refl
 
-  pub joined_some : joins v.joining s ≡ true → joined_row {M = M} v s ≡ and_tell_clients (record v { joining = None; epoch = v.epoch + 1 }) []
+  pub joined_some : joins v.joining s ≡ true → joined_row {T = T} v s ≡ and_tell_clients (record v { joining = None; epoch = v.epoch + 1 }) []
   unfolding joined_row
   joined_some is = let yes : is_joining v s ≡ true = joins_is v v.joining s ∙ is in rw yes refl
 
-  pub gone_outside : is_among s (members v) ≡ false → gone_row {M = M} v s ≡ (record v { used = with_number s v.used }, [])
+  pub gone_outside : is_among s (members v) ≡ false → gone_row {T = T} v s ≡ (record v { used = with_number s v.used }, [])
   unfolding gone_row
   gone_outside is = rw is refl
 
   pub gone_joining : (at : ℕ) → IsPlace s at v.chain → joins v.joining s ≡ true
-      → gone_row {M = M} v s ≡ and_tell_clients (record v { chain = (mended_at {M = M} (v.epoch + 1) at (remove v.chain at)).0; joining = None; epoch = v.epoch + 1 }) (mended_at (v.epoch + 1) at (remove v.chain at)).1
+      → gone_row {T = T} v s ≡ and_tell_clients (record v { chain = (mended_at {T = T} (v.epoch + 1) at (remove v.chain at)).0; joining = None; epoch = v.epoch + 1 }) (mended_at (v.epoch + 1) at (remove v.chain at)).1
   unfolding gone_row
   gone_joining at place is =
       let among : is_among s (members v) ≡ true = place_among s at v.chain place in
       let yes : is_joining v s ≡ true = joins_is v v.joining s ∙ is in
-      rw (among, yes, mended_place {M = M} (v.epoch + 1) s at v.chain place) refl
+      rw (among, yes, mended_place {T = T} (v.epoch + 1) s at v.chain place) refl
 
   pub gone_other : (at : ℕ) → IsPlace s at v.chain → joins v.joining s ≡ false
-      → gone_row {M = M} v s ≡ and_tell_clients (record v { chain = (mended_at {M = M} (v.epoch + 1) at (remove v.chain at)).0; epoch = v.epoch + 1 }) (mended_at (v.epoch + 1) at (remove v.chain at)).1
+      → gone_row {T = T} v s ≡ and_tell_clients (record v { chain = (mended_at {T = T} (v.epoch + 1) at (remove v.chain at)).0; epoch = v.epoch + 1 }) (mended_at (v.epoch + 1) at (remove v.chain at)).1
   unfolding gone_row
   gone_other at place is =
       let among : is_among s (members v) ≡ true = place_among s at v.chain place in
       let no : is_joining v s ≡ false = joins_is v v.joining s ∙ is in
-      rw (among, no, mended_place {M = M} (v.epoch + 1) s at v.chain place) refl
+      rw (among, no, mended_place {T = T} (v.epoch + 1) s at v.chain place) refl
 
   pub join_behind : (last : ℕ) → last_or None (members v) ≡ Some last
-      → join_step {M = M} v s ≡ (record v { chain = v.chain ++ (s, v.epoch + 1) ∷ []; joining = Some s; used = with_number s v.used; epoch = v.epoch + 1 }, (Server s, message.NewPred (v.epoch + 1) last) ∷ [])
+      → join_step {T = T} v s ≡ (record v { chain = v.chain ++ (s, v.epoch + 1) ∷ []; joining = Some s; used = with_number s v.used; epoch = v.epoch + 1 }, (Server s, message.NewPred (v.epoch + 1) last) ∷ [])
   unfolding join_step
   join_behind last is = rw (is, join_step) refl
 
-  pub join_nowhere : last_or None (members v) ≡ None → join_step {M = M} v s ≡ (v, [])
+  pub join_nowhere : last_or None (members v) ≡ None → join_step {T = T} v s ≡ (v, [])
   unfolding join_step
   join_nowhere is = rw (is, join_step) refl
 
 -- at most one message tells of a mended chain
-next_few : (M : Type 0) (epoch p : ℕ) (rest : List Neighbour) → length (without_next {M = M} epoch p rest).1 ≤ 1
-next_few M epoch p [] = omega arith
-next_few M epoch p (t ∷ rest) = omega arith
+next_few : (T : Type 0) (epoch p : ℕ) (rest : List Neighbour) → length (without_next {T = T} epoch p rest).1 ≤ 1
+next_few T epoch p [] = omega arith
+next_few T epoch p (t ∷ rest) = omega arith
 
-behind_few : (M : Type 0) (epoch p at : ℕ) (rest : List Neighbour) → length (mended_behind_at {M = M} epoch p at rest).1 ≤ 1
-behind_few M epoch p zero rest = next_few M epoch p rest
-behind_few M epoch p (suc at) [] = omega arith
-behind_few M epoch p (suc at) (t ∷ rest) = behind_few M epoch t.0 at rest
+behind_few : (T : Type 0) (epoch p at : ℕ) (rest : List Neighbour) → length (mended_behind_at {T = T} epoch p at rest).1 ≤ 1
+behind_few T epoch p zero rest = next_few T epoch p rest
+behind_few T epoch p (suc at) [] = omega arith
+behind_few T epoch p (suc at) (t ∷ rest) = behind_few T epoch t.0 at rest
 
-pub mended_few : (M : Type 0) (epoch at : ℕ) (chain : List Neighbour) → length (mended_at {M = M} epoch at chain).1 ≤ 1
-mended_few M epoch zero [] = omega arith
-mended_few M epoch zero (t ∷ rest) = omega arith
-mended_few M epoch (suc at) [] = omega arith
-mended_few M epoch (suc at) (t ∷ rest) = behind_few M epoch t.0 at rest
+pub mended_few : (T : Type 0) (epoch at : ℕ) (chain : List Neighbour) → length (mended_at {T = T} epoch at chain).1 ≤ 1
+mended_few T epoch zero [] = omega arith
+mended_few T epoch zero (t ∷ rest) = omega arith
+mended_few T epoch (suc at) [] = omega arith
+mended_few T epoch (suc at) (t ∷ rest) = behind_few T epoch t.0 at rest
 
 -- why a server can't join
 faults : (s : ℕ) (chain : List Neighbour) (joining : Option ℕ) (used : List ℕ) (epoch clients : ℕ) → is_among s used ≡ false
@@ -107,13 +107,13 @@ unfolding join_fault
 fault_used v s old = rw old refl
 
 -- what the first clients are told
-pub config_count : (M : Type 0) (v : MasterView) (count : ℕ) → length (config_posts_to {M = M} v count) ≡ count
-config_count M v count = length-map-range_with_len {X = Post M} (λ c. (Client c, message.Config v.epoch (head_of v) (tail_of v))) 0 count
+pub config_count : (T : Type 0) (v : MasterView) (count : ℕ) → length (config_posts_to {T = T} v count) ≡ count
+config_count T v count = length-map-range_with_len {X = PostOf T} (λ c. (Client c, message.Config v.epoch (head_of v) (tail_of v))) 0 count
 
-pub config_more : (M : Type 0) (v : MasterView) (count : ℕ)
-    → config_posts_to {M = M} v (count + 1) ≡ config_posts_to v count ++ (Client count, message.Config v.epoch (head_of v) (tail_of v)) ∷ []
-config_more M v count =
-    map-range_with_len_more {X = Post M} (λ c. (Client c, message.Config v.epoch (head_of v) (tail_of v))) 0 count count (omega arith)
+pub config_more : (T : Type 0) (v : MasterView) (count : ℕ)
+    → config_posts_to {T = T} v (count + 1) ≡ config_posts_to v count ++ (Client count, message.Config v.epoch (head_of v) (tail_of v)) ∷ []
+config_more T v count =
+    map-range_with_len_more {X = PostOf T} (λ c. (Client c, message.Config v.epoch (head_of v) (tail_of v))) 0 count count (omega arith)
 
 -- who isn't refused has a new number
 pub free_is_new : (v : MasterView) (s : ℕ) → join_fault v s ≡ None → is_among s v.used ≡ false

@@ -96,7 +96,7 @@ pub(crate) fn last_member(members: &[Member], found: Option<ServerId>) -> Option
 pub(crate) fn mend<T: Drop>(members: &mut Members, at: usize, epoch: &Epoch, out: &mut Out<T>)
     requires within { at ≤ length members.old.items }
     requires room { 0 < out.old.room }
-    ensures chain { members.new.items ≡ (mended_at {M = T} epoch.now at members.old.items).0 }
+    ensures chain { members.new.items ≡ (mended_at {T = T} epoch.now at members.old.items).0 }
     ensures puts { PutsInRoom out.old out.new (mended_at epoch.now at members.old.items).1 }
 {
     if at == 0 {

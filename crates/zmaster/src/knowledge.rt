@@ -4,7 +4,7 @@ ghost use Rattle.std.specs.Prelude.{◌≡◌, ◌+◌, ◌<◌, ◌≤◌, ℕ,
 ghost use Rattle.zserver_table.specs.declared.limits.TheConstants.{MAX_EPOCH, MAX_SERVERS};
 ghost use Rattle.zmaster_table.specs.View.{opening_master, head_of, tail_of, with_number};
 ghost use Rattle.zmaster_table.specs.Table.{config_posts, join_fault, join_step, master_step, have_row, joined_row, gone_row};
-ghost use Rattle.zout.specs.Posts.{PutsInRoom, table_message};
+ghost use Rattle.zout.specs.Posts.{PutsInRoom};
 ghost use Rattle.zmaster.specs.declared.limits.TheConstants.{MAX_CLIENTS, MAX_POSTS};
 
 use crate::chain::{
@@ -86,9 +86,9 @@ impl Knowledge {
     pub(crate) fn take<T: Drop>(&mut self, from: &Process, message: &Message<T>, out: &mut Out<T>)
         requires epochs { self.old.epoch < MAX_EPOCH }
         requires room { MAX_POSTS ≤ out.old.room }
-        ensures next { self.new ≡ (master_step self.old from.now (table_message message.now)).0 }
+        ensures next { self.new ≡ (master_step self.old from.now message.now).0 }
         ensures puts { PutsInRoom out.old out.new
-            (master_step self.old from.now (table_message message.now)).1 }
+            (master_step self.old from.now message.now).1 }
     {
         let Process::Server(server) = from else {
             return;
@@ -110,7 +110,7 @@ impl Knowledge {
         out: &mut Out<T>,
     )
         requires { 0 < out.old.room }
-        ensures same { (have_row {M = T} self.now server.now epoch.now last.now).0 ≡ self.now }
+        ensures same { (have_row {T = T} self.now server.now epoch.now last.now).0 ≡ self.now }
         ensures puts { PutsInRoom out.old out.new
             (have_row self.now server.now epoch.now last.now).1 }
     {
@@ -126,7 +126,7 @@ impl Knowledge {
     fn joined<T: Drop>(&mut self, server: &ServerId, out: &mut Out<T>)
         requires epochs { self.old.epoch < MAX_EPOCH }
         requires room { MAX_POSTS ≤ out.old.room }
-        ensures next { self.new ≡ (joined_row {M = T} self.old server.now).0 }
+        ensures next { self.new ≡ (joined_row {T = T} self.old server.now).0 }
         ensures puts { PutsInRoom out.old out.new (joined_row self.old server.now).1 }
     {
         if is_the_joining(&self.joining, server) {
@@ -140,7 +140,7 @@ impl Knowledge {
     fn gone<T: Drop>(&mut self, server: &ServerId, out: &mut Out<T>)
         requires epochs { self.old.epoch < MAX_EPOCH }
         requires room { MAX_POSTS ≤ out.old.room }
-        ensures next { self.new ≡ (gone_row {M = T} self.old server.now).0 }
+        ensures next { self.new ≡ (gone_row {T = T} self.old server.now).0 }
         ensures puts { PutsInRoom out.old out.new (gone_row self.old server.now).1 }
     {
         let Some(at) = place_of(&self.chain, server) else {
@@ -172,7 +172,7 @@ impl Knowledge {
         requires epochs { self.old.epoch < MAX_EPOCH }
         requires new { length self.old.chain < length (with_number server self.old.used) }
         requires room { MAX_POSTS ≤ out.old.room }
-        ensures next { self.new ≡ (join_step {M = T} self.old server).0 }
+        ensures next { self.new ≡ (join_step {T = T} self.old server).0 }
         ensures puts { PutsInRoom out.old out.new (join_step self.old server).1 }
     {
         let Some(before) = last_member(&self.chain, None) else {

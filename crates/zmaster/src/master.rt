@@ -3,7 +3,7 @@
 ghost use Rattle.std.specs.Prelude.{◌≡◌, ◌≤◌, IfErr, OnErr, OnOk, None, Some};
 ghost use Rattle.zmaster_table.specs.View.{opening_master};
 ghost use Rattle.zmaster_table.specs.Table.{join_fault, join_step, master_step};
-ghost use Rattle.zout.specs.Posts.{PutsInRoom, table_message};
+ghost use Rattle.zout.specs.Posts.{PutsInRoom};
 ghost use Rattle.zmaster.specs.declared.limits.TheConstants.{MAX_CLIENTS, MAX_POSTS};
 
 use crate::knowledge::Knowledge;
@@ -47,9 +47,9 @@ impl Master {
     /// Takes a message. It takes no memory, and always acts.
     pub fn take<T: Drop>(&mut self, from: Process, message: Message<T>, out: &mut Out<T>)
         requires { MAX_POSTS ≤ out.old.room }
-        ensures next { self.new ≡ (master_step self.old from (table_message message)).0 }
+        ensures next { self.new ≡ (master_step self.old from message).0 }
         ensures puts { PutsInRoom out.old out.new
-            (master_step self.old from (table_message message)).1 }
+            (master_step self.old from message).1 }
     {
         self.known.take(&from, &message, out);
         let _ = self.known.count();
@@ -58,7 +58,7 @@ impl Master {
     /// Lets a server join behind the last of the chain, or says why it can't. It takes no memory.
     pub fn join<T: Drop>(&mut self, server: ServerId, out: &mut Out<T>) -> Result<(), JoinFault>
         requires { MAX_POSTS ≤ out.old.room }
-        ensures next { OnOk result (self.new ≡ (join_step {M = T} self.old server).0) }
+        ensures next { OnOk result (self.new ≡ (join_step {T = T} self.old server).0) }
         ensures puts { OnOk result (PutsInRoom out.old out.new (join_step self.old server).1) }
         ensures allowed { OnOk result (join_fault self.old server ≡ None) }
         ensures fault { IfErr result (λ fault. join_fault self.old server ≡ Some fault) }

@@ -5,10 +5,11 @@ use Rattle.std.proofs.lemmas.List.FromFn.{length-range_with_len, length-map-rang
 use Rattle.std.specs.List.{range_with_len, last_or}
 use Rattle.std.proofs.lemmas.Bool.Decides.{nat_tests}
 use Rattle.zcalls.proofs.Among.{test}
+use Rattle.zserver_table.specs.declared.message.Message.{Message}
 use Rattle.zserver_table.specs.declared.message.Message.TheVariants as message
 use Rattle.zserver_table.specs.declared.process.Process.{Process}
 use Rattle.zserver_table.specs.declared.process.Process.TheVariants.{Server}
-use Rattle.zserver_table.specs.View.{Neighbour, MessageOf}
+use Rattle.zserver_table.specs.View.{Neighbour}
 use Rattle.zmaster_table.specs.View.{MasterView, is_among, with_number, members, is_joining}
 use Rattle.zmaster_table.specs.declared.join_fault.JoinFault.{JoinFault}
 use Rattle.zmaster_table.specs.declared.join_fault.JoinFault.TheVariants.{Used}
@@ -28,16 +29,16 @@ fewer_join true None = omega arith
 fewer_join true (Some s) = omega arith
 fewer_join false joining = omega arith
 
-module _ {M : Type 0} (epoch s : ℕ) where
+module _ {T : Type 0} (epoch s : ℕ) where
   -- a mended chain has one member fewer
-  one_fewer : (chain : List Neighbour) (done : MendedChain M) → IsMended epoch s chain done → length done.0 + 1 ≡ length chain
+  one_fewer : (chain : List Neighbour) (done : MendedChain T) → IsMended epoch s chain done → length done.0 + 1 ≡ length chain
   one_fewer _ _ (Only k) = refl
   one_fewer _ _ (First k t rest) = omega arith
   one_fewer _ _ (Last front p k) = grind (arith, length-append)
   one_fewer _ _ (Between front p k t rest) = grind (arith, length-append)
 
   -- and keeps all others
-  others_stay : (x : ℕ) → (s == x) ≡ false → (chain : List Neighbour) (done : MendedChain M) → IsMended epoch s chain done
+  others_stay : (x : ℕ) → (s == x) ≡ false → (chain : List Neighbour) (done : MendedChain T) → IsMended epoch s chain done
       → is_among x (numbers_of chain) ≡ true → is_among x (numbers_of done.0) ≡ true
   others_stay x other _ _ (Only k) among = later (s == x) false other among
   others_stay x other _ _ (First k t rest) among = later (s == x) _ other among
@@ -65,9 +66,9 @@ stays_joining s x v (Some j) is = elim (test (j == s)) [
       (here, turned j s x other is_one)
 ]
 
-module _ {M : Type 0} where
+module _ {T : Type 0} where
   -- what the master does with a message keeps its bounds
-  row_keeps : (v : MasterView) → IsBounded v → (from : Process) (m : MessageOf M) (r : MasterResult M) → IsMasterRow v from m r → IsBounded r.0
+  row_keeps : (v : MasterView) → IsBounded v → (from : Process) (m : Message T) (r : MasterResult T) → IsMasterRow v from m r → IsBounded r.0
   row_keeps v b _ _ _ (Ignores from m) = b
   row_keeps v b _ _ _ (Reports s epoch last p is) = b
   row_keeps v b _ _ _ (Joins s epoch is) = record {
@@ -95,7 +96,7 @@ module _ {M : Type 0} where
             others_stay (v.epoch + 1) s x who.1 v.chain chain mended (b.joins x who.0);
       }
 
-  pub messages_keep : (v : MasterView) (from : Process) (m : MessageOf M) → IsBounded v → IsBounded (master_step v from m).0
+  pub messages_keep : (v : MasterView) (from : Process) (m : Message T) → IsBounded v → IsBounded (master_step v from m).0
   messages_keep v from m b = row_keeps v b from m (master_step v from m) (master_case v from m)
 
 -- the numbers of a range rise
@@ -126,9 +127,9 @@ last_among s epoch (t ∷ chain) = rw (last_among s epoch chain) (or_true (t.0 =
     or_true true = refl
     or_true false = refl
 
-module _ (M : Type 0) (v : MasterView) (s : ℕ) where
+module _ (T : Type 0) (v : MasterView) (s : ℕ) where
   -- a join, by the last member that is found
-  join_found : Option ℕ → MasterResult M
+  join_found : Option ℕ → MasterResult T
   join_found None = no_effect v
   join_found (Some last) = (
     record v { chain = v.chain ++ (s, v.epoch + 1) ∷ []; joining = Some s; used = with_number s v.used; epoch = v.epoch + 1 },
@@ -149,6 +150,6 @@ module _ (M : Type 0) (v : MasterView) (s : ℕ) where
       }
 
   -- a join keeps the bounds
-  pub joins_keep : join_fault v s ≡ None → IsBounded v → IsBounded (join_step {M = M} v s).0
+  pub joins_keep : join_fault v s ≡ None → IsBounded v → IsBounded (join_step {T = T} v s).0
   unfolding join_fault join_step join_found
   joins_keep free b = found_keeps (is_new (is_among s v.used) _ free) b (last_or None (members v))

@@ -3,25 +3,26 @@ use Rattle.std.proofs.Common.{◌≡◌, ℕ, ◌+◌, true, ◌==◌, List, [],
 use Rattle.std.proofs.lemmas.List.{append_assoc}
 use mathlib.Core.Bool.{true≢false}
 use Rattle.zcalls.proofs.Among.{test}
+use Rattle.zserver_table.specs.declared.message.Message.{Message}
 use Rattle.zserver_table.specs.declared.message.Message.TheVariants as message
 use Rattle.zserver_table.specs.declared.process.Process.{Process}
 use Rattle.zserver_table.specs.declared.process.Process.TheVariants.{Server}
-use Rattle.zserver_table.specs.View.{Neighbour, MessageOf}
+use Rattle.zserver_table.specs.View.{Neighbour}
 use Rattle.zmaster_table.specs.View.{MasterView, is_among, members, is_joining}
 use Rattle.zmaster_table.specs.Table.{before, MendedChain, mended_chain, mended_chain_behind, without_next, without_first, have_row, joined_row, gone_row, master_step}
 use Rattle.zmaster_table.proofs.Numbers.{numbers_of, later}
 use Rattle.zmaster_table.specs.support.Cases.{IsMended, Only, First, Last, Between, IsMasterRow, Ignores, Reports, Joins, LeavesOutside, Leaves}
 
-module _ {M : Type 0} (epoch s : ℕ) where
+module _ {T : Type 0} (epoch s : ℕ) where
   -- what is left behind p, and what is told
-  abbrev next : ℕ → List Neighbour → MendedChain M
+  abbrev next : ℕ → List Neighbour → MendedChain T
   next p rest = without_next epoch p rest
 
-  abbrev behind : ℕ → List Neighbour → MendedChain M
+  abbrev behind : ℕ → List Neighbour → MendedChain T
   behind p rest = mended_chain_behind epoch s p rest
 
   -- a chain that is mended behind its front
-  abbrev IsMendedTo : List Neighbour → List Neighbour → MendedChain M → Type 0
+  abbrev IsMendedTo : List Neighbour → List Neighbour → MendedChain T → Type 0
   IsMendedTo chain front done = IsMended epoch s chain (front ++ done.0, done.1)
 
   -- who stands behind p has failed
@@ -37,10 +38,10 @@ module _ {M : Type 0} (epoch s : ℕ) where
   behind_case p (t ∷ rest) among front = elim (test (t.0 == s)) [
     | inl here ↦
         let is : s ≡ t.0 = sym (eqb-true _ _ here) in
-        let did : MendedChain M = next p.0 rest in
+        let did : MendedChain T = next p.0 rest in
         rw here (subst (λ x. IsMended epoch s (front ++ p ∷ (x, t.1) ∷ rest) (front ++ p ∷ did.0, did.1)) is (next_case front p t.1 rest))
     | inr not ↦
-        let did : MendedChain M = behind t.0 rest in
+        let did : MendedChain T = behind t.0 rest in
         let there : IsMended epoch s ((front ++ p ∷ []) ++ t ∷ rest) ((front ++ p ∷ []) ++ t ∷ did.0, did.1) =
         behind_case t rest (later (t.0 == s) _ not among) (front ++ p ∷ []) in
         let here : IsMended epoch s (front ++ p ∷ t ∷ rest) ((front ++ p ∷ []) ++ t ∷ did.0, did.1) =
@@ -49,16 +50,16 @@ module _ {M : Type 0} (epoch s : ℕ) where
   ]
 
   -- a chain with s in it
-  mended_case : (chain : List Neighbour) → is_among s (numbers_of chain) ≡ true → IsMended {M = M} epoch s chain (mended_chain epoch s chain)
+  mended_case : (chain : List Neighbour) → is_among s (numbers_of chain) ≡ true → IsMended {T = T} epoch s chain (mended_chain epoch s chain)
   mended_case [] among = absurd (true≢false (sym among))
   mended_case (t ∷ rest) among = elim (test (t.0 == s)) [
     | inl here ↦
         let is : s ≡ t.0 = sym (eqb-true _ _ here) in
-        rw here (subst (λ x. IsMended {M = M} epoch s ((x, t.1) ∷ rest) (without_first epoch rest)) is (first_case t.1 rest))
+        rw here (subst (λ x. IsMended {T = T} epoch s ((x, t.1) ∷ rest) (without_first epoch rest)) is (first_case t.1 rest))
     | inr not ↦ rw not (behind_case t rest (later (t.0 == s) _ not among) [])
   ]
     where
-      first_case : (k : ℕ) (rest : List Neighbour) → IsMended {M = M} epoch s ((s, k) ∷ rest) (without_first epoch rest)
+      first_case : (k : ℕ) (rest : List Neighbour) → IsMended {T = T} epoch s ((s, k) ∷ rest) (without_first epoch rest)
       first_case k [] = Only k
       first_case k (t ∷ rest) = First k t rest
 
@@ -67,21 +68,21 @@ is_the_joining : (v : MasterView) (joining : Option ℕ) (s : ℕ) → is_joinin
 is_the_joining v None s is = absurd (true≢false (sym is))
 is_the_joining v (Some joining) s is = ap Some (eqb-true _ _ is)
 
-module _ {M : Type 0} (v : MasterView) where
+module _ {T : Type 0} (v : MasterView) where
   -- Have, by the member that is found before its sender
-  found : (s epoch : ℕ) (last : Option ℕ) (p : Option ℕ) → before s epoch v.chain ≡ p → IsMasterRow {M = M} v (Server s) (message.Have epoch last) (have_row v s epoch last)
+  found : (s epoch : ℕ) (last : Option ℕ) (p : Option ℕ) → before s epoch v.chain ≡ p → IsMasterRow {T = T} v (Server s) (message.Have epoch last) (have_row v s epoch last)
   unfolding have_row
   found s epoch last None is = rw (is, have_row) (Ignores (Server s) (message.Have epoch last))
   found s epoch last (Some p) is = rw (is, have_row) (Reports s epoch last p is)
 
-  joined : (s epoch : ℕ) → IsMasterRow {M = M} v (Server s) (message.Joined epoch) (joined_row v s)
+  joined : (s epoch : ℕ) → IsMasterRow {T = T} v (Server s) (message.Joined epoch) (joined_row v s)
   unfolding joined_row
   joined s epoch = elim (test (is_joining v s)) [
     | inl is ↦ rw is (Joins s epoch (is_the_joining v v.joining s is))
     | inr not ↦ rw not (Ignores (Server s) (message.Joined epoch))
   ]
 
-  gone : (s : ℕ) → IsMasterRow {M = M} v (Server s) message.Gone (gone_row v s)
+  gone : (s : ℕ) → IsMasterRow {T = T} v (Server s) message.Gone (gone_row v s)
   unfolding gone_row
   gone s = elim (test (is_among s (members v))) [
     | inl among ↦ rw among (Leaves s (mended_chain (v.epoch + 1) s v.chain) among (mended_case (v.epoch + 1) s v.chain among))
@@ -89,7 +90,7 @@ module _ {M : Type 0} (v : MasterView) where
   ]
 
   -- the table is these rows
-  pub master_case : (from : Process) (m : MessageOf M) → IsMasterRow v from m (master_step v from m)
+  pub master_case : (from : Process) (m : Message T) → IsMasterRow v from m (master_step v from m)
   unfolding master_step
   master_case (Server s) (message.Have epoch last) = found s epoch last (before s epoch v.chain) refl
   master_case (Server s) (message.Joined epoch) = joined s epoch

@@ -5,7 +5,7 @@ use Rattle.std.specs.List.{last_or, range_with_len}
 use Rattle.zserver_table.specs.declared.message.Message.TheVariants as message
 use Rattle.zserver_table.specs.declared.process.Process.{Process}
 use Rattle.zserver_table.specs.declared.process.Process.TheVariants.{Server, Client}
-use Rattle.zserver_table.specs.View.{Neighbour, MessageOf, Post}
+use Rattle.zserver_table.specs.View.{Neighbour, Transfer, MessageOf, Post}
 use Rattle.zserver_table.specs.support.Homomorphism.{message_with, posts_with}
 use Rattle.zmaster_table.specs.View.{MasterView, is_among, with_number, members, is_joining, head_of, tail_of}
 use Rattle.zmaster_table.specs.Table.{MasterResult, no_effect, config_posts, and_tell_clients, join_step, before, have_row, joined_row, MendedChain, without_first, without_next, mended_chain_behind, mended_chain, gone_row, master_step}
@@ -31,10 +31,10 @@ module _ {M N : Type 0} (h : M → N) where
       in λ i. (v, q i)
 
   -- a mended chain, and posts whose machines are mapped
-  mended_by : MendedChain M → MendedChain N
+  mended_by : MendedChain (Transfer M) → MendedChain (Transfer N)
   mended_by did = (did.0, posts_with h did.1)
 
-  if_mended : (b : Bool) (x y : MendedChain M) (x' y' : MendedChain N) → x' ≡ mended_by x → y' ≡ mended_by y → (if b then x' else y') ≡ mended_by (if b then x else y)
+  if_mended : (b : Bool) (x y : MendedChain (Transfer M)) (x' y' : MendedChain (Transfer N)) → x' ≡ mended_by x → y' ≡ mended_by y → (if b then x' else y') ≡ mended_by (if b then x else y)
   if_mended true x y x' y' p q = p
   if_mended false x y x' y' p q = q
 
@@ -70,7 +70,7 @@ module _ {M N : Type 0} (h : M → N) where
       (without_first epoch rest) (behind t (mended_chain_behind epoch s t.0 rest))
       (without_first_with epoch rest) (ap (behind t) (mended_behind_with epoch s t.0 rest))
 
-  if_with : (b : Bool) (x y : MasterResult M) (x' y' : MasterResult N) → x' ≡ master_result_with h x → y' ≡ master_result_with h y → (if b then x' else y') ≡ master_result_with h (if b then x else y)
+  if_with : (b : Bool) (x y : MasterResult (Transfer M)) (x' y' : MasterResult (Transfer N)) → x' ≡ master_result_with h x → y' ≡ master_result_with h y → (if b then x' else y') ≡ master_result_with h (if b then x else y)
   if_with true x y x' y' p q = p
   if_with false x y x' y' p q = q
 
@@ -83,7 +83,7 @@ module _ {M N : Type 0} (h : M → N) where
   gone_with : (v : MasterView) (s : ℕ) → gone_row v s ≡ master_result_with h (gone_row v s)
   unfolding gone_row after_gone mended_by
   gone_with v s =
-      let did : MendedChain M = mended_chain (v.epoch + 1) s v.chain in
+      let did : MendedChain (Transfer M) = mended_chain (v.epoch + 1) s v.chain in
       if_with (is_among s (members v))
       (after_gone v s did) (record v { used = with_number s v.used }, [])
       (after_gone v s (mended_chain (v.epoch + 1) s v.chain)) (record v { used = with_number s v.used }, [])
@@ -102,7 +102,7 @@ module _ {M N : Type 0} (h : M → N) where
   have_found v s epoch last None = no_effect v
   have_found v s epoch last (Some p) = (v, (Server p, message.NewSucc epoch s last) ∷ [])
 
-  have_found_with : (v : MasterView) (s epoch : ℕ) (last found : Option ℕ) → have_found {K = N} v s epoch last found ≡ master_result_with h (have_found {K = M} v s epoch last found)
+  have_found_with : (v : MasterView) (s epoch : ℕ) (last found : Option ℕ) → have_found {K = Transfer N} v s epoch last found ≡ master_result_with h (have_found {K = Transfer M} v s epoch last found)
   unfolding have_found
   have_found_with v s epoch last None = refl
   have_found_with v s epoch last (Some p) = refl
@@ -117,7 +117,7 @@ module _ {M N : Type 0} (h : M → N) where
   join_found v s (Some last) =
       (record v { chain = v.chain ++ (s, v.epoch + 1) ∷ []; joining = Some s; used = with_number s v.used; epoch = v.epoch + 1 }, (Server s, message.NewPred (v.epoch + 1) last) ∷ [])
 
-  join_found_with : (v : MasterView) (s : ℕ) (found : Option ℕ) → join_found {K = N} v s found ≡ master_result_with h (join_found {K = M} v s found)
+  join_found_with : (v : MasterView) (s : ℕ) (found : Option ℕ) → join_found {K = Transfer N} v s found ≡ master_result_with h (join_found {K = Transfer M} v s found)
   unfolding join_found
   join_found_with v s None = refl
   join_found_with v s (Some last) = refl

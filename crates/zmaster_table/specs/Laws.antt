@@ -3,13 +3,13 @@ use Rattle.std.specs.Prelude.{◌≡◌, ℕ, ◌+◌, ◌*◌, ◌≤◌, true,
 use Rattle.zcalls.specs.declared.call.Entry.{Entry}
 use Rattle.zserver_table.specs.declared.process.Process.{Process}
 use Rattle.zserver_table.specs.Machine.{Does, replay}
-use Rattle.zserver_table.specs.View.{MessageOf}
+use Rattle.zserver_table.specs.View.{Transfer, MessageOf}
 use Rattle.zserver_table.specs.support.Homomorphism.{message_with, posts_with}
 use Rattle.zmaster_table.specs.View.{MasterView, is_among, members, opening_master}
 use Rattle.zmaster_table.specs.Table.{MasterResult, join_fault, join_step, master_step}
 
 -- the same view, and posts whose machines are mapped
-abbrev pub master_result_with : {M N : Type 0} → (M → N) → MasterResult M → MasterResult N
+abbrev pub master_result_with : {M N : Type 0} → (M → N) → MasterResult (Transfer M) → MasterResult (Transfer N)
 master_result_with h taken = (taken.0, posts_with h taken.1)
 
 -- what the master does is the same, whether the machines in messages are logs or what the logs lead to
@@ -54,4 +54,4 @@ MessagesKeepBounds {M} does = (v : MasterView) (from : Process) (m : MessageOf M
 
 -- and so does every join that isn't refused
 abbrev pub JoinsKeepBounds : {M : Type 0} → Does M → Type 0
-JoinsKeepBounds {M} does = (v : MasterView) (s : ℕ) → join_fault v s ≡ None → IsBounded v → IsBounded (join_step {M = M} v s).0
+JoinsKeepBounds {M} does = (v : MasterView) (s : ℕ) → join_fault v s ≡ None → IsBounded v → IsBounded (join_step {T = Transfer M} v s).0

@@ -7,6 +7,7 @@ use Rattle.zcalls.specs.PlainTree.{plain_tree}
 use Rattle.zserver_table.specs.declared.message.Message.TheVariants as message
 use Rattle.zserver_table.specs.declared.process.Process.{Process}
 use Rattle.zserver_table.specs.declared.process.Process.TheVariants.{Master, Server, Client}
+use Rattle.zserver_table.specs.View.{Transfer}
 use Rattle.zmaster_table.specs.View.{MasterView, is_among}
 use Rattle.zmaster_table.specs.Table as master
 use Rattle.zworld_model.specs.declared.event.Event.TheVariants.{Take, Join}
@@ -29,7 +30,7 @@ use Rattle.zmending.proofs.chain.Joins.{joins_sound}
 
 -- what the master does with a message
 heard : (t : Account) → IsSound plain_tree t → (from : Process) (m : LogMessage) → IsJustified t.world t.items from Master m
-    → IsSound plain_tree (record t { world = world_with_move t.world (master.master_step {M = List Entry} t.world.master from m).0 (master.master_step t.world.master from m).1 })
+    → IsSound plain_tree (record t { world = world_with_move t.world (master.master_step {T = Transfer (List Entry)} t.world.master from m).0 (master.master_step t.world.master from m).1 })
 unfolding master.master_step
 heard t s (Server x) (message.Have epoch last) justified = have_heard plain_tree t s x epoch last justified
 heard t s (Server x) (message.Joined epoch) justified = joined_heard plain_tree t s x

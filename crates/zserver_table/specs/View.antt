@@ -17,8 +17,12 @@ abbrev pub MessageOf : Type 0 → Type 0
 MessageOf M = Message (Transfer M)
 
 -- a message that is put, with its receiver
+abbrev pub PostOf : Type 0 → Type 0
+PostOf T = Process × Message T
+
+-- the same, between processes whose servers have such machines
 abbrev pub Post : Type 0 → Type 0
-Post M = Process × MessageOf M
+Post M = PostOf (Transfer M)
 
 -- a neighbour in the chain, with the epoch of the pair
 abbrev pub Neighbour : Type 0

@@ -7,7 +7,7 @@ use Rattle.zserver_table.specs.declared.message.Message.TheVariants as message
 use Rattle.zserver_table.specs.declared.process.Process.{Process}
 use Rattle.zserver_table.specs.declared.process.Process.TheVariants.{Master, Server, Client}
 use Rattle.zserver_table.specs.Machine.{Does}
-use Rattle.zserver_table.specs.View.{ServerView, MessageOf, Post}
+use Rattle.zserver_table.specs.View.{ServerView, Transfer, MessageOf, Post}
 use Rattle.zserver_table.specs.Table as server
 use Rattle.zclient_table.specs.Table as client
 use Rattle.zworld_model.specs.declared.event.Event.{Event}
@@ -93,7 +93,7 @@ module _ {M : Type 0} (machine : Does M) (v : World M) (others : ℕ → ServerV
       subst (λ view. IsAlike (server_does (popped from (Server s)) s (did (v.servers s))) (server_does (other_popped from (Server s)) s (did view)))
       (same_views s alive) (server_does_alike from s (did (v.servers s)))
   takes_alike from (Client c) message alive =
-      let took : client.ClientResult M = client.client_step (v.clients c) from message in
+      let took : client.ClientResult (Transfer M) = client.client_step (v.clients c) from message in
       answered_alike (client_does (popped from (Client c)) c took.0 took.1) (client_does (other_popped from (Client c)) c took.0 took.1) c took.2
       (record { rest = refl; servers = same_views; links = put_agrees v _ _ (Client c) _ (front_agrees v _ _ from (Client c) agree) })
 

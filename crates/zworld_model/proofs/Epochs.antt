@@ -9,7 +9,7 @@ use Rattle.zserver_table.specs.declared.limits.TheConstants.{MAX_SERVERS}
 use Rattle.zserver_table.specs.declared.process.Process.{Process}
 use Rattle.zserver_table.specs.declared.process.Process.TheVariants.{Master, Server, Client}
 use Rattle.zserver_table.specs.Machine.{Does, kept_tree}
-use Rattle.zserver_table.specs.View.{MessageOf}
+use Rattle.zserver_table.specs.View.{Transfer, MessageOf}
 use Rattle.zmaster_table.specs.Laws.{IsRisingFrom, IsBounded}
 use Rattle.zmaster_table.specs.Table.{join_fault}
 use Rattle.zmaster_table.proofs.Bounds.{opening_is_bounded, messages_keep, joins_keep}
@@ -39,7 +39,7 @@ module _ {M : Type 0} (machine : Does M) where
   taken_keeps w from Master m bounded = messages_keep w.master from m bounded
   taken_keeps w from (Server s) m bounded = bounded
   taken_keeps w from (Client c) m bounded =
-      let did : ClientResult M = client_step (w.clients c) from m in
+      let did : ClientResult (Transfer M) = client_step (w.clients c) from m in
       answer_keeps (client_does w c did.0 did.1) c did.2 bounded
 
   front_keeps : (w : World M) (from to : Process) (link : List (MessageOf M)) → IsBounded w.master → IsBounded (front_step machine w from to link).master
@@ -53,7 +53,7 @@ module _ {M : Type 0} (machine : Does M) where
   acts_keeps w (Ignore from to) bounded enabled = bounded
   acts_keeps w (Fail s) bounded enabled = bounded
   acts_keeps w (Join s) bounded enabled =
-      joins_keep M w.master s (is_none_of (join_fault w.master s) (both (is_server s) (is_none (join_fault w.master s)) enabled).1) bounded
+      joins_keep (Transfer M) w.master s (is_none_of (join_fault w.master s) (both (is_server s) (is_none (join_fault w.master s)) enabled).1) bounded
 
   happens_keeps : (w : World M) (event : Event) → IsBounded w.master → IsBounded (happens machine w event).master
   happens_keeps w event bounded = elim (test (is_enabled w event)) [

@@ -8,7 +8,7 @@ use Rattle.zserver_table.specs.declared.message.Message.TheVariants as message
 use Rattle.zserver_table.specs.declared.process.Process.{Process}
 use Rattle.zserver_table.specs.declared.process.Process.TheVariants.{Master, Server, Client}
 use Rattle.zserver_table.specs.Machine.{Does}
-use Rattle.zserver_table.specs.View.{ServerView, Neighbour, MessageOf, Post, spare, opening_server}
+use Rattle.zserver_table.specs.View.{ServerView, Neighbour, Transfer, MessageOf, Post, spare, opening_server}
 use Rattle.zserver_table.specs.Table as server
 use Rattle.zserver_table.specs.support.Homomorphism.{IsHomomorphism, message_with, posts_with, view_with, server_result_with}
 use Rattle.zserver_table.proofs.Projection.{table_with}
@@ -78,7 +78,7 @@ module _ {M N : Type 0} (h : M → N) where
     links = λ from to. put_with w.links (Server s) did.1 from to i;
   }
 
-  master_does_with : (w : World M) (did : master.MasterResult M) → master_does (world_with h w) (master_with h did) ≡ world_with h (master_does w did)
+  master_does_with : (w : World M) (did : master.MasterResult (Transfer M)) → master_does (world_with h w) (master_with h did) ≡ world_with h (master_does w did)
   master_does_with w did = λ i. record (world_with h w) { master = did.0; links = λ from to. put_with w.links Master did.1 from to i }
 
   client_does_with : (w : World M) (c : ℕ) (view : ClientView) (posts : List (Post M))
@@ -135,7 +135,7 @@ module _ {M N : Type 0} (h : M → N) where
     takes_with w from (Server s) m =
         ap (server_does (world_with h w) s) (table_with h same (w.servers s) from m) ∙ server_does_with w s (server.server_step d (w.servers s) from m)
     takes_with w from (Client c) m =
-        let did : client.ClientResult M = client.client_step (w.clients c) from m in
+        let did : client.ClientResult (Transfer M) = client.client_step (w.clients c) from m in
         ap (client_took (world_with h w) c) (client_takes_with h (w.clients c) from m)
         ∙ ap (λ u. with_answer u c did.2) (client_does_with w c did.0 did.1) ∙ answered_with (client_does w c did.0 did.1) c did.2
 

@@ -11,7 +11,7 @@ use Rattle.zserver_table.specs.declared.message.Message.TheVariants as message
 use Rattle.zserver_table.specs.declared.process.Process.{Process}
 use Rattle.zserver_table.specs.declared.process.Process.TheVariants.{Master, Server, Client}
 use Rattle.zserver_table.specs.Machine.{Does}
-use Rattle.zserver_table.specs.View.{ServerView, MessageOf, Post}
+use Rattle.zserver_table.specs.View.{ServerView, Transfer, MessageOf, Post}
 use Rattle.zserver_table.specs.Table.{server_step}
 use Rattle.zserver_table.proofs.Cases.{server_case}
 use Rattle.zmaster_table.specs.View.{MasterView}
@@ -142,7 +142,7 @@ module _ (M : Type 0) (n : ℕ) where
       record { counted = within.counted; chain = within.chain; used = within.used; views = within.views; callers = within.callers; sent = within.sent }
 
   -- a client's row
-  client_row : (c : ℕ) (v : ClientView) → nat_lt c n ≡ true → IsClientWithin n c v → (from : Process) (m : MessageOf M) (r : ClientResult M)
+  client_row : (c : ℕ) (v : ClientView) → nat_lt c n ≡ true → IsClientWithin n c v → (from : Process) (m : MessageOf M) (r : ClientResult (Transfer M))
       → SpeaksWithin n m → client.IsClientRow v from m r → IsClientWithin n c r.0 × AllByRecursion (GoesWithin n) r.1
   client_row c v is good _ _ _ speaks (client.Ignores from m) = (good, tt)
   client_row c v is good _ _ _ speaks (client.Answers s number call reply waits) =
@@ -163,7 +163,7 @@ module _ (M : Type 0) (n : ℕ) where
         server_acts w s (server_step machine (w.servers s) from m) within taker
         (row_within M n machine (w.servers s) (within.views s) from m (server_step machine (w.servers s) from m) sender speaks (server_case machine (w.servers s) from m))
     taken_within w from (Client c) m within sender taker speaks =
-        let did : ClientResult M = client_step (w.clients c) from m in
+        let did : ClientResult (Transfer M) = client_step (w.clients c) from m in
         let good = client_row c (w.clients c) taker (within.callers c) from m did speaks (client_case (w.clients c) from m) in
         answer_told (client_does w c did.0 did.1) c did.2 (client_acts w c did.0 did.1 within taker good.0 good.1)
 
@@ -190,7 +190,7 @@ module _ (M : Type 0) (n : ℕ) where
     ]
 
     -- what a client puts at a call and at a retry
-    begun_within : (w : World M) (c : ℕ) (call : Call) → IsWithin n w → nat_lt c n ≡ true → IsWithin n (client_does w c (begin_step {M = M} (w.clients c) call).0 (begin_step (w.clients c) call).1)
+    begun_within : (w : World M) (c : ℕ) (call : Call) → IsWithin n w → nat_lt c n ≡ true → IsWithin n (client_does w c (begin_step {T = Transfer M} (w.clients c) call).0 (begin_step (w.clients c) call).1)
     unfolding begin_step
     begun_within w c call within is =
         let v : ClientView = record (w.clients c) { number = (w.clients c).number + 1; outstanding = Some ((w.clients c).number + 1, call) } in

@@ -11,7 +11,7 @@ use Rattle.zserver_table.specs.declared.message.Message.TheVariants as message
 use Rattle.zserver_table.specs.declared.process.Process.{Process}
 use Rattle.zserver_table.specs.declared.process.Process.TheVariants.{Server, Client}
 use Rattle.zserver_table.specs.Machine.{Does}
-use Rattle.zserver_table.specs.View.{ServerView, Neighbour, MessageOf, Post}
+use Rattle.zserver_table.specs.View.{ServerView, Neighbour, Transfer, MessageOf, Post}
 use Rattle.zserver_table.specs.Table.{ServerResult, ack_posts, answer_posts, forward_post, entries_above, missing_posts}
 use Rattle.zserver_table.specs.support.Cases.{IsAccepted, Processes, Forwards, IsRow, Ignores, Submits, Updates, Asks, Acknowledges, Shows, Turns, Follows, Leads, Ends}
 use Rattle.zclient_table.specs.View.{ClientView}
@@ -180,7 +180,7 @@ module _ (M : Type 0) (n : ℕ) where
       clients_within v.epoch (head_of v) (tail_of v) 0 v.clients (omega (arith, within.counted)) head
       (last_within (head_of v) (filter (λ s. not (is_joining v s)) (members v)) head (all_filtered (λ s. is_server s ≡ true) (λ s. not (is_joining v s)) (members v) all))
 
-  mended_within : (epoch s : ℕ) (chain : List Neighbour) (done : MendedChain M) → AllByRecursion IsMemberWithin chain → master.IsMended epoch s chain done
+  mended_within : (epoch s : ℕ) (chain : List Neighbour) (done : MendedChain (Transfer M)) → AllByRecursion IsMemberWithin chain → master.IsMended epoch s chain done
       → AllByRecursion IsMemberWithin done.0 × GoWithin done.1
   mended_within epoch s _ _ all (master.Only k) = (tt, tt)
   mended_within epoch s _ _ all (master.First k t rest) = (all.1, ((all.1.0, tt), tt))
@@ -230,6 +230,6 @@ module _ (M : Type 0) (n : ℕ) where
   )
 
   pub join_within : (v : MasterView) (s : ℕ) → IsMasterWithin n v → is_server s ≡ true
-      → IsMasterWithin n (join_step {M = M} v s).0 × GoWithin (join_step {M = M} v s).1
+      → IsMasterWithin n (join_step {T = Transfer M} v s).0 × GoWithin (join_step {T = Transfer M} v s).1
   unfolding join_step join_found
   join_within v s within is = found_within v s within is (last_or None (members v)) (last_within None (members v) tt (numbers_within v.chain within.chain))

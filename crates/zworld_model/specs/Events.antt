@@ -10,7 +10,7 @@ use Rattle.zserver_table.specs.declared.message.Message.TheVariants as message
 use Rattle.zserver_table.specs.declared.process.Process.{Process}
 use Rattle.zserver_table.specs.declared.process.Process.TheVariants.{Master, Server, Client}
 use Rattle.zserver_table.specs.Machine.{Does}
-use Rattle.zserver_table.specs.View.{ServerView, MessageOf, Post}
+use Rattle.zserver_table.specs.View.{ServerView, Transfer, MessageOf, Post}
 use Rattle.zserver_table.specs.Table as server
 use Rattle.zmaster_table.specs.View.{MasterView}
 use Rattle.zmaster_table.specs.Table as master
@@ -70,7 +70,7 @@ with_answer w c None = w
 with_answer w c (Some reply) = record w { history = w.history ++ call_event.Answer c reply.0 reply.1 ∷ [] }
 
 -- a client's new view, what it puts, and the reply that it hands out
-abbrev pub client_took : {M : Type 0} → World M → ℕ → client.ClientResult M → World M
+abbrev pub client_took : {M : Type 0} → World M → ℕ → client.ClientResult (Transfer M) → World M
 client_took w c did = with_answer (client_does w c did.0 did.1) c did.2
 
 -- a client's call begins: the history tells of it

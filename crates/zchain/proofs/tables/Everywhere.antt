@@ -8,7 +8,7 @@ use Rattle.zserver_table.specs.declared.message.Message.TheVariants as message
 use Rattle.zserver_table.specs.declared.process.Process.{Process}
 use Rattle.zserver_table.specs.declared.process.Process.TheVariants.{Master, Server, Client}
 use Rattle.zserver_table.specs.Machine.{Does}
-use Rattle.zserver_table.specs.View.{ServerView, MessageOf, Post}
+use Rattle.zserver_table.specs.View.{ServerView, Transfer, MessageOf, Post}
 use Rattle.zserver_table.specs.Table as server
 use Rattle.zmaster_table.specs.Table as master
 use Rattle.zclient_table.specs.View.{ClientView}
@@ -60,7 +60,7 @@ module _ {M : Type 0} (does : Does M) (V : ServerView M → Type 0) (Q : Message
         under_way = put_all w.links (Server s) (server.server_step does (w.servers s) from m).1 row.1 h.under_way;
       }
   takes_all w from (Client c) m q h =
-      let did : client.ClientResult M = client.client_step (w.clients c) from m in
+      let did : client.ClientResult (Transfer M) = client.client_step (w.clients c) from m in
       answered_all (client_does w c did.0 did.1) c did.2 (client_does_all w c did.0 did.1 (asked_all did.1 (client_requests (w.clients c) from m)) h)
 
   popped_all : (w : World M) (from to : Process) → Everywhere V Q w → Everywhere V Q (record w { links = without_front w.links from to })

@@ -8,7 +8,7 @@ use Rattle.zcalls.proofs.Among.{test}
 use Rattle.zserver_table.specs.declared.message.Message.TheVariants as message
 use Rattle.zserver_table.specs.declared.process.Process.{Process}
 use Rattle.zserver_table.specs.declared.process.Process.TheVariants.{Master, Server, Client}
-use Rattle.zserver_table.specs.View.{MessageOf, Post, Neighbour}
+use Rattle.zserver_table.specs.View.{MessageOf, Post, Neighbour, Transfer}
 use Rattle.zmaster_table.specs.View.{MasterView, is_among, members, is_joining, head_of, tail_of, with_number}
 use Rattle.zmaster_table.specs.Table as master
 use Rattle.zclient_table.specs.View.{ClientView}
@@ -39,22 +39,22 @@ module _ {M : Type 0} where
   one_order : (post : Post M) → IsOrder post.1 → AllPosts IsOrder (post ∷ [])
   one_order post h = all_and IsOrder post [] h (all_none IsOrder)
 
-  next_orders : (epoch p : ℕ) (rest : List Neighbour) → AllPosts IsOrder (master.without_next {M = M} epoch p rest).1
+  next_orders : (epoch p : ℕ) (rest : List Neighbour) → AllPosts IsOrder (master.without_next {T = Transfer M} epoch p rest).1
   next_orders epoch p [] = one_order (Server p, message.BecomeTail epoch) tt
   next_orders epoch p (t ∷ rest) = one_order (Server t.0, message.NewPred epoch p) tt
 
-  behind_orders : (epoch s p : ℕ) (chain : List Neighbour) → AllPosts IsOrder (master.mended_chain_behind {M = M} epoch s p chain).1
+  behind_orders : (epoch s p : ℕ) (chain : List Neighbour) → AllPosts IsOrder (master.mended_chain_behind {T = Transfer M} epoch s p chain).1
   behind_orders epoch s p [] = all_none IsOrder
   behind_orders epoch s p (t ∷ rest) = elim (test (t.0 == s)) [
     | inl e ↦ rw e (next_orders epoch p rest)
     | inr f ↦ rw f (behind_orders epoch s t.0 rest)
   ]
 
-  first_orders : (epoch : ℕ) (rest : List Neighbour) → AllPosts IsOrder (master.without_first {M = M} epoch rest).1
+  first_orders : (epoch : ℕ) (rest : List Neighbour) → AllPosts IsOrder (master.without_first {T = Transfer M} epoch rest).1
   first_orders epoch [] = all_none IsOrder
   first_orders epoch (t ∷ rest) = one_order (Server t.0, message.BecomeHead epoch) tt
 
-  mended_orders : (epoch s : ℕ) (chain : List Neighbour) → AllPosts IsOrder (master.mended_chain {M = M} epoch s chain).1
+  mended_orders : (epoch s : ℕ) (chain : List Neighbour) → AllPosts IsOrder (master.mended_chain {T = Transfer M} epoch s chain).1
   mended_orders epoch s [] = all_none IsOrder
   mended_orders epoch s (t ∷ rest) = elim (test (t.0 == s)) [
     | inl e ↦ rw e (first_orders epoch rest)
@@ -66,21 +66,21 @@ module _ {M : Type 0} where
   have_orders v s epoch last None = all_none IsOrder
   have_orders v s epoch last (Some p) = one_order (Server p, message.NewSucc epoch s last) tt
 
-  takes_have_orders : (v : MasterView) (s epoch : ℕ) (last : Option ℕ) → AllPosts IsOrder (master.have_row {M = M} v s epoch last).1
+  takes_have_orders : (v : MasterView) (s epoch : ℕ) (last : Option ℕ) → AllPosts IsOrder (master.have_row {T = Transfer M} v s epoch last).1
   unfolding master.have_row
   takes_have_orders v s epoch last = have_orders v s epoch last (master.before s epoch v.chain)
 
-  takes_joined_orders : (v : MasterView) (s : ℕ) → AllPosts IsOrder (master.joined_row {M = M} v s).1
+  takes_joined_orders : (v : MasterView) (s : ℕ) → AllPosts IsOrder (master.joined_row {T = Transfer M} v s).1
   unfolding master.joined_row
   takes_joined_orders v s = elim (test (is_joining v s)) [
     | inl t ↦ rw t (told_orders (record v { joining = None; epoch = v.epoch + 1 }) [] (all_none IsOrder))
     | inr f ↦ rw f (all_none IsOrder)
   ]
 
-  takes_gone_orders : (v : MasterView) (s : ℕ) → AllPosts IsOrder (master.gone_row {M = M} v s).1
+  takes_gone_orders : (v : MasterView) (s : ℕ) → AllPosts IsOrder (master.gone_row {T = Transfer M} v s).1
   unfolding master.gone_row
   takes_gone_orders v s = elim (test (is_among s (members v))) [
-    | inl t ↦ rw t (told_orders (record v { chain = (master.mended_chain {M = M} (v.epoch + 1) s v.chain).0; joining = if is_joining v s then None else v.joining; epoch = v.epoch + 1 })
+    | inl t ↦ rw t (told_orders (record v { chain = (master.mended_chain {T = Transfer M} (v.epoch + 1) s v.chain).0; joining = if is_joining v s then None else v.joining; epoch = v.epoch + 1 })
         (master.mended_chain (v.epoch + 1) s v.chain).1 (mended_orders (v.epoch + 1) s v.chain))
     | inr f ↦ rw f (all_none IsOrder)
   ]
@@ -105,7 +105,7 @@ module _ {M : Type 0} where
   join_orders_by v s (Some last) = one_order (Server s, message.NewPred (v.epoch + 1) last) tt
 
   -- at a join
-  pub join_orders : (v : MasterView) (s : ℕ) → AllPosts IsOrder (master.join_step {M = M} v s).1
+  pub join_orders : (v : MasterView) (s : ℕ) → AllPosts IsOrder (master.join_step {T = Transfer M} v s).1
   unfolding master.join_step
   join_orders v s = join_orders_by v s (last_or None (members v))
 
@@ -117,7 +117,7 @@ module _ {M : Type 0} where
   to_requests None m h = all_none IsRequest
   to_requests (Some s) m h = one_request (Server s, m) h
 
-  sent_requests : (head tail : Option ℕ) (number : ℕ) (c : Call) → AllPosts IsRequest (client.call_posts {M = M} head tail number c)
+  sent_requests : (head tail : Option ℕ) (number : ℕ) (c : Call) → AllPosts IsRequest (client.call_posts {T = Transfer M} head tail number c)
   sent_requests head tail number (call.Update update) = to_requests head (message.Submit number update) tt
   sent_requests head tail number (call.Query query) = to_requests tail (message.Query number query) tt
 
@@ -127,24 +127,24 @@ module _ {M : Type 0} where
   outstanding_requests head tail (Some waits) = sent_requests head tail waits.0 waits.1
 
   -- the call that a client waits for
-  pub send_requests : (v : ClientView) → AllPosts IsRequest (client.outstanding_posts {M = M} v)
+  pub send_requests : (v : ClientView) → AllPosts IsRequest (client.outstanding_posts {T = Transfer M} v)
   send_requests v = outstanding_requests v.head v.tail v.outstanding
 
   -- at a beginning
-  pub begin_requests : (v : ClientView) (c : Call) → AllPosts IsRequest (client.begin_step {M = M} v c).1
+  pub begin_requests : (v : ClientView) (c : Call) → AllPosts IsRequest (client.begin_step {T = Transfer M} v c).1
   unfolding client.begin_step
   begin_requests v c = send_requests (record v { number = v.number + 1; outstanding = Some (v.number + 1, c) })
 
   -- at a retry
-  pub retry_requests : (v : ClientView) → AllPosts IsRequest (client.retry_posts {M = M} v)
+  pub retry_requests : (v : ClientView) → AllPosts IsRequest (client.retry_posts {T = Transfer M} v)
   unfolding client.retry_posts
   retry_requests v = send_requests v
 
-  answer_requests : (v : ClientView) (number : ℕ) (reply : Reply) → AllPosts IsRequest (client.answer_row {M = M} v number reply).1
+  answer_requests : (v : ClientView) (number : ℕ) (reply : Reply) → AllPosts IsRequest (client.answer_row {T = Transfer M} v number reply).1
   unfolding client.answer_row
   answer_requests v number reply = elim (test (client.is_waiting_for v number)) [ inl t ↦ rw t (all_none IsRequest) | inr f ↦ rw f (all_none IsRequest) ]
 
-  config_requests : (v : ClientView) (epoch : ℕ) (head tail : Option ℕ) → AllPosts IsRequest (client.config_row {M = M} v epoch head tail).1
+  config_requests : (v : ClientView) (epoch : ℕ) (head tail : Option ℕ) → AllPosts IsRequest (client.config_row {T = Transfer M} v epoch head tail).1
   unfolding client.config_row
   config_requests v epoch head tail = elim (test (nat_lt v.epoch epoch)) [
     | inl t ↦ rw t (send_requests (record v { epoch = epoch; head = head; tail = tail }))

@@ -3,10 +3,10 @@
 use Rattle.std.specs.Prelude.{◌≡◌, ℕ, ◌<◌, [], Option, Some, None}
 use Rattle.zcalls.specs.declared.call.Call.{Call}
 use Rattle.zcalls.specs.declared.reply.Reply.{Reply}
+use Rattle.zserver_table.specs.declared.message.Message.{Message}
 use Rattle.zserver_table.specs.declared.message.Message.TheVariants as message
 use Rattle.zserver_table.specs.declared.process.Process.{Process}
 use Rattle.zserver_table.specs.declared.process.Process.TheVariants.{Master, Server}
-use Rattle.zserver_table.specs.View.{MessageOf}
 use Rattle.zclient_table.specs.View.{ClientView}
 use Rattle.zclient_table.specs.Table.{ClientResult, outstanding_posts}
 
@@ -15,8 +15,8 @@ abbrev pub with_config : ClientView → ℕ → Option ℕ → Option ℕ → Cl
 with_config v epoch head tail = record v { epoch = epoch; head = head; tail = tail }
 
 -- the rows that do something, and that nothing is done
-pub data IsClientRow {M : Type 0} (v : ClientView) : Process → MessageOf M → ClientResult M → Type 0 where
-  Ignores : (from : Process) (m : MessageOf M) → IsClientRow v from m (v, [], None)
+pub data IsClientRow {T : Type 0} (v : ClientView) : Process → Message T → ClientResult T → Type 0 where
+  Ignores : (from : Process) (m : Message T) → IsClientRow v from m (v, [], None)
   Answers : (s number : ℕ) (call : Call) (reply : Reply) → v.outstanding ≡ Some (number, call)
       → IsClientRow v (Server s) (message.Answer number reply) (record v { outstanding = None }, [], Some (number, reply))
   Configures : (epoch : ℕ) (head tail : Option ℕ) → v.epoch < epoch

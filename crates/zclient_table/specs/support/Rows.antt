@@ -8,7 +8,7 @@ use Rattle.zcalls.specs.declared.call.Update.TheVariants.{Delete}
 use Rattle.zcalls.specs.declared.call.Query.{Query}
 use Rattle.zcalls.specs.declared.call.Query.TheVariants.{Exists}
 use Rattle.zserver_table.specs.declared.process.Process.{Process}
-use Rattle.zserver_table.specs.View.{MessageOf, Post}
+use Rattle.zserver_table.specs.View.{Transfer, MessageOf, Post}
 use Rattle.zclient_table.specs.View.{ClientView}
 use Rattle.zclient_table.specs.Table.{ClientResult, begin_step, client_step, retry_posts}
 
@@ -39,7 +39,7 @@ abbrev pub asking : ClientView
 asking = client 7 (Some (7, call.Query query))
 
 -- what a client does with a message, between servers whose machine is a number
-abbrev pub after : ClientView → Process → MessageOf ℕ → ClientResult ℕ
+abbrev pub after : ClientView → Process → MessageOf ℕ → ClientResult (Transfer ℕ)
 after v from m = client_step v from m
 
 -- that changes nothing, puts nothing, and hands no reply out

@@ -17,19 +17,19 @@ IsPlace s zero (t ∷ rest) = (t.0 == s) ≡ true
 IsPlace s (suc at) (t ∷ rest) = ((t.0 == s) ≡ false) × IsPlace s at rest
 
 -- the members behind p, from which the one at this place has gone out
-abbrev pub mended_behind_at : {M : Type 0} → ℕ → ℕ → ℕ → List Neighbour → MendedChain M
+abbrev pub mended_behind_at : {T : Type 0} → ℕ → ℕ → ℕ → List Neighbour → MendedChain T
 mended_behind_at epoch p zero rest = without_next epoch p rest
 mended_behind_at epoch p (suc at) [] = ([], [])
-mended_behind_at {M} epoch p (suc at) (t ∷ rest) =
-    let mended = mended_behind_at {M = M} epoch t.0 at rest in
+mended_behind_at {T} epoch p (suc at) (t ∷ rest) =
+    let mended = mended_behind_at {T = T} epoch t.0 at rest in
     (t ∷ mended.0, mended.1)
 
 -- the members, from which the one at this place has gone out
-abbrev pub mended_at : {M : Type 0} → ℕ → ℕ → List Neighbour → MendedChain M
+abbrev pub mended_at : {T : Type 0} → ℕ → ℕ → List Neighbour → MendedChain T
 mended_at epoch zero members = without_first epoch members
 mended_at epoch (suc at) [] = ([], [])
-mended_at {M} epoch (suc at) (t ∷ rest) =
-    let mended = mended_behind_at {M = M} epoch t.0 at rest in
+mended_at {T} epoch (suc at) (t ∷ rest) =
+    let mended = mended_behind_at {T = T} epoch t.0 at rest in
     (t ∷ mended.0, mended.1)
 
 -- why nobody can join a chain, by its length

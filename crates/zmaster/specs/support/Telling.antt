@@ -3,9 +3,9 @@ use Rattle.std.specs.Prelude.{ℕ, List, map}
 use Rattle.std.specs.List.{range_with_len}
 use Rattle.zserver_table.specs.declared.message.Message.TheVariants as message
 use Rattle.zserver_table.specs.declared.process.Process.TheVariants.{Client}
-use Rattle.zserver_table.specs.View.{Post}
+use Rattle.zserver_table.specs.View.{PostOf}
 use Rattle.zmaster_table.specs.View.{MasterView, head_of, tail_of}
 
 -- so many clients, by number, hear of the epoch, the head and the tail
-abbrev pub config_posts_to : {M : Type 0} → MasterView → ℕ → List (Post M)
+abbrev pub config_posts_to : {T : Type 0} → MasterView → ℕ → List (PostOf T)
 config_posts_to v count = map (λ c. (Client c, message.Config v.epoch (head_of v) (tail_of v))) (range_with_len 0 count)

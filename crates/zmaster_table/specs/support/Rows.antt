@@ -3,7 +3,7 @@ use Rattle.std.specs.Prelude.{◌≡◌, ℕ, Option, None, Some, List, [], ◌�
 use Rattle.zserver_table.specs.declared.message.Message.TheVariants as message
 use Rattle.zserver_table.specs.declared.process.Process.TheVariants.{Client}
 use Rattle.zserver_table.specs.declared.process.Process.{Process}
-use Rattle.zserver_table.specs.View.{Neighbour, MessageOf, Post}
+use Rattle.zserver_table.specs.View.{Neighbour, Transfer, MessageOf, Post}
 use Rattle.zmaster_table.specs.View.{MasterView}
 use Rattle.zmaster_table.specs.Table.{MasterResult, master_step, join_step}
 
@@ -52,7 +52,7 @@ abbrev pub tells : Option ℕ → Option ℕ → List (Post ℕ)
 tells head tail = (Client 0, message.Config 7 head tail) ∷ (Client 1, message.Config 7 head tail) ∷ []
 
 -- what the master does with a message, between servers whose machine is a number
-abbrev pub after : MasterView → Process → MessageOf ℕ → MasterResult ℕ
+abbrev pub after : MasterView → Process → MessageOf ℕ → MasterResult (Transfer ℕ)
 after v from m = master_step v from m
 
 -- that changes nothing, and puts nothing
@@ -60,5 +60,5 @@ abbrev pub Ignores : MasterView → Process → MessageOf ℕ → Type 0
 Ignores v from m = after v from m ≡ (v, [])
 
 -- what the master does when a server joins
-abbrev pub after_join : MasterView → ℕ → MasterResult ℕ
+abbrev pub after_join : MasterView → ℕ → MasterResult (Transfer ℕ)
 after_join v s = join_step v s

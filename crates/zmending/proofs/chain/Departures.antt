@@ -7,7 +7,7 @@ use Rattle.zcalls.specs.Kept.{Plain}
 use Rattle.zcalls.proofs.Among.{test}
 use Rattle.zserver_table.specs.declared.message.Message.TheVariants as message
 use Rattle.zserver_table.specs.declared.process.Process.TheVariants.{Master, Server}
-use Rattle.zserver_table.specs.View.{Post, Neighbour}
+use Rattle.zserver_table.specs.View.{Post, Neighbour, Transfer}
 use Rattle.zmaster_table.specs.View.{MasterView, members, is_among, is_joining, with_number}
 use Rattle.zmaster_table.specs.Table as master
 use Rattle.zworld_model.specs.Links.{addressed}
@@ -222,15 +222,15 @@ module _ {P : Type 0} (plain : Plain P) (t : Account) (s : IsSound plain t) (x :
     ];
   }
 
-  mended_here : master.mended_chain {M = List Entry} e x w.master.chain ≡ (front ++ (repair before e rest).0, (repair before e rest).1)
+  mended_here : master.mended_chain {T = Transfer (List Entry)} e x w.master.chain ≡ (front ++ (repair before e rest).0, (repair before e rest).1)
   mended_here = ap (master.mended_chain e x) split.is ∙ mended_is e x split.epoch front rest split.first
 
   -- all facts hold without the member
   pub inside_sound : IsSound plain (record t {
     world = world_with_move t.world
-        (record t.world.master { chain = (master.mended_chain {M = List Entry} (t.world.master.epoch + 1) x t.world.master.chain).0; joining = joining; epoch = t.world.master.epoch + 1 })
-        ((master.mended_chain {M = List Entry} (t.world.master.epoch + 1) x t.world.master.chain).1
-        ++ master.config_posts (record t.world.master { chain = (master.mended_chain {M = List Entry} (t.world.master.epoch + 1) x t.world.master.chain).0; joining = joining; epoch = t.world.master.epoch + 1 }));
+        (record t.world.master { chain = (master.mended_chain {T = Transfer (List Entry)} (t.world.master.epoch + 1) x t.world.master.chain).0; joining = joining; epoch = t.world.master.epoch + 1 })
+        ((master.mended_chain {T = Transfer (List Entry)} (t.world.master.epoch + 1) x t.world.master.chain).1
+        ++ master.config_posts (record t.world.master { chain = (master.mended_chain {T = Transfer (List Entry)} (t.world.master.epoch + 1) x t.world.master.chain).0; joining = joining; epoch = t.world.master.epoch + 1 }));
   })
   inside_sound = subst (λ (c : List Neighbour × List (Post (List Entry))). IsSound plain (record t {
     world = world_with_move t.world
@@ -242,7 +242,7 @@ module _ {P : Type 0} (plain : Plain P) (t : Account) (s : IsSound plain t) (x :
 module _ {P : Type 0} (plain : Plain P) (t : Account) (s : IsSound plain t) where
   -- Gone from anyone
   pub gone_heard : (x : ℕ) → t.world.failed x ≡ true
-      → IsSound plain (record t { world = world_with_move t.world (master.gone_row {M = List Entry} t.world.master x).0 (master.gone_row t.world.master x).1 })
+      → IsSound plain (record t { world = world_with_move t.world (master.gone_row {T = Transfer (List Entry)} t.world.master x).0 (master.gone_row t.world.master x).1 })
   unfolding master.gone_row
   gone_heard x gone = elim (test (is_among x (members t.world.master))) [
     | inl member ↦ rw member (inside_sound plain t s x gone (among_tested x (members t.world.master) member) (if is_joining t.world.master x then None else t.world.master.joining))

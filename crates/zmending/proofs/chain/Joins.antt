@@ -8,7 +8,7 @@ use Rattle.zcalls.specs.Kept.{Plain}
 use Rattle.zcalls.proofs.Among.{test}
 use Rattle.zserver_table.specs.declared.message.Message.TheVariants as message
 use Rattle.zserver_table.specs.declared.process.Process.TheVariants.{Master, Server}
-use Rattle.zserver_table.specs.View.{ServerView, Post, Neighbour, spare}
+use Rattle.zserver_table.specs.View.{ServerView, Post, Neighbour, Transfer, spare}
 use Rattle.zmaster_table.specs.View.{MasterView, members, is_among, with_number}
 use Rattle.zmaster_table.specs.Table as master
 use Rattle.zworld_model.specs.Links.{addressed}
@@ -166,6 +166,6 @@ module _ {P : Type 0} (plain : Plain P) (t : Account) (s : IsSound plain t) (x :
   join_by (Some p) is did same = subst (λ (d : MasterView × List (Post (List Entry))). IsSound plain (record t { world = world_with_move t.world d.0 d.1 })) (sym same) (join_sound plain t s x unused p is)
 
   -- where there is a chain, and where there is none
-  pub joins_sound : IsSound plain (record t { world = world_with_move t.world (master.join_step {M = List Entry} t.world.master x).0 (master.join_step t.world.master x).1 })
+  pub joins_sound : IsSound plain (record t { world = world_with_move t.world (master.join_step {T = Transfer (List Entry)} t.world.master x).0 (master.join_step t.world.master x).1 })
   unfolding master.join_step
   joins_sound = join_by (last_or None (members t.world.master)) refl (master.join_step t.world.master x) refl

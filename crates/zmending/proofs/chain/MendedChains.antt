@@ -4,7 +4,7 @@ use Rattle.std.proofs.Common.{◌≡◌, ◌⊎◌, ℕ, true, false, ◌==◌, 
 use Rattle.zcalls.specs.declared.call.Entry.{Entry}
 use Rattle.zcalls.specs.Lists.{Among, ComesBefore, NoTwo}
 use Rattle.zcalls.proofs.Among.{test}
-use Rattle.zserver_table.specs.View.{Post, Neighbour}
+use Rattle.zserver_table.specs.View.{Post, Neighbour, Transfer}
 use Rattle.zmaster_table.specs.Table as master
 use Rattle.zlegal.proofs.lists.Members.{among_right}
 use Rattle.zchain.specs.Chain.{Place, place_behind, place_from}
@@ -50,7 +50,7 @@ repair (Some p) epoch rest = master.without_next epoch p rest
 
 -- the table, by who stands before the member that is taken out
 mended_behind_is : (epoch x p k : ℕ) (front rest : List Neighbour) → (Among x (ids front) → ⊥)
-    → master.mended_chain_behind {M = List Entry} epoch x p (front ++ (x, k) ∷ rest)
+    → master.mended_chain_behind {T = Transfer (List Entry)} epoch x p (front ++ (x, k) ∷ rest)
     ≡ (front ++ (repair (last_or (Some p) (ids front)) epoch rest).0, (repair (last_or (Some p) (ids front)) epoch rest).1)
 mended_behind_is epoch x p k [] rest apart = let own : (x == x) ≡ true = eq-eqb x x refl in rw own refl
 mended_behind_is epoch x p k (a ∷ front) rest apart = elim (test (a.0 == x)) [
@@ -60,7 +60,7 @@ mended_behind_is epoch x p k (a ∷ front) rest apart = elim (test (a.0 == x)) [
 
 -- the chain without a member is its front, and the repair behind it
 pub mended_is : (epoch x k : ℕ) (front rest : List Neighbour) → (Among x (ids front) → ⊥)
-    → master.mended_chain {M = List Entry} epoch x (front ++ (x, k) ∷ rest)
+    → master.mended_chain {T = Transfer (List Entry)} epoch x (front ++ (x, k) ∷ rest)
     ≡ (front ++ (repair (last_or None (ids front)) epoch rest).0, (repair (last_or None (ids front)) epoch rest).1)
 mended_is epoch x k [] rest apart = let own : (x == x) ≡ true = eq-eqb x x refl in rw own refl
 mended_is epoch x k (a ∷ front) rest apart = elim (test (a.0 == x)) [

@@ -2,12 +2,11 @@ use Rattle.std.proofs.Common.{sym, subst}
 use Rattle.zmaster_table.specs.View.{MasterView}
 use Rattle.zmaster_table.specs.Laws.{IsBounded}
 use Rattle.zmaster_table.proofs.Bounds.{messages_keep}
-use Rattle.zout.specs.Posts.{table_message}
 use Rattle.zmaster.proofs.master.Master.take.Goals as goal
 
 pub invariant_of-self : goal.invariant_of-self
 invariant_of-self g c = (
   subst (λ (v : MasterView). IsBounded v) (sym c.take.ensures.next)
-      (messages_keep c.self.inside.known c.args.from (table_message c.args.message) c.self.invariant.0),
+      (messages_keep c.self.inside.known c.args.from c.args.message c.self.invariant.0),
   c.count.ensures.used,
 )
