@@ -4,11 +4,13 @@
 use std::env;
 use std::process::ExitCode;
 use zcommand::{WordsFault, command, refuse};
-use zscript::{ReaderSource, Sink, WriterSink};
+use zscript::{ReaderSource, Sink, Source, WriterSink};
 
 fn main(rt: HostRuntime) -> ExitCode {
+    let mut source = ReaderSource::new(rt.reader());
+    let mut sink = WriterSink::new(rt.stdout());
     let mut faults = WriterSink::new(rt.stderr());
-    let status = match run(&rt, &mut faults) {
+    let status = match run(&rt, &mut source, &mut sink, &mut faults) {
         Ok(status) => status,
         Err(fault) => refuse(fault, &mut faults),
     };
@@ -16,10 +18,13 @@ fn main(rt: HostRuntime) -> ExitCode {
 }
 
 // Does what the words ask for that the program was started with.
-fn run<F: Sink>(rt: &HostRuntime, faults: &mut F) -> Result<u8, WordsFault> {
+fn run<S: Source, K: Sink, F: Sink>(
+    rt: &HostRuntime,
+    source: &mut S,
+    sink: &mut K,
+    faults: &mut F,
+) -> Result<u8, WordsFault> {
     let given: Vec<String> = env::args(rt)?.collect(rt.alloc())?;
     let words: Vec<&str> = given.iter().map(|word| word.as_str()).collect(rt.alloc())?;
-    let mut source = ReaderSource::new(rt.reader());
-    let mut sink = WriterSink::new(rt.stdout());
-    Ok(command(rt.alloc(), &words, &mut source, &mut sink, faults))
+    Ok(command(rt.alloc(), &words, source, sink, faults))
 }
