@@ -5,13 +5,14 @@ ghost use Rattle.zserver_table.specs.declared.limits.TheConstants.{MAX_EPOCH, MA
 ghost use Rattle.zmaster_table.specs.View.{opening_master, head_of, tail_of, with_number};
 ghost use Rattle.zmaster_table.specs.Table.{config_posts, join_fault, join_step, master_step, have_row, joined_row, gone_row};
 ghost use Rattle.zout.specs.Posts.{PutsInRoom};
-ghost use Rattle.zmaster.specs.declared.limits.TheConstants.{MAX_CLIENTS, MAX_POSTS};
+ghost use Rattle.ztree.specs.declared.limits.TheConstants.{MAX_CLIENTS};
+ghost use Rattle.zmaster.specs.declared.limits.TheConstants.{MAX_POSTS};
 
 use crate::chain::{
     Members, chain_fault, is_the_joining, last_member, last_with_state, member_before, mend,
     place_of,
 };
-use crate::limits::{MAX_CLIENTS, MAX_POSTS, SERVERS};
+use crate::limits::{MAX_POSTS, SERVERS};
 use crate::member::{Member, first_epoch};
 use crate::used::{is_used, mark_used, width};
 use std::marker::Model;
@@ -33,7 +34,7 @@ impl Model for Knowledge {
     ghost use Rattle.std.specs.Prelude.{◌≤◌};
     ghost use Rattle.zmaster_table.specs.View.{MasterView};
     ghost use Rattle.zmaster.specs.support.Marks.{numbers_from};
-    ghost use Rattle.zmaster.specs.declared.limits.TheConstants.{MAX_CLIENTS};
+    ghost use Rattle.ztree.specs.declared.limits.TheConstants.{MAX_CLIENTS};
 
     ghost Value = { MasterView };
 

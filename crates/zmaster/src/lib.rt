@@ -13,6 +13,6 @@ mod master;
 mod member;
 mod used;
 
-pub use limits::{MAX_CLIENTS, MAX_POSTS};
+pub use limits::MAX_POSTS;
 pub use master::Master;
 pub use zmaster_table::JoinFault;

@@ -4,10 +4,11 @@ ghost use Rattle.std.specs.Prelude.{◌≡◌, ◌≤◌, IfErr, OnErr, OnOk, No
 ghost use Rattle.zmaster_table.specs.View.{opening_master};
 ghost use Rattle.zmaster_table.specs.Table.{join_fault, join_step, master_step};
 ghost use Rattle.zout.specs.Posts.{PutsInRoom};
-ghost use Rattle.zmaster.specs.declared.limits.TheConstants.{MAX_CLIENTS, MAX_POSTS};
+ghost use Rattle.ztree.specs.declared.limits.TheConstants.{MAX_CLIENTS};
+ghost use Rattle.zmaster.specs.declared.limits.TheConstants.{MAX_POSTS};
 
 use crate::knowledge::Knowledge;
-use crate::limits::{MAX_CLIENTS, MAX_POSTS};
+use crate::limits::MAX_POSTS;
 use std::marker::Model;
 use zmaster_table::JoinFault;
 use zout::Out;
