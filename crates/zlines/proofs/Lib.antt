@@ -1,4 +1,3 @@
-pub mod LongLine
 pub mod Numerals
 pub mod OneNumeral
 pub mod LeftOver

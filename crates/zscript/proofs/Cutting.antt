@@ -3,10 +3,10 @@ use Rattle.std.proofs.Common.{◌≡◌, ◌<◌, ◌+◌, inl, inr, ℕ, List, 
 use Rattle.std.proofs.lemmas.List.{append-nil}
 use Rattle.zops.specs.Machine.{opening_machine}
 use Rattle.zscript.specs.Device.{SourceRun, SinkRun, Failed}
-use Rattle.zscript.specs.Script.{lines_of, whole_lines_of, answers}
+use Rattle.zscript.specs.Script.{whole_lines_of, answers}
 use Rattle.zscript.specs.support.Lines.{whole_lines_after, line_left, last_line, lines_after}
 use Rattle.zscript.specs.support.PlayerView.{PlayerView, opening_player, player_after}
-use Rattle.zscript.specs.Outcome.{IsStopped, IsCut, IsCutBeforeLine, IsCutBy}
+use Rattle.zscript.specs.Outcome.{IsCut, IsCutBeforeLine, IsCutBy}
 use Rattle.zscript.specs.support.Stops.{IsBlockStoppedBy, IsEndStoppedBy}
 use Rattle.zscript.specs.declared.fault.PlayFault.{PlayFault}
 use Rattle.zscript.specs.declared.fault.PlayFault.TheVariants.{Read, Write, Memory}

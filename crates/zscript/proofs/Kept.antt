@@ -4,13 +4,13 @@ use Rattle.std.proofs.lemmas.List.{take_all, take_min, length-take, append-nil}
 use Rattle.std.proofs.lemmas.Bool.Decides.{nat_tests}
 use Rattle.std.proofs.Math.Seq.{take-append-add}
 use Rattle.zops.specs.Machine.{MachineState}
-use Rattle.zlines.specs.Line.{answer, after}
+use Rattle.zanswers.specs.Line.{machine_answer as answer, machine_after as after}
 use Rattle.zlines.specs.declared.limits.TheConstants.{MAX_LINE}
 use Rattle.zscript.specs.declared.limits.TheConstants.{KEPT}
 use Rattle.zscript.specs.Script.{answers}
 use Rattle.zscript.specs.support.Lines.{after_all}
 use Rattle.zscript.specs.support.PlayerView.{kept_front}
-use Rattle.zlines.proofs.LongLine.{answer-long, after-long}
+use Rattle.zanswers.proofs.LongLine.{machine_answer-long as answer-long, machine_after-long as after-long}
 
 take-take-append : (n : ℕ) (a b : List ℕ) → take n (take n a ++ b) ≡ take n (a ++ b)
 take-take-append zero a b = refl

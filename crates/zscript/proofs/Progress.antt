@@ -2,7 +2,7 @@
 use Rattle.std.proofs.Common.{◌≡◌, ◌<◌, ℕ, List, [], ◌∷◌, ◌++◌, length, refl, sym, ap, ◌∙◌, append_assoc, arith}
 use Rattle.std.proofs.lemmas.List.{append-nil}
 use Rattle.zops.specs.Machine.{MachineState}
-use Rattle.zlines.specs.Line.{answer, after}
+use Rattle.zanswers.specs.Line.{machine_answer as answer, machine_after as after}
 use Rattle.zscript.specs.Device.{TookBeginning}
 use Rattle.zscript.specs.Script.{answers}
 use Rattle.zscript.specs.support.Lines.{whole_lines_after, line_left, after_all, IsPart}

@@ -2,7 +2,7 @@
 use Rattle.std.proofs.Common.{◌≡◌, ◌<◌, ◌+◌, ℕ, List, [], ◌∷◌, ◌++◌, length, refl, sym, ap, ◌∙◌, subst, append_assoc, arith, length-append}
 use Rattle.std.proofs.lemmas.List.{append-nil}
 use Rattle.zops.specs.Machine.{MachineState}
-use Rattle.zlines.specs.Line.{answer}
+use Rattle.zanswers.specs.Line.{machine_answer as answer}
 use Rattle.zscript.specs.Device.{TookBeginning, Failed}
 use Rattle.zscript.specs.Script.{answers}
 use Rattle.zscript.specs.support.Lines.{whole_lines_after, line_left, last_line, lines_after, IsPart}

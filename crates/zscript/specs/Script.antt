@@ -2,7 +2,7 @@
 use Rattle.std.specs.Prelude.{ℕ, List, [], ◌∷◌, ◌++◌, ◌==◌, if◌then◌else◌}
 use Rattle.std.specs.List.{onto_first}
 use Rattle.zops.specs.Machine.{MachineState, opening_machine}
-use Rattle.zlines.specs.Line.{answer, after}
+use Rattle.zanswers.specs.Line.{machine_answer as answer, machine_after as after}
 
 -- All lines, each without its LF. What follows the last LF is a line only if it has a byte.
 abbrev pub lines_of : List ℕ → List (List ℕ)

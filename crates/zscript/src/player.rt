@@ -2,7 +2,7 @@
 
 ghost use Rattle.std.specs.Prelude.{◌≡◌, ◌<◌, ◌≤◌, List, ℕ, [], ◌++◌, length, IfOk, IfErr, IfSome, IfNone, OnOk, OnErr, string_bytes};
 ghost use Rattle.zscript.specs.Device.{Between, sink_run, TookBeginning, Failed};
-ghost use Rattle.zlines.specs.Line.{after};
+ghost use Rattle.zanswers.specs.Line.{machine_after as after};
 ghost use Rattle.zscript.specs.support.Lines.{line_left, IsPart, IsCutAtEnd};
 ghost use Rattle.zscript.specs.support.PlayerView.{opening_player, player_after, state_after, answers_after, last_answer, with_answer, kept_front, Tells};
 ghost use Rattle.zscript.specs.support.Stops.{IsBlockStoppedBy, IsEndStoppedBy, AreLinesStoppedBy, IsLineStoppedBy};
@@ -14,7 +14,7 @@ use crate::output::Output;
 use memchr::memchr;
 use std::alloc::Global;
 use std::marker::Model;
-use zlines::answer_line;
+use zanswers::answer_line;
 use zops::Machine;
 use zpath::Memory;
 

@@ -1,7 +1,7 @@
 -- Lines as a player meets them: a line that has begun is carried on from block to block.
 use Rattle.std.specs.Prelude.{◌≡◌, ℕ, false, List, [], ◌∷◌, ◌++◌, ◌==◌, if◌then◌else◌}
 use Rattle.zops.specs.Machine.{MachineState}
-use Rattle.zlines.specs.Line.{after}
+use Rattle.zanswers.specs.Line.{machine_after as after}
 
 -- The lines that end within some bytes, each without its LF, where a line has begun before them.
 abbrev pub whole_lines_after : List ℕ → List ℕ → List (List ℕ)

@@ -4,7 +4,7 @@ use Rattle.std.specs.Coded.{Coded, code_by, coded×, coded_ℕ, coded_list}
 use Rattle.std.proofs.Common.{refl}
 use Rattle.zops.specs.Machine.{MachineState, coded_machine_state, opening_machine}
 use Rattle.zscript.specs.declared.limits.TheConstants.{KEPT}
-use Rattle.zlines.specs.Line.{answer}
+use Rattle.zanswers.specs.Line.{machine_answer as answer}
 use Rattle.zscript.specs.Script.{answers}
 use Rattle.zscript.specs.support.Lines.{whole_lines_after, line_left, last_line, after_all}
 

@@ -1,5 +1,5 @@
 -- A player's own faults: within one block of bytes, and within one line.
-use Rattle.std.specs.Prelude.{ℕ, ◌<◌, List, [], ◌++◌, length}
+use Rattle.std.specs.Prelude.{ℕ, ◌<◌, List, [], length}
 use Rattle.zops.specs.Machine.{MachineState}
 use Rattle.zscript.specs.Device.{SinkRun, Failed, TookBeginning}
 use Rattle.zscript.specs.Outcome.{IsStopped}

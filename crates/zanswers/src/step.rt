@@ -4,28 +4,46 @@ ghost use Rattle.std.specs.Prelude.{◌≡◌, ◌<◌, OnOk};
 ghost use Rattle.zcalls.specs.Step.{query_reply};
 ghost use Rattle.zops.specs.declared.limits.TheConstants.{MAX_APPLIED};
 ghost use Rattle.zops.specs.Machine.{entry_result};
-ghost use Rattle.zlines.specs.Line.{answer, after, request_result, entry_text, update_result, line_fault_text};
+ghost use Rattle.zanswers.specs.Line.{IsLineDone, machine_answer, machine_after, request_result};
+ghost use Rattle.zanswers.specs.Line.{entry_text, update_result, line_fault_text};
 ghost use Rattle.zlines.specs.Reply.{reply_text};
 ghost use Rattle.zlines.specs.Texts.{Writes};
 
-use crate::reading::read_line;
-use crate::reply::write_reply;
-use crate::request::{LineFault, Request};
 use std::alloc::Global;
 use zcalls::{Call, CallNumber, ClientId, Entry, Query, Update};
+use zlines::{LineFault, Request, read_line, write_reply};
 use zops::Machine;
 use zpath::Memory;
 
 /// Plays a line: what it asks for is done to the machine, and its answer is written, with an LF.
-#[tactic(auto, unfolding(crate::specs::Line::answer, crate::specs::Line::after, crate::specs::Line::line_result))]
 pub fn answer_line(
     alloc: Global,
     machine: &mut Machine,
     line: &[u8],
     out: &mut String,
 ) -> Result<(), Memory>
-    ensures text { OnOk result (Writes out.old out.new (answer machine.old.state line.now)) }
-    ensures state { OnOk result (machine.new.state ≡ after machine.old.state line.now) }
+    ensures done { OnOk result (IsLineDone machine.old.state line.now machine.new.state
+        (Writes out.old out.new)) }
+    ensures text { OnOk result (Writes out.old out.new
+        (machine_answer machine.old.state line.now)) }
+    ensures state { OnOk result (machine.new.state
+        ≡ machine_after machine.old.state line.now) }
+{
+    answer_alone(alloc, machine, line, out)
+}
+
+// The same, of the machine alone.
+#[tactic(auto, unfolding(crate::specs::Line::machine_answer, crate::specs::Line::machine_after, crate::specs::Line::line_result))]
+fn answer_alone(
+    alloc: Global,
+    machine: &mut Machine,
+    line: &[u8],
+    out: &mut String,
+) -> Result<(), Memory>
+    ensures text { OnOk result (Writes out.old out.new
+        (machine_answer machine.old.state line.now)) }
+    ensures state { OnOk result (machine.new.state
+        ≡ machine_after machine.old.state line.now) }
 {
     match read_line(alloc, line) {
         Ok(request) => answer_call(machine, request, out)?,

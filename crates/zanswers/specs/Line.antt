@@ -1,5 +1,5 @@
 -- What a line does, and what it is answered with. The texts are this project's own profile.
-use Rattle.std.specs.Prelude.{ℕ, ◌+◌, List, Option, [], ◌∷◌, ◌++◌, codes, Ok, Err, if◌then◌else◌, nat_le}
+use Rattle.std.specs.Prelude.{◌≡◌, ℕ, ◌+◌, List, Option, [], ◌∷◌, ◌++◌, codes, Ok, Err, if◌then◌else◌, nat_le}
 use Rattle.std.specs.Option.{option_map_or}
 use Rattle.zpath.specs.Faults.{fault_name}
 use Rattle.zcalls.specs.declared.call.Update.{Update as Change}
@@ -14,6 +14,7 @@ use Rattle.zlines.specs.declared.request.LineFault.{LineFault}
 use Rattle.zlines.specs.declared.request.LineFault.TheVariants.{BadLine, BadPath, BadData, Memory}
 use Rattle.zlines.specs.Request.{Read, request_of}
 use Rattle.zlines.specs.Reply.{reply_text}
+use Rattle.zworld_model.specs.declared.outcome.Outcome.{Outcome}
 
 -- the answer to a line that asks for nothing; want of memory ends the script, and has none
 abbrev pub line_fault_text : LineFault → List ℕ
@@ -47,14 +48,39 @@ abbrev pub read_result : MachineState → Read Request → MachineState × List 
 read_result s (Err fault) = (s, line_fault_text fault)
 read_result s (Ok request) = request_result s request
 
--- the state after a line, and the answer without its LF
+-- the machine after a line, and the answer without its LF
 unfoldable pub line_result : MachineState → List ℕ → MachineState × List ℕ
 line_result s line = read_result s (request_of line)
 
--- the bytes that are written for a line
-unfoldable pub answer : MachineState → List ℕ → List ℕ
-answer s line = (line_result s line).1 ++ 10 ∷ []
+-- the bytes that a machine writes for a line
+unfoldable pub machine_answer : MachineState → List ℕ → List ℕ
+machine_answer s line = (line_result s line).1 ++ 10 ∷ []
 
--- and the state after it
-unfoldable pub after : MachineState → List ℕ → MachineState
-after s line = (line_result s line).0
+-- and the machine after it
+unfoldable pub machine_after : MachineState → List ℕ → MachineState
+machine_after s line = (line_result s line).0
+
+-- the state of a script: the machine, and what will become of each event in turn; where nothing is told, it acts
+pub record ScriptState : Type 0 where
+  pub machine : MachineState
+  pub outcomes : List Outcome
+
+-- a machine, and what will become of its events
+abbrev pub script_state : MachineState → List Outcome → ScriptState
+script_state machine outcomes = record { machine = machine; outcomes = outcomes }
+
+-- the bytes that are written for a line
+abbrev pub answer : ScriptState → List ℕ → List ℕ
+answer s line = machine_answer s.machine line
+
+-- and the state after it. A machine alone has no events whose outcomes could differ
+abbrev pub after : ScriptState → List ℕ → ScriptState
+after s line = script_state (machine_after s.machine line) s.outcomes
+
+-- a line was done, and this written: these outcomes were met at it, whatever comes after them
+pub record IsLineDone (old : MachineState) (line : List ℕ) (new : MachineState) (writes : List ℕ → Type 0) : Type 0 where
+  pub told : List Outcome
+  pub text : List ℕ
+  pub written : writes text
+  pub left : (later : List Outcome) → after (script_state old (told ++ later)) line ≡ script_state new later
+  pub answered : (later : List Outcome) → answer (script_state old (told ++ later)) line ≡ text
