@@ -1,8 +1,7 @@
 -- How bytes are cut into lines, piece by piece.
 use Rattle.std.proofs.Common.{◌≡◌, ℕ, true, false, cond, List, [], ◌∷◌, ◌++◌, refl, sym, ap, ◌∙◌, append_assoc, ◌==◌}
 use Rattle.std.proofs.lemmas.List.{append-nil}
-use Rattle.zops.specs.Machine.{MachineState}
-use Rattle.zanswers.specs.Line.{machine_answer as answer, machine_after as after}
+use Rattle.zanswers.specs.Line.{ScriptState, answer, after}
 use Rattle.zscript.specs.Script.{answers}
 use Rattle.zscript.specs.support.Lines.{whole_lines_after, line_left, after_all, IsPart}
 
@@ -38,14 +37,10 @@ whole_lines_after-line a line more h =
 pub line_left-line : (a line more : List ℕ) → IsPart a → line_left line (a ++ 10 ∷ more) ≡ line_left [] more
 line_left-line a line more h = line_left-append a line (10 ∷ more)
 
-pub after_all-append : (xs : List (List ℕ)) (state : MachineState) (ys : List (List ℕ)) → after_all state (xs ++ ys) ≡ after_all (after_all state xs) ys
+pub after_all-append : (xs : List (List ℕ)) (state : ScriptState) (ys : List (List ℕ)) → after_all state (xs ++ ys) ≡ after_all (after_all state xs) ys
 after_all-append [] state ys = refl
 after_all-append (x ∷ xs) state ys = after_all-append xs (after state x) ys
 
-pub answers-append : (xs : List (List ℕ)) (state : MachineState) (ys : List (List ℕ)) → answers state (xs ++ ys) ≡ answers state xs ++ answers (after_all state xs) ys
+pub answers-append : (xs : List (List ℕ)) (state : ScriptState) (ys : List (List ℕ)) → answers state (xs ++ ys) ≡ answers state xs ++ answers (after_all state xs) ys
 answers-append [] state ys = refl
 answers-append (x ∷ xs) state ys = ap (λ t. answer state x ++ t) (answers-append xs (after state x) ys) ∙ sym (append_assoc (answer state x) _ _)
-
--- one line more
-pub answers-push : (xs : List (List ℕ)) (state : MachineState) (line : List ℕ) → answers state (xs ++ line ∷ []) ≡ answers state xs ++ answer (after_all state xs) line
-answers-push xs state line = answers-append xs state (line ∷ []) ∙ ap (λ t. answers state xs ++ t) (append-nil _)

@@ -1,18 +1,19 @@
 -- A player's fault, as the fault of the whole run.
 use Rattle.std.proofs.Common.{◌≡◌, ◌<◌, ◌+◌, inl, inr, ℕ, List, [], ◌++◌, length, refl, sym, ap, ◌∙◌, subst, arith}
 use Rattle.std.proofs.lemmas.List.{append-nil}
-use Rattle.zops.specs.Machine.{opening_machine}
+use Rattle.zops.specs.Machine.{MachineState, opening_machine}
 use Rattle.zscript.specs.Device.{SourceRun, SinkRun, Failed}
-use Rattle.zscript.specs.Script.{whole_lines_of, answers}
-use Rattle.zscript.specs.support.Lines.{whole_lines_after, line_left, last_line, lines_after}
-use Rattle.zscript.specs.support.PlayerView.{PlayerView, opening_player, player_after}
-use Rattle.zscript.specs.Outcome.{IsCut, IsCutBeforeLine, IsCutBy}
+use Rattle.zscript.specs.Script.{whole_lines_of, answers, opening_script}
+use Rattle.zscript.specs.support.Lines.{whole_lines_after, line_left, last_line, lines_after, AreLinesDone}
+use Rattle.zscript.specs.support.PlayerView.{PlayerView}
+use Rattle.zscript.specs.Outcome.{IsPlayed, IsCut, IsCutBeforeLine, IsCutBy}
 use Rattle.zscript.specs.support.Stops.{IsBlockStoppedBy, IsEndStoppedBy}
 use Rattle.zscript.specs.declared.fault.PlayFault.{PlayFault}
 use Rattle.zscript.specs.declared.fault.PlayFault.TheVariants.{Read, Write, Memory}
 use Rattle.zscript.proofs.ScriptLines.{lines_of-carried, whole_lines_of-carried, last_line-one, whole_played}
-use Rattle.zscript.proofs.Runs.{StoppedLater, stopped-append, stopped-append_whole, stopped-last}
+use Rattle.zscript.proofs.Runs.{Heard, StoppedLater, stopped-append, stopped-append_whole, stopped-last}
 use Rattle.zscript.proofs.Stops.{failed_after}
+use Rattle.zscript.proofs.Done.{done-text}
 
 -- the whole lines among which a fault came, where a line was not played
 IsCut-before_line : (source : SourceRun) (sink : SinkRun) → IsCutBeforeLine source sink → IsCut source sink
@@ -26,7 +27,7 @@ IsCut-before_line source sink h =
       given = h.given;
       lines = whole_lines_of h.bytes;
       read = inl refl;
-      stopped = record { played = h.stopped.played; rest = whole.rest; split = whole.split; taken = h.stopped.taken };
+      stopped = record { played = h.stopped.played; rest = whole.rest; split = whole.split; outcomes = h.stopped.outcomes; taken = h.stopped.taken };
     }
 
 -- each fault leaves a beginning of what the lines that were played are answered with
@@ -40,7 +41,8 @@ IsCut-from_fault source sink Read h = record {
     played = whole_lines_of h.0.bytes;
     rest = [];
     split = sym (append-nil _);
-    taken = (answers opening_machine (whole_lines_of h.0.bytes), ([], sym (append-nil _)), h.0.taken);
+    outcomes = h.0.outcomes;
+    taken = (answers (opening_script h.0.outcomes) (whole_lines_of h.0.bytes), ([], sym (append-nil _)), h.0.taken);
   };
 }
 IsCut-from_fault source sink Write h = h.0
@@ -52,7 +54,7 @@ IsCut-from_fault source sink Memory h =
         given = none.0;
         lines = [];
         read = inl refl;
-        stopped = record { played = []; rest = []; split = refl; taken = ([], ([], refl), none.1) };
+        stopped = record { played = []; rest = []; split = refl; outcomes = []; taken = ([], ([], refl), none.1) };
       }
     ]
 
@@ -69,66 +71,88 @@ pub ended_unread : (source : SourceRun) (sink : SinkRun) → source.gave [] → 
 ended_unread source sink unread unwritten sound sink_sound = ended source sink Memory (inr (unread, unwritten), sound, sink_sound)
 
 -- the source failed
-pub ended_read : (source : SourceRun) (sink : SinkRun) (bytes : List ℕ) → source.gave bytes → sink.took (answers opening_machine (whole_lines_after [] bytes)) → source.failed 1 → sink.failed 0 → Ended source sink Read
-ended_read source sink bytes given taken failed sound =
-    let text = ap (answers opening_machine) (sym (whole_lines_of-carried bytes)) in
-    ended source sink Read (record { bytes = bytes; given = given; taken = subst sink.took text taken }, (1, omega arith, failed), sound)
+pub ended_read : (source : SourceRun) (sink : SinkRun) (player : PlayerView) (bytes : List ℕ) → source.gave bytes → Heard sink.took bytes player → source.failed 1 → sink.failed 0 → Ended source sink Read
+ended_read source sink player bytes given heard failed sound =
+    let outcomes = heard.done.told ++ [] in
+    let text = ap (answers (opening_script outcomes)) (sym (whole_lines_of-carried bytes)) in
+    let taken = done-text sink.took opening_machine player.state (whole_lines_after [] bytes) heard.done in
+    ended source sink Read (record { bytes = bytes; given = given; outcomes = outcomes; taken = subst sink.took text taken }, (1, omega arith, failed), sound)
+
+-- every line was played
+pub played_whole : (source : SourceRun) (sink : SinkRun) (new : MachineState) (bytes : List ℕ) → source.gave bytes → AreLinesDone opening_machine (lines_after [] bytes) new sink.took → source.ended → source.failed 0 → sink.failed 0 → IsPlayed source sink
+played_whole source sink new bytes given done end sound sink_sound =
+    let outcomes = done.told ++ [] in
+    let text = ap (answers (opening_script outcomes)) (sym (lines_of-carried bytes)) in
+    record {
+      bytes = bytes;
+      given = given;
+      outcomes = outcomes;
+      taken = subst sink.took text (done-text sink.took opening_machine new (lines_after [] bytes) done);
+      ended = end;
+      source_sound = sound;
+      sink_sound = sink_sound;
+    }
 
 -- what was read and written before a step of the player, and how the step adds to it
-pub record Before (step all : SinkRun) (player : PlayerView) (bytes : List ℕ) : Type 0 where
-  pub grows : (text : List ℕ) → step.took text → all.took (answers opening_machine (whole_lines_after [] bytes) ++ text)
+pub record Before (took : List ℕ → Type 0) (step all : SinkRun) (player : PlayerView) (bytes : List ℕ) : Type 0 where
+  pub both : (a b : List ℕ) → took a → step.took b → all.took (a ++ b)
   pub counts : (count : ℕ) → step.failed count → all.failed (0 + count)
-  pub is : player ≡ player_after opening_player bytes
+  pub heard : Heard took bytes player
 
-module _ (source : SourceRun) (step all : SinkRun) where
+module _ (source : SourceRun) (took : List ℕ → Type 0) (step all : SinkRun) (player : PlayerView) (bytes : List ℕ) (before : Before took step all player bytes) where
   -- memory ran out before a line
-  by_line : (bytes : List ℕ) (left : ℕ) → source.gave bytes → source.failed 0 → ((count : ℕ) → step.failed count → all.failed (0 + count)) → StoppedLater all.took opening_machine (lines_after [] bytes) left → (0 < left) × step.failed 0 → IsCutBy source all Memory
-  by_line bytes left given sound counts later h =
-      let is = lines_of-carried bytes in (
-        inl (record {
-          bytes = bytes;
-          given = given;
-          stopped = record { played = later.stopped.played; rest = later.stopped.rest; split = is ∙ later.stopped.split; taken = later.stopped.taken };
-          some = later.some h.0;
-        }),
-        sound,
-        counts 0 h.1,
-      )
+  by_line : (whole : List ℕ) (left : ℕ) → source.gave whole → source.failed 0 → StoppedLater all.took opening_machine (lines_after [] whole) left → (0 < left) × step.failed 0 → IsCutBy source all Memory
+  by_line whole left given sound later h = (
+    inl (record {
+      bytes = whole;
+      given = given;
+      stopped = record {
+        played = later.stopped.played;
+        rest = later.stopped.rest;
+        split = lines_of-carried whole ∙ later.stopped.split;
+        outcomes = later.stopped.outcomes;
+        taken = later.stopped.taken;
+      };
+      some = later.some h.0;
+    }),
+    sound,
+    before.counts 0 h.1,
+  )
 
   -- a write failed among the whole lines
-  by_write : (bytes : List ℕ) (left : ℕ) → source.gave bytes → source.failed 0 → ((count : ℕ) → step.failed count → all.failed (0 + count)) → StoppedLater all.took opening_machine (whole_lines_after [] bytes) left → Failed step.failed → IsCutBy source all Write
-  by_write bytes left given sound counts later h = (
-    record { bytes = bytes; given = given; lines = whole_lines_after [] bytes; read = inl (sym (whole_lines_of-carried bytes)); stopped = later.stopped },
+  by_write : (whole : List ℕ) (left : ℕ) → source.gave whole → source.failed 0 → StoppedLater all.took opening_machine (whole_lines_after [] whole) left → Failed step.failed → IsCutBy source all Write
+  by_write whole left given sound later h = (
+    record { bytes = whole; given = given; lines = whole_lines_after [] whole; read = inl (sym (whole_lines_of-carried whole)); stopped = later.stopped },
     sound,
-    failed_after step.failed all.failed counts h,
+    failed_after step.failed all.failed before.counts h,
   )
 
   -- a write failed at the line that the end ends
-  by_last_write : (bytes : List ℕ) (left : ℕ) → source.gave bytes → source.ended → source.failed 0 → ((count : ℕ) → step.failed count → all.failed (0 + count)) → StoppedLater all.took opening_machine (lines_after [] bytes) left → Failed step.failed → IsCutBy source all Write
-  by_last_write bytes left given end sound counts later h = (
+  by_last_write : (left : ℕ) → source.gave bytes → source.ended → source.failed 0 → StoppedLater all.took opening_machine (lines_after [] bytes) left → Failed step.failed → IsCutBy source all Write
+  by_last_write left given end sound later h = (
     record { bytes = bytes; given = given; lines = lines_after [] bytes; read = inr (end, sym (lines_of-carried bytes)); stopped = later.stopped },
     sound,
-    failed_after step.failed all.failed counts h,
+    failed_after step.failed all.failed before.counts h,
   )
 
-  last : (bytes : List ℕ) → ((text : List ℕ) → step.took text → all.took (answers opening_machine (whole_lines_after [] bytes) ++ text)) → ((count : ℕ) → step.failed count → all.failed (0 + count)) → source.gave bytes → source.ended → source.failed 0 → (fault : PlayFault) → IsEndStoppedBy (player_after opening_player bytes) step fault → IsCutBy source all fault
-  last bytes grows counts given end sound Read h = absurd h
-  last bytes grows counts given end sound Write h = by_last_write bytes (length h.0.rest) given end sound counts (stopped-last step.took all.took opening_player bytes grows h.0) h.1
-  last bytes grows counts given end sound Memory h = by_line bytes (length h.0.rest) given sound counts (stopped-last step.took all.took opening_player bytes grows h.0) (h.1, h.2)
+  last : source.gave bytes → source.ended → source.failed 0 → (fault : PlayFault) → IsEndStoppedBy player step fault → IsCutBy source all fault
+  last given end sound Read h = absurd h
+  last given end sound Write h =
+      by_last_write (length h.0.rest) given end sound (stopped-last took step.took all.took before.both player bytes before.heard h.0) h.1
+  last given end sound Memory h =
+      by_line bytes (length h.0.rest) given sound (stopped-last took step.took all.took before.both player bytes before.heard h.0) (h.1, h.2)
 
-  chunk : (bytes more : List ℕ) → ((text : List ℕ) → step.took text → all.took (answers opening_machine (whole_lines_after [] bytes) ++ text)) → ((count : ℕ) → step.failed count → all.failed (0 + count)) → source.gave (bytes ++ more) → source.failed 0 → (fault : PlayFault) → IsBlockStoppedBy (player_after opening_player bytes) more step fault → IsCutBy source all fault
-  chunk bytes more grows counts given sound Read h = absurd h
-  chunk bytes more grows counts given sound Write h = by_write (bytes ++ more) (length h.0.rest) given sound counts (stopped-append_whole step.took all.took opening_player bytes more grows h.0) h.1
-  chunk bytes more grows counts given sound Memory h = by_line (bytes ++ more) (length h.0.rest) given sound counts (stopped-append step.took all.took opening_player bytes more grows h.0) (h.1, h.2)
+  chunk : (more : List ℕ) → source.gave (bytes ++ more) → source.failed 0 → (fault : PlayFault) → IsBlockStoppedBy player more step fault → IsCutBy source all fault
+  chunk more given sound Read h = absurd h
+  chunk more given sound Write h =
+      by_write (bytes ++ more) (length h.0.rest) given sound (stopped-append_whole took step.took all.took before.both player bytes more before.heard h.0) h.1
+  chunk more given sound Memory h =
+      by_line (bytes ++ more) (length h.0.rest) given sound (stopped-append took step.took all.took before.both player bytes more before.heard h.0) (h.1, h.2)
 
   -- a fault at the line that the end of the script ends
-  pub cut_at_last : (player : PlayerView) (bytes : List ℕ) → Before step all player bytes → source.gave bytes → source.ended → source.failed 0 → (fault : PlayFault) → IsEndStoppedBy player step fault → Ended source all fault
-  cut_at_last player bytes before given end sound fault h =
-      let P : PlayerView → Type 0 = λ p. IsEndStoppedBy p step fault in
-      ended source all fault (last bytes before.grows before.counts given end sound fault (subst P before.is h))
+  pub cut_at_last : source.gave bytes → source.ended → source.failed 0 → (fault : PlayFault) → IsEndStoppedBy player step fault → Ended source all fault
+  cut_at_last given end sound fault h = ended source all fault (last given end sound fault h)
 
   -- a fault among the lines that end in one more block
-  pub cut_in_block : (player : PlayerView) (bytes more : List ℕ) → Before step all player bytes → source.gave (bytes ++ more) → source.failed 0 → (fault : PlayFault) → IsBlockStoppedBy player more step fault → Ended source all fault
-  cut_in_block player bytes more before given sound fault h =
-      let P : PlayerView → Type 0 = λ p. IsBlockStoppedBy p more step fault in
-      ended source all fault (chunk bytes more before.grows before.counts given sound fault (subst P before.is h))
+  pub cut_in_block : (more : List ℕ) → source.gave (bytes ++ more) → source.failed 0 → (fault : PlayFault) → IsBlockStoppedBy player more step fault → Ended source all fault
+  cut_in_block more given sound fault h = ended source all fault (chunk more given sound fault h)

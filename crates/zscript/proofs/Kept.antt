@@ -4,13 +4,13 @@ use Rattle.std.proofs.lemmas.List.{take_all, take_min, length-take, append-nil}
 use Rattle.std.proofs.lemmas.Bool.Decides.{nat_tests}
 use Rattle.std.proofs.Math.Seq.{take-append-add}
 use Rattle.zops.specs.Machine.{MachineState}
-use Rattle.zanswers.specs.Line.{machine_answer as answer, machine_after as after}
+use Rattle.zanswers.specs.Line.{ScriptState, script_state, answer, after, IsLineDone}
 use Rattle.zlines.specs.declared.limits.TheConstants.{MAX_LINE}
 use Rattle.zscript.specs.declared.limits.TheConstants.{KEPT}
 use Rattle.zscript.specs.Script.{answers}
 use Rattle.zscript.specs.support.Lines.{after_all}
-use Rattle.zscript.specs.support.PlayerView.{kept_front}
-use Rattle.zanswers.proofs.LongLine.{machine_answer-long as answer-long, machine_after-long as after-long}
+use Rattle.zscript.specs.support.PlayerView.{PlayerView, kept_front}
+use Rattle.zanswers.proofs.LongLine.{answer-long, after-long}
 
 take-take-append : (n : ℕ) (a b : List ℕ) → take n (take n a ++ b) ≡ take n (a ++ b)
 take-take-append zero a b = refl
@@ -58,35 +58,55 @@ kept-room line part h =
     let e : KEPT ≡ length line + room = omega arith in
     ap (λ n. take n (line ++ part)) e ∙ take-append-add line part room ∙ ap (λ t. line ++ t) (sym (take-room room part))
 
-pub answer-kept : (state : MachineState) (line : List ℕ) → answer state (kept_front line) ≡ answer state line
+pub answer-kept : (state : ScriptState) (line : List ℕ) → answer state (kept_front line) ≡ answer state line
 answer-kept state line =
     elim (short_or_long (length line)) [
       | inl h ↦ ap (answer state) (kept-short line h)
       | inr h ↦ answer-long state (kept_front line) (length-kept line h) ∙ sym (answer-long state line h)
     ]
 
-pub after-kept : (state : MachineState) (line : List ℕ) → after state (kept_front line) ≡ after state line
+pub after-kept : (state : ScriptState) (line : List ℕ) → after state (kept_front line) ≡ after state line
 after-kept state line =
     elim (short_or_long (length line)) [
       | inl h ↦ ap (after state) (kept-short line h)
       | inr h ↦ after-long state (kept_front line) (length-kept line h) ∙ sym (after-long state line h)
     ]
 
-answers-kept : (lines : List (List ℕ)) (state : MachineState) → answers state (map kept_front lines) ≡ answers state lines
+-- a line is done where what is kept of it is
+pub line_done-kept : (writes : List ℕ → Type 0) (old new : MachineState) (line : List ℕ) → IsLineDone old (kept_front line) new writes → IsLineDone old line new writes
+line_done-kept writes old new line h = record {
+  told = h.told;
+  text = h.text;
+  written = h.written;
+  left = λ later. sym (after-kept (script_state old (h.told ++ later)) line) ∙ h.left later;
+  answered = λ later. sym (answer-kept (script_state old (h.told ++ later)) line) ∙ h.answered later;
+}
+
+-- by a player that keeps what has begun of it
+pub line_done-player : (p q : PlayerView) (new : MachineState) (end bytes : List ℕ) → q.line ≡ kept_front (p.line ++ end) → q.state ≡ p.state → q.held ≡ p.held → IsLineDone q.state q.line new (λ text. bytes ≡ q.held ++ text) → IsLineDone p.state (p.line ++ end) new (λ text. bytes ≡ p.held ++ text)
+line_done-player p q new end bytes line state held h =
+    line_done-kept (λ text. bytes ≡ p.held ++ text) p.state new (p.line ++ end) (rw (sym line, sym state, sym held) h)
+
+-- where nothing of it has begun
+pub line_done-whole : (writes : List ℕ → Type 0) (old new : MachineState) (begun end : List ℕ) → length begun ≡ 0 → IsLineDone old end new writes → IsLineDone old (begun ++ end) new writes
+line_done-whole writes old new [] end e h = h
+line_done-whole writes old new (x ∷ begun) end e h = absurd (omega (arith, e))
+
+answers-kept : (lines : List (List ℕ)) (state : ScriptState) → answers state (map kept_front lines) ≡ answers state lines
 answers-kept [] state = refl
 answers-kept (line ∷ lines) state =
     (λ i. answer-kept state line i ++ answers (after-kept state line i) (map kept_front lines))
     ∙ ap (λ t. answer state line ++ t) (answers-kept lines (after state line))
 
-after_all-kept : (lines : List (List ℕ)) (state : MachineState) → after_all state (map kept_front lines) ≡ after_all state lines
+after_all-kept : (lines : List (List ℕ)) (state : ScriptState) → after_all state (map kept_front lines) ≡ after_all state lines
 after_all-kept [] state = refl
 after_all-kept (line ∷ lines) state = ap (λ s. after_all s (map kept_front lines)) (after-kept state line) ∙ after_all-kept lines (after state line)
 
 -- lines of which the same is kept do the same
-pub answers-alike : (state : MachineState) (xs ys : List (List ℕ)) → map kept_front xs ≡ map kept_front ys → answers state xs ≡ answers state ys
+pub answers-alike : (state : ScriptState) (xs ys : List (List ℕ)) → map kept_front xs ≡ map kept_front ys → answers state xs ≡ answers state ys
 answers-alike state xs ys e = sym (answers-kept xs state) ∙ ap (answers state) e ∙ answers-kept ys state
 
-pub after_all-alike : (state : MachineState) (xs ys : List (List ℕ)) → map kept_front xs ≡ map kept_front ys → after_all state xs ≡ after_all state ys
+pub after_all-alike : (state : ScriptState) (xs ys : List (List ℕ)) → map kept_front xs ≡ map kept_front ys → after_all state xs ≡ after_all state ys
 after_all-alike state xs ys e = sym (after_all-kept xs state) ∙ ap (after_all state) e ∙ after_all-kept ys state
 
 pub kept-none : (line part : List ℕ) → length line ≤ KEPT → length part ≡ 0 → line ≡ kept_front (line ++ part)

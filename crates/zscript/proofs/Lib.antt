@@ -3,6 +3,8 @@ pub mod Kept
 pub mod Cuts
 pub mod Alike
 pub mod FirstEnd
+pub mod Done
+pub mod Tells
 pub mod Progress
 pub mod Stops
 pub mod Runs

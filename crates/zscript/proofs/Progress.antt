@@ -2,73 +2,66 @@
 use Rattle.std.proofs.Common.{◌≡◌, ◌<◌, ℕ, List, [], ◌∷◌, ◌++◌, length, refl, sym, ap, ◌∙◌, append_assoc, arith}
 use Rattle.std.proofs.lemmas.List.{append-nil}
 use Rattle.zops.specs.Machine.{MachineState}
-use Rattle.zanswers.specs.Line.{machine_answer as answer, machine_after as after}
+use Rattle.zanswers.specs.Line.{IsLineDone}
 use Rattle.zscript.specs.Device.{TookBeginning}
-use Rattle.zscript.specs.Script.{answers}
-use Rattle.zscript.specs.support.Lines.{whole_lines_after, line_left, after_all, IsPart}
+use Rattle.zscript.specs.support.Lines.{whole_lines_after, line_left, AreLinesDone, IsPart}
 use Rattle.zscript.specs.support.PlayerView.{PlayerView, Tells}
 use Rattle.zscript.specs.Outcome.{IsStopped}
-use Rattle.zscript.proofs.Cuts.{whole_lines_after-line, whole_lines_after-part, line_left-line, line_left-part, after_all-append, answers-push}
+use Rattle.zscript.proofs.Cuts.{whole_lines_after-line, whole_lines_after-part, line_left-line, line_left-part}
+use Rattle.zscript.proofs.Done.{done-none, done-line, done-append, done-written, done-stopped}
+use Rattle.zscript.proofs.Tells.{tells_grown, tells_begun, tells_cut, tells_again}
 
 -- From p to q some lines of the bytes were played, and rest is what follows them.
 pub record Progress (took : List ℕ → Type 0) (p q : PlayerView) (bytes rest : List ℕ) : Type 0 where
-  pub done : List (List ℕ)
-  pub whole : whole_lines_after p.line bytes ≡ done ++ whole_lines_after q.line rest
+  pub lines : List (List ℕ)
+  pub whole : whole_lines_after p.line bytes ≡ lines ++ whole_lines_after q.line rest
   pub left : line_left p.line bytes ≡ line_left q.line rest
-  pub state : q.state ≡ after_all p.state done
-  pub told : Tells took (answers p.state done) q.held
+  pub done : AreLinesDone p.state lines q.state (λ text. Tells took text q.held)
 
 pub progress-none : (took : List ℕ → Type 0) (p : PlayerView) (bytes : List ℕ) → took [] → p.held ≡ [] → Progress took p p bytes bytes
 progress-none took p bytes none held = record {
-  done = [];
+  lines = [];
   whole = refl;
   left = refl;
-  state = refl;
-  told = record { front = []; taken = none; split = sym held };
+  done = done-none p.state (λ text. Tells took text p.held) (record { front = []; taken = none; split = sym held });
 }
 
 -- what the next line is, among the lines
 next_line : (q : PlayerView) (end more rest : List ℕ) → IsPart end → rest ≡ end ++ 10 ∷ more → whole_lines_after q.line rest ≡ (q.line ++ end) ∷ whole_lines_after [] more
 next_line q end more rest part is = ap (whole_lines_after q.line) is ∙ whole_lines_after-line end q.line more part
 
--- the answers with one more
-answered : (took : List ℕ → Type 0) (p q : PlayerView) (bytes rest line : List ℕ) (h : Progress took p q bytes rest) → answers p.state (h.done ++ line ∷ []) ≡ h.told.front ++ (q.held ++ answer q.state line)
-answered took p q bytes rest line h =
-    answers-push h.done p.state line
-    ∙ (λ i. h.told.split i ++ answer (sym h.state i) line)
-    ∙ append_assoc h.told.front q.held (answer q.state line)
+-- one more line, in front of the others
+with_next : (p q : PlayerView) (bytes rest end more : List ℕ) (lines : List (List ℕ)) → whole_lines_after p.line bytes ≡ lines ++ whole_lines_after q.line rest → IsPart end → rest ≡ end ++ 10 ∷ more → whole_lines_after p.line bytes ≡ (lines ++ (q.line ++ end) ∷ []) ++ whole_lines_after [] more
+with_next p q bytes rest end more lines whole part is =
+    whole
+    ∙ ap (λ t. lines ++ t) (next_line q end more rest part is)
+    ∙ sym (append_assoc lines ((q.line ++ end) ∷ []) (whole_lines_after [] more))
 
-pub progress-line : (took more_took all_took : List ℕ → Type 0) (p q r : PlayerView) (bytes rest end more : List ℕ) → ((a b : List ℕ) → took a → more_took b → all_took (a ++ b)) → Progress took p q bytes rest → IsPart end → rest ≡ end ++ 10 ∷ more → r.state ≡ after q.state (q.line ++ end) → r.line ≡ [] → Tells more_took (q.held ++ answer q.state (q.line ++ end)) r.held → Progress all_took p r bytes more
-progress-line took more_took all_took p q r bytes rest end more both h part is state line tells =
+pub progress-line : (took more_took all_took : List ℕ → Type 0) (p q r : PlayerView) (bytes rest end more : List ℕ) → ((a b : List ℕ) → took a → more_took b → all_took (a ++ b)) → Progress took p q bytes rest → IsPart end → rest ≡ end ++ 10 ∷ more → r.line ≡ [] → IsLineDone q.state (q.line ++ end) r.state (λ text. Tells more_took (q.held ++ text) r.held) → Progress all_took p r bytes more
+progress-line took more_took all_took p q r bytes rest end more both h part is line next =
     let now = q.line ++ end in
-    let next = next_line q end more rest part is in
     record {
-      done = h.done ++ now ∷ [];
-      whole = h.whole ∙ ap (λ t. h.done ++ t) (next ∙ ap (λ l. now ∷ whole_lines_after l more) (sym line)) ∙ sym (append_assoc h.done (now ∷ []) (whole_lines_after r.line more));
+      lines = h.lines ++ now ∷ [];
+      whole = with_next p q bytes rest end more h.lines h.whole part is ∙ ap (λ l. (h.lines ++ now ∷ []) ++ whole_lines_after l more) (sym line);
       left = h.left ∙ ap (line_left q.line) is ∙ line_left-line end q.line more part ∙ ap (λ l. line_left l more) (sym line);
-      state = state ∙ ap (λ s. after s now) h.state ∙ sym (after_all-append h.done p.state (now ∷ []));
-      told = record {
-        front = h.told.front ++ tells.front;
-        taken = both h.told.front tells.front h.told.taken tells.taken;
-        split = answered took p q bytes rest now h ∙ ap (λ t. h.told.front ++ t) tells.split ∙ sym (append_assoc h.told.front tells.front r.held);
-      };
+      done = done-append
+          (λ text. Tells took text q.held) (λ text. Tells more_took (q.held ++ text) r.held) (λ text. Tells all_took text r.held)
+          p.state q.state r.state h.lines (now ∷ [])
+          (λ a b told more_told. tells_again took more_took all_took both (a ++ b) (q.held ++ b) r.held (tells_grown took a q.held b told) more_told)
+          h.done (done-line q.state r.state now (λ text. Tells more_took (q.held ++ text) r.held) next);
     }
 
 -- the sink failed at the next line's reply
-pub progress-cut : (took more_took all_took : List ℕ → Type 0) (p q : PlayerView) (bytes rest end more : List ℕ) → ((a b : List ℕ) → took a → more_took b → all_took (a ++ b)) → Progress took p q bytes rest → IsPart end → rest ≡ end ++ 10 ∷ more → TookBeginning more_took (q.held ++ answer q.state (q.line ++ end)) → IsStopped p.state (whole_lines_after p.line bytes) all_took
-progress-cut took more_took all_took p q bytes rest end more both h part is cut =
+pub progress-cut : (took more_took all_took : List ℕ → Type 0) (p q : PlayerView) (new : MachineState) (bytes rest end more : List ℕ) → ((a b : List ℕ) → took a → more_took b → all_took (a ++ b)) → Progress took p q bytes rest → IsPart end → rest ≡ end ++ 10 ∷ more → IsLineDone q.state (q.line ++ end) new (λ text. TookBeginning more_took (q.held ++ text)) → IsStopped p.state (whole_lines_after p.line bytes) all_took
+progress-cut took more_took all_took p q new bytes rest end more both h part is next =
     let now = q.line ++ end in
-    let next = next_line q end more rest part is in
-    record {
-      played = h.done ++ now ∷ [];
-      rest = whole_lines_after [] more;
-      split = h.whole ∙ ap (λ t. h.done ++ t) next ∙ sym (append_assoc h.done (now ∷ []) (whole_lines_after [] more));
-      taken = (
-        h.told.front ++ cut.0,
-        (cut.1.0, answered took p q bytes rest now h ∙ ap (λ t. h.told.front ++ t) cut.1.1 ∙ sym (append_assoc h.told.front cut.0 cut.1.0)),
-        both h.told.front cut.0 h.told.taken cut.2,
-      );
-    }
+    done-stopped all_took p.state new (h.lines ++ now ∷ []) (whole_lines_after [] more) (whole_lines_after p.line bytes)
+    (with_next p q bytes rest end more h.lines h.whole part is)
+    (done-append
+    (λ text. Tells took text q.held) (λ text. TookBeginning more_took (q.held ++ text)) (TookBeginning all_took)
+    p.state q.state new h.lines (now ∷ [])
+    (λ a b told cut. tells_cut took more_took all_took both (a ++ b) (q.held ++ b) (tells_grown took a q.held b told) cut)
+    h.done (done-line q.state new now (λ text. TookBeginning more_took (q.held ++ text)) next))
 
 -- memory ran out at the next line
 pub record StoppedBefore (took : List ℕ → Type 0) (state : MachineState) (lines : List (List ℕ)) : Type 0 where
@@ -77,18 +70,19 @@ pub record StoppedBefore (took : List ℕ → Type 0) (state : MachineState) (li
 
 pub progress-want : (took all_took : List ℕ → Type 0) (p q : PlayerView) (bytes rest end more : List ℕ) → ((a : List ℕ) → took a → all_took a) → Progress took p q bytes rest → IsPart end → rest ≡ end ++ 10 ∷ more → StoppedBefore all_took p.state (whole_lines_after p.line bytes)
 progress-want took all_took p q bytes rest end more all h part is = record {
-  stopped = record {
-    played = h.done;
-    rest = (q.line ++ end) ∷ whole_lines_after [] more;
-    split = h.whole ∙ ap (λ t. h.done ++ t) (next_line q end more rest part is);
-    taken = (h.told.front, (q.held, h.told.split), all h.told.front h.told.taken);
-  };
+  stopped = done-stopped all_took p.state q.state h.lines ((q.line ++ end) ∷ whole_lines_after [] more) (whole_lines_after p.line bytes)
+      (h.whole ∙ ap (λ t. h.lines ++ t) (next_line q end more rest part is))
+      (done-written (λ text. Tells took text q.held) (TookBeginning all_took) p.state q.state h.lines
+      (λ text told. let begun = tells_begun took text q.held told in (begun.0, begun.1, all begun.0 begun.2))
+      h.done);
   some = omega arith;
 }
 
 -- every line that ends in the bytes is played
-pub progress-whole : (took : List ℕ → Type 0) (p q : PlayerView) (bytes rest : List ℕ) (h : Progress took p q bytes rest) → IsPart rest → whole_lines_after p.line bytes ≡ h.done
-progress-whole took p q bytes rest h part = h.whole ∙ ap (λ t. h.done ++ t) (whole_lines_after-part rest q.line part) ∙ append-nil h.done
+pub progress-whole : (took : List ℕ → Type 0) (p q : PlayerView) (bytes rest : List ℕ) (h : Progress took p q bytes rest) → IsPart rest → AreLinesDone p.state (whole_lines_after p.line bytes) q.state (λ text. Tells took text q.held)
+progress-whole took p q bytes rest h part =
+    let whole : whole_lines_after p.line bytes ≡ h.lines = h.whole ∙ ap (λ t. h.lines ++ t) (whole_lines_after-part rest q.line part) ∙ append-nil h.lines in
+    rw whole h.done
 
 pub progress-left : (took : List ℕ → Type 0) (p q : PlayerView) (bytes rest : List ℕ) (h : Progress took p q bytes rest) → IsPart rest → line_left p.line bytes ≡ q.line ++ rest
 progress-left took p q bytes rest h part = h.left ∙ line_left-part rest q.line part

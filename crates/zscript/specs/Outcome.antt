@@ -1,8 +1,11 @@
--- What a run of the player comes to, told by what its devices did from its start to its end.
+-- What a run of the player comes to, told by what its devices did from its start to its end. Each names the
+-- outcomes of the run's events, in turn, under which the text was the one that was written.
 use Rattle.std.specs.Prelude.{◌≡◌, ℕ, ◌<◌, ◌⊎◌, List, [], ◌++◌, length, codes}
 use Rattle.zops.specs.Machine.{MachineState, opening_machine}
 use Rattle.zscript.specs.Device.{SourceRun, SinkRun, Failed, TookBeginning}
-use Rattle.zscript.specs.Script.{lines_of, whole_lines_of, answers, text_of}
+use Rattle.zworld_model.specs.declared.outcome.Outcome.{Outcome}
+use Rattle.zanswers.specs.Line.{script_state}
+use Rattle.zscript.specs.Script.{lines_of, whole_lines_of, answers, opening_script, text_of}
 use Rattle.zscript.specs.declared.fault.PlayFault.{PlayFault}
 use Rattle.zscript.specs.declared.fault.PlayFault.TheVariants.{Read, Write, Memory}
 
@@ -10,7 +13,8 @@ use Rattle.zscript.specs.declared.fault.PlayFault.TheVariants.{Read, Write, Memo
 pub record IsPlayed (source : SourceRun) (sink : SinkRun) : Type 0 where
   pub bytes : List ℕ
   pub given : source.gave bytes
-  pub taken : sink.took (text_of bytes)
+  pub outcomes : List Outcome
+  pub taken : sink.took (text_of outcomes bytes)
   pub ended : source.ended
   pub source_sound : source.failed 0
   pub sink_sound : sink.failed 0
@@ -20,7 +24,8 @@ pub record IsStopped (state : MachineState) (lines : List (List ℕ)) (took : Li
   pub played : List (List ℕ)
   pub rest : List (List ℕ)
   pub split : lines ≡ played ++ rest
-  pub taken : TookBeginning took (answers state played)
+  pub outcomes : List Outcome
+  pub taken : TookBeginning took (answers (script_state state outcomes) played)
 
 -- These lines of the bytes were read: each has its LF, or the source told its end, which ends the last one.
 abbrev pub AreRead : Type 0 → List ℕ → List (List ℕ) → Type 0
@@ -45,7 +50,8 @@ pub record IsCutBeforeLine (source : SourceRun) (sink : SinkRun) : Type 0 where
 pub record AnswersWholeLines (source : SourceRun) (sink : SinkRun) : Type 0 where
   pub bytes : List ℕ
   pub given : source.gave bytes
-  pub taken : sink.took (answers opening_machine (whole_lines_of bytes))
+  pub outcomes : List Outcome
+  pub taken : sink.took (answers (opening_script outcomes) (whole_lines_of bytes))
 
 -- Nothing was read, and nothing written.
 abbrev pub IsIdle : SourceRun → SinkRun → Type 0

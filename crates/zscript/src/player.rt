@@ -2,9 +2,9 @@
 
 ghost use Rattle.std.specs.Prelude.{◌≡◌, ◌<◌, ◌≤◌, List, ℕ, [], ◌++◌, length, IfOk, IfErr, IfSome, IfNone, OnOk, OnErr, string_bytes};
 ghost use Rattle.zscript.specs.Device.{Between, sink_run, TookBeginning, Failed};
-ghost use Rattle.zanswers.specs.Line.{machine_after as after};
-ghost use Rattle.zscript.specs.support.Lines.{line_left, IsPart, IsCutAtEnd};
-ghost use Rattle.zscript.specs.support.PlayerView.{opening_player, player_after, state_after, answers_after, last_answer, with_answer, kept_front, Tells};
+ghost use Rattle.zanswers.specs.Line.{IsLineDone};
+ghost use Rattle.zscript.specs.support.Lines.{whole_lines_after, line_left, last_line, AreLinesDone, IsPart, IsCutAtEnd};
+ghost use Rattle.zscript.specs.support.PlayerView.{opening_player, kept_front, Tells};
 ghost use Rattle.zscript.specs.support.Stops.{IsBlockStoppedBy, IsEndStoppedBy, AreLinesStoppedBy, IsLineStoppedBy};
 
 use crate::device::{DeviceFault, Sink};
@@ -61,8 +61,12 @@ impl Player {
     /// Plays the lines that end in these bytes, and writes their replies. What follows the last LF is kept.
     pub(crate) fn hear<K: Sink>(&mut self, sink: &mut K, bytes: &[u8]) -> Result<(), PlayFault>
         requires { self.old.held ≡ [] }
-        ensures heard { OnOk result (self.new ≡ player_after self.old bytes.now) }
-        ensures took { OnOk result (K.took sink.old (answers_after self.old bytes.now) sink.new) }
+        ensures done { OnOk result (AreLinesDone self.old.state
+            (whole_lines_after self.old.line bytes.now) self.new.state
+            (Between K.took sink.old sink.new)) }
+        ensures line { OnOk result (self.new.line
+            ≡ kept_front (line_left self.old.line bytes.now)) }
+        ensures held { OnOk result (self.new.held ≡ []) }
         ensures sound { OnOk result (K.failed sink.old 0 sink.new) }
         ensures stopped { IfErr result (IsBlockStoppedBy self.old bytes.now
             (sink_run K.took K.failed sink.old sink.new)) }
@@ -78,7 +82,8 @@ impl Player {
     /// Plays a last line that has no LF, if it has a byte, and writes its reply.
     pub(crate) fn finish<K: Sink>(&mut self, sink: &mut K) -> Result<(), PlayFault>
         requires { self.old.held ≡ [] }
-        ensures took { OnOk result (K.took sink.old (last_answer self.old) sink.new) }
+        ensures done { OnOk result (AreLinesDone self.old.state (last_line self.old.line)
+            self.new.state (Between K.took sink.old sink.new)) }
         ensures sound { OnOk result (K.failed sink.old 0 sink.new) }
         ensures stopped { IfErr result (IsEndStoppedBy self.old
             (sink_run K.took K.failed sink.old sink.new)) }
@@ -100,11 +105,11 @@ impl Player {
         bytes: &'a [u8],
     ) -> Result<&'a [u8], PlayFault>
         requires { self.old.held ≡ [] }
-        ensures state { OnOk result (self.new.state ≡ state_after self.old bytes.entry.now) }
+        ensures done { OnOk result (AreLinesDone self.old.state
+            (whole_lines_after self.old.line bytes.entry.now) self.new.state
+            (λ text. Tells (Between K.took sink.old sink.new) text self.new.held)) }
         ensures line { IfOk result (λ rest. line_left self.old.line bytes.entry.now
             ≡ self.new.line ++ rest.now) }
-        ensures tells { OnOk result (Tells (Between K.took sink.old sink.new)
-            (answers_after self.old bytes.entry.now) self.new.held) }
         ensures sound { OnOk result (K.failed sink.old 0 sink.new) }
         ensures stopped { IfErr result (AreLinesStoppedBy self.old bytes.entry.now
             (sink_run K.took K.failed sink.old sink.new)) }
@@ -119,13 +124,13 @@ impl Player {
 
     // Ends the line with these bytes, and plays it. Where nothing is kept of it, it is not copied.
     fn end_line<K: Sink>(&mut self, sink: &mut K, end: &[u8]) -> Result<(), PlayFault>
-        ensures state { OnOk result (self.new.state
-            ≡ after self.old.state (self.old.line ++ end.now)) }
+        ensures done { OnOk result (IsLineDone self.old.state (self.old.line ++ end.now)
+            self.new.state
+            (λ text. Tells (Between K.took sink.old sink.new)
+            (self.old.held ++ text) self.new.held)) }
         ensures line { OnOk result (self.new.line ≡ []) }
-        ensures tells { OnOk result (Tells (Between K.took sink.old sink.new)
-            (with_answer self.old end.now) self.new.held) }
         ensures sound { OnOk result (K.failed sink.old 0 sink.new) }
-        ensures stopped { IfErr result (IsLineStoppedBy (with_answer self.old end.now)
+        ensures stopped { IfErr result (IsLineStoppedBy self.old (self.old.line ++ end.now)
             (sink_run K.took K.failed sink.old sink.new)) }
     {
         self.answer(end)?;
@@ -137,10 +142,10 @@ impl Player {
 
     // The same, but the reply is held.
     fn answer(&mut self, end: &[u8]) -> Result<(), Memory>
-        ensures state { OnOk result (self.new.state
-            ≡ after self.old.state (self.old.line ++ end.now)) }
+        ensures done { OnOk result (IsLineDone self.old.state (self.old.line ++ end.now)
+            self.new.state
+            (λ text. self.new.held ≡ self.old.held ++ text)) }
         ensures line { OnOk result (self.new.line ≡ []) }
-        ensures held { OnOk result (self.new.held ≡ with_answer self.old end.now) }
     {
         if self.line.is_empty() {
             return answer_line(self.alloc, &mut self.machine, end, &mut self.output.block);

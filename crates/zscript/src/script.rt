@@ -16,8 +16,8 @@ use std::alloc::{AllocError, Global};
 /// without one at the end.
 ///
 /// All replies to the lines that were read are written before more is read. After any fault the sink has
-/// taken a beginning of the answers to the lines that were played. The count of servers is not used yet:
-/// one machine answers.
+/// taken a beginning of the answers to the lines that were played. The text is the one under the outcomes
+/// that the run met. The count of servers is not used yet: one machine answers, and meets none.
 pub fn play<S: Source, K: Sink>(
     alloc: Global,
     source: &mut S,

@@ -1,7 +1,9 @@
 -- Lines as a player meets them: a line that has begun is carried on from block to block.
 use Rattle.std.specs.Prelude.{◌≡◌, ℕ, false, List, [], ◌∷◌, ◌++◌, ◌==◌, if◌then◌else◌}
 use Rattle.zops.specs.Machine.{MachineState}
-use Rattle.zanswers.specs.Line.{machine_after as after}
+use Rattle.zworld_model.specs.declared.outcome.Outcome.{Outcome}
+use Rattle.zanswers.specs.Line.{ScriptState, script_state, after}
+use Rattle.zscript.specs.Script.{answers}
 
 -- The lines that end within some bytes, each without its LF, where a line has begun before them.
 abbrev pub whole_lines_after : List ℕ → List ℕ → List (List ℕ)
@@ -24,9 +26,17 @@ abbrev pub lines_after : List ℕ → List ℕ → List (List ℕ)
 lines_after line bytes = whole_lines_after line bytes ++ last_line (line_left line bytes)
 
 -- The state after some lines.
-abbrev pub after_all : MachineState → List (List ℕ) → MachineState
+abbrev pub after_all : ScriptState → List (List ℕ) → ScriptState
 after_all state [] = state
 after_all state (line ∷ lines) = after_all (after state line) lines
+
+-- Lines were done, one after the other, and this written: these outcomes were met at them, whatever comes after them.
+pub record AreLinesDone (old : MachineState) (lines : List (List ℕ)) (new : MachineState) (writes : List ℕ → Type 0) : Type 0 where
+  pub told : List Outcome
+  pub text : List ℕ
+  pub written : writes text
+  pub left : (later : List Outcome) → after_all (script_state old (told ++ later)) lines ≡ script_state new later
+  pub answered : (later : List Outcome) → answers (script_state old (told ++ later)) lines ≡ text
 
 -- No LF is in these bytes.
 abbrev pub IsPart : List ℕ → Type 0

@@ -1,6 +1,7 @@
 -- A player's own faults: within one block of bytes, and within one line.
-use Rattle.std.specs.Prelude.{ℕ, ◌<◌, List, [], length}
+use Rattle.std.specs.Prelude.{ℕ, ◌<◌, List, [], ◌++◌, length}
 use Rattle.zops.specs.Machine.{MachineState}
+use Rattle.zanswers.specs.Line.{IsLineDone}
 use Rattle.zscript.specs.Device.{SinkRun, Failed, TookBeginning}
 use Rattle.zscript.specs.Outcome.{IsStopped}
 use Rattle.zscript.specs.support.Lines.{whole_lines_after, last_line, lines_after}
@@ -29,8 +30,9 @@ AreLinesStoppedBy p bytes sink =
 abbrev pub IsEndStoppedBy : PlayerView → SinkRun → PlayFault → Type 0
 IsEndStoppedBy p sink = IsStoppedBy p.state (last_line p.line) (last_line p.line) sink.took sink.failed
 
--- Within one line, where a text, with its reply at the end, is to be told.
-abbrev pub IsLineStoppedBy : List ℕ → SinkRun → PlayFault → Type 0
-IsLineStoppedBy text sink Read = ⊥
-IsLineStoppedBy text sink Write = TookBeginning sink.took text × Failed sink.failed
-IsLineStoppedBy text sink Memory = sink.took [] × sink.failed 0
+-- Within one line, where what is held, and its reply at the end, is to be told.
+abbrev pub IsLineStoppedBy : PlayerView → List ℕ → SinkRun → PlayFault → Type 0
+IsLineStoppedBy p line sink Read = ⊥
+IsLineStoppedBy p line sink Write =
+    (new : MachineState) × IsLineDone p.state line new (λ text. TookBeginning sink.took (p.held ++ text)) × Failed sink.failed
+IsLineStoppedBy p line sink Memory = sink.took [] × sink.failed 0

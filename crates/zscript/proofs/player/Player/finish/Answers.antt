@@ -4,8 +4,14 @@ use Rattle.std.proofs.lemmas.Bool.Decides.{nat_tests}
 use Rattle.std.proofs.lemmas.Result.{err_from_is_err_and}
 use Rattle.zscript.specs.Device.{Between}
 use Rattle.zscript.specs.support.PlayerView.{PlayerView}
-use Rattle.zscript.proofs.Stops.{line-stopped, line-cut, last_line-some, failed_after, line-told}
+use Rattle.zscript.proofs.Stops.{line-stopped, line-cut, last_line-some, failed_after, line-told, none-told}
 use Rattle.zscript.proofs.player.Player.finish.Goals as goal
+
+pub returns-then-is_empty-clause-done : goal.returns-then-is_empty-clause-done
+returns-then-is_empty-clause-done g c =
+    let line : c.self.inside.line.items ≡ c.args.self.now.line = ap (λ (p : PlayerView). p.line) c.self.view_is in
+    let none : length c.self.inside.line.items ≡ 0 = grind (arith, nat_tests) in
+    none-told _ c.args.self.now.state c.args.self.now.line (omega (arith, none, ap length line)) (g.met.K.Sink.took_nothing _)
 
 pub returns-in_err-end_line-clause-stopped : goal.returns-in_err-end_line-clause-stopped
 returns-in_err-end_line-clause-stopped g c =
@@ -13,37 +19,38 @@ returns-in_err-end_line-clause-stopped g c =
     let line : c.self.inside.line.items ≡ c.args.self.now.line = ap (λ (p : PlayerView). p.line) c.self.view_is in
     let some : 0 < length c.self.inside.line.items = grind (arith, nat_tests) in
     let last = last_line-some c.args.self.now.line (omega (arith, ap length line)) in
-    rw (p.1, p.2, last) (line-stopped _ _ c.args.self.now.state c.args.self.now.held c.args.self.now.line c.requires c.in_err-end_line.field-0.0 (rw append-nil at c.in_err-end_line.ensures.stopped))
+    rw (p.1, p.2, last) (line-stopped _ _ c.args.self.now c.args.self.now.line c.requires c.in_err-end_line.field-0.0 (rw append-nil at c.in_err-end_line.ensures.stopped))
 
 pub returns-in_default-clause-stopped : goal.returns-in_default-clause-stopped
 returns-in_default-clause-stopped g c =
     let line : c.self.inside.line.items ≡ c.args.self.now.line = ap (λ (p : PlayerView). p.line) c.self.view_is in
     let some : 0 < length c.self.inside.line.items = grind (arith, nat_tests) in
     let last = last_line-some c.args.self.now.line (omega (arith, ap length line)) in
-    let tells = rw append-nil at c.in_ok-end_line.ensures.tells in (
+    let done = rw append-nil at c.in_ok-end_line.ensures.done in (
       rw last (line-cut
           (Between g.K.Sink.took c.args.sink.now c.end_line.new.sink)
           (Between g.K.Sink.took c.end_line.new.sink c.write_replies.new.sink)
           (Between g.K.Sink.took c.args.sink.now c.write_replies.new.sink)
-          c.args.self.now.state c.args.self.now.held c.args.self.now.line c.end_line.new.self.held
           (λ a b. g.met.K.Sink.took_both _ _ _ a b)
-          c.requires tells c.in_default.ensures.beginning),
+          c.args.self.now.state c.end_line.new.self.state c.args.self.now.held c.args.self.now.line c.end_line.new.self.held
+          c.requires done c.in_default.ensures.beginning),
       failed_after _ (Between g.K.Sink.failed c.args.sink.now c.write_replies.new.sink) (λ n. g.met.K.Sink.failed_both _ _ _ 0 n c.in_ok-end_line.ensures.sound) c.in_default.ensures.failed,
     )
 
-pub returns-clause-took : goal.returns-clause-took
-returns-clause-took g c =
+pub returns-clause-done : goal.returns-clause-done
+returns-clause-done g c =
     let line : c.self.inside.line.items ≡ c.args.self.now.line = ap (λ (p : PlayerView). p.line) c.self.view_is in
     let some : 0 < length c.self.inside.line.items = grind (arith, nat_tests) in
     let last = last_line-some c.args.self.now.line (omega (arith, ap length line)) in
-    let tells = rw append-nil at c.in_ok-end_line.ensures.tells in
-    rw last (line-told
+    let state = ap (λ (p : PlayerView). p.state) c.in-Ok.ensures.written in
+    let done = rw append-nil at c.in_ok-end_line.ensures.done in
+    rw (last, state) (line-told
     (Between g.K.Sink.took c.args.sink.now c.end_line.new.sink)
     (Between g.K.Sink.took c.end_line.new.sink c.write_replies.new.sink)
     (Between g.K.Sink.took c.args.sink.now c.write_replies.new.sink)
-    c.args.self.now.state c.args.self.now.held c.args.self.now.line c.end_line.new.self.held
     (λ a b. g.met.K.Sink.took_both _ _ _ a b)
-    c.requires tells c.in-Ok.ensures.took)
+    c.args.self.now.state c.end_line.new.self.state c.args.self.now.held c.args.self.now.line c.end_line.new.self.held
+    c.requires done c.in-Ok.ensures.took)
 
 pub returns-clause-sound : goal.returns-clause-sound
 returns-clause-sound g c = g.met.K.Sink.failed_both _ _ _ 0 0 c.in_ok-end_line.ensures.sound c.in-Ok.ensures.sound

@@ -1,8 +1,5 @@
-use Rattle.std.proofs.Common.{ap, sym, ◌∙◌}
 use Rattle.std.proofs.lemmas.Result.{err_from_is_err_and}
 use Rattle.zscript.specs.Device.{Between}
-use Rattle.zscript.specs.Script.{answers}
-use Rattle.zscript.specs.support.Lines.{after_all}
 use Rattle.zscript.proofs.Progress.{progress-none, progress-line, progress-whole, progress-left}
 use Rattle.zscript.proofs.Stops.{progress-stopped}
 use Rattle.zscript.proofs.player.Player.play_lines.Goals as goal
@@ -41,24 +38,12 @@ loop-end-preserved g c =
           c.args.self.now c.loop-end.self c.end_line.new.self c.args.bytes.now c.loop-end.rest.now c.in-Some.end.now c.in-Some.more.now
           (λ a b. g.met.K.Sink.took_both _ _ _ a b)
           c.loop-end.invariant.progress next.0 next.1
-          c.in_ok-end_line.ensures.state c.in_ok-end_line.ensures.line c.in_ok-end_line.ensures.tells;
+          c.in_ok-end_line.ensures.line c.in_ok-end_line.ensures.done;
       sound = g.met.K.Sink.failed_both _ _ _ 0 0 c.loop-end.invariant.sound c.in_ok-end_line.ensures.sound;
     }
 
-pub returns-clause-state : goal.returns-clause-state
-returns-clause-state g c =
-    let progress = c.loop-end.invariant.progress in
-    progress.state ∙ ap (after_all c.args.self.now.state) (sym (progress-whole _ c.args.self.now c.loop-end.self c.args.bytes.now c.loop-end.rest.now progress c.in_default.ensures.none))
+pub returns-clause-done : goal.returns-clause-done
+returns-clause-done g c = progress-whole _ c.args.self.now c.loop-end.self c.args.bytes.now c.loop-end.rest.now c.loop-end.invariant.progress c.in_default.ensures.none
 
 pub returns-clause-line : goal.returns-clause-line
 returns-clause-line g c = progress-left _ c.args.self.now c.loop-end.self c.args.bytes.now c.loop-end.rest.now c.loop-end.invariant.progress c.in_default.ensures.none
-
-pub returns-clause-tells : goal.returns-clause-tells
-returns-clause-tells g c =
-    let progress = c.loop-end.invariant.progress in
-    let whole = progress-whole _ c.args.self.now c.loop-end.self c.args.bytes.now c.loop-end.rest.now progress c.in_default.ensures.none in
-    record {
-      front = progress.told.front;
-      taken = progress.told.taken;
-      split = ap (answers c.args.self.now.state) whole ∙ progress.told.split;
-    }
