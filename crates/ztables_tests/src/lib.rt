@@ -1,5 +1,5 @@
-//! Tests of `zout`, of `zclient` and of the copies of `zcalls`: what no clause says. Each call that
-//! allocates can succeed, and its answer is compared.
+//! Tests of `zout`, of `zclient`, of `zmaster` and of the copies of `zcalls`: what no clause says. Each call
+//! that allocates can succeed, and its answer is compared.
 #![tactic(auto)]
 
 #[cfg(test)]
@@ -8,3 +8,5 @@ mod client;
 mod copies;
 #[cfg(test)]
 mod lists;
+#[cfg(test)]
+mod master;
