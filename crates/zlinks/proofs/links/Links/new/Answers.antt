@@ -1,0 +1,18 @@
+use Rattle.std.proofs.Common.{◌≡◌, ◌∷◌, [], ◌++◌, sym, refl, arith, length-append}
+use Rattle.zlinks.specs.Places.{links_of, place_of}
+use Rattle.zlinks.proofs.Rows.{are_blank_more, are_blank_at}
+use Rattle.zlinks.proofs.links.Links.new.Goals as goal
+
+pub loop-place-preserved : goal.loop-place-preserved
+loop-place-preserved g c =
+    rw (c.in_ok-push.ensures.items) (
+      omega (arith, c.loop-place.invariant.0, length-append c.loop-place.rows.items (c.in_ok-new.field-0 ∷ [])),
+      are_blank_more c.loop-place.rows.items c.in_ok-new.field-0 c.loop-place.invariant.1 c.in_ok-new.ensures.blank,
+    )
+
+pub returns : goal.returns
+unfolding links_of
+returns g c from to = are_blank_at c.loop-place.rows.items (place_of from) (place_of to) c.loop-place.invariant.1
+
+pub invariant_of-result : goal.invariant_of-result
+invariant_of-result g c = omega (arith, c.loop-place.invariant.0, c.loop-place-test.false, c.loop-place.auto.place-end)

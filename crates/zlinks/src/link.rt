@@ -1,0 +1,78 @@
+//! One link.
+
+ghost use Rattle.std.specs.Prelude.{◌≡◌, [], ◌∷◌, ◌++◌, List, MatchOption, OnErr, OnOk, not};
+ghost use Rattle.zlinks.specs.Places.{holds};
+ghost use Rattle.zserver_table.specs.declared.message.Message.{Message};
+
+use std::alloc::Global;
+use std::collections::VecDeque;
+use std::marker::Model;
+use zpath::Memory;
+use zserver_table::Message;
+
+/// The messages on the way from one process to another, the front first.
+#[derive(Drop)]
+pub(crate) struct Link<T> {
+    queue: VecDeque<Message<T>>,
+}
+
+impl<T> Model for Link<T> {
+    ghost use Rattle.std.specs.Prelude.{List};
+    ghost use Rattle.zserver_table.specs.declared.message.Message.{Message};
+
+    ghost Value = { List (Message T) };
+
+    ghost view = { λ link. link.queue.items };
+}
+
+impl<T: Drop> Link<T> {
+    /// A link on which nothing is. It takes no memory.
+    pub(crate) fn new(alloc: Global) -> Link<T>
+        ensures { result ≡ [] }
+    {
+        Link {
+            queue: VecDeque::new(alloc),
+        }
+    }
+
+    /// Whether nothing is on it.
+    pub(crate) fn is_empty(&self) -> bool
+        ensures { result ≡ not (holds self.now) }
+    {
+        self.queue.is_empty()
+    }
+
+    /// Puts a message last.
+    pub(crate) fn put(&mut self, message: Message<T>) -> Result<(), Memory>
+        ensures put { OnOk result (self.new ≡ self.old ++ message ∷ []) }
+        ensures same { OnErr result (self.new ≡ self.old) }
+    {
+        match self.queue.push_back(message) {
+            Ok(()) => Ok(()),
+            Err(_) => Err(Memory),
+        }
+    }
+
+    /// The front, which stays.
+    pub(crate) fn front(&self) -> Option<&Message<T>>
+        ensures { MatchOption result (self.now ≡ []) (λ front. (rest : List (Message T))
+            × (self.now ≡ front.now ∷ rest)) }
+    {
+        self.queue.front()
+    }
+
+    /// Takes the front out.
+    pub(crate) fn next(&mut self) -> Option<Message<T>>
+        ensures { MatchOption result ((self.old ≡ []) × (self.new ≡ []))
+            (λ front. self.old ≡ front ∷ self.new) }
+    {
+        self.queue.pop_front()
+    }
+
+    /// Drops all that is on it.
+    pub(crate) fn clear(&mut self)
+        ensures { self.new ≡ [] }
+    {
+        self.queue.clear();
+    }
+}

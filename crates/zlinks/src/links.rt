@@ -1,0 +1,100 @@
+//! The links.
+
+ghost use Rattle.std.specs.Prelude.{◌≡◌, [], ◌∷◌, ◌++◌, List, MatchOption, IfNone, IfOk, OnErr, OnOk, drop};
+ghost use Rattle.zserver_table.specs.declared.message.Message.{Message};
+ghost use Rattle.zserver_table.specs.declared.process.Process.{Process};
+ghost use Rattle.zlinks.specs.declared.limits.TheConstants.{PROCESSES};
+ghost use Rattle.zlinks.specs.Places.{links_of, with_link, without_receiver, is_silent};
+
+use crate::limits::PROCESSES;
+use crate::place::place;
+use crate::row::Row;
+use std::alloc::Global;
+use std::marker::Model;
+use zpath::Memory;
+use zserver_table::{Message, Process};
+
+/// The links between all processes.
+#[derive(Drop)]
+pub struct Links<T> {
+    rows: Vec<Row<T>>,
+}
+
+impl<T> Model for Links<T> {
+    ghost use Rattle.std.specs.Prelude.{◌≡◌, List, length};
+    ghost use Rattle.zserver_table.specs.declared.message.Message.{Message};
+    ghost use Rattle.zlinks.specs.declared.limits.TheConstants.{PROCESSES};
+
+    ghost Value = { List (List (List (Message T))) };
+
+    ghost view = { λ links. links.rows.items };
+
+    ghost invariant = { λ links. length links.rows.items ≡ PROCESSES };
+}
+
+impl<T: Drop> Links<T> {
+    /// Links on which nothing is.
+    pub fn new(alloc: Global) -> Result<Links<T>, Memory>
+        ensures { IfOk result (λ links. (from to : Process) → links_of links from to ≡ []) }
+    {
+        let mut rows = Vec::new(alloc);
+        for place in 0..PROCESSES {
+            rows.push(Row::new(alloc)?)?;
+        }
+        Ok(Links { rows })
+    }
+
+    /// Whether nothing that a process put is still on a link. It costs the same however many links there are.
+    pub fn is_silent(&self, from: &Process) -> bool
+        ensures { result ≡ is_silent self.now from.now }
+    {
+        self.rows[place(from)].is_silent()
+    }
+
+    /// Puts a message last on a link.
+    pub fn put(&mut self, from: &Process, to: &Process, message: Message<T>) -> Result<(), Memory>
+        ensures put { OnOk result ((p q : Process) → links_of self.new p q
+            ≡ with_link (links_of self.old) from.now to.now
+            (links_of self.old from.now to.now ++ message ∷ []) p q) }
+        ensures same { OnErr result ((p q : Process) → links_of self.new p q
+            ≡ links_of self.old p q) }
+    {
+        let row = &mut self.rows[place(from)];
+        row.put(place(to), message)
+    }
+
+    /// The front of a link, which stays.
+    pub fn front(&self, from: &Process, to: &Process) -> Option<&Message<T>>
+        ensures { MatchOption result (links_of self.now from.now to.now ≡ [])
+            (λ front. (rest : List (Message T))
+            × (links_of self.now from.now to.now ≡ front.now ∷ rest)) }
+    {
+        self.rows[place(from)].front(place(to))
+    }
+
+    /// Takes out the front of a link.
+    pub fn next(&mut self, from: &Process, to: &Process) -> Option<Message<T>>
+        ensures rest { (p q : Process) → links_of self.new p q
+            ≡ with_link (links_of self.old) from.now to.now
+            (drop 1 (links_of self.old from.now to.now)) p q }
+        ensures front { MatchOption result (links_of self.old from.now to.now ≡ [])
+            (λ front. links_of self.old from.now to.now
+            ≡ front ∷ drop 1 (links_of self.old from.now to.now)) }
+        ensures same { IfNone result (self.new ≡ self.old) }
+    {
+        let row = &mut self.rows[place(from)];
+        row.next(place(to))
+    }
+
+    /// Drops all that is on links to a process.
+    pub fn clear(&mut self, to: &Process)
+        ensures { (p q : Process) → links_of self.new p q
+            ≡ without_receiver (links_of self.old) to.now p q }
+    {
+        let at = place(to);
+        for from in 0..PROCESSES {
+            let row = &mut self.rows[from];
+            row.clear(at);
+        }
+    }
+}

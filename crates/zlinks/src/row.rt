@@ -1,0 +1,110 @@
+//! The links from one process.
+
+ghost use Rattle.std.specs.Prelude.{◌≡◌, ◌<◌, [], ◌∷◌, ◌++◌, List, MatchOption, IfNone, IfOk, OnErr, OnOk, length, get_or, set, drop, not};
+ghost use Rattle.std.specs.List.{list_any};
+ghost use Rattle.zserver_table.specs.declared.message.Message.{Message};
+ghost use Rattle.zlinks.specs.declared.limits.TheConstants.{PROCESSES};
+ghost use Rattle.zlinks.specs.Places.{holds};
+ghost use Rattle.zlinks.specs.support.Rows.{IsBlank};
+
+use crate::limits::PROCESSES;
+use crate::link::Link;
+use std::alloc::Global;
+use std::marker::Model;
+use zpath::Memory;
+use zserver_table::Message;
+
+/// The links from one process, by the places of the receivers, and how many of them hold something.
+#[derive(Drop)]
+pub(crate) struct Row<T> {
+    links: Vec<Link<T>>,
+    held: usize,
+}
+
+impl<T> Model for Row<T> {
+    ghost use Rattle.std.specs.Prelude.{List};
+    ghost use Rattle.zserver_table.specs.declared.message.Message.{Message};
+    ghost use Rattle.zlinks.specs.support.Rows.{IsRow};
+
+    ghost Value = { List (List (Message T)) };
+
+    ghost view = { λ row. row.links.items };
+
+    ghost invariant = { λ row. IsRow row.links.items row.held };
+}
+
+impl<T: Drop> Row<T> {
+    /// A row in which nothing is.
+    pub(crate) fn new(alloc: Global) -> Result<Row<T>, Memory>
+        ensures blank { IfOk result (λ row. IsBlank row) }
+    {
+        let mut links = Vec::new(alloc);
+        for place in 0..PROCESSES {
+            links.push(Link::new(alloc))?;
+        }
+        Ok(Row { links, held: 0 })
+    }
+
+    /// Whether nothing is in it.
+    pub(crate) fn is_silent(&self) -> bool
+        ensures { result ≡ not (list_any holds self.now) }
+    {
+        self.held == 0
+    }
+
+    /// Puts a message last on the link to this place.
+    pub(crate) fn put(&mut self, at: usize, message: Message<T>) -> Result<(), Memory>
+        requires { at < PROCESSES }
+        ensures wide { length self.old ≡ PROCESSES }
+        ensures put { OnOk result
+            (self.new ≡ set self.old at (get_or self.old at [] ++ message ∷ [])) }
+        ensures same { OnErr result (self.new ≡ self.old) }
+    {
+        let link = &mut self.links[at];
+        let was_empty = link.is_empty();
+        link.put(message)?;
+        if was_empty {
+            self.held += 1;
+        }
+        Ok(())
+    }
+
+    /// The front of the link to this place, which stays.
+    pub(crate) fn front(&self, at: usize) -> Option<&Message<T>>
+        requires { at < PROCESSES }
+        ensures { MatchOption result (get_or self.now at [] ≡ [])
+            (λ front. (rest : List (Message T)) × (get_or self.now at [] ≡ front.now ∷ rest)) }
+    {
+        self.links[at].front()
+    }
+
+    /// Takes out the front of the link to this place.
+    pub(crate) fn next(&mut self, at: usize) -> Option<Message<T>>
+        requires { at < PROCESSES }
+        ensures wide { length self.old ≡ PROCESSES }
+        ensures rest { self.new ≡ set self.old at (drop 1 (get_or self.old at [])) }
+        ensures front { MatchOption result (get_or self.old at [] ≡ [])
+            (λ front. get_or self.old at [] ≡ front ∷ drop 1 (get_or self.old at [])) }
+        ensures same { IfNone result (self.new ≡ self.old) }
+    {
+        let link = &mut self.links[at];
+        let front = link.next()?;
+        if link.is_empty() {
+            self.held -= 1;
+        }
+        Some(front)
+    }
+
+    /// Drops all that is on the link to this place.
+    pub(crate) fn clear(&mut self, at: usize)
+        requires { at < PROCESSES }
+        ensures wide { length self.old ≡ PROCESSES }
+        ensures cleared { self.new ≡ set self.old at [] }
+    {
+        let link = &mut self.links[at];
+        if !link.is_empty() {
+            link.clear();
+            self.held -= 1;
+        }
+    }
+}

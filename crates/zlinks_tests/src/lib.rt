@@ -1,0 +1,5 @@
+//! Tests of the links.
+#![tactic(auto)]
+
+#[cfg(test)]
+mod links;
