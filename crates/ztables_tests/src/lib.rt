@@ -10,3 +10,5 @@ mod copies;
 mod lists;
 #[cfg(test)]
 mod master;
+#[cfg(test)]
+mod posts;

@@ -1,19 +1,28 @@
 //! What was put is taken in its order.
 
+use crate::posts::{Outbox, next_config, next_server};
+use std::alloc::Global;
 use std::test::Fail;
 use zout::Out;
-use zserver_table::{Message, Process};
+use zserver_table::{Epoch, Message, Process, ServerId};
 
 #[test]
 fn takes_in_the_order_of_puts(rt: HostRuntime) -> Result<(), Fail> {
-    let mut out: Out<()> = Out::new(rt.alloc());
-    out.reserve(1)?;
-    out.put_reserved(Process::Master, Message::Gone);
-    let put = out.put(Process::Master, Message::Gone);
-    assert!(rt; put.is_ok());
-    for _ in 0..2 {
-        let post = out.next();
-        assert!(rt; matches!(&post, Some((Process::Master, Message::Gone))));
-    }
+    let mut out = two_posts(rt.alloc())?;
+    assert_eq!(rt; next_config(&mut out), Some((1, 2)));
+    assert_eq!(rt; next_server(&mut out), Some(2));
     Ok(())
+}
+
+// A configuration, in reserved room, and behind it a message to server 2.
+fn two_posts(alloc: Global) -> Result<Outbox, Fail> {
+    let server = ServerId::new(2).ok_or("there is such a server")?;
+    let epoch = Epoch::new(1).ok_or("there is such an epoch")?;
+    let mut out: Outbox = Out::new(alloc);
+    out.reserve(1)?;
+    out.put_reserved(Process::Master, Message::Config(epoch, None, Some(server)));
+    match out.put(Process::Server(server), Message::Gone) {
+        Ok(()) => Ok(out),
+        Err(_) => Err("there is memory".into()),
+    }
 }

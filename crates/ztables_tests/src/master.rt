@@ -1,5 +1,6 @@
 //! The master mends a chain, and lets servers join it or says why not.
 
+use crate::posts::{Outbox, next_config, next_server};
 use Act::{Gone, Join};
 use std::alloc::Global;
 use std::test::Fail;
@@ -52,7 +53,7 @@ enum Act {
 // Why the last of these acts was refused, on a chain of so many servers.
 fn last_fault(alloc: Global, servers: u8, acts: &[Act]) -> Result<Option<JoinFault>, Fail> {
     let mut master = Master::new(server(servers)?, 1);
-    let mut out: Out<()> = Out::new(alloc);
+    let mut out: Outbox = Out::new(alloc);
     let mut fault = None;
     for act in acts {
         out.reserve(MAX_POSTS)?;
@@ -70,45 +71,24 @@ fn last_fault(alloc: Global, servers: u8, acts: &[Act]) -> Result<Option<JoinFau
 // What the master puts where this one of three servers fails.
 fn posts_of_repair(alloc: Global, gone: u8) -> Result<Posts, Fail> {
     let mut master = Master::new(server(3)?, 1);
-    let mut out: Out<()> = Out::new(alloc);
+    let mut out: Outbox = Out::new(alloc);
     out.reserve(MAX_POSTS)?;
     master.take(Process::Server(server(gone)?), Message::Gone, &mut out);
-    Ok((told_server(&mut out), told_config(&mut out)))
+    Ok((next_server(&mut out), next_config(&mut out)))
 }
 
 // What it puts where a third server joins.
 fn posts_of_join(alloc: Global) -> Result<Posts, Fail> {
     let third = server(3)?;
     let mut master = Master::new(server(2)?, 1);
-    let mut out: Out<()> = Out::new(alloc);
+    let mut out: Outbox = Out::new(alloc);
     out.reserve(MAX_POSTS)?;
     let _ = master.join(third, &mut out);
-    let told = told_server(&mut out);
+    let told = next_server(&mut out);
     let epoch = Epoch::new(1).ok_or("there is such an epoch")?;
     out.reserve(MAX_POSTS)?;
     master.take(Process::Server(third), Message::Joined(epoch), &mut out);
-    Ok((told, told_config(&mut out)))
-}
-
-// The server to which the first message goes.
-fn told_server(out: &mut Out<()>) -> Option<u8> {
-    let post = out.next();
-    match &post {
-        Some((Process::Server(server), _)) => Some(server.number()),
-        _ => None,
-    }
-}
-
-// The epoch and the tail that the first message tells.
-fn told_config(out: &mut Out<()>) -> Option<(u64, u8)> {
-    let post = out.next();
-    match &post {
-        Some((Process::Client(_), Message::Config(epoch, _, Some(tail)))) => Some((
-            epoch.number(),
-            tail.number(),
-        )),
-        _ => None,
-    }
+    Ok((told, next_config(&mut out)))
 }
 
 // The server of this number.
