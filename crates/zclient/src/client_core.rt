@@ -1,6 +1,6 @@
 //! The core of a client.
 
-ghost use Rattle.std.specs.Prelude.{◌≡◌, ◌<◌, ℕ, None, [], IfErr, IfOk, IsSome, OnErr, OnOk, is_some};
+ghost use Rattle.std.specs.Prelude.{◌≡◌, ◌+◌, ◌<◌, ℕ, None, Some, [], IfErr, IfOk, IsSome, OnErr, OnOk, is_some};
 ghost use Rattle.std.specs.Option.{option_map};
 ghost use Rattle.zclient_table.specs.View.{opening_client};
 ghost use Rattle.zclient_table.specs.Table.{begin_fault, begin_step, client_step, answer_row, config_row, outstanding_posts, retry_posts};
@@ -68,17 +68,11 @@ impl ClientCore {
         ensures same { OnErr result (self.new ≡ self.old) }
         ensures silent { OnErr result (out.new.posts ≡ out.old.posts) }
     {
-        if self.outstanding.is_some() {
-            return Err(BeginFault::Busy);
-        }
-        let Some(number) = CallNumber::new(self.number.number() + 1) else {
-            return Err(BeginFault::Exhausted);
-        };
+        let number = self.next_number()?;
         let Ok(()) = send_call(self.alloc, &self.head, &self.tail, number, &call, out) else {
             return Err(BeginFault::Memory);
         };
-        self.number = number;
-        self.outstanding = Some((number, call));
+        self.wait_for(number, call);
         Ok(number)
     }
 
@@ -126,6 +120,30 @@ impl ClientCore {
     {
         self.send(&self.head, &self.tail, out)?;
         Ok(self.outstanding.is_some())
+    }
+
+    // The number of the next call, or why none can begin.
+    #[tactic(auto, unfolding(zclient_table::specs::Table::begin_fault))]
+    fn next_number(&self) -> Result<CallNumber, BeginFault>
+        ensures next { IfOk result (λ number. number ≡ self.now.number + 1) }
+        ensures allowed { OnOk result (begin_fault self.now ≡ None) }
+        ensures fault { IfErr result (IsBeginFault self.now) }
+    {
+        if self.outstanding.is_some() {
+            return Err(BeginFault::Busy);
+        }
+        let Some(number) = CallNumber::new(self.number.number() + 1) else {
+            return Err(BeginFault::Exhausted);
+        };
+        Ok(number)
+    }
+
+    // From now on it waits for this call.
+    fn wait_for(&mut self, number: CallNumber, call: Call)
+        ensures { self.new ≡ record self.old { number = number; outstanding = Some (number, call) } }
+    {
+        self.number = number;
+        self.outstanding = Some((number, call));
     }
 
     // Sends the call that it waits for, where there is one, to these ends of the chain.
