@@ -4,14 +4,14 @@ use Rattle.std.proofs.lemmas.Bool.Decides.{nat_tests}
 use Rattle.zops.specs.Machine.{MachineState}
 use Rattle.zlines.specs.declared.limits.TheConstants.{MAX_LINE}
 use Rattle.zlines.specs.LineWords.{is_long}
-use Rattle.zlines.specs.Request.{request_of}
+use Rattle.zlines.specs.Line.{line_of}
 use Rattle.zanswers.specs.Line.{ScriptState, script_state, line_result, machine_answer, machine_after, answer, after}
 
 long : (line : List ℕ) → MAX_LINE < length line → is_long line ≡ true
 long line h = grind (arith, nat_tests)
 
 line_result-long : (state : MachineState) (line : List ℕ) → MAX_LINE < length line → line_result state line ≡ (state, codes "bad line")
-unfolding line_result request_of
+unfolding line_result line_of
 line_result-long state line h = rw (long line h) refl
 
 pub machine_answer-long : (state : MachineState) (line : List ℕ) → MAX_LINE < length line → machine_answer state line ≡ codes "bad line" ++ 10 ∷ []

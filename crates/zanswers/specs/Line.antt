@@ -12,7 +12,10 @@ use Rattle.zcalls.specs.Step.{query_reply}
 use Rattle.zlines.specs.declared.request.Request.{Request}
 use Rattle.zlines.specs.declared.request.LineFault.{LineFault}
 use Rattle.zlines.specs.declared.request.LineFault.TheVariants.{BadLine, BadPath, BadData, Memory}
-use Rattle.zlines.specs.Request.{Read, request_of}
+use Rattle.zlines.specs.declared.line.Line.{Line}
+use Rattle.zlines.specs.declared.line.Line.TheVariants as asked
+use Rattle.zlines.specs.Request.{Read}
+use Rattle.zlines.specs.Line.{line_of}
 use Rattle.zlines.specs.Reply.{reply_text}
 use Rattle.zworld_model.specs.declared.outcome.Outcome.{Outcome}
 
@@ -39,18 +42,23 @@ abbrev pub call_result : MachineState → ℕ → Call → MachineState × List 
 call_result s client (Update update) = update_result s client update
 call_result s client (Query query) = (s, reply_text (query_reply s.tree query))
 
--- what a line asks for, done
+-- a request, done
 abbrev pub request_result : MachineState → Request → MachineState × List ℕ
 request_result s request = call_result s request.client request.call
 
+-- what a line asks for, done. A machine alone is no chain: the lines for its events are bad lines
+abbrev pub asked_result : MachineState → Line → MachineState × List ℕ
+asked_result s (asked.Call request) = request_result s request
+asked_result s other = (s, line_fault_text BadLine)
+
 -- what was read of a line, done and answered
-abbrev pub read_result : MachineState → Read Request → MachineState × List ℕ
+abbrev pub read_result : MachineState → Read Line → MachineState × List ℕ
 read_result s (Err fault) = (s, line_fault_text fault)
-read_result s (Ok request) = request_result s request
+read_result s (Ok line) = asked_result s line
 
 -- the machine after a line, and the answer without its LF
 unfoldable pub line_result : MachineState → List ℕ → MachineState × List ℕ
-line_result s line = read_result s (request_of line)
+line_result s line = read_result s (line_of line)
 
 -- the bytes that a machine writes for a line
 unfoldable pub machine_answer : MachineState → List ℕ → List ℕ

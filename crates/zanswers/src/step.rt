@@ -4,14 +4,14 @@ ghost use Rattle.std.specs.Prelude.{◌≡◌, ◌<◌, OnOk};
 ghost use Rattle.zcalls.specs.Step.{query_reply};
 ghost use Rattle.zops.specs.declared.limits.TheConstants.{MAX_APPLIED};
 ghost use Rattle.zops.specs.Machine.{entry_result};
-ghost use Rattle.zanswers.specs.Line.{IsLineDone, machine_answer, machine_after, request_result};
+ghost use Rattle.zanswers.specs.Line.{IsLineDone, machine_answer, machine_after, asked_result, request_result};
 ghost use Rattle.zanswers.specs.Line.{entry_text, update_result, line_fault_text};
 ghost use Rattle.zlines.specs.Reply.{reply_text};
 ghost use Rattle.zlines.specs.Texts.{Writes};
 
 use std::alloc::Global;
 use zcalls::{Call, CallNumber, ClientId, Entry, Query, Update};
-use zlines::{LineFault, Request, read_line, write_reply};
+use zlines::{Line, LineFault, Request, read_line, write_reply};
 use zops::Machine;
 use zpath::Memory;
 
@@ -46,12 +46,26 @@ fn answer_alone(
         ≡ machine_after machine.old.state line.now) }
 {
     match read_line(alloc, line) {
-        Ok(request) => answer_call(machine, request, out)?,
+        Ok(asked) => answer_asked(machine, asked, out)?,
         Err(LineFault::Memory) => return Err(Memory),
         Err(fault) => write_fault(fault, out)?,
     }
     out.push('\n')?;
     Ok(())
+}
+
+// Does what a line asks for, and writes its answer.
+fn answer_asked(machine: &mut Machine, asked: Line, out: &mut String) -> Result<(), Memory>
+    ensures text { OnOk result (Writes out.old out.new (asked_result machine.old.state asked).1) }
+    ensures state { OnOk result (machine.new.state ≡ (asked_result machine.old.state asked).0) }
+{
+    match asked {
+        Line::Call(request) => answer_call(machine, request, out),
+        other => {
+            drop(other);
+            write_fault(LineFault::BadLine, out)
+        }
+    }
 }
 
 // Does a call, and writes its reply.

@@ -1,4 +1,4 @@
--- What a line asks for: the script's grammar. It is this project's own profile.
+-- What a client's command asks for: the script's grammar. It is this project's own profile.
 -- A line that has not the shape is a bad line; else the first path or data that is refused, from the left, is named.
 use Rattle.std.specs.Prelude.{◌≡◌, ◌⊎◌, ℕ, List, [], ◌∷◌, codes, nat_eq, Option, None, Some, Result, Ok, Err, if◌then◌else◌}
 use Rattle.std.specs.Option.{option_map_or}
@@ -26,7 +26,7 @@ use Rattle.zcalls.specs.Change.{update_of, part_of}
 use Rattle.zlines.specs.declared.request.Request.{Request}
 use Rattle.zlines.specs.declared.request.LineFault.{LineFault}
 use Rattle.zlines.specs.declared.request.LineFault.TheVariants.{BadLine, BadPath, BadData, Memory}
-use Rattle.zlines.specs.LineWords.{Word, words_of, is_malformed, number_of, client_of, data_of}
+use Rattle.zlines.specs.LineWords.{Word, number_of, data_of}
 use Rattle.zlines.specs.Shape.{change_shape, lone_shape, parts_shape}
 
 -- what is read of a line, or why nothing is
@@ -150,14 +150,6 @@ tick_in words = Err BadLine
 abbrev pub command_in : ℕ → List Word → Read Call
 command_in client command = if nat_eq client 0 then tick_in command else call_in command
 
--- a client and its command
-abbrev pub request_in : List Word → Read Request
-request_in [] = Err BadLine
-request_in (client ∷ command) =
-    then_read (read_of (client_of client)) (λ client.
-    then_read (command_in client command) (λ call.
-    Ok (record { client = client; call = call })))
-
--- what a line asks for
-unfoldable pub request_of : List ℕ → Read Request
-request_of line = if is_malformed line then Err BadLine else request_in (words_of line)
+-- a client's command
+abbrev pub request_in : ℕ → List Word → Read Request
+request_in client command = then_read (command_in client command) (λ call. Ok (record { client = client; call = call }))

@@ -1,84 +1,30 @@
-//! Lines, read.
+//! Commands of clients, read.
 
-ghost use Rattle.std.specs.Prelude.{◌≡◌, Ok, Err, IfOk, IfErr, IfNone, IfSome, true, false};
-ghost use Rattle.zlines.specs.Request.{IsUnread, request_of, command_in, tick_in, call_in, number_in, asked_in, query_in, session_in, single_in, multi_in};
+ghost use Rattle.std.specs.Prelude.{◌≡◌, Ok, Err, IfOk, IfErr};
+ghost use Rattle.zlines.specs.Request.{IsUnread, request_in, command_in, tick_in, call_in, number_in, asked_in, query_in, session_in, single_in, multi_in};
 ghost use Rattle.zcalls.specs.declared.call.Query.TheVariants.{GetData, Exists, GetChildren};
 ghost use Rattle.zcalls.specs.declared.call.Update.TheVariants.{Open, Ping, Close};
-ghost use Rattle.zlines.specs.LineWords.{is_malformed, client_of};
-ghost use Rattle.zlines.specs.support.Spaced.{is_spaced};
 
 use crate::cursor::Cursor;
-use crate::limits::MAX_LINE;
 use crate::number::number;
 use crate::part_reading::{read_change, read_parts, read_path};
 use crate::request::{LineFault, Request};
 use crate::shape::{all_parts, lone_change};
 use std::alloc::Global;
-use std::str;
 use zcalls::{Call, ClientId, Multi, Query, SessionId, Update};
 use zpath::Path;
-use ztree::limits::MAX_CLIENTS;
 
-/// Reads a line: the request that it spells, or why it spells none.
-#[tactic(auto, unfolding(crate::specs::Request::request_of))]
-pub fn read_line(alloc: Global, line: &[u8]) -> Result<Request, LineFault>
-    ensures found { IfOk result (λ request. request_of line.now ≡ Ok request) }
-    ensures fault { IfErr result (IsUnread (request_of line.now)) }
+/// Reads a client's command.
+pub(crate) fn read_request(
+    alloc: Global,
+    client: ClientId,
+    words: Cursor,
+) -> Result<Request, LineFault>
+    ensures found { IfOk result (λ request. request_in client words.entry ≡ Ok request) }
+    ensures fault { IfErr result (IsUnread (request_in client words.entry)) }
 {
-    let Some(text) = well_formed(line) else {
-        return Err(LineFault::BadLine);
-    };
-    let mut words = Cursor::new(text);
-    let Some(word) = words.next() else {
-        return Err(LineFault::BadLine);
-    };
-    let Some(client) = client_in(word) else {
-        return Err(LineFault::BadLine);
-    };
     let call = read_command(alloc, client, words)?;
     Ok(Request { client, call })
-}
-
-// The line as a text, if it is well formed: not too long, of plain bytes, and with no empty word.
-fn well_formed(line: &[u8]) -> Option<&str>
-    ensures text { IfSome result (λ text. (text.now ≡ line.now) × (is_malformed line.now ≡ false)) }
-    ensures none { IfNone result (is_malformed line.now ≡ true) }
-{
-    if line.len() > MAX_LINE {
-        return None;
-    }
-    if !is_spaced(line) {
-        return None;
-    }
-    match str::from_utf8(line) {
-        Ok(text) => Some(text),
-        Err(_) => None,
-    }
-}
-
-// Whether a line has plain bytes alone and no empty word: no space at an end, and no two beside each other.
-fn is_spaced(line: &[u8]) -> bool
-    ensures { result ≡ is_spaced true line.now }
-{
-    let mut after_space = true;
-    for &byte in line {
-        let is_space = byte == b' ';
-        if !(0x20..=0x7e).contains(&byte) || is_space && after_space {
-            return false;
-        }
-        after_space = is_space;
-    }
-    !after_space
-}
-
-// The client that a word names: 0 to 31.
-fn client_in(word: &str) -> Option<ClientId>
-    ensures { result ≡ client_of word.now }
-{
-    match number(word) {
-        Some(number) if number < MAX_CLIENTS as u64 => ClientId::new(number as u8),
-        _ => None,
-    }
 }
 
 // The call that a client's command asks for. Client 0 is the clock: it gives `tick` alone, and no

@@ -10,7 +10,10 @@ ghost use Rattle.zcalls.specs.declared.refusal.Refusal.TheVariants.{NoNode};
 ghost use Rattle.zcalls.specs.declared.reply.Reply.TheVariants.{Created, Opened, Ticked, Refused};
 ghost use Rattle.zlines.specs.declared.request.LineFault.TheVariants.{BadLine, BadPath, BadData};
 ghost use Rattle.zlines.specs.LineWords.{number_of, client_of, data_of, data_text};
-ghost use Rattle.zlines.specs.Request.{request_of};
+ghost use Rattle.zserver_table.specs.declared.process.Process.TheVariants.{Master, Server, Client};
+ghost use Rattle.zlines.specs.declared.line.Line.TheVariants as line;
+ghost use Rattle.zlines.specs.ProcessWords.{process_of, server_of, client_process_of};
+ghost use Rattle.zlines.specs.Line.{line_of};
 ghost use Rattle.zlines.specs.Shape.{kind_of};
 ghost use Rattle.zlines.specs.Reply.{reply_text, stat_text};
 
@@ -41,40 +44,80 @@ pub fn words()
 {}
 
 /// Worked rows of the lines: what each asks for, or why it asks for nothing.
-#[tactic(auto, unfolding(crate::specs::Request::request_of, crate::specs::Shape::kind_of, crate::specs::Shape::parts_shape, zpath::specs::Faults::fault_of, base64::proofs::OnLiterals::base64_on_literals))]
+#[tactic(auto, unfolding(crate::specs::Line::line_of, crate::specs::Shape::kind_of, crate::specs::Shape::parts_shape, zpath::specs::Faults::fault_of, base64::proofs::OnLiterals::base64_on_literals))]
 pub fn lines()
-    ensures unknown { request_of (codes "1 multi") ≡ Err BadLine }
-    ensures empty { request_of (codes "") ≡ Err BadLine }
-    ensures double_space { request_of (codes "1  get /") ≡ Err BadLine }
-    ensures control { request_of (49 ∷ 32 ∷ 103 ∷ 101 ∷ 116 ∷ 32 ∷ 47 ∷ 13 ∷ []) ≡ Err BadLine }
-    ensures clock_alone { request_of (codes "0 get a") ≡ Err BadLine }
-    ensures tick_alone { request_of (codes "1 tick") ≡ Err BadLine }
-    ensures one_tick { request_of (codes "0 tick 1") ≡ Err BadLine }
-    ensures tick { request_of (codes "0 tick") ≡ Ok (record { client = 0; call = Update Tick }) }
-    ensures open_nothing { request_of (codes "1 open 0")
-        ≡ Ok (record { client = 1; call = Update (Open 0) }) }
-    ensures open_too_much { request_of (codes "1 open 4611686018427387904") ≡ Err BadLine }
-    ensures ping { request_of (codes "2 ping 7")
-        ≡ Ok (record { client = 2; call = Update (Ping 7) }) }
-    ensures close { request_of (codes "2 close 7")
-        ≡ Ok (record { client = 2; call = Update (Close 7) }) }
-    ensures close_two { request_of (codes "2 close 7 8") ≡ Err BadLine }
-    ensures session_first { request_of (codes "1 create a e: aGk") ≡ Err BadLine }
-    ensures relative { request_of (codes "1 get a") ≡ Err (BadPath NotAbsolute) }
-    ensures no_padding { request_of (codes "1 create /a p aGk") ≡ Err BadData }
-    ensures path_first { request_of (codes "1 create a p aGk") ≡ Err (BadPath NotAbsolute) }
-    ensures kind_first { request_of (codes "1 create a x aGk") ≡ Err BadLine }
-    ensures mark_is_a_word { request_of (codes "1 multi create ; p -") ≡ Err (BadPath NotAbsolute) }
-    ensures mark_is_data { request_of (codes "1 multi create /a p ; ; check /a any") ≡ Err BadData }
-    ensures mark_ends { request_of (codes "1 multi check /a any ;") ≡ Err BadLine }
-    ensures lone_check { request_of (codes "1 check /a any") ≡ Err BadLine }
-    ensures get { request_of (codes "1 get /a")
-        ≡ Ok (record { client = 1; call = Query (GetData ((97 ∷ []) ∷ [])) }) }
-    ensures create { request_of (codes "31 create / p -")
-        ≡ Ok (record {
+    ensures unknown { line_of (codes "1 multi") ≡ Err BadLine }
+    ensures empty { line_of (codes "") ≡ Err BadLine }
+    ensures double_space { line_of (codes "1  get /") ≡ Err BadLine }
+    ensures control { line_of (49 ∷ 32 ∷ 103 ∷ 101 ∷ 116 ∷ 32 ∷ 47 ∷ 13 ∷ []) ≡ Err BadLine }
+    ensures clock_alone { line_of (codes "0 get a") ≡ Err BadLine }
+    ensures tick_alone { line_of (codes "1 tick") ≡ Err BadLine }
+    ensures one_tick { line_of (codes "0 tick 1") ≡ Err BadLine }
+    ensures tick { line_of (codes "0 tick")
+        ≡ Ok (line.Call (record { client = 0; call = Update Tick })) }
+    ensures open_nothing { line_of (codes "1 open 0")
+        ≡ Ok (line.Call (record { client = 1; call = Update (Open 0) })) }
+    ensures open_too_much { line_of (codes "1 open 4611686018427387904") ≡ Err BadLine }
+    ensures ping { line_of (codes "2 ping 7")
+        ≡ Ok (line.Call (record { client = 2; call = Update (Ping 7) })) }
+    ensures close { line_of (codes "2 close 7")
+        ≡ Ok (line.Call (record { client = 2; call = Update (Close 7) })) }
+    ensures close_two { line_of (codes "2 close 7 8") ≡ Err BadLine }
+    ensures session_first { line_of (codes "1 create a e: aGk") ≡ Err BadLine }
+    ensures relative { line_of (codes "1 get a") ≡ Err (BadPath NotAbsolute) }
+    ensures no_padding { line_of (codes "1 create /a p aGk") ≡ Err BadData }
+    ensures path_first { line_of (codes "1 create a p aGk") ≡ Err (BadPath NotAbsolute) }
+    ensures kind_first { line_of (codes "1 create a x aGk") ≡ Err BadLine }
+    ensures mark_is_a_word { line_of (codes "1 multi create ; p -") ≡ Err (BadPath NotAbsolute) }
+    ensures mark_is_data { line_of (codes "1 multi create /a p ; ; check /a any") ≡ Err BadData }
+    ensures mark_ends { line_of (codes "1 multi check /a any ;") ≡ Err BadLine }
+    ensures lone_check { line_of (codes "1 check /a any") ≡ Err BadLine }
+    ensures get { line_of (codes "1 get /a")
+        ≡ Ok (line.Call (record { client = 1; call = Query (GetData ((97 ∷ []) ∷ [])) })) }
+    ensures create { line_of (codes "31 create / p -")
+        ≡ Ok (line.Call (record {
           client = 31;
           call = Update (Create (record { path = []; kind = Persistent; bytes = [] }));
-        }) }
+        })) }
+{}
+
+/// Worked rows of the words that name processes.
+pub fn process_words()
+    ensures master { process_of (codes "m") ≡ Some Master }
+    ensures last_server { process_of (codes "s8") ≡ Some (Server 8) }
+    ensures last_client { process_of (codes "c31") ≡ Some (Client 31) }
+    ensures clock { client_process_of (codes "c0") ≡ Some 0 }
+    ensures no_server { process_of (codes "s9") ≡ None }
+    ensures server_zero { server_of (codes "s0") ≡ None }
+    ensures loose_server { server_of (codes "s01") ≡ None }
+    ensures bare_server { server_of (codes "s") ≡ None }
+    ensures no_client { process_of (codes "c32") ≡ None }
+    ensures other_word { process_of (codes "x1") ≡ None }
+{}
+
+/// Worked rows of the lines that are events of the chain.
+#[tactic(auto, unfolding(crate::specs::Line::line_of, zpath::specs::Faults::fault_of))]
+pub fn event_lines()
+    ensures take { line_of (codes "take c1 s1") ≡ Ok (line.Take (Client 1) (Server 1)) }
+    ensures own_link { line_of (codes "take s1 s1") ≡ Ok (line.Take (Server 1) (Server 1)) }
+    ensures no_server { line_of (codes "take s9 m") ≡ Err BadLine }
+    ensures one_process { line_of (codes "take m") ≡ Err BadLine }
+    ensures three_processes { line_of (codes "take m s1 s2") ≡ Err BadLine }
+    ensures ignore { line_of (codes "ignore m c0") ≡ Ok (line.Ignore Master (Client 0)) }
+    ensures fail { line_of (codes "fail s1") ≡ Ok (line.Fail 1) }
+    ensures server_zero { line_of (codes "fail s0") ≡ Err BadLine }
+    ensures join { line_of (codes "join s2") ≡ Ok (line.Join 2) }
+    ensures client_joins { line_of (codes "join c1") ≡ Err BadLine }
+    ensures retry { line_of (codes "retry c1") ≡ Ok (line.Retry 1) }
+    ensures server_retries { line_of (codes "retry s1") ≡ Err BadLine }
+    ensures settle { line_of (codes "settle") ≡ Ok line.Settle }
+    ensures settle_more { line_of (codes "settle 1") ≡ Err BadLine }
+    ensures begin { line_of (codes "0 begin tick")
+        ≡ Ok (line.Begin (record { client = 0; call = Update Tick })) }
+    ensures clock_alone { line_of (codes "0 begin get /") ≡ Err BadLine }
+    ensures tick_alone { line_of (codes "1 begin tick") ≡ Err BadLine }
+    ensures begin_alone { line_of (codes "1 begin") ≡ Err BadLine }
+    ensures begin_path { line_of (codes "1 begin get a") ≡ Err (BadPath NotAbsolute) }
 {}
 
 /// Worked rows of the texts of replies.

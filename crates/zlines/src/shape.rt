@@ -142,8 +142,8 @@ fn owned_kind_in(word: &str) -> Option<Kind>
     Some(Kind::EphemeralSequential(SessionId::new(number(session)?)))
 }
 
-// What follows these bytes in a word that begins with them.
-fn behind<'a>(front: &str, word: &'a str) -> Option<&'a str>
+/// What follows these bytes in a word that begins with them.
+pub(crate) fn behind<'a>(front: &str, word: &'a str) -> Option<&'a str>
     ensures rest { IfSome result (λ rest. IsBehind front.now word.now rest.now) }
     ensures none { IfNone result (starts_with nat_eq word.now front.now ≡ false) }
 {

@@ -4,7 +4,7 @@ use Rattle.std.proofs.lemmas.Bool.Decides.{nat_tests}
 use Rattle.zlines.specs.LineWords.{is_long}
 use Rattle.zlines.proofs.Numerals.{ascii_of_plain}
 use Rattle.zlines.proofs.Spacing.{is_malformed-spaced, spaced_is_plain}
-use Rattle.zlines.proofs.reading.well_formed.Goals as goal
+use Rattle.zlines.proofs.line_reading.well_formed.Goals as goal
 
 pub returns-then-not-is_spaced-clause-none : goal.returns-then-not-is_spaced-clause-none
 returns-then-not-is_spaced-clause-none c =

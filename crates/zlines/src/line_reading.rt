@@ -1,0 +1,173 @@
+//! Lines, read.
+
+ghost use Rattle.std.specs.Prelude.{◌≡◌, Ok, IfOk, IfErr, IfNone, IfSome, true, false};
+ghost use Rattle.zlines.specs.Request.{IsUnread};
+ghost use Rattle.zlines.specs.Line.{line_of, line_in, client_line_in, take_in, ignore_in, fail_in};
+ghost use Rattle.zlines.specs.Line.{join_in, retry_in, settle_in, link_in, lone_server_in};
+ghost use Rattle.zlines.specs.LineWords.{is_malformed};
+ghost use Rattle.zlines.specs.support.Spaced.{is_spaced};
+
+use crate::cursor::Cursor;
+use crate::limits::MAX_LINE;
+use crate::line::Line;
+use crate::process_words::{client_in, client_process_in, process_in, server_in};
+use crate::reading::read_request;
+use crate::request::LineFault;
+use std::alloc::Global;
+use std::str;
+use zcalls::ClientId;
+use zserver_table::{Process, ServerId};
+
+/// Reads a line: what it asks for, or why it asks for nothing.
+#[tactic(auto, unfolding(crate::specs::Line::line_of))]
+pub fn read_line(alloc: Global, line: &[u8]) -> Result<Line, LineFault>
+    ensures found { IfOk result (λ asked. line_of line.now ≡ Ok asked) }
+    ensures fault { IfErr result (IsUnread (line_of line.now)) }
+{
+    let Some(text) = well_formed(line) else {
+        return Err(LineFault::BadLine);
+    };
+    read_words(alloc, Cursor::new(text))
+}
+
+// The line as a text, if it is well formed: not too long, of plain bytes, and with no empty word.
+fn well_formed(line: &[u8]) -> Option<&str>
+    ensures text { IfSome result (λ text. (text.now ≡ line.now) × (is_malformed line.now ≡ false)) }
+    ensures none { IfNone result (is_malformed line.now ≡ true) }
+{
+    if line.len() > MAX_LINE {
+        return None;
+    }
+    if !is_spaced(line) {
+        return None;
+    }
+    match str::from_utf8(line) {
+        Ok(text) => Some(text),
+        Err(_) => None,
+    }
+}
+
+// Whether a line has plain bytes alone and no empty word: no space at an end, and no two beside each other.
+fn is_spaced(line: &[u8]) -> bool
+    ensures { result ≡ is_spaced true line.now }
+{
+    let mut after_space = true;
+    for &byte in line {
+        let is_space = byte == b' ';
+        if !(0x20..=0x7e).contains(&byte) || is_space && after_space {
+            return false;
+        }
+        after_space = is_space;
+    }
+    !after_space
+}
+
+// What the words of a line ask for.
+fn read_words(alloc: Global, mut words: Cursor) -> Result<Line, LineFault>
+    ensures found { IfOk result (λ asked. line_in words.entry ≡ Ok asked) }
+    ensures fault { IfErr result (IsUnread (line_in words.entry)) }
+{
+    let Some(word) = words.next() else {
+        return Err(LineFault::BadLine);
+    };
+    match word {
+        "take" => take_line(words).ok_or(LineFault::BadLine),
+        "ignore" => ignore_line(words).ok_or(LineFault::BadLine),
+        "fail" => fail_line(words).ok_or(LineFault::BadLine),
+        "join" => join_line(words).ok_or(LineFault::BadLine),
+        "retry" => retry_line(words).ok_or(LineFault::BadLine),
+        "settle" => settle_line(words).ok_or(LineFault::BadLine),
+        _ => match client_in(word) {
+            Some(client) => read_client_line(alloc, client, words),
+            None => Err(LineFault::BadLine),
+        },
+    }
+}
+
+// A client's command, which is played to its answer, or, behind `begin`, begins alone.
+fn read_client_line(alloc: Global, client: ClientId, words: Cursor) -> Result<Line, LineFault>
+    ensures found { IfOk result (λ asked. client_line_in client words.entry ≡ Ok asked) }
+    ensures fault { IfErr result (IsUnread (client_line_in client words.entry)) }
+{
+    let mut behind = words.again();
+    match behind.next() {
+        None => Err(LineFault::BadLine),
+        Some("begin") => Ok(Line::Begin(read_request(alloc, client, behind)?)),
+        Some(_) => Ok(Line::Call(read_request(alloc, client, words)?)),
+    }
+}
+
+// take FROM TO
+fn take_line(words: Cursor) -> Option<Line>
+    ensures { result ≡ take_in words.entry }
+{
+    let (from, to) = link(words)?;
+    Some(Line::Take(from, to))
+}
+
+// ignore FROM TO
+fn ignore_line(words: Cursor) -> Option<Line>
+    ensures { result ≡ ignore_in words.entry }
+{
+    let (from, to) = link(words)?;
+    Some(Line::Ignore(from, to))
+}
+
+// fail SERVER
+fn fail_line(words: Cursor) -> Option<Line>
+    ensures { result ≡ fail_in words.entry }
+{
+    Some(Line::Fail(lone_server(words)?))
+}
+
+// join SERVER
+fn join_line(words: Cursor) -> Option<Line>
+    ensures { result ≡ join_in words.entry }
+{
+    Some(Line::Join(lone_server(words)?))
+}
+
+// retry CLIENT
+fn retry_line(mut words: Cursor) -> Option<Line>
+    ensures { result ≡ retry_in words.entry }
+{
+    let word = words.next()?;
+    if !words.is_done() {
+        return None;
+    }
+    Some(Line::Retry(client_process_in(word)?))
+}
+
+// settle, and no further word
+fn settle_line(words: Cursor) -> Option<Line>
+    ensures { result ≡ settle_in words.entry }
+{
+    if words.is_done() {
+        Some(Line::Settle)
+    } else {
+        None
+    }
+}
+
+// FROM TO, and no further word
+fn link(mut words: Cursor) -> Option<(Process, Process)>
+    ensures { result ≡ link_in words.entry }
+{
+    let from = words.next()?;
+    let to = words.next()?;
+    if !words.is_done() {
+        return None;
+    }
+    Some((process_in(from)?, process_in(to)?))
+}
+
+// SERVER, and no further word
+fn lone_server(mut words: Cursor) -> Option<ServerId>
+    ensures { result ≡ lone_server_in words.entry }
+{
+    let word = words.next()?;
+    if !words.is_done() {
+        return None;
+    }
+    server_in(word)
+}
