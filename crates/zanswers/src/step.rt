@@ -24,10 +24,6 @@ pub fn answer_line(
 ) -> Result<(), Memory>
     ensures done { OnOk result (IsLineDone machine.old.state line.now machine.new.state
         (Writes out.old out.new)) }
-    ensures text { OnOk result (Writes out.old out.new
-        (machine_answer machine.old.state line.now)) }
-    ensures state { OnOk result (machine.new.state
-        ≡ machine_after machine.old.state line.now) }
 {
     answer_alone(alloc, machine, line, out)
 }
