@@ -1,2 +1,4 @@
 pub mod LineDone
 pub mod LongLine
+pub mod Past
+pub mod OneRun

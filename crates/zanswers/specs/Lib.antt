@@ -1,1 +1,4 @@
 pub mod Line
+pub mod ChainLine
+pub mod Laws
+pub mod support

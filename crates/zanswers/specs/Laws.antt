@@ -1,0 +1,15 @@
+-- What holds of the text over the world: what it tells is the history of one run.
+use Rattle.std.specs.Prelude.{◌≡◌, ℕ, List}
+use Rattle.ztree.specs.declared.limits.TheConstants.{MAX_CLIENTS}
+use Rattle.zserver_table.specs.Machine.{kept_tree}
+use Rattle.zworld_model.specs.declared.event.Event.{Event}
+use Rattle.zworld_model.specs.declared.outcome.Outcome.{Outcome}
+use Rattle.zworld_model.specs.World.{opening_world}
+use Rattle.zworld_model.specs.Events.{run}
+use Rattle.zanswers.specs.ChainLine.{opening_chain, histories}
+
+-- there are events such that the histories of all lines, one after the other, are the history of their run
+abbrev pub LinesTellOneRun : Type 0
+LinesTellOneRun =
+    (servers : ℕ) (outcomes : List Outcome) (lines : List (List ℕ))
+    → (events : List Event) × ((run kept_tree (opening_world kept_tree servers MAX_CLIENTS) events).history ≡ histories (opening_chain servers outcomes) lines)

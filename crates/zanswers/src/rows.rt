@@ -1,0 +1,43 @@
+//! Worked rows of the definitions: each clause is one, and the bodies do nothing.
+
+ghost use Rattle.std.specs.Prelude.{◌≡◌, [], ◌∷◌, ◌++◌, codes, Some, None};
+ghost use Rattle.zcalls.specs.declared.reply.Reply.TheVariants.{Children, Deleted, Pinged};
+ghost use Rattle.zworld_model.specs.declared.history.CallEvent.TheVariants.{Answer};
+ghost use Rattle.zanswers.specs.ChainLine.{taken_text, reply_in};
+ghost use Rattle.zanswers.specs.support.Rows.{AreAnswered};
+
+/// Events that aren't enabled, failures and joins.
+#[tactic(auto, unfolding(crate::specs::ChainLine::effect_of, crate::specs::ChainLine::chain_answer, crate::specs::ChainLine::chain_after, zlines::specs::Line::line_of, zmaster_table::specs::Table::join_fault))]
+pub fn chain_lines()
+    ensures own_link { AreAnswered ((codes "take s1 s1", codes "idle") ∷ []) }
+    ensures no_server { AreAnswered ((codes "take s9 m", codes "bad line") ∷ []) }
+    ensures fails_once { AreAnswered
+        ((codes "fail s1", codes "done") ∷ (codes "fail s1", codes "idle") ∷ []) }
+    ensures used { AreAnswered ((codes "join s1", codes "no Used") ∷ []) }
+    ensures nothing_outstanding { AreAnswered ((codes "retry c1", codes "idle") ∷ []) }
+{}
+
+/// Calls that begin alone, and are delivered, lost and sent again; and joins.
+pub fn chain_calls()
+    ensures begun { AreAnswered
+        ((codes "1 begin get /", codes "begun") ∷ (codes "1 begin ls /", codes "busy") ∷ []) }
+    ensures taken { AreAnswered
+        ((codes "1 begin get /", codes "begun") ∷ (codes "take c1 s1", codes "done")
+        ∷ (codes "take c1 s1", codes "idle") ∷ (codes "retry c1", codes "done") ∷ []) }
+    ensures lost { AreAnswered
+        ((codes "1 begin get /", codes "begun") ∷ (codes "ignore c1 s1", codes "done")
+        ∷ (codes "take c1 s1", codes "idle") ∷ []) }
+    ensures joins { AreAnswered
+        ((codes "join s2", codes "done") ∷ (codes "join s3", codes "no Joining") ∷ []) }
+{}
+
+/// An answer that a client took is told under its name, but for the answer to the line's own call.
+pub fn answers_are_told()
+    ensures told { taken_text None (Answer 1 2 (Children [])) ≡ codes "c1 ok 0" ++ 10 ∷ [] }
+    ensures other_call { taken_text (Some (1, 3)) (Answer 1 2 Deleted)
+        ≡ codes "c1 ok deleted" ++ 10 ∷ [] }
+    ensures own_call { taken_text (Some (1, 2)) (Answer 1 2 (Children [])) ≡ [] }
+    ensures own_reply { reply_in (Some (1, 2)) (Answer 1 1 Pinged ∷ Answer 1 2 Deleted ∷ [])
+        ≡ Some Deleted }
+    ensures no_reply { reply_in (Some (1, 2)) (Answer 2 2 Deleted ∷ []) ≡ None }
+{}
