@@ -8,7 +8,7 @@ use Rattle.zcalls.specs.Kept.{Plain, PlainStep, Kept, KeptState, nothing_kept, l
 use Rattle.zcalls.specs.Lists.{Among, NoTwo}
 use Rattle.zcalls.specs.Operation.{Operation, operation_of, AreOneUpdate}
 use Rattle.zcalls.specs.Acts.{act_of, acts_from, acts_of, after_log}
-use Rattle.zcalls.specs.KeptLaws.{last_number, KeptNumbersRise, RepliesAreOfActs, RepliesStayUntilTheNext}
+use Rattle.zcalls.specs.KeptLaws.{last_number, KeptNumbersRise, RepliesAreOfActs, RepliesStayUntilTheNext, after_acts, OnlyActsCount, SameReplyEachTime}
 use Rattle.zcalls.proofs.Among.{test}
 use Rattle.zcalls.proofs.Acting.{kept_of, Outcome, outcome, kept_own, kept_other, rises, replied, acted_once, still_replied}
 use Rattle.zcalls.proofs.Acting.Outcome.{Acts, Stays}
@@ -87,6 +87,35 @@ module _ {P : Type 0} (step : PlainStep P) where
       let here = replied step s e _ _ (outcome step s e) reply is in
       let there : get (after (entry_step step s e).0 entries).kept e.client ≡ Some kept = kept_stays (entry_step step s e).0 entries e.client kept here few in
       still_replied step (after (entry_step step s e).0 entries) e reply there
+
+  -- what acts leads to the plain state
+  now_counts : (s : KeptState P) (e : Entry) (now : List (Operation × Reply)) (r : KeptState P × Option Reply) → Outcome step s e now r
+      → (more : List (Operation × Reply)) → after_acts step r.0.plain more ≡ after_acts step s.plain (now ++ more)
+  now_counts s e now r (Acts low) more = refl
+  now_counts s e now r (Stays high) more = refl
+
+  pub only_acts_count : OnlyActsCount step
+  only_acts_count s [] = refl
+  only_acts_count s (e ∷ es) =
+      let s' = (entry_step step s e).0 in
+      only_acts_count s' es ∙ now_counts s e _ _ (outcome step s e) (acts_from step s' es)
+
+  -- a call has the same reply each time
+  pub same_reply_each_time : SameReplyEachTime step
+  same_reply_each_time s e f entries reply other same is there =
+      let mine : Kept = record { number = e.number; reply = reply } in
+      let now : Kept = record { number = f.number; reply = other } in
+      let s' = (entry_step step s e).0 in
+      let s'' = after s' entries in
+      let all : after s' (entries ++ f ∷ []) ≡ (entry_step step s'' f).0 = after_more s' entries (f ∷ []) in
+      let has : get (after s' (entries ++ f ∷ [])).kept e.client ≡ Some now =
+      ap (λ (t : KeptState P). get t.kept e.client) all ∙ ap (get (entry_step step s'' f).0.kept) same.0 ∙ replied step s'' f _ _ (outcome step s'' f) other there in
+      let last : last_number (after s' (entries ++ f ∷ [])) e.client ≡ f.number = ap last_of has in
+      let number : e.number ≡ f.number = same.1 in
+      let stays = kept_stays s' (entries ++ f ∷ []) e.client mine (replied step s e _ _ (outcome step s e) reply is) (omega (arith, last, number)) in
+      let both : Some now ≡ Some mine = sym has ∙ stays in
+      let kept : now ≡ mine = cc both in
+      ap (λ (k : Kept). k.reply) kept
 
 -- a reply that an entry has is that of a call that acted, up to the entry itself
 pub reply_is_acted : {P : Type 0} (plain : Plain P) → RepliesAreOfActs plain

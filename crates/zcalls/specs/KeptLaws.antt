@@ -2,11 +2,13 @@
 -- function in `src/laws.rt`.
 use Rattle.std.specs.Prelude.{◌≡◌, ◌<◌, ◌≤◌, ℕ, List, [], ◌∷◌, ◌++◌, Some}
 use Rattle.std.specs.FinMap.{get}
+use Rattle.zcalls.specs.declared.call.Call.{Call}
+use Rattle.zcalls.specs.declared.call.Call.TheVariants.{Update, Query}
 use Rattle.zcalls.specs.declared.call.Entry.{Entry}
 use Rattle.zcalls.specs.declared.reply.Reply.{Reply}
 use Rattle.zcalls.specs.Kept.{Plain, PlainStep, KeptState, nothing_kept, last_of, entry_step, after_entries}
 use Rattle.zcalls.specs.Lists.{Among, NoTwo}
-use Rattle.zcalls.specs.Operation.{Operation, AreOneUpdate}
+use Rattle.zcalls.specs.Operation.{Operation, IsSameCall, operation_of, AreOneUpdate}
 use Rattle.zcalls.specs.Acts.{acts_from, acts_of, after_log}
 
 -- the number of a client's last call that acted; 0 where none did
@@ -60,3 +62,28 @@ RepliesStayUntilTheNext {P} step =
     → (entry_step step s e).1 ≡ Some reply
     → last_number (after_entries (entry_step step) (entry_step step s e).0 entries) e.client ≤ e.number
     → (entry_step step (after_entries (entry_step step) (entry_step step s e).0 entries) e).1 ≡ Some reply
+
+-- the plain state after a client's call
+abbrev pub after_call : {P : Type 0} → PlainStep P → P → ℕ → Call → P
+after_call step p client (Update update) = (step p client update).0
+after_call step p client (Query query) = p
+
+-- the plain state after these calls alone, one after the other
+abbrev pub after_acts : {P : Type 0} → PlainStep P → P → List (Operation × Reply) → P
+after_acts step p [] = p
+after_acts step p (act ∷ acts) = after_acts step (after_call step p act.0.client act.0.call) acts
+
+-- over any entries, the plain state is that after the calls that acted, in their order
+abbrev pub OnlyActsCount : {P : Type 0} → PlainStep P → Type 0
+OnlyActsCount {P} step =
+    (s : KeptState P) (entries : List Entry)
+    → (after_entries (entry_step step) s entries).plain ≡ after_acts step s.plain (acts_from step s entries)
+
+-- a call that has a reply has the same one each time, whatever entries come in between
+abbrev pub SameReplyEachTime : {P : Type 0} → PlainStep P → Type 0
+SameReplyEachTime {P} step =
+    (s : KeptState P) (e again : Entry) (entries : List Entry) (reply other : Reply)
+    → IsSameCall (operation_of e) (operation_of again)
+    → (entry_step step s e).1 ≡ Some reply
+    → (entry_step step (after_entries (entry_step step) (entry_step step s e).0 entries) again).1 ≡ Some other
+    → other ≡ reply

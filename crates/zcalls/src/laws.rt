@@ -3,7 +3,7 @@
 ghost use Rattle.zcalls.specs.CallRuns.{ZxidsRise, ChangesTakeOneZxid, VersionCountsSets, NumbersDiffer};
 ghost use Rattle.zcalls.specs.Kept.{Plain, PlainStep};
 ghost use Rattle.zcalls.specs.KeptLaws.{FirstEntriesAct, RetryChangesNothing, KeptNumbersRise, LowNumbersChangeNothing};
-ghost use Rattle.zcalls.specs.KeptLaws.{NoCallActsTwice, RepliesAreOfActs, RepliesStayUntilTheNext};
+ghost use Rattle.zcalls.specs.KeptLaws.{NoCallActsTwice, RepliesAreOfActs, RepliesStayUntilTheNext, OnlyActsCount, SameReplyEachTime};
 ghost use Rattle.zcalls.specs.Laws.{RefusedChangesNothing, RefusedMultiChangesNothing, CountsTheNames, ListsInOrder};
 ghost use Rattle.zcalls.specs.SessionLaws.{TreesAreLawful, EndsOnlySo, TickEndsTheDue, EndTakesItsOwn, OpenAndPingRenew, LivesItsTimeout};
 
@@ -113,4 +113,16 @@ pub fn replies_are_of_acts<P>()
 /// with a greater number acts.
 pub fn replies_stay_until_the_next<P>()
     ensures { (step : PlainStep P) → RepliesStayUntilTheNext step }
+{}
+
+/// Over any plain step and any entries, any of them any number of times and in any place, the plain state
+/// is that of the calls that acted, in their order.
+pub fn only_acts_count<P>()
+    ensures { (step : PlainStep P) → OnlyActsCount step }
+{}
+
+/// Over any plain step, a call that has a reply has the same one each time, whatever entries come in
+/// between.
+pub fn same_reply_each_time<P>()
+    ensures { (step : PlainStep P) → SameReplyEachTime step }
 {}
