@@ -40,7 +40,7 @@ update_result s client update =
 -- a client's call, on the state that the lines before left
 abbrev pub call_result : MachineState → ℕ → Call → MachineState × List ℕ
 call_result s client (Update update) = update_result s client update
-call_result s client (Query query) = (s, reply_text (query_reply s.tree query))
+call_result s client (Query query) = (s, reply_text (query_reply s.service.plain query))
 
 -- a request, done
 abbrev pub request_result : MachineState → Request → MachineState × List ℕ

@@ -80,7 +80,7 @@ fn answer_call(machine: &mut Machine, request: Request, out: &mut String) -> Res
 // Asks a query, and writes its reply.
 fn answer_query(machine: &mut Machine, query: Query, out: &mut String) -> Result<(), Memory>
     ensures text { OnOk result (Writes out.old out.new
-        (reply_text (query_reply machine.old.state.tree query))) }
+        (reply_text (query_reply machine.old.state.service.plain query))) }
     ensures state { OnOk result (machine.new.state ≡ machine.old.state) }
 {
     let reply = machine.ask(&query)?;

@@ -1,3 +1,4 @@
-pub mod Stops
-pub mod Ready
+pub mod Codes
 pub mod Names
+pub mod Ready
+pub mod Stops

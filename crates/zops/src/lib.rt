@@ -1,11 +1,14 @@
 //! The calls of the service, and the machine that answers them.
 //!
 //! What comes in are entries (updates with their client and number) and queries; what goes out are
-//! replies. `Machine::apply` is the plain step of the plain tree and `Machine::ask` is its answer:
-//! both are defined in `specs/Step.antt`, without a word of how the machine keeps its tree.
+//! replies. `Machine::apply` is the entry step over the plain tree, by which an update acts once, and
+//! `Machine::ask` is the plain tree's answer: both are defined in `zcalls`, without a word of how the
+//! machine keeps its tree.
 #![tactic(auto)]
 
 mod change;
+mod entering;
+mod kept;
 pub mod limits;
 mod machine;
 mod owner;

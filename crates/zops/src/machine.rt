@@ -3,26 +3,29 @@
 ghost use Rattle.zops.specs.declared.limits.TheConstants.{MAX_APPLIED};
 ghost use Rattle.std.specs.Prelude.{◌≡◌, ◌<◌, ◌≤◌, IfOk, OnOk, OnErr, IsErr, true, false};
 
+use crate::entering::enter;
+use crate::kept::KeptReplies;
 use crate::query::answer;
-use crate::update::update;
 use std::alloc::Global;
 use std::marker::Model;
 use zcalls::{Entry, Query, Reply};
 use zpath::Memory;
 use zstore::Store;
 
-/// One machine: the tree, and the calls on it. After it met want of memory in `apply`, it answers
-/// `Memory` for good, and its tree is never shown again.
+/// One machine: the tree and the last reply to each client, and the calls on it. After it met want of
+/// memory in `apply`, it answers `Memory` for good, and its tree is never shown again.
 #[derive(Drop)]
 pub struct Machine {
     alloc: Global,
     store: Store,
+    kept: KeptReplies,
     applied: u64,
     is_broken: bool,
 }
 
 impl Model for Machine {
-    ghost use Rattle.zops.specs.Machine.{MachineView, coded_machine_view};
+    ghost use Rattle.zops.specs.Machine.{MachineView};
+    ghost use Rattle.zops.specs.support.Codes.{coded_machine_view};
 
     ghost Value = { MachineView };
 
@@ -32,7 +35,7 @@ impl Model for Machine {
 
     ghost view = { λ m. record {
       state = record {
-        tree = m.store.tree;
+        service = record { plain = m.store.tree; kept = m.kept };
         applied = m.applied;
       };
       is_broken = m.is_broken;
@@ -47,13 +50,13 @@ impl Machine {
     ghost use Rattle.ztree.specs.Lawful.{IsLawful, HasPaths};
     ghost use Rattle.zcalls.specs.Bounds.{IsBounded};
 
-    /// A machine with the opening tree.
+    /// A machine with the opening tree, and no reply kept.
     pub fn new(alloc: Global) -> Result<Machine, Memory>
         ensures opening { IfOk result (λ m. m
             ≡ record { state = opening_machine; is_broken = false }) }
-        ensures lawful { IfOk result (λ m. IsLawful m.state.tree) }
-        ensures paths { IfOk result (λ m. HasPaths m.state.tree.nodes) }
-        ensures bounded { IfOk result (λ m. IsBounded m.state.tree) }
+        ensures lawful { IfOk result (λ m. IsLawful m.state.service.plain) }
+        ensures paths { IfOk result (λ m. HasPaths m.state.service.plain.nodes) }
+        ensures bounded { IfOk result (λ m. IsBounded m.state.service.plain) }
     {
         let store = Store::new(alloc)?;
         store.keeps_lawful();
@@ -61,23 +64,25 @@ impl Machine {
         Ok(Machine {
             alloc,
             store,
+            kept: KeptReplies::new(alloc),
             applied: 0,
             is_broken: false,
         })
     }
 
-    /// How many entries were applied, the refused ones among them.
+    /// How many entries were applied, those that were refused or did not act among them.
     pub fn applied(&self) -> u64
         ensures applied { result ≡ self.now.state.applied }
         ensures few { result ≤ MAX_APPLIED }
-        ensures lawful { IsLawful self.now.state.tree }
+        ensures lawful { IsLawful self.now.state.service.plain }
     {
         self.store.keeps_lawful();
         self.applied
     }
 
-    /// Applies an entry by the plain step; the reply is that of its update. After `Memory` the machine
-    /// answers `Memory` for good.
+    /// Applies an entry by the entry step over the plain tree: a number above its client's last one acts,
+    /// and its reply is kept; the number of the kept reply has that one; any other has none. After
+    /// `Memory` the machine answers `Memory` for good.
     #[tactic(auto, unfolding(crate::specs::Machine::entry_result))]
     pub fn apply(&mut self, entry: Entry) -> Result<Option<Reply>, Memory>
         requires { self.old.state.applied < MAX_APPLIED }
@@ -86,19 +91,19 @@ impl Machine {
         ensures sound { OnOk result ((self.old.is_broken ≡ false) × (self.new.is_broken ≡ false)) }
         ensures broken { OnErr result (self.new.is_broken ≡ true) }
         ensures stays { self.old.is_broken ≡ true → IsErr result }
-        ensures lawful { OnOk result (IsLawful self.new.state.tree) }
-        ensures paths { OnOk result (HasPaths self.new.state.tree.nodes) }
-        ensures bounded { OnOk result (IsBounded self.new.state.tree) }
+        ensures lawful { OnOk result (IsLawful self.new.state.service.plain) }
+        ensures paths { OnOk result (HasPaths self.new.state.service.plain.nodes) }
+        ensures bounded { OnOk result (IsBounded self.new.state.service.plain) }
     {
         if self.is_broken {
             return Err(Memory);
         }
-        match update(self.alloc, &mut self.store, entry.client, entry.update) {
+        self.applied += 1;
+        match enter(self.alloc, &mut self.store, &mut self.kept, entry) {
             Ok(reply) => {
-                self.applied += 1;
                 self.store.keeps_lawful();
                 self.store.keeps_paths();
-                Ok(Some(reply))
+                Ok(reply)
             }
             Err(memory) => {
                 self.is_broken = true;
@@ -109,11 +114,12 @@ impl Machine {
 
     /// Answers a query, and changes nothing.
     pub fn ask(&self, query: &Query) -> Result<Reply, Memory>
-        ensures ok { IfOk result (λ reply. reply ≡ query_reply self.now.state.tree query.now) }
+        ensures ok { IfOk result (λ reply. reply
+            ≡ query_reply self.now.state.service.plain query.now) }
         ensures broken { self.now.is_broken ≡ true → IsErr result }
-        ensures lawful { OnOk result (IsLawful self.now.state.tree) }
-        ensures paths { OnOk result (HasPaths self.now.state.tree.nodes) }
-        ensures bounded { OnOk result (IsBounded self.now.state.tree) }
+        ensures lawful { OnOk result (IsLawful self.now.state.service.plain) }
+        ensures paths { OnOk result (HasPaths self.now.state.service.plain.nodes) }
+        ensures bounded { OnOk result (IsBounded self.now.state.service.plain) }
     {
         if self.is_broken {
             Err(Memory)
@@ -122,5 +128,27 @@ impl Machine {
             self.store.keeps_paths();
             answer(self.alloc, &self.store, query)
         }
+    }
+
+    /// A machine that stands for the same, and goes its own way from here on.
+    pub fn copy(&self) -> Result<Machine, Memory>
+        ensures same { IfOk result (λ copy. copy ≡ self.now) }
+        ensures broken { self.now.is_broken ≡ true → IsErr result }
+        ensures lawful { OnOk result (IsLawful self.now.state.service.plain) }
+        ensures paths { OnOk result (HasPaths self.now.state.service.plain.nodes) }
+        ensures bounded { OnOk result (IsBounded self.now.state.service.plain) }
+    {
+        if self.is_broken {
+            return Err(Memory);
+        }
+        self.store.keeps_lawful();
+        self.store.keeps_paths();
+        Ok(Machine {
+            alloc: self.alloc,
+            store: self.store.copy()?,
+            kept: self.kept.copied(self.alloc)?,
+            applied: self.applied,
+            is_broken: self.is_broken,
+        })
     }
 }

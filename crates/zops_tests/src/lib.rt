@@ -13,4 +13,6 @@ mod play;
 #[cfg(test)]
 mod refusals;
 #[cfg(test)]
+mod retries;
+#[cfg(test)]
 mod sessions;

@@ -131,10 +131,10 @@ pub fn outcome(reply: &Reply) -> (&'static str, u64, u64) {
     }
 }
 
-// The update as an entry of the client of that number.
-fn entry(client: u8, update: Update) -> Result<Entry, Fail> {
+/// The update as an entry, of the client and the call of those numbers.
+pub fn entry(client: u8, number: u64, update: Update) -> Result<Entry, Fail> {
     let client = ClientId::new(client).ok_or("there is such a client")?;
-    let number = CallNumber::new(1).ok_or("there is such a number")?;
+    let number = CallNumber::new(number).ok_or("there is such a number")?;
     Ok(Entry {
         client,
         number,
@@ -142,7 +142,7 @@ fn entry(client: u8, update: Update) -> Result<Entry, Fail> {
     })
 }
 
-/// Applies an update of the client of that number, and compares the answer.
+/// Applies an update as the next call of the client of that number, and compares the answer.
 pub fn apply(
     rt: &impl Abort,
     machine: &mut Machine,
@@ -150,8 +150,8 @@ pub fn apply(
     update: Update,
     want: (&str, u64, u64),
 ) -> Result<(), Fail> {
-    let entry = entry(client, update)?;
     assert!(rt; machine.applied() < MAX_APPLIED);
+    let entry = entry(client, machine.applied() + 1, update)?;
     match machine.apply(entry)? {
         Some(reply) => assert_eq!(rt; outcome(&reply), want),
         None => assert!(rt; false, "an update has a reply"),

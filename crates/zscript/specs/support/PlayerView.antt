@@ -2,7 +2,8 @@
 use Rattle.std.specs.Prelude.{◌≡◌, ℕ, List, [], ◌++◌, take}
 use Rattle.std.specs.Coded.{Coded, code_by, coded×, coded_ℕ, coded_list}
 use Rattle.std.proofs.Common.{refl}
-use Rattle.zops.specs.Machine.{MachineState, coded_machine_state, opening_machine}
+use Rattle.zops.specs.Machine.{MachineState, opening_machine}
+use Rattle.zops.specs.support.Codes.{coded_machine_state}
 use Rattle.zscript.specs.declared.limits.TheConstants.{KEPT}
 
 -- The state, what is kept of the line that has begun, and the replies that were not written yet.

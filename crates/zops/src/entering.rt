@@ -1,0 +1,57 @@
+//! An entry, done to a store and the kept replies by the entry step.
+
+ghost use Rattle.std.specs.Prelude.{◌≡◌, IfOk, Some};
+ghost use Rattle.zcalls.specs.Kept.{entry_step, act_result};
+ghost use Rattle.zcalls.specs.Step.{step};
+ghost use Rattle.zops.specs.support.Ready.{IsSteady, StaysBounded};
+
+use crate::kept::KeptReplies;
+use crate::update::update;
+use std::alloc::Global;
+use zcalls::{Entry, Reply};
+use zpath::Memory;
+use zstore::Store;
+
+/// Does an entry: a number above its client's last one acts, and the number of the kept reply has that
+/// one. What is left where it finds no memory isn't told.
+#[tactic(auto, unfolding(zcalls::specs::Kept::entry_step))]
+pub(crate) fn enter(
+    alloc: Global,
+    store: &mut Store,
+    kept: &mut KeptReplies,
+    entry: Entry,
+) -> Result<Option<Reply>, Memory>
+    requires { IsSteady store.old }
+    ensures done { IfOk result (λ reply. (record { plain = store.new.tree; kept = kept.new }, reply)
+        ≡ entry_step step (record { plain = store.old.tree; kept = kept.old }) entry) }
+    ensures left { StaysBounded store.old store.new }
+{
+    let number = entry.number.number();
+    let last = kept.last_number(entry.client);
+    if number <= last {
+        return kept.reply(alloc, entry.client, entry.number);
+    }
+    let reply = act(alloc, store, kept, entry)?;
+    Ok(Some(reply))
+}
+
+// Does the update of an entry, and keeps its number and its reply.
+fn act(
+    alloc: Global,
+    store: &mut Store,
+    kept: &mut KeptReplies,
+    entry: Entry,
+) -> Result<Reply, Memory>
+    requires { IsSteady store.old }
+    ensures done { IfOk result (λ reply. (
+      record { plain = store.new.tree; kept = kept.new },
+      Some reply,
+    )
+        ≡ act_result step (record { plain = store.old.tree; kept = kept.old }) entry) }
+    ensures left { StaysBounded store.old store.new }
+{
+    let reply = update(alloc, store, entry.client, entry.update)?;
+    let copy = reply.copied(alloc)?;
+    kept.keep(entry.client, entry.number, copy)?;
+    Ok(reply)
+}
