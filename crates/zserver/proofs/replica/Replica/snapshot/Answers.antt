@@ -1,0 +1,7 @@
+use Rattle.std.proofs.Common.{rules}
+use Rattle.zserver_table.specs.Table.{snapshot_row}
+use Rattle.zserver.proofs.replica.Replica.snapshot.Goals as goal
+
+pub returns-clause-next : goal.returns-clause-next
+unfolding snapshot_row
+returns-clause-next c = search rules

@@ -1,0 +1,12 @@
+use Rattle.std.proofs.Common.{◌∙◌, arith}
+use Rattle.std.proofs.lemmas.List.Elements.{filter_more}
+use Rattle.std.proofs.lemmas.Grind.{common_steps}
+use Rattle.zserver.proofs.Sending.{above_skips}
+use Rattle.zserver.proofs.sent.copies_above.Goals as goal
+
+pub loop-e-preserved : goal.loop-e-preserved
+loop-e-preserved c = grind (arith, common_steps, filter_more)
+
+pub loop-e-preserved-then-number : goal.loop-e-preserved-then-number
+loop-e-preserved-then-number c =
+    c.loop-e.invariant ∙ above_skips c.args.n c.args.sent.now c.loop-e.e-index c.e-item.result c.loop-e-test.true c.e-item.is (omega arith)

@@ -1,0 +1,70 @@
+//! The state of a server handed to one that has none.
+
+ghost use Rattle.std.specs.Prelude.{◌≡◌, ◌++◌, ◌∷◌, [], OnErr, OnOk};
+ghost use Rattle.zserver_table.specs.declared.message.Message.TheVariants as message;
+ghost use Rattle.zserver_table.specs.declared.process.Process.TheVariants as process;
+ghost use Rattle.zout.specs.Posts.{Puts};
+ghost use Rattle.zserver_table.specs.Table.{snapshot_row};
+
+use crate::neighbour::{Neighbour, is_neighbour};
+use crate::replica::Replica;
+use crate::snapshot::Snapshot;
+use zops::Machine;
+use zout::Out;
+use zpath::Memory;
+use zserver_table::{Epoch, Message, Process, ServerId};
+
+impl Replica {
+    /// Snapshot: from the predecessor, at a server without state.
+    #[tactic(auto, unfolding(zserver_table::specs::Table::snapshot_row))]
+    pub(crate) fn snapshot(
+        &mut self,
+        from: ServerId,
+        epoch: Epoch,
+        snapshot: Snapshot,
+        out: &mut Out<Snapshot>,
+    ) -> Result<(), Memory>
+        ensures next { OnOk result (self.new ≡ (snapshot_row self.old from epoch snapshot).0) }
+        ensures puts { OnOk result
+            (Puts out.old out.new (snapshot_row self.old from epoch snapshot).1) }
+        ensures silent { OnErr result (out.new.posts ≡ out.old.posts) }
+    {
+        if self.machine.is_some() || !is_neighbour(&self.pred, &from, &epoch) {
+            drop(snapshot);
+            return Ok(());
+        }
+        let Ok(()) = out.reserve(2) else {
+            drop(snapshot);
+            return Err(Memory);
+        };
+        out.put_reserved(Process::Server(from), Message::Ack(epoch, snapshot.last()));
+        out.put_reserved(Process::Master, Message::Joined(epoch));
+        self.machine = Some(snapshot.into_machine());
+        self.sent.clear();
+        Ok(())
+    }
+}
+
+/// Puts the whole state to the successor, which has none.
+pub(crate) fn hand_over(
+    machine: &Machine,
+    succ: &Neighbour,
+    out: &mut Out<Snapshot>,
+) -> Result<(), Memory>
+    ensures puts { OnOk result (Puts out.old out.new ((
+      process.Server succ.now.0,
+      message.Snapshot succ.now.1 (record {
+        last = machine.now.state.applied;
+        machine = machine.now.state.service;
+      }),
+    ) ∷ [])) }
+    ensures silent { OnErr result (out.new.posts ≡ out.old.posts) }
+{
+    let snapshot = Snapshot::of(machine)?;
+    out.reserve(1)?;
+    out.put_reserved(
+        Process::Server(succ.id()),
+        Message::Snapshot(succ.epoch(), snapshot),
+    );
+    Ok(())
+}

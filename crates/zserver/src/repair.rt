@@ -1,0 +1,111 @@
+//! The rows in which acknowledgements go up the chain, and in which a server hears of its neighbours.
+
+ghost use Rattle.std.specs.Prelude.{◌≡◌, ◌++◌, [], OnErr, OnOk};
+ghost use Rattle.ztree.specs.Tree.{Tree};
+ghost use Rattle.zcalls.specs.Kept.{KeptState};
+ghost use Rattle.zout.specs.Posts.{Puts};
+ghost use Rattle.zserver_table.specs.Table.{ack_row, new_pred_row, new_succ_row, become_head_row, become_tail_row};
+
+use crate::join::hand_over;
+use crate::neighbour::{Neighbour, is_neighbour};
+use crate::replica::{Replica, put_ack};
+use crate::sent::{send_above, take_out};
+use crate::snapshot::Snapshot;
+use zout::Out;
+use zpath::Memory;
+use zserver_table::{Epoch, LogNumber, Message, Process, ServerId};
+
+impl Replica {
+    /// Ack: from the successor; what the tail has processed leaves Sent, and the predecessor is told.
+    #[tactic(auto, unfolding(zserver_table::specs::Table::ack_row))]
+    pub(crate) fn ack(
+        &mut self,
+        from: ServerId,
+        epoch: Epoch,
+        n: LogNumber,
+        out: &mut Out<Snapshot>,
+    ) -> Result<(), Memory>
+        ensures next { OnOk result (self.new ≡ (ack_row self.old from epoch n).0) }
+        ensures puts { OnOk result
+            (Puts out.old out.new (ack_row self.old from epoch n).1) }
+        ensures silent { OnErr result (out.new.posts ≡ out.old.posts) }
+    {
+        if !is_neighbour(&self.succ, &from, &epoch) {
+            return Ok(());
+        }
+        out.reserve(1)?;
+        take_out(&mut self.sent, n);
+        put_ack(&self.pred, n, out);
+        Ok(())
+    }
+
+    /// NewPred: the new predecessor; the master is told what the server has.
+    #[tactic(auto, unfolding(zserver_table::specs::Table::new_pred_row))]
+    pub(crate) fn new_pred(
+        &mut self,
+        epoch: Epoch,
+        pred: ServerId,
+        out: &mut Out<Snapshot>,
+    ) -> Result<(), Memory>
+        ensures next { OnOk result (self.new ≡ (new_pred_row self.old epoch pred).0) }
+        ensures puts { OnOk result
+            (Puts out.old out.new (new_pred_row self.old epoch pred).1) }
+        ensures silent { OnErr result (out.new.posts ≡ out.old.posts) }
+    {
+        out.reserve(1)?;
+        out.put_reserved(Process::Master, Message::Have(epoch, self.last()));
+        self.pred = Some(Neighbour::new(pred, epoch));
+        Ok(())
+    }
+
+    /// NewSucc: the new successor; what it lacks is put to it.
+    #[tactic(auto, unfolding(zserver_table::specs::Table::new_succ_row))]
+    pub(crate) fn new_succ(
+        &mut self,
+        epoch: Epoch,
+        succ: ServerId,
+        last: Option<LogNumber>,
+        out: &mut Out<Snapshot>,
+    ) -> Result<(), Memory>
+        ensures next { OnOk result (self.new ≡ (new_succ_row self.old epoch succ last).0) }
+        ensures puts { OnOk result
+            (Puts out.old out.new (new_succ_row self.old epoch succ last).1) }
+        ensures silent { OnErr result (out.new.posts ≡ out.old.posts) }
+    {
+        let Some(machine) = &self.machine else {
+            return Ok(());
+        };
+        let succ = Neighbour::new(succ, epoch);
+        match last {
+            Some(n) => send_above(self.alloc, &self.sent, n, &succ, out)?,
+            None => hand_over(machine, &succ, out)?,
+        }
+        self.succ = Some(succ);
+        Ok(())
+    }
+
+    /// BecomeHead: no predecessor any more.
+    #[tactic(auto, unfolding(zserver_table::specs::Table::become_head_row))]
+    pub(crate) fn become_head(&mut self)
+        ensures next { self.new ≡ (become_head_row self.old).0 }
+        ensures silent { (become_head_row self.old).1 ≡ [] }
+    {
+        self.pred = None;
+    }
+
+    /// BecomeTail: no successor any more; all of Sent is processed now, which is acknowledged.
+    #[tactic(auto, unfolding(zserver_table::specs::Table::become_tail_row))]
+    pub(crate) fn become_tail(&mut self, out: &mut Out<Snapshot>) -> Result<(), Memory>
+        ensures next { OnOk result (self.new ≡ (become_tail_row self.old).0) }
+        ensures puts { OnOk result (Puts out.old out.new (become_tail_row self.old).1) }
+        ensures silent { OnErr result (out.new.posts ≡ out.old.posts) }
+    {
+        out.reserve(1)?;
+        self.sent.clear();
+        self.succ = None;
+        if let Some(last) = self.last() {
+            put_ack(&self.pred, last, out);
+        }
+        Ok(())
+    }
+}

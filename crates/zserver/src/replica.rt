@@ -1,0 +1,123 @@
+//! What a server knows.
+
+ghost use Rattle.std.specs.Prelude.{◌≡◌, ◌+◌, ◌<◌, ◌≤◌, [], ◌++◌, IfErr, IfOk, IfSome, IsErr, OnErr, OnOk};
+ghost use Rattle.zserver_table.specs.declared.limits.TheConstants.{MAX_LOG_NUMBER};
+ghost use Rattle.zserver_table.specs.Machine.{kept_tree};
+ghost use Rattle.zserver_table.specs.View.{member, spare};
+ghost use Rattle.zout.specs.Posts.{Puts};
+ghost use Rattle.zserver_table.specs.Table.{ack_posts, last_number};
+ghost use Rattle.zserver.specs.Server.{first_neighbour};
+
+use crate::neighbour::Neighbour;
+use crate::sent::Sent;
+use crate::snapshot::{Snapshot, log_number};
+use std::alloc::Global;
+use std::marker::Model;
+use zops::Machine;
+use zout::Out;
+use zpath::Memory;
+use zserver_table::{Epoch, LogNumber, Message, Process, ServerId};
+
+/// What a server knows while it goes on. Its machine, where it has one, never met want of memory, and
+/// counts the entries: the number of the last one is no field of its own.
+#[derive(Drop)]
+pub(crate) struct Replica {
+    pub(crate) alloc: Global,
+    pub(crate) machine: Option<Machine>,
+    pub(crate) sent: Sent,
+    pub(crate) pred: Option<Neighbour>,
+    pub(crate) succ: Option<Neighbour>,
+}
+
+impl Model for Replica {
+    ghost use Rattle.zserver.specs.Server.{TreeView};
+    ghost use Rattle.zserver.specs.support.Codes.{coded_view};
+    ghost use Rattle.zserver.specs.support.Replicas.{state_of, last_of, IsWhole};
+
+    ghost Value = { TreeView };
+
+    ghost coded = { coded_view };
+
+    ghost view = { λ r. record {
+      machine = state_of r.machine;
+      last = last_of r.machine;
+      sent = r.sent.items;
+      pred = r.pred;
+      succ = r.succ;
+    } };
+
+    ghost invariant = { λ r. IsWhole r.machine };
+}
+
+impl Replica {
+    /// A member of the opening chain.
+    pub(crate) fn member(
+        alloc: Global,
+        pred: Option<ServerId>,
+        succ: Option<ServerId>,
+    ) -> Result<Replica, Memory>
+        ensures { IfOk result (λ r. r
+            ≡ member kept_tree (first_neighbour pred) (first_neighbour succ)) }
+    {
+        Ok(Replica {
+            alloc,
+            machine: Some(Machine::new(alloc)?),
+            sent: Vec::new(alloc),
+            pred: first_neighbour(pred),
+            succ: first_neighbour(succ),
+        })
+    }
+
+    /// A server outside the chain.
+    pub(crate) fn spare(alloc: Global) -> Replica
+        ensures { result ≡ spare }
+    {
+        Replica {
+            alloc,
+            machine: None,
+            sent: Vec::new(alloc),
+            pred: None,
+            succ: None,
+        }
+    }
+
+    /// The number of its last entry, where it has the state.
+    pub(crate) fn last(&self) -> Option<LogNumber>
+        ensures { result ≡ last_number self.now }
+    {
+        match &self.machine {
+            Some(machine) => Some(log_number(machine)),
+            None => None,
+        }
+    }
+}
+
+/// Acknowledges the entries up to this number, where there is a predecessor.
+pub(crate) fn put_ack(pred: &Option<Neighbour>, n: LogNumber, out: &mut Out<Snapshot>)
+    requires { 0 < out.old.room }
+    ensures { Puts out.old out.new (ack_posts pred.now n) }
+{
+    if let Some(pred) = pred {
+        out.put_reserved(Process::Server(pred.id()), Message::Ack(pred.epoch(), n));
+    }
+}
+
+// A neighbour in the opening chain.
+fn first_neighbour(server: Option<ServerId>) -> Option<Neighbour>
+    ensures { result ≡ first_neighbour server }
+{
+    match server {
+        Some(server) => Some(Neighbour::new(server, first_epoch())),
+        None => None,
+    }
+}
+
+// The epoch of the opening chain.
+fn first_epoch() -> Epoch
+    ensures { result ≡ 0 }
+{
+    match Epoch::new(0) {
+        Some(epoch) => epoch,
+        None => unreachable!(),
+    }
+}

@@ -1,0 +1,48 @@
+//! The row in which a client asks: `Query`.
+
+ghost use Rattle.std.specs.Prelude.{◌≡◌, ◌++◌, true};
+ghost use Rattle.zserver_table.specs.Machine.{kept_tree};
+ghost use Rattle.zserver_table.specs.View.{is_tail};
+ghost use Rattle.zout.specs.Posts.{Puts};
+ghost use Rattle.zserver_table.specs.Table.{query_row};
+ghost use Rattle.zserver.specs.declared.taken.Taken.TheVariants.{Acted, Unheard};
+
+use crate::replica::Replica;
+use crate::snapshot::Snapshot;
+use crate::taken::Taken;
+use zcalls::{CallNumber, ClientId, Query};
+use zout::Out;
+use zserver_table::{Message, Process};
+
+impl Replica {
+    /// Query: a tail answers it; where there is no memory, it is as if it had been lost.
+    #[tactic(auto, unfolding(zserver_table::specs::Table::query_row))]
+    pub(crate) fn query(
+        &self,
+        client: &ClientId,
+        number: CallNumber,
+        query: &Query,
+        out: &mut Out<Snapshot>,
+    ) -> Taken
+        ensures same { (query_row kept_tree self.now client.now number query.now).0 ≡ self.now }
+        ensures puts { result ≡ Acted → Puts out.old out.new
+            (query_row kept_tree self.now client.now number query.now).1 }
+        ensures silent { result ≡ Unheard → out.new.posts ≡ out.old.posts }
+        ensures tail { result ≡ Unheard → is_tail self.now ≡ true }
+    {
+        if self.succ.is_some() {
+            return Taken::Acted;
+        }
+        let Some(machine) = &self.machine else {
+            return Taken::Acted;
+        };
+        let Ok(()) = out.reserve(1) else {
+            return Taken::Unheard;
+        };
+        let Ok(reply) = machine.ask(query) else {
+            return Taken::Unheard;
+        };
+        out.put_reserved(Process::Client(*client), Message::Answer(number, reply));
+        Taken::Acted
+    }
+}

@@ -1,0 +1,73 @@
+//! The entries that were forwarded, and that the tail may not have processed.
+
+ghost use Rattle.std.specs.Prelude.{◌≡◌, ◌≤◌, ◌++◌, length, map, IfOk, OnErr, OnOk};
+ghost use Rattle.zout.specs.Posts.{Puts};
+ghost use Rattle.zserver_table.specs.Table.{entries_above, forward_post};
+
+use crate::neighbour::Neighbour;
+use crate::snapshot::Snapshot;
+use std::alloc::Global;
+use std::collections::VecDeque;
+use zcalls::Entry;
+use zout::Out;
+use zpath::Memory;
+use zserver_table::{LogNumber, Message, Process};
+
+/// The entries, each with its number in the log.
+pub(crate) type Sent = Vec<(LogNumber, Entry)>;
+
+/// Takes out what the tail has processed: the entries up to this number.
+pub(crate) fn take_out(sent: &mut Sent, n: LogNumber)
+    ensures { sent.new.items ≡ entries_above n sent.old.items }
+{
+    sent.retain(|e| n.number() < e.0.number());
+}
+
+/// Copies of the entries above this number.
+fn copies_above(
+    alloc: Global,
+    sent: &[(LogNumber, Entry)],
+    n: LogNumber,
+) -> Result<VecDeque<(LogNumber, Entry)>, Memory>
+    ensures { IfOk result (λ copies. copies.items ≡ entries_above n sent.now) }
+{
+    let mut copies = VecDeque::new(alloc);
+    for e in sent {
+        if e.0.number() <= n.number() {
+            continue;
+        }
+        copies.push_back((e.0, e.1.copied(alloc)?))?;
+    }
+    Ok(copies)
+}
+
+/// Puts each entry to the successor, in their order.
+fn put_all(mut entries: VecDeque<(LogNumber, Entry)>, succ: &Neighbour, out: &mut Out<Snapshot>)
+    requires { length entries.items ≤ out.old.room }
+    ensures { Puts out.old out.new (map (forward_post succ.now) entries.items) }
+{
+    while let Some((number, entry)) = entries.pop_front() {
+        out.put_reserved(
+            Process::Server(succ.id()),
+            Message::Update(succ.epoch(), number, entry),
+        );
+    }
+}
+
+/// Puts what the successor lacks, whose last entry has this number.
+pub(crate) fn send_above(
+    alloc: Global,
+    sent: &[(LogNumber, Entry)],
+    n: LogNumber,
+    succ: &Neighbour,
+    out: &mut Out<Snapshot>,
+) -> Result<(), Memory>
+    ensures puts { OnOk result
+        (Puts out.old out.new (map (forward_post succ.now) (entries_above n sent.now))) }
+    ensures silent { OnErr result (out.new.posts ≡ out.old.posts) }
+{
+    let entries = copies_above(alloc, sent, n)?;
+    out.reserve(entries.len())?;
+    put_all(entries, succ, out);
+    Ok(())
+}

@@ -1,0 +1,114 @@
+//! The server.
+
+ghost use Rattle.std.specs.Prelude.{◌≡◌, ◌⊎◌, true, false, IfOk, IsErr, OnErr, OnOk};
+ghost use Rattle.zserver_table.specs.Machine.{kept_tree};
+ghost use Rattle.zserver_table.specs.View.{member, spare};
+ghost use Rattle.zout.specs.Posts.{Puts};
+ghost use Rattle.zserver.specs.declared.taken.Taken.TheVariants.{Unheard};
+ghost use Rattle.zserver.specs.Server.{first_neighbour, MayBeUnheard, MayStop, running, taken_result};
+
+use crate::replica::Replica;
+use crate::snapshot::Snapshot;
+use crate::stopped::Stopped;
+use crate::taken::Taken;
+use std::alloc::Global;
+use std::marker::Model;
+use zout::Out;
+use zpath::Memory;
+use zserver_table::{Message, Process, ServerId};
+
+/// One server of the chain, or a spare one. It doesn't know its own number: no row of its table asks
+/// for it.
+#[derive(Drop)]
+pub struct Server {
+    alloc: Global,
+    replica: Replica,
+    is_stopped: bool,
+}
+
+impl Model for Server {
+    ghost use Rattle.zserver.specs.Server.{ServerState};
+    ghost use Rattle.zserver.specs.support.Codes.{coded_server};
+
+    ghost Value = { ServerState };
+
+    ghost coded = { coded_server };
+
+    ghost view = { λ server. record {
+      view = server.replica;
+      is_stopped = server.is_stopped;
+    } };
+}
+
+impl Server {
+    /// A member of the opening chain, with an empty machine; these are its neighbours there.
+    pub fn first(
+        alloc: Global,
+        pred: Option<ServerId>,
+        succ: Option<ServerId>,
+    ) -> Result<Server, Memory>
+        ensures { IfOk result (λ server. server
+            ≡ running (member kept_tree (first_neighbour pred) (first_neighbour succ))) }
+    {
+        let replica = Replica::member(alloc, pred, succ)?;
+        Ok(Server::running(alloc, replica))
+    }
+
+    /// A server outside the chain, which has no state. It takes no memory.
+    pub fn spare(alloc: Global) -> Server
+        ensures { result ≡ running spare }
+    {
+        Server::running(alloc, Replica::spare(alloc))
+    }
+
+    // A server that goes on.
+    fn running(alloc: Global, replica: Replica) -> Server
+        ensures { result ≡ running replica }
+    {
+        Server {
+            alloc,
+            replica,
+            is_stopped: false,
+        }
+    }
+
+    /// Takes a message. Where there is no memory for what the table says, the server stops, and its
+    /// state is let go; a query is ignored then.
+    pub fn take(
+        &mut self,
+        from: Process,
+        message: Message<Snapshot>,
+        out: &mut Out<Snapshot>,
+    ) -> Result<Taken, Stopped>
+        ensures running { OnOk result
+            ((self.old.is_stopped ≡ false) × (self.new.is_stopped ≡ false)) }
+        ensures next { IfOk result
+            (λ taken. self.new.view ≡ (taken_result taken self.old.view from message).0) }
+        ensures puts { IfOk result
+            (λ taken. Puts out.old out.new (taken_result taken self.old.view from message).1) }
+        ensures unheard { IfOk result
+            (λ taken. taken ≡ Unheard → MayBeUnheard self.old.view from message) }
+        ensures stopped { OnErr result (self.new.is_stopped ≡ true) }
+        ensures silent { OnErr result (out.new.posts ≡ out.old.posts) }
+        ensures stays { self.old.is_stopped ≡ true → IsErr result }
+        ensures query { OnErr result ((self.old.is_stopped ≡ true) ⊎ MayStop message) }
+    {
+        if self.is_stopped {
+            drop(message);
+            return Err(Stopped);
+        }
+        match self.replica.take(&from, message, out) {
+            Ok(taken) => Ok(taken),
+            Err(Memory) => Err(self.stop()),
+        }
+    }
+
+    // Stops for good, and lets the state go.
+    fn stop(&mut self) -> Stopped
+        ensures { self.new.is_stopped ≡ true }
+    {
+        self.is_stopped = true;
+        self.replica = Replica::spare(self.alloc);
+        Stopped
+    }
+}

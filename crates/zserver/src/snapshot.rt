@@ -1,0 +1,75 @@
+//! What a `Snapshot` hands over.
+
+ghost use Rattle.std.specs.Prelude.{◌≡◌, false, IfOk};
+ghost use Rattle.zserver.specs.support.Replicas.{state_of, last_of, IsWhole};
+
+use std::marker::Model;
+use zops::Machine;
+use zpath::Memory;
+use zserver_table::LogNumber;
+
+/// The whole state of a server, as it is handed to one that has none. Its machine has never met want of
+/// memory, and the number of its last entry is how many entries the machine applied.
+#[derive(Drop)]
+pub struct Snapshot {
+    machine: Machine,
+}
+
+impl Model for Snapshot {
+    ghost use Rattle.std.specs.Prelude.{◌≡◌, false};
+    ghost use Rattle.ztree.specs.Tree.{Tree};
+    ghost use Rattle.zcalls.specs.Kept.{KeptState};
+    ghost use Rattle.zserver_table.specs.View.{Transfer};
+    ghost use Rattle.zserver.specs.support.Codes.{coded_transfer};
+
+    ghost Value = { Transfer (KeptState Tree) };
+
+    ghost coded = { coded_transfer };
+
+    ghost view = { λ s. record {
+      last = s.machine.state.applied;
+      machine = s.machine.state.service;
+    } };
+
+    ghost invariant = { λ s. s.machine.is_broken ≡ false };
+}
+
+impl Snapshot {
+    /// The state of a machine.
+    pub(crate) fn of(machine: &Machine) -> Result<Snapshot, Memory>
+        ensures { IfOk result (λ s. s ≡ record {
+          last = machine.now.state.applied;
+          machine = machine.now.state.service;
+        }) }
+    {
+        Ok(Snapshot {
+            machine: machine.copy()?,
+        })
+    }
+
+    /// The number of its last entry.
+    pub(crate) fn last(&self) -> LogNumber
+        ensures { result ≡ self.now.last }
+    {
+        log_number(&self.machine)
+    }
+
+    /// Its machine.
+    pub(crate) fn into_machine(self) -> Machine
+        ensures last { result.state.applied ≡ self.last }
+        ensures machine { result.state.service ≡ self.machine }
+        ensures whole { result.is_broken ≡ false }
+    {
+        self.machine
+    }
+}
+
+/// How many entries the machine applied, as the number of the last one.
+pub(crate) fn log_number(machine: &Machine) -> LogNumber
+    ensures { result ≡ machine.now.state.applied }
+{
+    match LogNumber::new(machine.applied()) {
+        Some(number) => number,
+        None => unreachable!(),
+    }
+}

@@ -1,0 +1,141 @@
+//! The server table.
+
+ghost use Rattle.std.specs.Prelude.{◌≡◌, true, false, IfOk, OnErr, OnOk};
+ghost use Rattle.zserver_table.specs.declared.process.Process.TheVariants as process;
+ghost use Rattle.zserver_table.specs.Machine.{kept_tree};
+ghost use Rattle.zserver_table.specs.Table.{server_step};
+ghost use Rattle.zout.specs.Posts.{Puts};
+ghost use Rattle.zserver.specs.declared.taken.Taken.TheVariants.{Unheard};
+ghost use Rattle.zserver.specs.Server.{MayBeUnheard, MayStop, taken_result};
+
+use crate::replica::Replica;
+use crate::snapshot::Snapshot;
+use crate::taken::Taken;
+use zcalls::{ClientId, Entry};
+use zout::Out;
+use zpath::Memory;
+use zserver_table::{Message, Process, ServerId};
+
+impl Replica {
+    /// The server table. Where a growth is refused nothing is put, and the replica is of no use any
+    /// more.
+    pub(crate) fn take(
+        &mut self,
+        from: &Process,
+        message: Message<Snapshot>,
+        out: &mut Out<Snapshot>,
+    ) -> Result<Taken, Memory>
+        ensures next { IfOk result
+            (λ taken. self.new ≡ (taken_result taken self.old from.now message).0) }
+        ensures puts { IfOk result
+            (λ taken. Puts out.old out.new (taken_result taken self.old from.now message).1) }
+        ensures unheard { IfOk result
+            (λ taken. taken ≡ Unheard → MayBeUnheard self.old from.now message) }
+        ensures silent { OnErr result (out.new.posts ≡ out.old.posts) }
+        ensures query { OnErr result (MayStop message) }
+    {
+        match from {
+            Process::Client(client) => self.take_call(client, message, out),
+            Process::Server(server) => {
+                self.take_of_server(server, message, out)?;
+                Ok(Taken::Acted)
+            }
+            Process::Master => {
+                self.take_of_master(message, out)?;
+                Ok(Taken::Acted)
+            }
+        }
+    }
+
+    // From a client.
+    #[tactic(auto, unfolding(zserver_table::specs::Table::server_step))]
+    fn take_call(
+        &mut self,
+        client: &ClientId,
+        message: Message<Snapshot>,
+        out: &mut Out<Snapshot>,
+    ) -> Result<Taken, Memory>
+        ensures next { IfOk result (λ taken. self.new
+            ≡ (taken_result taken self.old (process.Client client.now) message).0) }
+        ensures puts { IfOk result (λ taken. Puts out.old out.new
+            (taken_result taken self.old (process.Client client.now) message).1) }
+        ensures unheard { IfOk result (λ taken. taken ≡ Unheard
+            → MayBeUnheard self.old (process.Client client.now) message) }
+        ensures silent { OnErr result (out.new.posts ≡ out.old.posts) }
+        ensures query { OnErr result (MayStop message) }
+    {
+        match message {
+            Message::Submit(number, update) => {
+                let entry = Entry {
+                    client: *client,
+                    number,
+                    update,
+                };
+                match self.submit(entry, out) {
+                    Ok(()) => Ok(Taken::Acted),
+                    Err(memory) => Err(memory),
+                }
+            }
+            Message::Query(number, query) => Ok(self.query(client, number, &query, out)),
+            other => {
+                drop(other);
+                Ok(Taken::Acted)
+            }
+        }
+    }
+
+    // From another server.
+    #[tactic(auto, unfolding(zserver_table::specs::Table::server_step))]
+    fn take_of_server(
+        &mut self,
+        server: &ServerId,
+        message: Message<Snapshot>,
+        out: &mut Out<Snapshot>,
+    ) -> Result<(), Memory>
+        ensures next { OnOk result
+            (self.new ≡ (server_step kept_tree self.old (process.Server server.now) message).0) }
+        ensures puts { OnOk result (Puts out.old out.new
+            (server_step kept_tree self.old (process.Server server.now) message).1) }
+        ensures silent { OnErr result (out.new.posts ≡ out.old.posts) }
+        ensures query { OnErr result (MayStop message) }
+    {
+        match message {
+            Message::Update(epoch, n, entry) => self.update(*server, epoch, n, entry, out),
+            Message::Ack(epoch, n) => self.ack(*server, epoch, n, out),
+            Message::Snapshot(epoch, snapshot) => self.snapshot(*server, epoch, snapshot, out),
+            other => {
+                drop(other);
+                Ok(())
+            }
+        }
+    }
+
+    // From the master.
+    #[tactic(auto, unfolding(zserver_table::specs::Table::server_step, zserver_table::specs::Table::become_head_row))]
+    fn take_of_master(
+        &mut self,
+        message: Message<Snapshot>,
+        out: &mut Out<Snapshot>,
+    ) -> Result<(), Memory>
+        ensures next { OnOk result
+            (self.new ≡ (server_step kept_tree self.old process.Master message).0) }
+        ensures puts { OnOk result
+            (Puts out.old out.new (server_step kept_tree self.old process.Master message).1) }
+        ensures silent { OnErr result (out.new.posts ≡ out.old.posts) }
+        ensures query { OnErr result (MayStop message) }
+    {
+        match message {
+            Message::NewPred(epoch, pred) => self.new_pred(epoch, pred, out),
+            Message::NewSucc(epoch, succ, last) => self.new_succ(epoch, succ, last, out),
+            Message::BecomeHead(_) => {
+                self.become_head();
+                Ok(())
+            }
+            Message::BecomeTail(_) => self.become_tail(out),
+            other => {
+                drop(other);
+                Ok(())
+            }
+        }
+    }
+}
