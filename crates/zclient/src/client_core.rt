@@ -1,6 +1,6 @@
 //! The core of a client.
 
-ghost use Rattle.std.specs.Prelude.{◌≡◌, ◌+◌, ◌<◌, ℕ, None, Some, [], IfErr, IfOk, IsSome, OnErr, OnOk, is_some};
+ghost use Rattle.std.specs.Prelude.{◌≡◌, ◌+◌, ◌<◌, ◌≤◌, ℕ, None, Some, [], IfErr, IfOk, IsSome, OnErr, OnOk, is_some};
 ghost use Rattle.std.specs.Option.{option_map};
 ghost use Rattle.zclient_table.specs.View.{opening_client};
 ghost use Rattle.zclient_table.specs.Table.{begin_fault, begin_step, client_step, answer_row, config_row, outstanding_posts, retry_posts};
@@ -55,6 +55,29 @@ impl ClientCore {
             head: Some(first_server()),
             tail: Some(last),
         }
+    }
+
+    /// A client that there isn't: it knows no chain. It takes no memory.
+    pub fn outside(alloc: Global) -> ClientCore
+        ensures { (servers clients client : ℕ) → clients ≤ client
+            → result ≡ opening_client servers clients client }
+    {
+        ClientCore {
+            alloc,
+            number: no_call(),
+            outstanding: None,
+            epoch: first_epoch(),
+            head: None,
+            tail: None,
+        }
+    }
+
+    /// The number of the call that it waits for.
+    pub fn outstanding(&self) -> Option<CallNumber>
+        ensures { result ≡ option_map (λ waits. waits.0) self.now.outstanding }
+    {
+        let (number, _) = self.outstanding.as_ref()?;
+        Some(*number)
     }
 
     /// Begins a call, and answers its number. All growth is made before anything is put or changed.

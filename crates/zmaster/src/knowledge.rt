@@ -73,6 +73,13 @@ impl Knowledge {
         }
     }
 
+    /// How many clients there are.
+    pub(crate) fn clients(&self) -> u8
+        ensures { result ≡ self.now.clients }
+    {
+        self.clients
+    }
+
     /// The numbers of servers are few.
     pub(crate) fn count(&self) -> usize
         ensures chain { result ≡ length self.now.chain }

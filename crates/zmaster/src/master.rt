@@ -45,6 +45,13 @@ impl Master {
         Master { known }
     }
 
+    /// How many clients there are.
+    pub fn clients(&self) -> u8
+        ensures { result ≡ self.now.clients }
+    {
+        self.known.clients()
+    }
+
     /// Takes a message. It takes no memory, and always acts.
     pub fn take<T: Drop>(&mut self, from: Process, message: Message<T>, out: &mut Out<T>)
         requires { MAX_POSTS ≤ out.old.room }

@@ -1,0 +1,93 @@
+-- A client's new view, what it puts, and the calls that it begins or sends once more.
+use Rattle.std.proofs.Common.{◌≡◌, ℕ, ◌<◌, Bool, true, false, Option, None, Some, List, [], ◌∷◌, ◌++◌, length, get_or, set, refl, sym, ap, subst, ◌∙◌, append-nil}
+use Rattle.std.specs.Prelude.{◌&&◌, not, nat_lt, is_none, is_some}
+use Rattle.std.proofs.lemmas.List.{set-get_or}
+use Rattle.ztree.specs.Tree.{Tree}
+use Rattle.zcalls.specs.Kept.{KeptState}
+use Rattle.zcalls.specs.declared.call.Call.{Call}
+use Rattle.zserver_table.specs.declared.process.Process.TheVariants.{Client}
+use Rattle.zserver_table.specs.Machine.{kept_tree}
+use Rattle.zserver_table.specs.View.{Transfer, Post}
+use Rattle.zclient_table.specs.View.{ClientView}
+use Rattle.zclient_table.specs.Table.{begin_fault, begin_step, retry_posts}
+use Rattle.zclient_table.specs.declared.begin_fault.BeginFault.{BeginFault}
+use Rattle.zworld_model.specs.declared.event.Event.TheVariants as event
+use Rattle.zworld_model.specs.declared.history.CallEvent.TheVariants as call_event
+use Rattle.zworld_model.specs.History.{History}
+use Rattle.zworld_model.specs.World.{World}
+use Rattle.zworld_model.specs.Events.{client_does}
+use Rattle.zworld_model.specs.Alike.{IsAlike}
+use Rattle.zprocesses.specs.declared.did.Did.TheVariants as became
+use Rattle.zprocesses.specs.declared.did.IdleCause.TheVariants as cause
+use Rattle.zprocesses.specs.Held.{Held, nobody, world_of}
+use Rattle.zprocesses.specs.Steps.{HasStepped}
+use Rattle.zprocesses.specs.support.Posting.{Rows, IsPosted}
+use Rattle.zprocesses.proofs.Alike.{alike_by, family_set}
+use Rattle.zprocesses.proofs.Posting.{lost_is, client_words, posted}
+use Rattle.zprocesses.proofs.Steps.{idle_stepped, done_stepped}
+
+-- what is held, with a client's new view and these rows
+abbrev pub with_client : Held → ℕ → ClientView → Rows → Held
+with_client held c view rows = record held { clients = set held.clients c view; links = rows }
+
+-- a client's new view, and what it puts; the history goes on
+pub client_alike : (held : Held) (c : ℕ) (view : ClientView) (posts : List (Post (KeptState Tree))) (rows : Rows) (history later : History)
+    → c < length held.clients → IsPosted held.members held.links (Client c) posts rows
+    → IsAlike (record (client_does (world_of held history) c view posts) { history = later }) (world_of (with_client held c view rows) later)
+client_alike held c view posts rows history later inside done =
+    alike_by (record (client_does (world_of held history) c view posts) { history = later }) (world_of (with_client held c view rows) later) refl refl
+    (λ d. family_set held.clients c view nobody inside d) (λ s. refl) (λ s alive. refl)
+    (λ from to alive. posted held.members held.links rows (Client c) posts (client_words held.members c) done from to (sym (lost_is held history to) ∙ alive))
+
+-- a call begins
+pub begun : (held : Held) (c : ℕ) (call : Call) (number : ℕ) (view : ClientView) (posts : List (Post (KeptState Tree))) (rows : Rows)
+    → nat_lt c held.master.clients ≡ true → begin_fault (get_or held.clients c nobody) ≡ None → c < length held.clients
+    → view ≡ (begin_step {T = Transfer (KeptState Tree)} (get_or held.clients c nobody) call).0
+    → posts ≡ (begin_step {T = Transfer (KeptState Tree)} (get_or held.clients c nobody) call).1
+    → number ≡ view.number
+    → IsPosted held.members held.links (Client c) posts rows
+    → HasStepped held (with_client held c view rows) (event.Begin c call) became.Done (call_event.Begin c number call ∷ [])
+begun held c call number view posts rows one free inside is puts counted done =
+    let did : ClientView × List (Post (KeptState Tree)) = begin_step (get_or held.clients c nobody) call in
+    done_stepped held (with_client held c view rows) (event.Begin c call) (call_event.Begin c number call ∷ []) (rw (one, free) refl)
+    (λ history.
+    subst (λ (n : ℕ). IsAlike (record (client_does (world_of held history) c did.0 did.1) { history = history ++ call_event.Begin c did.0.number call ∷ [] })
+    (world_of (with_client held c view rows) (history ++ call_event.Begin c n call ∷ []))) (sym (counted ∙ ap (λ (v : ClientView). v.number) is))
+    (subst (λ (v : ClientView). IsAlike (record (client_does (world_of held history) c did.0 did.1) { history = history ++ call_event.Begin c did.0.number call ∷ [] })
+    (world_of (with_client held c v rows) (history ++ call_event.Begin c did.0.number call ∷ []))) (sym is)
+    (client_alike held c did.0 did.1 rows history (history ++ call_event.Begin c did.0.number call ∷ []) inside
+    (subst (λ (ps : List (Post (KeptState Tree))). IsPosted held.members held.links (Client c) ps rows) puts done))))
+
+-- a call doesn't
+pub not_begun : (held : Held) (c : ℕ) (call : Call) (fault : BeginFault) → begin_fault (get_or held.clients c nobody) ≡ Some fault
+    → HasStepped held held (event.Begin c call) (became.Idle (cause.Begin fault)) []
+not_begun held c call fault refused =
+    idle_stepped held (event.Begin c call) (cause.Begin fault) (rw refused (and_false (nat_lt c held.master.clients))) refused
+  where
+    and_false : (b : Bool) → (b && false) ≡ false
+    and_false true = refl
+    and_false false = refl
+
+pub nobody_begins : (held : Held) (c : ℕ) (call : Call) → nat_lt c held.master.clients ≡ false
+    → HasStepped held held (event.Begin c call) (became.Idle cause.Nothing) []
+nobody_begins held c call none = idle_stepped held (event.Begin c call) cause.Nothing (rw none refl) (refl, none)
+
+-- a call is sent once more
+pub retried : (held : Held) (c : ℕ) (posts : List (Post (KeptState Tree))) (rows : Rows)
+    → is_some (get_or held.clients c nobody).outstanding ≡ true → c < length held.clients
+    → posts ≡ retry_posts (get_or held.clients c nobody)
+    → IsPosted held.members held.links (Client c) posts rows
+    → HasStepped held (record held { links = rows }) (event.Retry c) became.Done []
+retried held c posts rows waits inside is done =
+    done_stepped held (record held { links = rows }) (event.Retry c) [] waits
+    (λ history. let view = get_or held.clients c nobody in
+    subst (λ (h : History). IsAlike (client_does (world_of held history) c view (retry_posts view)) (world_of (record held { links = rows }) h)) (sym (append-nil history))
+    (subst (λ (cs : List ClientView). IsAlike (client_does (world_of held history) c view (retry_posts view)) (world_of (record held { clients = cs; links = rows }) history))
+    (set-get_or held.clients c nobody)
+    (client_alike held c view (retry_posts view) rows history history inside
+    (subst (λ (ps : List (Post (KeptState Tree))). IsPosted held.members held.links (Client c) ps rows) is done))))
+
+-- nothing is there to be sent
+pub not_retried : (held : Held) (c : ℕ) → is_some (get_or held.clients c nobody).outstanding ≡ false
+    → HasStepped held held (event.Retry c) (became.Idle cause.Nothing) []
+not_retried held c waits = idle_stepped held (event.Retry c) cause.Nothing waits refl

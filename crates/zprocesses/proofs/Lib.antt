@@ -1,0 +1,9 @@
+pub mod Alike
+pub mod Posting
+pub mod Steps
+pub mod CallSteps
+pub mod FailureSteps
+pub mod DeliverySteps
+pub mod OpeningViews
+pub mod Results
+pub mod TakeSteps

@@ -1,0 +1,92 @@
+-- Events that happened, and events that didn't.
+use Rattle.std.proofs.Common.{◌≡◌, ℕ, Bool, true, false, if◌then◌else◌, List, [], ◌∷◌, ◌++◌, refl, sym, ap, subst, ◌∙◌, append-nil}
+use Rattle.std.specs.Prelude.{not, ◌&&◌}
+use mathlib.Core.Bool.{true≢false}
+use Rattle.ztree.specs.Tree.{Tree}
+use Rattle.zcalls.specs.Kept.{KeptState}
+use Rattle.zserver_table.specs.declared.process.Process.{Process}
+use Rattle.zserver_table.specs.declared.process.Process.TheVariants.{Master, Server, Client}
+use Rattle.zserver_table.specs.Machine.{kept_tree}
+use Rattle.zserver_table.specs.View.{MessageOf}
+use Rattle.zworld_model.specs.declared.event.Event.{Event}
+use Rattle.zworld_model.specs.declared.event.Event.TheVariants.{Begin, Retry, Take, Ignore, Fail, Join}
+use Rattle.zworld_model.specs.declared.outcome.Outcome.TheVariants.{Acted, Stopped, Unheard}
+use Rattle.zworld_model.specs.History.{History}
+use Rattle.zworld_model.specs.World.{World}
+use Rattle.zworld_model.specs.Events.{is_enabled, happens, acts}
+use Rattle.zworld_model.specs.Reading.{read_delivery, read}
+use Rattle.zworld_model.specs.Alike.{IsAlike}
+use Rattle.zworld_model.proofs.Alike.{alike_itself}
+use Rattle.zprocesses.specs.declared.did.Did.{Did}
+use Rattle.zprocesses.specs.declared.did.Did.TheVariants as did
+use Rattle.zprocesses.specs.declared.did.IdleCause.{IdleCause}
+use Rattle.zprocesses.specs.declared.did.IdleCause.TheVariants as cause
+use Rattle.zprocesses.specs.Held.{Held, world_of}
+use Rattle.zprocesses.specs.Steps.{is_idle, outcome_of, IsCause, HasStepped}
+
+-- what is enabled doesn't hang on the history
+pub enabled_anyway : (held : Held) (history : History) (event : Event) → is_enabled (world_of held history) event ≡ is_enabled (world_of held []) event
+enabled_anyway held history (Begin c call) = refl
+enabled_anyway held history (Retry c) = refl
+enabled_anyway held history (Take from to) = refl
+enabled_anyway held history (Ignore from to) = refl
+enabled_anyway held history (Fail s) = refl
+enabled_anyway held history (Join s) = refl
+
+-- a delivery that the taker acted on reads as itself
+delivery_acted : (from : Process) (s : ℕ) (query : Bool) → read_delivery from s query Acted ≡ Take from (Server s)
+delivery_acted from s true = refl
+delivery_acted from s false = refl
+
+same_if : {A : Type 0} (b : Bool) (x y : A) → x ≡ y → (if b then x else y) ≡ y
+same_if true x y same = same
+same_if false x y same = refl
+
+-- and so does every event
+read_acted : (w : World (KeptState Tree)) (event : Event) → read w event Acted ≡ event
+read_acted w (Begin c call) = refl
+read_acted w (Retry c) = refl
+read_acted w (Take from Master) = refl
+read_acted w (Take from (Server s)) = same_if (is_enabled w (Take from (Server s))) _ (Take from (Server s)) (delivery_acted from s _)
+read_acted w (Take from (Client c)) = refl
+read_acted w (Ignore from to) = refl
+read_acted w (Fail s) = refl
+read_acted w (Join s) = refl
+
+-- an event that isn't enabled, or is
+happens_not : (w : World (KeptState Tree)) (event : Event) → is_enabled w event ≡ false → happens kept_tree w event ≡ w
+happens_not w event off = ap (λ b. if b then acts kept_tree w event else w) off
+
+pub happens_so : (w : World (KeptState Tree)) (event : Event) → is_enabled w event ≡ true → happens kept_tree w event ≡ acts kept_tree w event
+happens_so w event on = ap (λ b. if b then acts kept_tree w event else w) on
+
+-- an event that isn't enabled
+pub idle_stepped : (held : Held) (event : Event) (why : IdleCause) → is_enabled (world_of held []) event ≡ false → IsCause held event why
+    → HasStepped held held event (did.Idle why) []
+idle_stepped held event why off caused = record {
+  idle = ap not (sym off);
+  same = λ idle. refl;
+  caused = λ other is. subst (λ c. IsCause held event c) (same_cause why other is) caused;
+  fits = refl;
+  leads = λ history.
+      subst (λ e. IsAlike (happens kept_tree (world_of held history) e) (world_of held (history ++ []))) (sym (read_acted (world_of held []) event))
+      (subst (λ w. IsAlike w (world_of held (history ++ []))) (sym (happens_not (world_of held history) event (enabled_anyway held history event ∙ off)))
+      (subst (λ h. IsAlike (world_of held history) (world_of held h)) (sym (append-nil history)) (alike_itself (world_of held history))));
+}
+  where
+    same_cause : (a b : IdleCause) → did.Idle a ≡ did.Idle b → a ≡ b
+    same_cause a b is = ap (λ (d : Did). elim d [ did.Done ↦ a | did.Idle c ↦ c | did.Unheard ↦ a | did.Stopped ↦ a ]) is
+
+-- an event that happened
+pub done_stepped : (old new : Held) (event : Event) (told : History) → is_enabled (world_of old []) event ≡ true
+    → ((history : History) → IsAlike (acts kept_tree (world_of old history) event) (world_of new (history ++ told)))
+    → HasStepped old new event did.Done told
+done_stepped old new event told on alike = record {
+  idle = ap not (sym on);
+  same = λ idle. absurd (true≢false (sym idle));
+  caused = λ why is. let never : ⊥ = cc in absurd never;
+  fits = refl;
+  leads = λ history.
+      subst (λ e. IsAlike (happens kept_tree (world_of old history) e) (world_of new (history ++ told))) (sym (read_acted (world_of old []) event))
+      (subst (λ w. IsAlike w (world_of new (history ++ told))) (sym (happens_so (world_of old history) event (enabled_anyway old history event ∙ on))) (alike history));
+}

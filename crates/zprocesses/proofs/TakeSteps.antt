@@ -1,0 +1,64 @@
+-- A delivery as a whole: what was popped, and what the taker made of it.
+use Rattle.std.proofs.Common.{◌≡◌, ℕ, Bool, false, true, Option, Some, None, List, [], ◌∷◌, ◌++◌, refl, sym, ap, subst, ◌∙◌, append-nil}
+use Rattle.ztree.specs.Tree.{Tree}
+use Rattle.zcalls.specs.Kept.{KeptState}
+use Rattle.zserver_table.specs.declared.process.Process.{Process}
+use Rattle.zserver_table.specs.declared.process.Process.TheVariants.{Server}
+use Rattle.zserver_table.specs.View.{MessageOf}
+use Rattle.zworld_model.specs.declared.event.Event.TheVariants as event
+use Rattle.zworld_model.specs.World.{World}
+use Rattle.zworld_model.specs.Events.{has_failed}
+use Rattle.zprocesses.specs.declared.answer.Answer.{Answer}
+use Rattle.zprocesses.specs.declared.did.Did.{Did}
+use Rattle.zprocesses.specs.declared.did.Did.TheVariants as became
+use Rattle.zprocesses.specs.declared.did.IdleCause.TheVariants as cause
+use Rattle.zprocesses.specs.Held.{Held, MemberView}
+use Rattle.zprocesses.proofs.Posting.{lost_is}
+use Rattle.zprocesses.specs.Steps.{HasStepped, answer_events}
+use Rattle.zprocesses.specs.support.Posting.{is_lost}
+use Rattle.zprocesses.specs.support.Fronts.{HasPopped, IsGiven, IsGivenToServer}
+use Rattle.zprocesses.proofs.DeliverySteps.{taken, unheard, stopped, not_taken, not_taken_lost}
+
+-- what a delivery says, with the answers before and after
+abbrev pub Says : Held → Held → Process → Process → List Answer → List Answer → Did → Type 0
+Says old new from to before after did =
+    (told : List Answer) × (after ≡ before ++ told) × HasStepped old new (event.Take from to) did (answer_events told)
+
+module _ (old : Held) (from to : Process) (answers : List Answer) where
+  pub says_lost : is_lost old.members to ≡ true → Says old old from to answers answers (became.Idle cause.Nothing)
+  says_lost lost = ([], sym (append-nil answers), not_taken_lost old from to lost)
+
+  pub says_none : (mid : Held) → HasPopped old from to None mid → Says old mid from to answers answers (became.Idle cause.Nothing)
+  says_none mid none =
+      subst (λ (m : Held). Says old m from to answers answers (became.Idle cause.Nothing)) (sym none.1) ([], sym (append-nil answers), not_taken old from to none.0)
+
+  pub says_given : (mid new : Held) (front : MessageOf (KeptState Tree)) (after told : List Answer) (did : Did) → is_lost old.members to ≡ false
+      → HasPopped old from to (Some front) mid → after ≡ answers ++ told → IsGiven mid from to front (answer_events told) new → did ≡ became.Done
+      → Says old new from to answers after did
+  says_given mid new front after told did alive popped more given is =
+      subst (λ (d : Did). Says old new from to answers after d) (sym is) (told, more, taken old from to front popped.0 popped.1 alive mid new (answer_events told) popped.2 given)
+
+-- at a server
+pub says_at_server : (old mid new : Held) (from : Process) (s : ℕ) (front : MessageOf (KeptState Tree)) (answers : List Answer) (did : Did)
+    → is_lost old.members (Server s) ≡ false → HasPopped old from (Server s) (Some front) mid → IsGivenToServer mid from s front new did
+    → Says old new from (Server s) answers answers did
+says_at_server old mid new from s front answers became.Done alive popped given =
+    ([], sym (append-nil answers), taken old from (Server s) front popped.0 popped.1 alive mid new [] popped.2 given)
+says_at_server old mid new from s front answers (became.Idle why) alive popped given = absurd given
+says_at_server old mid new from s front answers became.Unheard alive popped given =
+    subst (λ (h : Held). Says old h from (Server s) answers answers became.Unheard) (sym given.0)
+    ([], sym (append-nil answers), unheard old from s front popped.0 popped.1 alive mid popped.2 given.1)
+says_at_server old mid new from s front answers became.Stopped alive popped given =
+    ([], sym (append-nil answers), stopped old from s front popped.0 popped.1 alive mid new given.0 popped.2 given.1 given.2)
+
+-- who hadn't failed before a front was taken hasn't after it
+pub popped_alive : (old mid : Held) (from to : Process) (front : MessageOf (KeptState Tree)) → HasPopped old from to (Some front) mid
+    → is_lost old.members to ≡ false → is_lost mid.members to ≡ false
+popped_alive old mid from to front popped alive =
+    sym (lost_is mid [] to) ∙ ap (λ (w : World (KeptState Tree)). has_failed w to) (popped.2 []) ∙ lost_is old [] to ∙ alive
+
+-- by what is_lost answered
+pub lost_by : (old held : Held) (members : List MemberView) (to : Process) (answer b : Bool) → held ≡ old → members ≡ held.members
+    → answer ≡ is_lost members to → answer ≡ b → is_lost old.members to ≡ b
+lost_by old held members to answer b same value is was =
+    ap (λ (h : Held). is_lost h.members to) (sym same) ∙ ap (λ ms. is_lost ms to) (sym value) ∙ sym is ∙ was

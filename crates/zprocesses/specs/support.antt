@@ -1,0 +1,5 @@
+pub mod Codes
+pub mod Members
+pub mod Posting
+pub mod Fronts
+pub mod Opening

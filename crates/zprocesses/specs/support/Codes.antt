@@ -1,0 +1,31 @@
+-- How what is held is stored.
+use Rattle.std.specs.Prelude.{Bool, Option, List, refl}
+use Rattle.std.specs.Coded.{Coded, code_by, coded×, coded_bool, coded_list, coded_option}
+use Rattle.ztree.specs.Tree.{Tree}
+use Rattle.zcalls.specs.Kept.{KeptState}
+use Rattle.zserver_table.specs.View.{ServerView, MessageOf}
+use Rattle.zclient_table.specs.View.{ClientView}
+use Rattle.zmaster_table.specs.View.{MasterView}
+use Rattle.zclient.specs.contracts.client_core.ClientCore as client
+use Rattle.zmaster.specs.contracts.master.Master as master
+use Rattle.zlinks.specs.contracts.links.Links as links
+use Rattle.zserver.specs.contracts.snapshot.Snapshot as snapshot
+use Rattle.zserver.specs.support.Codes.{coded_view}
+use Rattle.zserver.specs.Server.{TreeView}
+use Rattle.zprocesses.specs.Held.{MemberView, Held, ProcessesView}
+
+-- how a member is stored
+abbrev pub coded_member : Coded MemberView
+coded_member = code_by (Option TreeView × Bool) (coded× (coded_option coded_view) coded_bool) (λ m. (m.view, m.owes_gone)) (λ p. record { view = p.0; owes_gone = p.1 }) (λ _. refl)
+
+-- how what is held is stored
+abbrev pub coded_held : Coded Held
+coded_held =
+    code_by (List MemberView × (List ClientView × (MasterView × List (List (List (MessageOf (KeptState Tree)))))))
+    (coded× (coded_list coded_member) (coded× (coded_list client.the_row.coded) (coded× master.the_row.coded (links.the_row snapshot.the_row).coded)))
+    (λ h. (h.members, (h.clients, (h.master, h.links))))
+    (λ p. record { members = p.0; clients = p.1.0; master = p.1.1.0; links = p.1.1.1 }) (λ _. refl)
+
+-- and all processes
+abbrev pub coded_processes : Coded ProcessesView
+coded_processes = code_by (Held × Bool) (coded× coded_held coded_bool) (λ v. (v.held, v.is_broken)) (λ p. record { held = p.0; is_broken = p.1 }) (λ _. refl)

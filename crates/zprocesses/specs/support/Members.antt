@@ -1,0 +1,27 @@
+-- What a member says of a message.
+use Rattle.std.specs.Prelude.{◌≡◌, Bool, true, false, None, Some, List, ◌++◌, length}
+use Rattle.ztree.specs.declared.limits.TheConstants.{MAX_CLIENTS}
+use Rattle.zserver_table.specs.declared.limits.TheConstants.{MAX_SERVERS}
+use Rattle.zclient_table.specs.View.{ClientView}
+use Rattle.ztree.specs.Tree.{Tree}
+use Rattle.zcalls.specs.Kept.{KeptState}
+use Rattle.zserver_table.specs.declared.process.Process.{Process}
+use Rattle.zserver_table.specs.Machine.{kept_tree}
+use Rattle.zserver_table.specs.View.{ServerView, MessageOf, Post}
+use Rattle.zserver_table.specs.Table.{server_step}
+use Rattle.zworld_model.specs.declared.outcome.Outcome.{Outcome}
+use Rattle.zworld_model.specs.declared.outcome.Outcome.TheVariants.{Acted, Stopped, Unheard}
+use Rattle.zworld_model.specs.Reading.{is_query}
+use Rattle.zprocesses.specs.Held.{MemberView, gone_member}
+
+-- a member that had this view took a message, with this outcome; so it is now, and this was put before and after
+abbrev pub HasTaken : MemberView → ServerView (KeptState Tree) → Process → MessageOf (KeptState Tree) → Outcome → MemberView
+    → List (Post (KeptState Tree)) → List (Post (KeptState Tree)) → Type 0
+HasTaken old view from message Acted new before after =
+    (new.view ≡ Some (server_step kept_tree view from message).0) × (after ≡ before ++ (server_step kept_tree view from message).1)
+HasTaken old view from message Stopped new before after = (new ≡ gone_member) × (is_query message ≡ false)
+HasTaken old view from message Unheard new before after = (new ≡ old) × (is_query message ≡ true)
+
+-- there are all members and all clients
+abbrev pub IsFull : List MemberView → List ClientView → Type 0
+IsFull members clients = (length members ≡ MAX_SERVERS) × (length clients ≡ MAX_CLIENTS)

@@ -1,0 +1,197 @@
+//! Messages that are delivered, and requests that are lost.
+
+ghost use Rattle.std.specs.Prelude.{◌≡◌, ◌++◌, [], List, false, IfOk, OnErr, OnOk};
+ghost use Rattle.zworld_model.specs.declared.event.Event.TheVariants.{Take, Ignore};
+ghost use Rattle.zserver_table.specs.declared.process.Process.TheVariants.{Master, Server, Client};
+ghost use Rattle.zprocesses.specs.declared.answer.Answer.{Answer};
+ghost use Rattle.zprocesses.specs.Steps.{HasStepped, answer_events};
+ghost use Rattle.zworld_model.specs.Events.{front_is, is_request};
+ghost use Rattle.zprocesses.specs.declared.did.Did.TheVariants.{Done};
+ghost use Rattle.zprocesses.specs.Held.{world_of};
+ghost use Rattle.zprocesses.specs.support.Posting.{is_lost};
+ghost use Rattle.zprocesses.specs.support.Fronts.{HasPopped, IsGiven, IsGivenToServer, answered_number, answers_of};
+
+use crate::answer::Answer;
+use crate::assembly::Assembly;
+use crate::did::{Did, IdleCause};
+use crate::post::{is_lost, post};
+use zcalls::{CallNumber, ClientId, Reply};
+use zmaster::MAX_POSTS;
+use zout::Out;
+use zpath::Memory;
+use zserver::Snapshot;
+use zserver_table::{Message, Process, ServerId};
+use zworld_model::Outcome;
+
+impl Assembly {
+    /// The front message of a link is delivered.
+    pub(crate) fn take(
+        &mut self,
+        from: Process,
+        to: Process,
+        answers: &mut Vec<Answer>,
+    ) -> Result<Did, Memory>
+        ensures stepped { IfOk result (λ did. (told : List Answer)
+            × (answers.new.items ≡ answers.old.items ++ told)
+            × HasStepped self.old self.new (Take from to) did (answer_events told)) }
+        ensures silent { OnErr result (answers.new.items ≡ answers.old.items) }
+    {
+        if is_lost(&self.members, &to) {
+            return Ok(Did::Idle(IdleCause::Nothing));
+        }
+        let Some(message) = self.next(&from, &to) else {
+            return Ok(Did::Idle(IdleCause::Nothing));
+        };
+        match to {
+            Process::Master => self.give_to_master(from, message),
+            Process::Server(server) => self.give_to_server(from, server, message),
+            Process::Client(client) => self.give_to_client(from, client, message, answers),
+        }
+    }
+
+    // Takes out the front of a link; behind all that a failed server had put comes its Gone.
+    fn next(&mut self, from: &Process, to: &Process) -> Option<Message<Snapshot>>
+        ensures { HasPopped self.old from.now to.now result self.new }
+    {
+        if let Some(message) = self.links.next(from, to) {
+            return Some(message);
+        }
+        let (Process::Server(server), Process::Master) = (from, to) else {
+            return None;
+        };
+        let member = &mut self.members[server.number() as usize - 1];
+        if member.tell() {
+            return Some(Message::Gone);
+        }
+        None
+    }
+
+    // The master acts on a message.
+    fn give_to_master(&mut self, from: Process, message: Message<Snapshot>) -> Result<Did, Memory>
+        ensures done { IfOk result (λ did. did ≡ Done) }
+        ensures given { OnOk result (IsGiven self.old from Master message [] self.new) }
+    {
+        let mut out = Out::new(self.alloc);
+        out.reserve(MAX_POSTS)?;
+        self.master.take(from, message, &mut out);
+        post(&mut self.links, &self.members, &Process::Master, out)?;
+        Ok(Did::Done)
+    }
+
+    // A server that has not failed acts on a message, stops at it, or doesn't hear it.
+    fn give_to_server(
+        &mut self,
+        from: Process,
+        server: ServerId,
+        message: Message<Snapshot>,
+    ) -> Result<Did, Memory>
+        requires { is_lost self.old.members (Server server) ≡ false }
+        ensures { IfOk result (IsGivenToServer self.old from server message self.new) }
+    {
+        let mut out = Out::new(self.alloc);
+        let member = &mut self.members[server.number() as usize - 1];
+        match member.take(from, message, &mut out) {
+            Outcome::Acted => {
+                post(
+                    &mut self.links,
+                    &self.members,
+                    &Process::Server(server),
+                    out,
+                )?;
+                Ok(Did::Done)
+            }
+            Outcome::Unheard => Ok(Did::Unheard),
+            Outcome::Stopped => {
+                self.links.clear(&Process::Server(server));
+                Ok(Did::Stopped)
+            }
+        }
+    }
+
+    // A client acts on a message; the answer that it waited for is handed out.
+    fn give_to_client(
+        &mut self,
+        from: Process,
+        client: ClientId,
+        message: Message<Snapshot>,
+        answers: &mut Vec<Answer>,
+    ) -> Result<Did, Memory>
+        ensures done { IfOk result (λ did. did ≡ Done) }
+        ensures given { OnOk result ((told : List Answer)
+            × (answers.new.items ≡ answers.old.items ++ told)
+            × IsGiven self.old from (Client client) message (answer_events told) self.new) }
+        ensures silent { OnErr result (answers.new.items ≡ answers.old.items) }
+    {
+        let number = answered_number(&message);
+        let mut out = Out::new(self.alloc);
+        let core = &mut self.clients[client.number() as usize];
+        let Ok(reply) = core.take(from, message, &mut out) else {
+            return Err(Memory);
+        };
+        post(
+            &mut self.links,
+            &self.members,
+            &Process::Client(client),
+            out,
+        )?;
+        tell(answers, client, number, reply)?;
+        Ok(Did::Done)
+    }
+
+    /// The front message of a link, a request of a client, is lost.
+    pub(crate) fn ignore(&mut self, from: Process, to: Process) -> Did
+        ensures { HasStepped self.old self.new (Ignore from to) result [] }
+    {
+        if is_lost(&self.members, &to) || !self.has_request(&from, &to) {
+            return Did::Idle(IdleCause::Nothing);
+        }
+        let _ = self.links.next(&from, &to);
+        Did::Done
+    }
+
+    // Whether the front of a link is a request of a client.
+    fn has_request(&self, from: &Process, to: &Process) -> bool
+        ensures { result ≡ front_is is_request ((world_of self.now []).links from.now to.now) }
+    {
+        match self.links.front(from, to) {
+            Some(Message::Submit(_, _)) => true,
+            Some(Message::Query(_, _)) => true,
+            _ => false,
+        }
+    }
+}
+
+// Adds the answer to what clients hand out, where there is one.
+fn tell(
+    answers: &mut Vec<Answer>,
+    client: ClientId,
+    number: Option<CallNumber>,
+    reply: Option<Reply>,
+) -> Result<(), Memory>
+    ensures told { OnOk result (answers.new.items
+        ≡ answers.old.items ++ answers_of client number reply) }
+    ensures same { OnErr result (answers.new.items ≡ answers.old.items) }
+{
+    let Some(number) = number else {
+        return Ok(());
+    };
+    let Some(reply) = reply else {
+        return Ok(());
+    };
+    answers.push(Answer {
+        client,
+        number,
+        reply,
+    })?;
+    Ok(())
+}
+
+// The number of the call that a message answers.
+fn answered_number(message: &Message<Snapshot>) -> Option<CallNumber>
+    ensures { result ≡ answered_number message.now }
+{
+    match message {
+        Message::Answer(number, _) => Some(*number),
+        _ => None,
+    }
+}

@@ -1,0 +1,43 @@
+//! Servers that fail, and servers that join.
+
+ghost use Rattle.std.specs.Prelude.{◌≡◌, [], IfOk};
+ghost use Rattle.zworld_model.specs.declared.event.Event.TheVariants.{Fail, Join};
+ghost use Rattle.zprocesses.specs.Steps.{HasStepped};
+
+use crate::assembly::Assembly;
+use crate::did::{Did, IdleCause};
+use crate::post::post;
+use zmaster::MAX_POSTS;
+use zout::Out;
+use zpath::Memory;
+use zserver_table::{Process, ServerId};
+
+impl Assembly {
+    /// A server fails: it lets go what it held, and what is on links to it.
+    pub(crate) fn fail(&mut self, server: ServerId) -> Did
+        ensures { HasStepped self.old self.new (Fail server) result [] }
+    {
+        let member = &mut self.members[server.number() as usize - 1];
+        if member.has_failed() {
+            return Did::Idle(IdleCause::Nothing);
+        }
+        member.fail();
+        self.links.clear(&Process::Server(server));
+        Did::Done
+    }
+
+    /// A server is asked to join behind the tail.
+    pub(crate) fn join(&mut self, server: ServerId) -> Result<Did, Memory>
+        ensures { IfOk result (λ did. HasStepped self.old self.new (Join server) did []) }
+    {
+        let mut out = Out::new(self.alloc);
+        out.reserve(MAX_POSTS)?;
+        match self.master.join(server, &mut out) {
+            Ok(()) => {
+                post(&mut self.links, &self.members, &Process::Master, out)?;
+                Ok(Did::Done)
+            }
+            Err(fault) => Ok(Did::Idle(IdleCause::Join(fault))),
+        }
+    }
+}
