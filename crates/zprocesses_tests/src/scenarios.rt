@@ -1,0 +1,49 @@
+//! A call from its beginning to its answer, and a join.
+
+use std::test::Fail;
+use zcalls::{Call, ClientId, Reply, Update};
+use zprocesses::{Begun, Did, Processes};
+use zserver_table::{Process, ServerId};
+
+#[test]
+fn answers_a_call(rt: HostRuntime) -> Result<(), Fail> {
+    let server = ServerId::new(1).ok_or("there is such a server")?;
+    let client = ClientId::new(0).ok_or("there is such a client")?;
+    let mut processes = Processes::new(rt.alloc(), server, 1)?;
+    let begun = processes.begin(client, Call::Update(Update::Tick))?;
+    assert!(rt; matches!(begun, Begun::Number(number) if number.number() == 1));
+    let (asker, asked) = (Process::Client(client), Process::Server(server));
+    let mut answers = Vec::new(rt.alloc());
+    for (from, to) in [(asker, asked), (asked, asker)] {
+        assert!(rt; processes.take(from, to, &mut answers)? == Did::Done);
+    }
+    assert!(rt;
+        matches!(answers.first(), Some(answer) if answer.number.number() == 1
+        && matches!(&answer.reply, Reply::Ticked(1, 0)))
+    );
+    Ok(())
+}
+
+#[test]
+fn lets_a_server_join(rt: HostRuntime) -> Result<(), Fail> {
+    let server = ServerId::new(1).ok_or("there is such a server")?;
+    let new = ServerId::new(2).ok_or("there is such a server")?;
+    let mut processes = Processes::new(rt.alloc(), server, 1)?;
+    assert!(rt; processes.join(new)? == Did::Done);
+    let (master, old, new) = (
+        Process::Master,
+        Process::Server(server),
+        Process::Server(new),
+    );
+    let mut answers = Vec::new(rt.alloc());
+    for (from, to) in [
+        (master, new),
+        (new, master),
+        (master, old),
+        (old, new),
+        (new, master),
+    ] {
+        assert!(rt; processes.take(from, to, &mut answers)? == Did::Done);
+    }
+    Ok(())
+}
