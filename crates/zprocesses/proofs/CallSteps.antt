@@ -1,12 +1,11 @@
 -- A client's new view, what it puts, and the calls that it begins or sends once more.
-use Rattle.std.proofs.Common.{◌≡◌, ℕ, ◌<◌, Bool, true, false, Option, None, Some, List, [], ◌∷◌, ◌++◌, length, get_or, set, refl, sym, ap, subst, ◌∙◌, append-nil}
-use Rattle.std.specs.Prelude.{◌&&◌, not, nat_lt, is_none, is_some}
-use Rattle.std.proofs.lemmas.List.{set-get_or}
+use Rattle.std.proofs.Common.{◌≡◌, ℕ, ◌<◌, Bool, true, false, None, Some, List, [], ◌∷◌, ◌++◌, length, get_or, set, refl, sym, ap, subst, ◌∙◌, append-nil, lt-ltb}
+use Rattle.std.specs.Prelude.{◌&&◌, nat_lt, is_some}
+use Rattle.std.proofs.lemmas.List.{set-get_or, get_or_default}
 use Rattle.ztree.specs.Tree.{Tree}
 use Rattle.zcalls.specs.Kept.{KeptState}
 use Rattle.zcalls.specs.declared.call.Call.{Call}
 use Rattle.zserver_table.specs.declared.process.Process.TheVariants.{Client}
-use Rattle.zserver_table.specs.Machine.{kept_tree}
 use Rattle.zserver_table.specs.View.{Transfer, Post}
 use Rattle.zclient_table.specs.View.{ClientView}
 use Rattle.zclient_table.specs.Table.{begin_fault, begin_step, retry_posts}
@@ -14,12 +13,11 @@ use Rattle.zclient_table.specs.declared.begin_fault.BeginFault.{BeginFault}
 use Rattle.zworld_model.specs.declared.event.Event.TheVariants as event
 use Rattle.zworld_model.specs.declared.history.CallEvent.TheVariants as call_event
 use Rattle.zworld_model.specs.History.{History}
-use Rattle.zworld_model.specs.World.{World}
 use Rattle.zworld_model.specs.Events.{client_does}
 use Rattle.zworld_model.specs.Alike.{IsAlike}
 use Rattle.zprocesses.specs.declared.did.Did.TheVariants as became
 use Rattle.zprocesses.specs.declared.did.IdleCause.TheVariants as cause
-use Rattle.zprocesses.specs.Held.{Held, nobody, world_of}
+use Rattle.zprocesses.specs.Held.{Held, MemberView, nobody, world_of}
 use Rattle.zprocesses.specs.Steps.{HasStepped}
 use Rattle.zprocesses.specs.support.Posting.{Rows, IsPosted}
 use Rattle.zprocesses.proofs.Alike.{alike_by, family_set}
@@ -91,3 +89,37 @@ retried held c posts rows waits inside is done =
 pub not_retried : (held : Held) (c : ℕ) → is_some (get_or held.clients c nobody).outstanding ≡ false
     → HasStepped held held (event.Retry c) (became.Idle cause.Nothing) []
 not_retried held c waits = idle_stepped held (event.Retry c) cause.Nothing waits refl
+
+-- a call began, by what its client's core says
+pub begin_done : (old held : Held) (c place : ℕ) (call : Call) (number : ℕ) (was view : ClientView) (before after : List (Post (KeptState Tree))) (now : List MemberView) (rows : Rows)
+    → held ≡ old → place ≡ c → place < length held.clients → was ≡ get_or held.clients place was → before ≡ [] → c < held.master.clients
+    → number ≡ view.number → view ≡ (begin_step {T = Transfer (KeptState Tree)} was call).0
+    → after ≡ before ++ (begin_step {T = Transfer (KeptState Tree)} was call).1 → begin_fault was ≡ None
+    → now ≡ held.members → IsPosted now held.links (Client c) after rows
+    → HasStepped old (record held { clients = set held.clients place view; links = rows }) (event.Begin c call) became.Done (call_event.Begin c number call ∷ [])
+begin_done old held c place call number was view before after now rows same at inside read silent one counted is puts free value done =
+    let within : c < length held.clients = subst (λ (k : ℕ). k < length held.clients) at inside in
+    let here : get_or held.clients c nobody ≡ was =
+    get_or_default held.clients c nobody was within ∙ ap (λ k. get_or held.clients k was) (sym at) ∙ sym read in
+    let step : ClientView → ClientView × List (Post (KeptState Tree)) = λ v. begin_step v call in
+    subst (λ (o : Held). HasStepped o (record held { clients = set held.clients place view; links = rows }) (event.Begin c call) became.Done (call_event.Begin c number call ∷ [])) same
+    (subst (λ (k : ℕ). HasStepped held (record held { clients = set held.clients k view; links = rows }) (event.Begin c call) became.Done (call_event.Begin c number call ∷ [])) (sym at)
+    (begun held c call number view (step (get_or held.clients c nobody)).1 rows (lt-ltb c held.master.clients one) (ap begin_fault here ∙ free) within
+    (is ∙ ap (λ v. (step v).0) (sym here)) refl counted
+    (subst (λ (ps : List (Post (KeptState Tree))). IsPosted held.members held.links (Client c) ps rows)
+    (puts ∙ ap (λ ps. ps ++ (step was).1) silent ∙ ap (λ v. (step v).1) (sym here))
+    (subst (λ (ms : List MemberView). IsPosted ms held.links (Client c) after rows) value done))))
+
+-- a call was sent once more
+pub retry_done : (old held : Held) (c place : ℕ) (was : ClientView) (before after : List (Post (KeptState Tree))) (now : List MemberView) (rows : Rows) (waits : Bool)
+    → held ≡ old → place ≡ c → place < length held.clients → was ≡ get_or held.clients place was → before ≡ []
+    → waits ≡ is_some was.outstanding → waits ≡ true → after ≡ before ++ retry_posts was → now ≡ held.members → IsPosted now held.links (Client c) after rows
+    → HasStepped old (record held { links = rows }) (event.Retry c) became.Done []
+retry_done old held c place was before after now rows waits same at inside read silent asks so puts value done =
+    let within : c < length held.clients = subst (λ (k : ℕ). k < length held.clients) at inside in
+    let here : get_or held.clients c nobody ≡ was =
+    get_or_default held.clients c nobody was within ∙ ap (λ k. get_or held.clients k was) (sym at) ∙ sym read in
+    subst (λ (o : Held). HasStepped o (record held { links = rows }) (event.Retry c) became.Done []) same
+    (retried held c after rows (ap (λ (v : ClientView). is_some v.outstanding) here ∙ sym asks ∙ so) within
+    (puts ∙ ap (λ ps. ps ++ retry_posts was) silent ∙ ap retry_posts (sym here))
+    (subst (λ (ms : List MemberView). IsPosted ms held.links (Client c) after rows) value done))

@@ -1,6 +1,7 @@
 -- What the master puts, servers that join, and servers that fail.
-use Rattle.std.proofs.Common.{◌≡◌, ℕ, ◌+◌, ◌<◌, ◌≤◌, zero, suc, Bool, true, false, if◌then◌else◌, Option, None, Some, List, [], ◌∷◌, ◌++◌, length, get_or, set, refl, sym, ap, subst, ◌∙◌, inl, inr, append-nil, arith, eqb-true, lt-ltb, le-leb}
-use Rattle.std.specs.Prelude.{◌&&◌, ◌==◌, not, nat_lt, nat_le, is_none}
+use Rattle.std.proofs.Common.{◌≡◌, ℕ, ◌+◌, ◌<◌, ◌≤◌, Bool, true, false, if◌then◌else◌, Option, None, Some, List, [], ◌∷◌, ◌++◌, length, get_or, set, refl, sym, ap, subst, ◌∙◌, inl, inr, append-nil, arith, add-one, eqb-true, lt-ltb, le-leb}
+use Rattle.std.proofs.lemmas.List.{get_or_default}
+use Rattle.std.specs.Prelude.{◌&&◌, ◌==◌, not, is_none}
 use mathlib.Core.Bool.{true≢false}
 use Rattle.ztree.specs.Tree.{Tree}
 use Rattle.zcalls.specs.Kept.{KeptState}
@@ -18,12 +19,12 @@ use Rattle.zlinks.specs.Places.{links_of, without_receiver}
 use Rattle.zworld_model.specs.declared.event.Event.TheVariants as event
 use Rattle.zworld_model.specs.History.{History}
 use Rattle.zworld_model.specs.Links.{Links, is_same, put}
-use Rattle.zworld_model.specs.World.{World, at}
+use Rattle.zworld_model.specs.World.{at}
 use Rattle.zworld_model.specs.Events.{has_failed, is_server, master_does, acts}
 use Rattle.zworld_model.specs.Alike.{IsAlike}
 use Rattle.zprocesses.specs.declared.did.Did.TheVariants as became
 use Rattle.zprocesses.specs.declared.did.IdleCause.TheVariants as cause
-use Rattle.zprocesses.specs.Held.{Held, MemberView, gone_member, is_gone, owes, view_of, member_at, last_words, world_of}
+use Rattle.zprocesses.specs.Held.{Held, MemberView, bystander, gone_member, is_gone, owes, view_of, member_at, world_of}
 use Rattle.zprocesses.specs.Steps.{HasStepped}
 use Rattle.zprocesses.specs.support.Posting.{Rows, IsPosted, is_lost}
 use Rattle.zserver.specs.Server.{TreeView}
@@ -174,3 +175,25 @@ not_failed held s gone = idle_stepped held (event.Fail s) cause.Nothing (rw gone
     and_false : (b : Bool) → (b && false) ≡ false
     and_false true = refl
     and_false false = refl
+
+-- a server failed, by what its member says
+pub fail_done : (old held : Held) (s place : ℕ) (was member : MemberView) (rows : Rows) (gone : Bool)
+    → held ≡ old → s ≡ place + 1 → place < length held.members → was ≡ get_or held.members place was → gone ≡ is_gone was → gone ≡ false → member ≡ gone_member
+    → ((p q : Process) → links_of rows p q ≡ without_receiver (links_of held.links) (Server s) p q) → s ≤ MAX_SERVERS
+    → HasStepped old (record held { members = set held.members place member; links = rows }) (event.Fail s) became.Done []
+fail_done old held s place was member rows gone same is inside read asked not is_it cleared few =
+    let here : member_at held.members s ≡ was =
+    ap (λ n. member_at held.members n) (is ∙ add-one place) ∙ get_or_default held.members place bystander was inside ∙ sym read in
+    subst (λ (o : Held). HasStepped o (record held { members = set held.members place member; links = rows }) (event.Fail s) became.Done []) same
+    (subst (λ (m : MemberView). HasStepped held (record held { members = set held.members place m; links = rows }) (event.Fail s) became.Done []) (sym is_it)
+    (failed held s place rows is inside (ap is_gone here ∙ sym asked ∙ not) cleared (is_server_number s (omega (arith, is)) few)))
+
+-- a server joined, by what the master says
+pub join_done : (old held : Held) (s : ℕ) (view : MasterView) (before after : List (Post (KeptState Tree))) (now : List MemberView) (rows : Rows)
+    → held ≡ old → is_server s ≡ true → join_fault held.master s ≡ None → view ≡ (join_step {T = Transfer (KeptState Tree)} held.master s).0 → before ≡ []
+    → after ≡ before ++ (join_step {T = Transfer (KeptState Tree)} held.master s).1 → now ≡ held.members → IsPosted now held.links Master after rows
+    → HasStepped old (record held { master = view; links = rows }) (event.Join s) became.Done []
+join_done old held s view before after now rows same one free is silent puts value done =
+    subst (λ (o : Held). HasStepped o (record held { master = view; links = rows }) (event.Join s) became.Done []) same
+    (joined held s view after rows one free is (puts ∙ ap (λ ps. ps ++ (join_step {T = Transfer (KeptState Tree)} held.master s).1) silent)
+    (subst (λ (ms : List MemberView). IsPosted ms held.links Master after rows) value done))

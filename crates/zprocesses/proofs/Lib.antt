@@ -4,6 +4,8 @@ pub mod Steps
 pub mod CallSteps
 pub mod FailureSteps
 pub mod DeliverySteps
+pub mod GivenSteps
+pub mod FrontSteps
 pub mod OpeningViews
 pub mod Results
 pub mod TakeSteps

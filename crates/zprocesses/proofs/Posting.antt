@@ -1,22 +1,19 @@
 -- Links with last words, on which messages are put, and from which fronts are taken.
 use Rattle.std.proofs.Common.{◌≡◌, ℕ, Bool, true, false, if◌then◌else◌, List, [], ◌∷◌, ◌++◌, drop, refl, sym, ap, ◌∙◌, inl, inr, append_assoc, append-nil}
-use Rattle.std.specs.Prelude.{◌&&◌, ◌==◌}
+use Rattle.std.specs.Prelude.{◌&&◌}
 use mathlib.Core.Path.{fun_ext}
 use mathlib.Core.Bool.{true≢false}
 use Rattle.ztree.specs.Tree.{Tree}
 use Rattle.zcalls.specs.Kept.{KeptState}
 use Rattle.zcalls.proofs.Among.{test}
-use Rattle.zserver_table.specs.declared.message.Message.{Message}
-use Rattle.zserver_table.specs.declared.message.Message.TheVariants as message
 use Rattle.zserver_table.specs.declared.process.Process.{Process}
 use Rattle.zserver_table.specs.declared.process.Process.TheVariants.{Master, Server, Client}
 use Rattle.zserver_table.specs.View.{MessageOf, Post}
 use Rattle.zlinks.specs.Places.{links_of, with_link}
 use Rattle.zworld_model.specs.Links.{Links, is_same, addressed, put, without_front}
-use Rattle.zworld_model.specs.World.{World}
 use Rattle.zworld_model.specs.Events.{has_failed}
 use Rattle.zworld_model.specs.History.{History}
-use Rattle.zprocesses.specs.Held.{Held, MemberView, member_at, last_words, world_of}
+use Rattle.zprocesses.specs.Held.{Held, MemberView, last_words, world_of}
 use Rattle.zprocesses.specs.support.Posting.{is_lost, Rows, IsPosted}
 use Rattle.zprocesses.specs.support.Fronts.{without}
 use Rattle.zprocesses.proofs.Alike.{same_process}

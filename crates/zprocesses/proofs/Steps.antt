@@ -1,16 +1,15 @@
 -- Events that happened, and events that didn't.
-use Rattle.std.proofs.Common.{◌≡◌, ℕ, Bool, true, false, if◌then◌else◌, List, [], ◌∷◌, ◌++◌, refl, sym, ap, subst, ◌∙◌, append-nil}
-use Rattle.std.specs.Prelude.{not, ◌&&◌}
+use Rattle.std.proofs.Common.{◌≡◌, ℕ, Bool, true, false, if◌then◌else◌, [], ◌++◌, refl, sym, ap, subst, ◌∙◌, append-nil}
+use Rattle.std.specs.Prelude.{not}
 use mathlib.Core.Bool.{true≢false}
 use Rattle.ztree.specs.Tree.{Tree}
 use Rattle.zcalls.specs.Kept.{KeptState}
 use Rattle.zserver_table.specs.declared.process.Process.{Process}
 use Rattle.zserver_table.specs.declared.process.Process.TheVariants.{Master, Server, Client}
 use Rattle.zserver_table.specs.Machine.{kept_tree}
-use Rattle.zserver_table.specs.View.{MessageOf}
 use Rattle.zworld_model.specs.declared.event.Event.{Event}
 use Rattle.zworld_model.specs.declared.event.Event.TheVariants.{Begin, Retry, Take, Ignore, Fail, Join}
-use Rattle.zworld_model.specs.declared.outcome.Outcome.TheVariants.{Acted, Stopped, Unheard}
+use Rattle.zworld_model.specs.declared.outcome.Outcome.TheVariants.{Acted}
 use Rattle.zworld_model.specs.History.{History}
 use Rattle.zworld_model.specs.World.{World}
 use Rattle.zworld_model.specs.Events.{is_enabled, happens, acts}
@@ -20,9 +19,8 @@ use Rattle.zworld_model.proofs.Alike.{alike_itself}
 use Rattle.zprocesses.specs.declared.did.Did.{Did}
 use Rattle.zprocesses.specs.declared.did.Did.TheVariants as did
 use Rattle.zprocesses.specs.declared.did.IdleCause.{IdleCause}
-use Rattle.zprocesses.specs.declared.did.IdleCause.TheVariants as cause
 use Rattle.zprocesses.specs.Held.{Held, world_of}
-use Rattle.zprocesses.specs.Steps.{is_idle, outcome_of, IsCause, HasStepped}
+use Rattle.zprocesses.specs.Steps.{IsCause, HasStepped}
 
 -- what is enabled doesn't hang on the history
 pub enabled_anyway : (held : Held) (history : History) (event : Event) → is_enabled (world_of held history) event ≡ is_enabled (world_of held []) event

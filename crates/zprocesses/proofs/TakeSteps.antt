@@ -1,5 +1,5 @@
 -- A delivery as a whole: what was popped, and what the taker made of it.
-use Rattle.std.proofs.Common.{◌≡◌, ℕ, Bool, false, true, Option, Some, None, List, [], ◌∷◌, ◌++◌, refl, sym, ap, subst, ◌∙◌, append-nil}
+use Rattle.std.proofs.Common.{◌≡◌, ℕ, Bool, false, true, Some, None, List, [], ◌++◌, sym, ap, subst, ◌∙◌, append-nil}
 use Rattle.ztree.specs.Tree.{Tree}
 use Rattle.zcalls.specs.Kept.{KeptState}
 use Rattle.zserver_table.specs.declared.process.Process.{Process}

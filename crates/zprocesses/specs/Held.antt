@@ -5,7 +5,6 @@ use Rattle.std.specs.Prelude.{ℕ, zero, suc, Bool, true, false, Option, None, S
 use Rattle.ztree.specs.Tree.{Tree}
 use Rattle.zcalls.specs.Kept.{KeptState}
 use Rattle.zserver_table.specs.declared.message.Message.TheVariants as message
-use Rattle.zserver_table.specs.declared.process.Process.{Process}
 use Rattle.zserver_table.specs.declared.process.Process.TheVariants.{Master, Server}
 use Rattle.zserver_table.specs.View.{ServerView, MessageOf, spare}
 use Rattle.zclient_table.specs.View.{ClientView}

@@ -1,9 +1,7 @@
 -- What the processes say of an event: it is that of the definition, by what became of it, but for what failed servers
 -- held and what was put to them (Alike.antt of the world's model).
-use Rattle.std.specs.Prelude.{◌≡◌, ℕ, Bool, true, false, not, nat_lt, Option, None, Some, List, [], ◌∷◌, ◌++◌, map}
-use Rattle.std.specs.Option.{option_map}
+use Rattle.std.specs.Prelude.{◌≡◌, ℕ, Bool, true, false, not, nat_lt, Some, List, [], ◌∷◌, ◌++◌, map}
 use Rattle.zcalls.specs.declared.call.Call.{Call}
-use Rattle.zclient_table.specs.declared.begin_fault.BeginFault.{BeginFault}
 use Rattle.zclient_table.specs.Table.{begin_fault}
 use Rattle.zmaster_table.specs.Table.{join_fault}
 use Rattle.zserver_table.specs.Machine.{kept_tree}

@@ -3,7 +3,7 @@ use Rattle.std.specs.Prelude.{Bool, Option, List, refl}
 use Rattle.std.specs.Coded.{Coded, code_by, coded×, coded_bool, coded_list, coded_option}
 use Rattle.ztree.specs.Tree.{Tree}
 use Rattle.zcalls.specs.Kept.{KeptState}
-use Rattle.zserver_table.specs.View.{ServerView, MessageOf}
+use Rattle.zserver_table.specs.View.{MessageOf}
 use Rattle.zclient_table.specs.View.{ClientView}
 use Rattle.zmaster_table.specs.View.{MasterView}
 use Rattle.zclient.specs.contracts.client_core.ClientCore as client

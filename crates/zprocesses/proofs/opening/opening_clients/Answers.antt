@@ -1,5 +1,4 @@
-use Rattle.std.proofs.Common.{◌≡◌, ◌∙◌, sym, arith, ℕ, map, ap}
-use Rattle.std.specs.List.{range_with_len}
+use Rattle.std.proofs.Common.{sym, arith}
 use Rattle.std.proofs.lemmas.List.FromFn.{map-range_with_len_more}
 use Rattle.zclient_table.specs.View.{opening_client}
 use Rattle.zprocesses.proofs.opening.opening_clients.Goals as goal

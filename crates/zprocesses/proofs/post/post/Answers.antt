@@ -1,4 +1,4 @@
-use Rattle.std.proofs.Common.{◌≡◌, ap, sym, ◌∙◌}
+use Rattle.std.proofs.Common.{ap, sym, ◌∙◌}
 use Rattle.zlinks.specs.Places.{links_of}
 use Rattle.zworld_model.specs.Links.{put}
 use Rattle.zprocesses.proofs.Posting.{rest_put}

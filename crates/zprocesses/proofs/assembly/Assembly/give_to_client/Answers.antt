@@ -1,9 +1,9 @@
-use Rattle.std.proofs.Common.{◌≡◌, ◌<◌, List, length, get_or, set, ◌∙◌, sym, ap, subst, arith}
+use Rattle.std.proofs.Common.{◌≡◌, ◌<◌, List, length, get_or, ◌∙◌, ap, subst, arith}
 use Rattle.zserver_table.specs.declared.process.Process.TheVariants.{Client}
 use Rattle.zprocesses.specs.Held.{MemberView}
 use Rattle.zprocesses.specs.support.Posting.{IsPosted}
 use Rattle.zprocesses.specs.support.Fronts.{answers_of}
-use Rattle.zprocesses.proofs.DeliverySteps.{client_given}
+use Rattle.zprocesses.proofs.GivenSteps.{client_given}
 use Rattle.zprocesses.proofs.assembly.Assembly.give_to_client.Goals as goal
 
 pub returns-clause-given : goal.returns-clause-given

@@ -1,6 +1,6 @@
-use Rattle.std.proofs.Common.{◌≡◌, ◌<◌, ◌-◌, ◌+◌, length, ◌∙◌, sym, ap, arith}
+use Rattle.std.proofs.Common.{◌≡◌, ◌<◌, ◌-◌, ◌+◌, length, arith}
 use Rattle.zprocesses.proofs.FailureSteps.{is_server_number}
-use Rattle.zprocesses.proofs.DeliverySteps.{acted_given, unheard_given, stopped_given}
+use Rattle.zprocesses.proofs.GivenSteps.{acted_given, unheard_given, stopped_given}
 use Rattle.zprocesses.proofs.assembly.Assembly.give_to_server.Goals as goal
 
 pub returns-in_ok-post-in-Acted : goal.returns-in_ok-post-in-Acted

@@ -1,5 +1,5 @@
-use Rattle.std.proofs.Common.{◌≡◌, true, false}
-use Rattle.zprocesses.proofs.DeliverySteps.{request_ignored}
+use Rattle.std.proofs.Common.{false}
+use Rattle.zprocesses.proofs.FrontSteps.{request_ignored}
 use Rattle.zprocesses.proofs.TakeSteps.{lost_by}
 use Rattle.zprocesses.proofs.assembly.Assembly.ignore.Goals as goal
 

@@ -1,8 +1,7 @@
-use Rattle.std.proofs.Common.{◌≡◌, ◌≤◌, ◌++◌, ℕ, List, [], ap, get_or, map, subst, ◌∙◌}
+use Rattle.std.proofs.Common.{◌≤◌, ◌++◌, ℕ, List, [], ap, get_or, map, subst, ◌∙◌}
 use Rattle.std.specs.List.{range_with_len}
 use mathlib.Core.Path.{fun_ext}
 use Rattle.zserver_table.specs.declared.limits.TheConstants.{MAX_SERVERS}
-use Rattle.zserver_table.specs.declared.process.Process.{Process}
 use Rattle.ztree.specs.Tree.{Tree}
 use Rattle.zcalls.specs.Kept.{KeptState}
 use Rattle.zserver_table.specs.View.{MessageOf}

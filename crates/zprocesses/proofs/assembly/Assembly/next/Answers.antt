@@ -1,5 +1,5 @@
-use Rattle.std.proofs.Common.{◌≡◌, ◌<◌, ◌-◌, ◌+◌, length, [], ◌∙◌, sym, ap, arith}
-use Rattle.zprocesses.proofs.DeliverySteps.{popped_some, told_popped}
+use Rattle.std.proofs.Common.{◌≡◌, ◌<◌, ◌-◌, ◌+◌, length, ◌∙◌, sym, arith}
+use Rattle.zprocesses.proofs.FrontSteps.{popped_some, told_popped}
 use Rattle.zprocesses.proofs.assembly.Assembly.next.Goals as goal
 
 pub returns-in-Some : goal.returns-in-Some

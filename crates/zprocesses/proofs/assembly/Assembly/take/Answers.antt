@@ -1,6 +1,6 @@
-use Rattle.std.proofs.Common.{◌≡◌, true, false, Option, Some, List, [], ◌++◌, ◌∙◌, sym, subst, append-nil}
+use Rattle.std.proofs.Common.{◌≡◌, true, false, Some, List, [], ◌++◌, sym, subst, append-nil}
 use Rattle.zserver_table.specs.declared.process.Process.{Process}
-use Rattle.zserver_table.specs.declared.process.Process.TheVariants.{Master, Server, Client}
+use Rattle.zserver_table.specs.declared.process.Process.TheVariants.{Master, Client}
 use Rattle.zprocesses.specs.declared.answer.Answer.{Answer}
 use Rattle.zprocesses.specs.Steps.{answer_events}
 use Rattle.zprocesses.specs.declared.did.Did.TheVariants.{Done}
