@@ -1,0 +1,281 @@
+-- From the words of the processes to those of the world, and how a past goes on.
+use Rattle.std.proofs.Common.{◌≡◌, ℕ, Bool, true, false, not, List, [], ◌∷◌, ◌++◌, refl, sym, ap, ◌∙◌, subst, true≢false}
+use Rattle.std.proofs.lemmas.List.{append-nil}
+use Rattle.ztree.specs.Tree.{Tree}
+use Rattle.zcalls.specs.Kept.{KeptState}
+use Rattle.zserver_table.specs.Machine.{kept_tree}
+use Rattle.zserver_table.specs.declared.process.Process.{Process}
+use Rattle.zserver_table.specs.declared.process.Process.TheVariants.{Master, Server, Client}
+use Rattle.zworld_model.specs.declared.event.Event.{Event}
+use Rattle.zworld_model.specs.declared.event.Event.TheVariants.{Begin, Retry, Take, Ignore, Fail, Join}
+use Rattle.zworld_model.specs.declared.outcome.Outcome.{Outcome}
+use Rattle.zworld_model.specs.declared.outcome.Outcome.TheVariants.{Acted, Stopped, Unheard}
+use Rattle.zworld_model.specs.History.{History}
+use Rattle.zworld_model.specs.World.{World, opening_world}
+use Rattle.zworld_model.specs.Events.{is_server, is_enabled, happens, run}
+use Rattle.zworld_model.specs.Reading.{read, read_all, is_fitting, IsReading}
+use Rattle.zworld_model.specs.Alike.{IsAlike}
+use Rattle.zworld_model.specs.PlainTree.{IsExplained}
+use Rattle.zworld_model.specs.Laws.{world_after}
+use Rattle.zworld_model.proofs.Alike.{stay_alike, alike_itself, alike_through, read_alike}
+use Rattle.zorder.proofs.Headline.{every_history_is_explained}
+use Rattle.std.specs.Prelude.{Result, Ok, Err, IfOk, IsOk, OnErr, is_err}
+use Rattle.zpath.specs.declared.memory.Memory.{Memory}
+use Rattle.zcalls.specs.declared.call.Call.{Call}
+use Rattle.zworld_model.specs.declared.history.CallEvent.TheVariants as call_event
+use Rattle.zprocesses.specs.declared.did.Did.{Did}
+use Rattle.zprocesses.specs.declared.did.Did.TheVariants as deed
+use Rattle.zprocesses.specs.declared.answer.Answer.{Answer}
+use Rattle.zprocesses.specs.declared.did.Begun.{Begun}
+use Rattle.zprocesses.specs.declared.did.Begun.TheVariants as begun
+use Rattle.zprocesses.specs.Held.{Held, world_of}
+use Rattle.zprocesses.specs.Steps.{HasStepped, HasBegun, outcome_of, answer_events, is_idle}
+use Rattle.zworld.specs.support.Course.{CourseView, GoesBy, did_of, told_of}
+use Rattle.zworld.specs.support.Past.{HasPast, LeadRead}
+use Rattle.zworld.specs.Steps.{WorldView, HasHappened, HasRun, HasBegunToRun}
+
+-- what is enabled, how an event reads and what outcomes it can have don't ask for the history
+same_enabled : (held : Held) (history : History) (event : Event) → is_enabled (world_of held history) event ≡ is_enabled (world_of held []) event
+same_enabled held history (Begin c call) = refl
+same_enabled held history (Retry c) = refl
+same_enabled held history (Take from Master) = refl
+same_enabled held history (Take from (Server s)) = refl
+same_enabled held history (Take from (Client c)) = refl
+same_enabled held history (Ignore from Master) = refl
+same_enabled held history (Ignore from (Server s)) = refl
+same_enabled held history (Ignore from (Client c)) = refl
+same_enabled held history (Fail s) = refl
+same_enabled held history (Join s) = refl
+
+same_read : (held : Held) (history : History) (event : Event) (outcome : Outcome) → read (world_of held history) event outcome ≡ read (world_of held []) event outcome
+same_read held history (Begin c call) outcome = refl
+same_read held history (Retry c) outcome = refl
+same_read held history (Take from Master) outcome = refl
+same_read held history (Take from (Server s)) outcome = refl
+same_read held history (Take from (Client c)) outcome = refl
+same_read held history (Ignore from to) outcome = refl
+same_read held history (Fail s) outcome = refl
+same_read held history (Join s) outcome = refl
+
+same_fitting : (held : Held) (history : History) (event : Event) (outcome : Outcome) → is_fitting (world_of held history) event outcome ≡ is_fitting (world_of held []) event outcome
+same_fitting held history event Acted = refl
+same_fitting held history (Begin c call) Stopped = refl
+same_fitting held history (Retry c) Stopped = refl
+same_fitting held history (Take from Master) Stopped = refl
+same_fitting held history (Take from (Server s)) Stopped = refl
+same_fitting held history (Take from (Client c)) Stopped = refl
+same_fitting held history (Ignore from to) Stopped = refl
+same_fitting held history (Fail s) Stopped = refl
+same_fitting held history (Join s) Stopped = refl
+same_fitting held history (Begin c call) Unheard = refl
+same_fitting held history (Retry c) Unheard = refl
+same_fitting held history (Take from Master) Unheard = refl
+same_fitting held history (Take from (Server s)) Unheard = refl
+same_fitting held history (Take from (Client c)) Unheard = refl
+same_fitting held history (Ignore from to) Unheard = refl
+same_fitting held history (Fail s) Unheard = refl
+same_fitting held history (Join s) Unheard = refl
+
+-- an event of the processes is one of the world, from any history
+pub happened : (old new : CourseView) (event : Event) (did : Did) → GoesBy old new event did
+    → HasHappened (world_of old.held old.history) event did (world_of new.held new.history)
+happened old new event did (told, after, stepped) =
+    let leads = stepped.leads old.history in
+    let reads = sym (same_read old.held old.history event (outcome_of did)) in
+    record {
+      idle = stepped.idle ∙ ap not (sym (same_enabled old.held old.history event));
+      fits = same_fitting old.held old.history event (outcome_of did) ∙ stepped.fits;
+      leads = subst (λ h. IsAlike (happens kept_tree (world_of old.held old.history) (read (world_of old.held old.history) event (outcome_of did))) (world_of new.held h)) (sym after)
+          (subst (λ e. IsAlike (happens kept_tree (world_of old.held old.history) e) (world_of new.held (old.history ++ told))) reads leads);
+    }
+
+-- a run of events and more is a run of both
+run_both : (v : World (KeptState Tree)) (events more : List Event) → run kept_tree v (events ++ more) ≡ run kept_tree (run kept_tree v events) more
+run_both v [] more = refl
+run_both v (event ∷ events) more = run_both (happens kept_tree v event) events more
+
+-- worlds that are alike have one history
+same_history : (v w : World (KeptState Tree)) → IsAlike v w → w.history ≡ v.history
+same_history v w alike = ap (λ (x : World (KeptState Tree)). x.history) alike.rest
+
+-- the past goes on with a run
+goes_on : (held next : Held) (history later : History) (events : List Event) → HasPast false held history
+    → IsAlike (run kept_tree (world_of held history) events) (world_of next later) → HasPast false next later
+goes_on held next history later events past leads =
+    let before = past.stands refl in
+    let first = stay_alike kept_tree _ _ events before in
+    let stands : IsAlike (world_after past.servers past.clients (past.events ++ events)) (world_of next later) =
+    subst (λ w. IsAlike w (world_of next later)) (sym (run_both _ past.events events)) (alike_through _ _ _ first leads) in
+    record {
+      servers = past.servers;
+      clients = past.clients;
+      events = past.events ++ events;
+      opens = past.opens;
+      told = sym (same_history _ _ stands);
+      stands = λ _. stands;
+    }
+
+-- so it does with an event
+pub past_goes_on : (old new : CourseView) (event : Event) (did : Did) → HasPast false old.held old.history → GoesBy old new event did
+    → HasPast false new.held new.history
+past_goes_on old new event did past goes =
+    goes_on old.held new.held old.history new.history (read (world_of old.held old.history) event (outcome_of did) ∷ []) past (happened old new event did goes).leads
+
+-- where memory is refused, the history is still that of the past
+pub past_stays : (is_broken : Bool) (held next : Held) (history later : History) → HasPast is_broken held history → later ≡ history → HasPast true next later
+past_stays is_broken held next history later past same =
+    record {
+      servers = past.servers;
+      clients = past.clients;
+      events = past.events;
+      opens = past.opens;
+      told = past.told ∙ sym same;
+      stands = λ broken. absurd (true≢false broken);
+    }
+
+-- the opening has a past without events
+pub past_begins : (held : Held) (history : History) (servers clients : ℕ) → is_server servers ≡ true → history ≡ []
+    → world_of held [] ≡ opening_world kept_tree servers clients → HasPast false held history
+past_begins held history servers clients opens none opening =
+    record {
+      servers = servers;
+      clients = clients;
+      events = [];
+      opens = opens;
+      told = sym none;
+      stands = λ _. subst (λ h. IsAlike (opening_world kept_tree servers clients) (world_of held h)) (sym none)
+          (subst (IsAlike (opening_world kept_tree servers clients)) (sym opening) (alike_itself (opening_world kept_tree servers clients)));
+    }
+
+-- the history of a past is explained
+pub past_is_explained : (is_broken : Bool) (held : Held) (history : History) → HasPast is_broken held history → IsExplained history
+past_is_explained is_broken held history past = subst IsExplained past.told (every_history_is_explained past.servers past.clients past.events)
+
+-- one more event
+pub lead_more : (v u w : World (KeptState Tree)) (events : List Event) (event : Event) (did : Did) → LeadRead v events u → HasHappened u event did w
+    → LeadRead v (events ++ event ∷ []) w
+lead_more v u w [] event did alike has =
+    let reads = sym (read_alike kept_tree v u event (outcome_of did) alike) in (
+      outcome_of did,
+      w,
+      alike_through _ _ _ (stay_alike kept_tree v u (read v event (outcome_of did) ∷ []) alike)
+          (subst (λ e. IsAlike (happens kept_tree u e) w) reads has.leads),
+      alike_itself w,
+    )
+lead_more v u w (first ∷ events) event did (outcome, x, one, more) has = (outcome, x, one, lead_more x u w events event did more has)
+
+-- worlds that are alike read events alike
+all_read_alike : (v w : World (KeptState Tree)) (events : List Event) (outcomes : List Outcome) → IsAlike v w
+    → read_all kept_tree v events outcomes ≡ read_all kept_tree w events outcomes
+all_read_alike v w [] outcomes alike = refl
+all_read_alike v w (event ∷ events) [] alike =
+    ap (λ es. event ∷ es) (all_read_alike (happens kept_tree v event) (happens kept_tree w event) events [] (stay_alike kept_tree v w (event ∷ []) alike))
+all_read_alike v w (event ∷ events) (outcome ∷ outcomes) alike =
+    let same = read_alike kept_tree v w event outcome alike in
+    ap (λ e. e ∷ read_all kept_tree (happens kept_tree v e) events outcomes) same
+    ∙ ap (λ es. read w event outcome ∷ es)
+    (all_read_alike (happens kept_tree v (read w event outcome)) (happens kept_tree w (read w event outcome)) events outcomes (stay_alike kept_tree v w (read w event outcome ∷ []) alike))
+
+-- events that lead to a world one after the other are read so
+pub has_run : (v w : World (KeptState Tree)) (events : List Event) → LeadRead v events w → HasRun v events w
+has_run v w [] alike = ([], ([], refl), alike)
+has_run v w (event ∷ events) (outcome, u, one, more) =
+    let rest = has_run u w events more in
+    let next = happens kept_tree v (read v event outcome) in
+    let same = all_read_alike next u events rest.1.0 one ∙ rest.1.1 in (
+      read v event outcome ∷ rest.0,
+      (outcome ∷ rest.1.0, ap (λ es. read v event outcome ∷ es) same),
+      alike_through _ _ _ (stay_alike kept_tree next u rest.0 one) rest.2,
+    )
+
+-- so are those of which some were done
+pub has_begun_to_run : (v w : World (KeptState Tree)) (events front back : List Event) (history : History) → LeadRead v front w → events ≡ front ++ back
+    → history ≡ w.history → HasBegunToRun v events history
+has_begun_to_run v w events front back history leads cut same =
+    let ran = has_run v w front leads in
+    (front, back, cut, ran.0, ran.1, sym (same_history _ _ ran.2) ∙ sym same)
+
+-- a call that was to begin is an event of the processes
+pub began : (old new : CourseView) (client : ℕ) (call : Call) (begun : Begun) → HasBegun old.held new.held client call begun
+    → new.history ≡ old.history ++ told_of client call begun → GoesBy old new (Begin client call) (did_of begun)
+began old new client call (begun.Number number) has after = (call_event.Begin client number call ∷ [], after, has)
+began old new client call (begun.Idle cause) has after = ([], after, has)
+
+-- the past after an event, where memory was refused or not
+pub past_after_step : (r : Result Did Memory) (old new : CourseView) (event : Event) → HasPast false old.held old.history
+    → IfOk r (λ did. GoesBy old new event did) → OnErr r (new.history ≡ old.history) → HasPast (is_err r) new.held new.history
+past_after_step (Ok did) old new event past goes stays = past_goes_on old new event did past goes
+past_after_step (Err memory) old new event past goes stays = past_stays false old.held new.held old.history new.history past stays
+
+-- a delivery of which all answers are told is an event of the processes
+pub told_by_taking : (old new : CourseView) (held : Held) (event : Event) (became : Did) (none answers : List Answer) → none ≡ []
+    → ((told : List Answer) × (answers ≡ none ++ told) × HasStepped old.held held event became (answer_events told))
+    → new.held ≡ held → new.history ≡ old.history ++ answer_events answers → GoesBy old new event became
+told_by_taking old new held event became none answers empty (told, all, stepped) same after =
+    let is : answers ≡ told = all ∙ ap (λ xs. xs ++ told) empty in (
+      answer_events told,
+      after ∙ ap (λ xs. old.history ++ answer_events xs) is,
+      subst (λ h. HasStepped old.held h event became (answer_events told)) (sym same) stepped,
+    )
+
+-- an event that isn't enabled reads as itself
+read_idle : (w : World (KeptState Tree)) (event : Event) → is_enabled w event ≡ false → read w event Acted ≡ event
+read_idle w (Begin c call) idle = refl
+read_idle w (Retry c) idle = refl
+read_idle w (Take from Master) idle = refl
+read_idle w (Take from (Server s)) idle = rw idle refl
+read_idle w (Take from (Client c)) idle = refl
+read_idle w (Ignore from to) idle = refl
+read_idle w (Fail s) idle = refl
+read_idle w (Join s) idle = refl
+
+-- and nothing happens
+nothing_happens : (w : World (KeptState Tree)) (event : Event) → is_enabled w event ≡ false → happens kept_tree w event ≡ w
+nothing_happens w event idle = rw idle refl
+
+acted_idle : (became : Did) → is_idle became ≡ true → outcome_of became ≡ Acted
+acted_idle (deed.Idle cause) idle = refl
+acted_idle deed.Done idle = absurd (true≢false (sym idle))
+acted_idle deed.Unheard idle = absurd (true≢false (sym idle))
+acted_idle deed.Stopped idle = absurd (true≢false (sym idle))
+
+-- an idle event leaves the processes and the history
+pub unchanged : (old new : CourseView) (event : Event) (became : Did) → GoesBy old new event became → is_idle became ≡ true → new ≡ old
+unchanged old new event became (told, after, stepped) idle =
+    let w = world_of old.held [] in
+    let off : is_enabled w event ≡ false = not-true _ (sym stepped.idle ∙ idle) in
+    let reads : read w event (outcome_of became) ≡ event = ap (read w event) (acted_idle became idle) ∙ read_idle w event off in
+    let stays : happens kept_tree w (read w event (outcome_of became)) ≡ w = ap (happens kept_tree w) reads ∙ nothing_happens w event off in
+    let none : told ≡ [] = same_history _ _ (stepped.leads []) ∙ ap (λ (x : World (KeptState Tree)). x.history) stays in
+    let history : new.history ≡ old.history = after ∙ ap (λ xs. old.history ++ xs) none ∙ append-nil old.history in
+    rw (stepped.same idle, history) refl
+  where
+    not-true : (b : Bool) → not b ≡ true → b ≡ false
+    not-true false is = refl
+    not-true true is = absurd (true≢false (sym is))
+
+-- a world of processes, with their history
+abbrev pub the_world : CourseView → Bool → WorldView
+the_world course broken = record { held = course.held; history = course.history; is_broken = broken }
+
+-- so an idle event leaves the world
+pub same_world : (r : Result Did Memory) (old new : CourseView) (event : Event) (is_broken : Bool) → is_broken ≡ is_err r
+    → IfOk r (λ did. GoesBy old new event did)
+    → IfOk r (λ did. is_idle did ≡ true → the_world new is_broken ≡ the_world old false)
+same_world (Ok did) old new event is_broken is goes = λ idle. rw (unchanged old new event did goes idle, is) refl
+same_world (Err memory) old new event is_broken is goes = tt
+
+-- a call that was to begin, where it is told of
+pub begun_is_told : (r : Result Begun Memory) (old new : CourseView) (client : ℕ) (call told : Call) (became : Did) → told ≡ call
+    → IfOk r (λ begun. HasBegun old.held new.held client call begun) → IsOk r
+    → IfOk r (λ begun. (became ≡ did_of begun) × (new.history ≡ old.history ++ told_of client told begun))
+    → GoesBy old new (Begin client call) became
+begun_is_told (Ok begun) old new client call told became same has ok after =
+    subst (λ d. GoesBy old new (Begin client call) d) (sym after.0)
+    (began old new client call begun has (after.1 ∙ ap (λ t. old.history ++ told_of client t begun) same))
+begun_is_told (Err memory) old new client call told became same has ok after = absurd (true≢false (sym ok))
+
+-- what holds in any case holds where a call was refused
+pub on_err : {A E : Type 0} {Q : Type 0} (r : Result A E) → Q → OnErr r Q
+on_err (Ok x) q = tt
+on_err (Err e) q = q

@@ -1,0 +1,47 @@
+-- What a world's calls say: each is the definition's, but for what failed servers held and what was put to them
+-- (Alike.antt of the world's model), by a reading of the events, since processes can want memory.
+-- Van Renesse and Schneider, "Chain Replication for Supporting High Throughput and Availability" (OSDI 2004), section 3:
+-- servers are fail-stop.
+use Rattle.std.specs.Prelude.{◌≡◌, ℕ, Bool, true, not, List, ◌++◌}
+use Rattle.ztree.specs.Tree.{Tree}
+use Rattle.zcalls.specs.Kept.{KeptState}
+use Rattle.zserver_table.specs.Machine.{kept_tree}
+use Rattle.zworld_model.specs.declared.event.Event.{Event}
+use Rattle.zworld_model.specs.declared.outcome.Outcome.{Outcome}
+use Rattle.zworld_model.specs.History.{History}
+use Rattle.zworld_model.specs.World.{World}
+use Rattle.zworld_model.specs.Events.{is_enabled, happens, run}
+use Rattle.zworld_model.specs.Reading.{read, is_fitting, IsReading}
+use Rattle.zworld_model.specs.Alike.{IsAlike}
+use Rattle.zprocesses.specs.declared.did.Did.{Did}
+use Rattle.zprocesses.specs.Held.{Held, world_of}
+use Rattle.zprocesses.specs.Steps.{is_idle, outcome_of}
+
+-- a world: all processes, what callers saw, and whether memory was ever refused: then nothing is promised of the processes
+pub record WorldView : Type 0 where
+  pub held : Held
+  pub history : History
+  pub is_broken : Bool
+
+-- the world of the definition that it stands for
+abbrev pub world_in : WorldView → World (KeptState Tree)
+world_in w = world_of w.held w.history
+
+-- an event led from one world to another
+pub record HasHappened (v : World (KeptState Tree)) (event : Event) (did : Did) (w : World (KeptState Tree)) : Type 0 where
+  -- it is idle exactly where it wasn't enabled
+  pub idle : is_idle did ≡ not (is_enabled v event)
+  -- it can have the outcome that is answered
+  pub fits : is_fitting v event (outcome_of did) ≡ true
+  -- it is the event of the definition, read by that outcome
+  pub leads : IsAlike (happens kept_tree v (read v event (outcome_of did))) w
+
+-- events led from one world to another, by some reading of them
+abbrev pub HasRun : World (KeptState Tree) → List Event → World (KeptState Tree) → Type 0
+HasRun v events w = (readings : List Event) × IsReading kept_tree v events readings × IsAlike (run kept_tree v readings) w
+
+-- some of the events, from the first on, were done by a reading of them, and this is the history
+abbrev pub HasBegunToRun : World (KeptState Tree) → List Event → History → Type 0
+HasBegunToRun v events history =
+    (front back : List Event) × (events ≡ front ++ back)
+    × (readings : List Event) × IsReading kept_tree v front readings × ((run kept_tree v readings).history ≡ history)

@@ -1,0 +1,29 @@
+-- What a world keeps of its past, and runs one event after the other.
+use Rattle.std.specs.Prelude.{◌≡◌, ℕ, Bool, true, false, List, [], ◌∷◌}
+use Rattle.ztree.specs.Tree.{Tree}
+use Rattle.zcalls.specs.Kept.{KeptState}
+use Rattle.zserver_table.specs.Machine.{kept_tree}
+use Rattle.zworld_model.specs.declared.event.Event.{Event}
+use Rattle.zworld_model.specs.declared.outcome.Outcome.{Outcome}
+use Rattle.zworld_model.specs.History.{History}
+use Rattle.zworld_model.specs.World.{World}
+use Rattle.zworld_model.specs.Events.{is_server, happens}
+use Rattle.zworld_model.specs.Reading.{read}
+use Rattle.zworld_model.specs.Alike.{IsAlike}
+use Rattle.zworld_model.specs.Laws.{world_after}
+use Rattle.zprocesses.specs.Held.{Held, world_of}
+
+-- there is a run from an opening that tells this history; unless memory was refused, the processes stand where it ends
+pub record HasPast (is_broken : Bool) (held : Held) (history : History) : Type 0 where
+  pub servers : ℕ
+  pub clients : ℕ
+  pub events : List Event
+  pub opens : is_server servers ≡ true
+  pub told : (world_after servers clients events).history ≡ history
+  pub stands : is_broken ≡ false → IsAlike (world_after servers clients events) (world_of held history)
+
+-- the events lead from one world to another one after the other, each read by some outcome
+abbrev pub LeadRead : World (KeptState Tree) → List Event → World (KeptState Tree) → Type 0
+LeadRead v [] w = IsAlike v w
+LeadRead v (event ∷ events) w =
+    (outcome : Outcome) × (u : World (KeptState Tree)) × IsAlike (happens kept_tree v (read v event outcome)) u × LeadRead u events w
