@@ -1,0 +1,85 @@
+//! The base lists of events.
+
+use crate::trouble::Trouble;
+use std::alloc::Global;
+use zcalls::ClientId;
+use zserver_table::{Process, ServerId};
+
+/// One event of a base list, by the numbers of its processes; the call that begins is the client's sequential
+/// create.
+#[derive(Clone, Copy)]
+pub enum Move {
+    Begin,
+    Take(u8, u8),
+    Fail(u8),
+    Join(u8),
+}
+
+/// A base list: the last server of its opening chain, the last one that can fail, and the events.
+#[derive(Drop)]
+pub struct Base {
+    pub last: u8,
+    pub mortal: u8,
+    pub moves: Vec<Move>,
+}
+
+/// The server of that number.
+pub fn server(number: u8) -> Result<ServerId, Trouble> {
+    ServerId::new(number).ok_or(Trouble::NoSuchThing)
+}
+
+/// The client whose calls these are.
+pub fn client() -> Result<ClientId, Trouble> {
+    ClientId::new(1).ok_or(Trouble::NoSuchThing)
+}
+
+/// The number of the client's process.
+pub const CLIENT: u8 = 5;
+
+/// The process of that number: 0 is the master, then come four servers, the client, and one that never calls.
+pub fn process(number: u8) -> Result<Process, Trouble> {
+    match number {
+        0 => Ok(Process::Master),
+        1..=4 => Ok(Process::Server(server(number)?)),
+        CLIENT => Ok(Process::Client(client()?)),
+        _ => Ok(Process::Client(ClientId::new(0).ok_or(Trouble::NoSuchThing)?)),
+    }
+}
+
+// Deliveries on these links.
+fn take_all(moves: &mut Vec<Move>, links: &[(u8, u8)]) -> Result<(), Trouble> {
+    for &(from, to) in links {
+        moves.push(Move::Take(from, to))?;
+    }
+    Ok(())
+}
+
+/// A call begins while a server joins behind a chain of three.
+pub fn joining(alloc: Global) -> Result<Base, Trouble> {
+    let mut moves = Vec::new(alloc);
+    moves.push(Move::Begin)?;
+    moves.push(Move::Join(4))?;
+    take_all(&mut moves, &[(0, 4), (4, 0), (0, 3), (3, 4), (4, 0)])?;
+    Ok(Base {
+        last: 3,
+        mortal: 4,
+        moves,
+    })
+}
+
+/// A call is forwarded, the second server fails, and the chain is mended.
+pub fn repaired(alloc: Global, last: u8) -> Result<Base, Trouble> {
+    let mut moves = Vec::new(alloc);
+    moves.push(Move::Begin)?;
+    take_all(&mut moves, &[(CLIENT, 1)])?;
+    moves.push(Move::Fail(2))?;
+    take_all(
+        &mut moves,
+        &[(2, 0), (0, 3), (3, 0), (0, 1), (1, 3), (3, CLIENT)],
+    )?;
+    Ok(Base {
+        last,
+        mortal: last,
+        moves,
+    })
+}

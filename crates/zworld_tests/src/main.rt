@@ -1,0 +1,31 @@
+//! Failures everywhere: each base list of events is run with each failure of a server at each place, and with each
+//! pair of such failures, each through one `World::run`; then the world settles. Where a server of the opening
+//! chain lives, the state lives: then every call is answered, an update has acted once, and another one is answered.
+#![tactic(auto)]
+
+mod asking;
+mod base;
+mod drill;
+mod trouble;
+
+use base::{joining, repaired};
+use drill::{Counts, drilled};
+use std::alloc::Global;
+use std::io;
+use trouble::Trouble;
+
+fn main(rt: HostRuntime) -> io::Result<()> {
+    match all(rt.alloc()) {
+        Ok(counts) => println!(rt; "{} lists run, {} answered", counts.run, counts.answered),
+        Err(trouble) => println!(rt; "{trouble}"),
+    }
+}
+
+// The three base lists.
+fn all(alloc: Global) -> Result<Counts, Trouble> {
+    let mut counts = Counts::default();
+    drilled(alloc, &joining(alloc)?, &mut counts)?;
+    drilled(alloc, &repaired(alloc, 3)?, &mut counts)?;
+    drilled(alloc, &repaired(alloc, 4)?, &mut counts)?;
+    Ok(counts)
+}
