@@ -47,7 +47,8 @@ impl Processes {
     /// The opening: the chain is the servers up to this one, the others are spare, and there are so many clients.
     pub fn new(alloc: Global, last: ServerId, clients: u8) -> Result<Processes, Memory>
         requires { clients ≤ MAX_CLIENTS }
-        ensures world { IfOk result (λ p. world_of p.held [] ≡ opening_world kept_tree last clients) }
+        ensures world { IfOk result
+            (λ p. world_of p.held [] ≡ opening_world kept_tree last clients) }
         ensures sound { IfOk result (λ p. p.is_broken ≡ false) }
     {
         Ok(Processes {
