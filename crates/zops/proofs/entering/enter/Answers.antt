@@ -1,8 +1,12 @@
-use Rattle.std.proofs.Common.{◌≡◌, ◌<◌, true, nat_lt, arith}
+use Rattle.std.proofs.Common.{◌≡◌, ◌<◌, true, nat_lt, arith, rules}
 use Rattle.std.proofs.lemmas.Bool.Decides.{nat_tests}
 use Rattle.std.specs.FinMap.{get}
 use Rattle.zcalls.specs.Kept.{last_of, entry_step}
 use Rattle.zops.proofs.entering.enter.Goals as goal
+
+pub returns-then-number-last-clause-done : goal.returns-then-number-last-clause-done
+unfolding entry_step
+returns-then-number-last-clause-done c = search rules
 
 pub returns-clause-done : goal.returns-clause-done
 unfolding entry_step
