@@ -1,112 +1,51 @@
-//! Worked calls of one node, with their answers.
+//! Worked calls of one node.
 
-use crate::play::{Act, has_names, has_stat, is_absent, long_path, play};
+use crate::play::{Row, plays_row};
 use std::test::Fail;
-use zops::Expected::{Any, Exactly};
-use zops::Kind::{EphemeralSequential, Persistent, PersistentSequential};
-use zops::{Machine, SessionId};
+
+const ROWS: [Row; 3] = [
+    // Nodes are made; a refused call takes no zxid.
+    &[
+        ("7 create /q p aGk=", "ok /q"),
+        ("7 create /q/n- ps aGk=", "ok /q/n-0000000000"),
+        ("7 create /q/n- ps aGk=", "ok /q/n-0000000001"),
+        ("7 create /q p aGk=", "no NodeExists"),
+        ("7 create /x/y p aGk=", "no NoNode"),
+        ("7 create /x/n- ps aGk=", "no NoNode"),
+        ("7 ls /q", "ok 2 n-0000000000 n-0000000001"),
+        ("7 exists /q", "ok stat 1 1 3 0 0 0 2 0 2 2"),
+    ],
+    // A sequential create that is refused takes no number.
+    &[
+        ("7 create / ps aGk=", "no NodeExists"),
+        ("7 create /b es:9 aGk=", "no SessionGone"),
+        ("7 create /b ps aGk=", "ok /b0000000000"),
+        ("7 create /b0000000001 p aGk=", "ok /b0000000001"),
+        ("7 create /b ps aGk=", "no NodeExists"),
+        ("7 delete /b0000000001 any", "ok deleted"),
+        ("7 create /b ps aGk=", "ok /b0000000001"),
+        ("7 ls /", "ok 2 b0000000000 b0000000001"),
+    ],
+    // A version is that of the data.
+    &[
+        ("7 create /a p aGk=", "ok /a"),
+        ("7 set /a 1 -", "no BadVersion"),
+        ("7 set /a any -", "ok stat 1 2 1 0 0 1 0 0 0 0"),
+        ("7 set /none any -", "no NoNode"),
+        ("7 multi check /a 1", "ok multi checked"),
+        ("7 multi check /a 0", "no multi 1 BadVersion"),
+        ("7 multi check /none any", "no multi 1 NoNode"),
+        ("7 delete /a 0", "no BadVersion"),
+        ("7 delete /a 1", "ok deleted"),
+        ("7 delete /a any", "no NoNode"),
+        ("7 exists /a", "no NoNode"),
+    ],
+];
 
 #[test]
-fn creates_nodes(rt: HostRuntime) -> Result<(), Fail> {
-    let alloc = rt.alloc();
-    let mut machine = Machine::new(alloc)?;
-    let rows = [
-        (7, Act::Create(Persistent), "/q", ("created", 0, 0)),
-        (
-            7,
-            Act::Create(PersistentSequential),
-            "/q/n-",
-            ("created", 0, 0),
-        ),
-        (
-            7,
-            Act::Create(PersistentSequential),
-            "/q/n-",
-            ("created", 0, 0),
-        ),
-        (7, Act::Create(Persistent), "/q", ("NodeExists", 0, 0)),
-        (7, Act::Create(Persistent), "/x/y", ("NoNode", 0, 0)),
-        (
-            7,
-            Act::Create(PersistentSequential),
-            "/x/n-",
-            ("NoNode", 0, 0),
-        ),
-    ];
-    play(&rt, alloc, &mut machine, &rows)?;
-    let made = ["n-0000000000", "n-0000000001"];
-    has_names(&rt, alloc, &machine, "/q", &made)?;
-    assert_eq!(rt; machine.applied(), 6);
-    has_stat(&rt, alloc, &machine, "/q", [1, 1, 3, 0, 0, 0, 2, 0, 2, 2])
-}
-
-#[test]
-fn refused_sequential_creates_take_no_number(rt: HostRuntime) -> Result<(), Fail> {
-    let alloc = rt.alloc();
-    let mut machine = Machine::new(alloc)?;
-    let long = long_path(alloc, "/")?;
-    let gone = EphemeralSequential(SessionId::new(9));
-    let rows = [
-        (
-            7,
-            Act::Create(PersistentSequential),
-            "/",
-            ("NodeExists", 0, 0),
-        ),
-        (
-            7,
-            Act::Create(PersistentSequential),
-            long.as_str(),
-            ("PathLimit", 0, 0),
-        ),
-        (7, Act::Create(gone), "/b", ("SessionGone", 0, 0)),
-        (
-            7,
-            Act::Create(PersistentSequential),
-            "/b",
-            ("created", 0, 0),
-        ),
-        (
-            7,
-            Act::Create(Persistent),
-            "/b0000000001",
-            ("created", 0, 0),
-        ),
-        (
-            7,
-            Act::Create(PersistentSequential),
-            "/b",
-            ("NodeExists", 0, 0),
-        ),
-        (7, Act::Delete(Any), "/b0000000001", ("deleted", 0, 0)),
-        (
-            7,
-            Act::Create(PersistentSequential),
-            "/b",
-            ("created", 0, 0),
-        ),
-    ];
-    play(&rt, alloc, &mut machine, &rows)?;
-    let made = ["b0000000000", "b0000000001"];
-    has_names(&rt, alloc, &machine, "/", &made)
-}
-
-#[test]
-fn sets_checks_and_deletes(rt: HostRuntime) -> Result<(), Fail> {
-    let alloc = rt.alloc();
-    let mut machine = Machine::new(alloc)?;
-    let rows = [
-        (7, Act::Create(Persistent), "/a", ("created", 0, 0)),
-        (7, Act::Set(Exactly(1)), "/a", ("BadVersion", 0, 0)),
-        (7, Act::Set(Any), "/a", ("set", 2, 1)),
-        (7, Act::Set(Any), "/none", ("NoNode", 0, 0)),
-        (7, Act::Check(Exactly(1)), "/a", ("multi", 1, 0)),
-        (7, Act::Check(Exactly(0)), "/a", ("BadVersion", 1, 0)),
-        (7, Act::Check(Any), "/none", ("NoNode", 1, 0)),
-        (7, Act::Delete(Exactly(0)), "/a", ("BadVersion", 0, 0)),
-        (7, Act::Delete(Exactly(1)), "/a", ("deleted", 0, 0)),
-        (7, Act::Delete(Any), "/a", ("NoNode", 0, 0)),
-    ];
-    play(&rt, alloc, &mut machine, &rows)?;
-    is_absent(&rt, alloc, &machine, "/a")
+fn plays_calls(rt: HostRuntime) -> Result<(), Fail> {
+    for row in ROWS {
+        plays_row(rt.alloc(), row)?;
+    }
+    Ok(())
 }

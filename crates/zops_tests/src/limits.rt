@@ -1,44 +1,84 @@
-//! The limits on nodes and on sessions.
+//! The limits on nodes, on sessions and on paths.
 
-use crate::play::{Act, apply, play, update};
+use crate::play::{Row, plays, plays_more};
+use std::alloc::Global;
 use std::test::Fail;
-use zops::Kind::Persistent;
-use zops::{Machine, Update};
+use zops::Machine;
+
+const BESIDE_4096_NODES: Row = &[
+    ("7 create /0 p aGk=", "no Full"),
+    ("7 create /1 p aGk=", "no NodeExists"),
+    ("7 create /0/1 p aGk=", "no NoNode"),
+];
+
+const BESIDE_1024_SESSIONS: Row = &[
+    ("3 open 20", "no TooManySessions"),
+    ("3 close 512", "ok closed"),
+    ("3 open 20", "ok session 1026 timeout 20"),
+];
+
+const BEFORE_LONG_NAMES: Row = &[
+    ("1 open 20", "ok session 1 timeout 20"),
+    ("1 create /e e:1 aGk=", "ok /e"),
+];
+
+const BEHIND_LONG_NAMES: Row = &[("7 create /b ps -", "ok /b0000000000")];
 
 #[test]
 fn holds_4096_nodes(rt: HostRuntime) -> Result<(), Fail> {
-    let alloc = rt.alloc();
-    let mut machine = Machine::new(alloc)?;
+    let mut machine = Machine::new(rt.alloc())?;
     for number in 1..4096 {
-        let path = format!(in alloc; "/{number}")?;
-        let update = update(alloc, Act::Create(Persistent), path.as_str())?;
-        apply(&rt, &mut machine, 7, update, ("created", 0, 0))?;
+        makes(rt.alloc(), &mut machine, number)?;
     }
-    let rows = [
-        (7, Act::Create(Persistent), "/0", ("Full", 0, 0)),
-        (7, Act::Create(Persistent), "/1", ("NodeExists", 0, 0)),
-        (7, Act::Create(Persistent), "/0/1", ("NoNode", 0, 0)),
-    ];
-    play(&rt, alloc, &mut machine, &rows)
+    plays_more(rt.alloc(), &mut machine, BESIDE_4096_NODES)
+}
+
+// Makes the node that has this number as its name.
+fn makes(alloc: Global, machine: &mut Machine, number: usize) -> Result<(), Fail> {
+    let line = format!(in alloc; "7 create /{number} p aGk=")?;
+    let want = format!(in alloc; "ok /{number}")?;
+    plays(alloc, machine, &line, &want)
 }
 
 #[test]
 fn holds_1024_sessions(rt: HostRuntime) -> Result<(), Fail> {
-    let alloc = rt.alloc();
-    let mut machine = Machine::new(alloc)?;
+    let mut machine = Machine::new(rt.alloc())?;
     for number in 1..1025 {
-        apply(
-            &rt,
-            &mut machine,
-            3,
-            Update::Open(20),
-            ("opened", number, 20),
-        )?;
+        opens(rt.alloc(), &mut machine, number)?;
     }
-    let rows = [
-        (3, Act::Open(20), "/", ("TooManySessions", 0, 0)),
-        (3, Act::Close(512), "/", ("closed", 0, 0)),
-        (3, Act::Open(20), "/", ("opened", 1026, 20)),
-    ];
-    play(&rt, alloc, &mut machine, &rows)
+    plays_more(rt.alloc(), &mut machine, BESIDE_1024_SESSIONS)
+}
+
+// Opens the session of this number.
+fn opens(alloc: Global, machine: &mut Machine, number: usize) -> Result<(), Fail> {
+    let want = format!(in alloc; "ok session {number} timeout 20")?;
+    plays(alloc, machine, "3 open 20", &want)
+}
+
+#[test]
+fn adds_no_digits_to_a_long_name(rt: HostRuntime) -> Result<(), Fail> {
+    let mut machine = Machine::new(rt.alloc())?;
+    plays_more(rt.alloc(), &mut machine, BEFORE_LONG_NAMES)?;
+    plays_long_names(rt.alloc(), &mut machine)?;
+    plays_more(rt.alloc(), &mut machine, BEHIND_LONG_NAMES)
+}
+
+// Plays creates to whose paths no ten digits can be added, some of which are refused for another reason
+// before that one.
+fn plays_long_names(alloc: Global, machine: &mut Machine) -> Result<(), Fail> {
+    for (client, front, kind, want) in [
+        (7, "/", "ps", "no PathLimit"),
+        (1, "/e/", "ps", "no NoChildrenForEphemerals"),
+        (2, "/e/", "e:1", "no SessionGone"),
+    ] {
+        let line = long_line(alloc, client, front, kind)?;
+        plays(alloc, machine, &line, want)?;
+    }
+    Ok(())
+}
+
+// A create of a name of 246 bytes behind the front.
+fn long_line(alloc: Global, client: usize, front: &str, kind: &str) -> Result<String, Fail> {
+    let name = "a".repeat(alloc, 246)?;
+    Ok(format!(in alloc; "{client} create {front}{name} {kind} aGk=")?)
 }

@@ -1,62 +1,62 @@
-//! Worked multis, with their answers.
+//! Worked multis.
 
-use crate::play::{Act, apply, has_data, has_names, has_stat, multi, part};
+use crate::play::{Row, plays_row};
+use std::alloc::Global;
 use std::test::Fail;
-use zops::Expected::{Any, Exactly};
-use zops::Kind::{Persistent, PersistentSequential};
-use zops::{MAX_PARTS, Machine, Multi};
+use zops::{Check, Expected, MAX_PARTS, Multi, Part};
+use zpath::Path;
+
+const ROWS: [Row; 2] = [
+    // One that is refused leaves all as it was, and takes no number.
+    &[
+        (
+            "7 multi create /n- ps aGk= ; delete /none any ; check / any",
+            "no multi 2 NoNode",
+        ),
+        ("7 exists /", "ok stat 0 0 0 0 0 0 0 0 0 0"),
+        ("7 multi create /n- ps aGk=", "ok multi /n-0000000000"),
+        ("7 ls /", "ok 1 n-0000000000"),
+    ],
+    // One that is done takes one zxid.
+    &[
+        (
+            "7 multi create /b p aGk= ; create /a p - ; check /a 0 ; set /a 0 - ; create /a/c p - ; delete /a/c any",
+            "ok multi /b ; /a ; checked ; stat 1 1 1 0 0 1 0 0 0 0 ; /a/c ; deleted",
+        ),
+        ("7 exists /", "ok stat 0 0 1 0 0 0 2 0 0 2"),
+        ("7 get /b", "ok data aGk= stat 1 1 1 0 0 0 0 0 2 0"),
+    ],
+];
 
 #[test]
-fn refused_multi_leaves_all_as_it_was(rt: HostRuntime) -> Result<(), Fail> {
-    let alloc = rt.alloc();
-    let mut machine = Machine::new(alloc)?;
-    let refused = [
-        (Act::Create(PersistentSequential), "/n-"),
-        (Act::Delete(Any), "/none"),
-        (Act::Check(Any), "/"),
-    ];
-    apply(
-        &rt,
-        &mut machine,
-        7,
-        multi(alloc, &refused)?,
-        ("NoNode", 2, 0),
-    )?;
-    has_stat(&rt, alloc, &machine, "/", [0; 10])?;
-    let made = [(Act::Create(PersistentSequential), "/n-")];
-    apply(&rt, &mut machine, 7, multi(alloc, &made)?, ("multi", 1, 0))?;
-    has_names(&rt, alloc, &machine, "/", &["n-0000000000"])
-}
-
-#[test]
-fn multi_takes_one_zxid(rt: HostRuntime) -> Result<(), Fail> {
-    let alloc = rt.alloc();
-    let mut machine = Machine::new(alloc)?;
-    let made = [
-        (Act::Create(Persistent), "/b"),
-        (Act::Create(Persistent), "/a"),
-        (Act::Check(Exactly(0)), "/a"),
-        (Act::Set(Exactly(0)), "/a"),
-        (Act::Create(Persistent), "/a/c"),
-        (Act::Delete(Any), "/a/c"),
-    ];
-    apply(&rt, &mut machine, 7, multi(alloc, &made)?, ("multi", 6, 0))?;
-    has_stat(&rt, alloc, &machine, "/", [0, 0, 1, 0, 0, 0, 2, 0, 0, 2])?;
-    has_data(&rt, alloc, &machine, "/b", &[104, 105])
+fn plays_multis(rt: HostRuntime) -> Result<(), Fail> {
+    for row in ROWS {
+        plays_row(rt.alloc(), row)?;
+    }
+    Ok(())
 }
 
 #[test]
 fn takes_1_to_64_parts(rt: HostRuntime) -> Result<(), Fail> {
-    let alloc = rt.alloc();
     for (count, is_taken) in [(0, false), (1, true), (MAX_PARTS, true), (65, false)] {
-        let mut parts = Vec::new(alloc);
-        for _ in 0..count {
-            parts.push(part(alloc, Act::Check(Any), "/")?)?;
-        }
-        match Multi::new(parts) {
-            Ok(_) => assert!(rt; is_taken, "{count} parts"),
-            Err(back) => assert!(rt; !is_taken && back.len() == count, "{count} parts"),
-        }
+        let made = checks(rt.alloc(), count)?;
+        assert_eq!(rt; made, (is_taken, count));
     }
     Ok(())
+}
+
+// Whether so many checks are taken as a multi, and how many of them are there then.
+fn checks(alloc: Global, count: usize) -> Result<(bool, usize), Fail> {
+    let mut parts = Vec::new(alloc);
+    for _ in 0..count {
+        let path = Path::root(alloc);
+        parts.push(Part::Check(Check {
+            path,
+            version: Expected::Any,
+        }))?;
+    }
+    match Multi::new(parts) {
+        Ok(multi) => Ok((true, multi.as_slice().len())),
+        Err(back) => Ok((false, back.len())),
+    }
 }

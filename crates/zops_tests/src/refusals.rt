@@ -1,68 +1,52 @@
 //! Which of two refusals is the answer, and the words of the refusals.
 
-use crate::play::{Act, long_path, owned, play};
+use crate::play::{Row, plays_row, same};
+use std::alloc::Global;
 use std::test::Fail;
-use zops::Expected::{Any, Exactly};
-use zops::Kind::{Persistent, PersistentSequential};
-use zops::{Machine, Refusal};
+use zops::Refusal;
+
+const EARLIER: Row = &[
+    ("1 open 20", "ok session 1 timeout 20"),
+    ("1 create /p p aGk=", "ok /p"),
+    ("1 create /p/c p aGk=", "ok /p/c"),
+    // a gone session, and the root; the root, and a name without digits
+    ("1 create / e:9 aGk=", "no SessionGone"),
+    ("1 create / ps aGk=", "no NodeExists"),
+    // the root, and another version; another version, and children
+    ("1 delete / 5", "no RootFixed"),
+    ("1 delete /p 5", "no BadVersion"),
+    ("1 delete /p any", "no NotEmpty"),
+];
+
+const WORDS: [(Refusal, &str); 12] = [
+    (Refusal::NoNode, "NoNode"),
+    (Refusal::NodeExists, "NodeExists"),
+    (Refusal::NotEmpty, "NotEmpty"),
+    (Refusal::BadVersion, "BadVersion"),
+    (Refusal::NoChildrenForEphemerals, "NoChildrenForEphemerals"),
+    (Refusal::SessionGone, "SessionGone"),
+    (Refusal::SequenceFull, "SequenceFull"),
+    (Refusal::PathLimit, "PathLimit"),
+    (Refusal::RootFixed, "RootFixed"),
+    (Refusal::Full, "Full"),
+    (Refusal::TooManySessions, "TooManySessions"),
+    (Refusal::Exhausted, "Exhausted"),
+];
 
 #[test]
 fn earlier_refusals_are_the_answer(rt: HostRuntime) -> Result<(), Fail> {
-    let alloc = rt.alloc();
-    let mut machine = Machine::new(alloc)?;
-    let long = long_path(alloc, "/e/")?;
-    let rows = [
-        (1, Act::Open(20), "/", ("opened", 1, 20)),
-        (1, Act::Create(owned(1)), "/e", ("created", 0, 0)),
-        (1, Act::Create(Persistent), "/p", ("created", 0, 0)),
-        (1, Act::Create(Persistent), "/p/c", ("created", 0, 0)),
-        // a gone session, and the root; the root, and a name without digits
-        (1, Act::Create(owned(9)), "/", ("SessionGone", 0, 0)),
-        (
-            1,
-            Act::Create(PersistentSequential),
-            "/",
-            ("NodeExists", 0, 0),
-        ),
-        // an ephemeral parent, and a made name that is too long
-        (
-            1,
-            Act::Create(PersistentSequential),
-            long.as_str(),
-            ("NoChildrenForEphemerals", 0, 0),
-        ),
-        (
-            2,
-            Act::Create(owned(1)),
-            long.as_str(),
-            ("SessionGone", 0, 0),
-        ),
-        // the root, and another version; another version, and children
-        (1, Act::Delete(Exactly(5)), "/", ("RootFixed", 0, 0)),
-        (1, Act::Delete(Exactly(5)), "/p", ("BadVersion", 0, 0)),
-        (1, Act::Delete(Any), "/p", ("NotEmpty", 0, 0)),
-    ];
-    play(&rt, alloc, &mut machine, &rows)
+    plays_row(rt.alloc(), EARLIER)
 }
 
 #[test]
 fn names_each_refusal(rt: HostRuntime) -> Result<(), Fail> {
-    for (refusal, want) in [
-        (Refusal::NoNode, "NoNode"),
-        (Refusal::NodeExists, "NodeExists"),
-        (Refusal::NotEmpty, "NotEmpty"),
-        (Refusal::BadVersion, "BadVersion"),
-        (Refusal::NoChildrenForEphemerals, "NoChildrenForEphemerals"),
-        (Refusal::SessionGone, "SessionGone"),
-        (Refusal::SequenceFull, "SequenceFull"),
-        (Refusal::PathLimit, "PathLimit"),
-        (Refusal::RootFixed, "RootFixed"),
-        (Refusal::Full, "Full"),
-        (Refusal::TooManySessions, "TooManySessions"),
-        (Refusal::Exhausted, "Exhausted"),
-    ] {
-        let word = format!(in rt.alloc(); "{refusal}")?;
-        assert_eq!(rt; word.as_str(), want);
+    for (refusal, want) in WORDS {
+        is_named(rt.alloc(), refusal, want)?;
     }
     Ok(())
+}
+
+fn is_named(alloc: Global, refusal: Refusal, want: &str) -> Result<(), Fail> {
+    let word = format!(in alloc; "{refusal}")?;
+    same(alloc, "a refusal", &word, want)
 }

@@ -1,67 +1,48 @@
-//! Worked calls of sessions, with their answers.
+//! Worked calls of sessions.
 
-use crate::play::{Act, has_stat, is_absent, owned, play};
+use crate::play::{Row, plays_row};
 use std::test::Fail;
-use zops::Kind::{EphemeralSequential, Persistent};
-use zops::{Machine, SessionId};
+
+const ROWS: [Row; 3] = [
+    // A session ends at its deadline, and its nodes with it, by one change.
+    &[
+        ("1 open 1", "ok session 1 timeout 2"),
+        ("1 create /e e:1 aGk=", "ok /e"),
+        ("1 create /b es:1 aGk=", "ok /b0000000000"),
+        ("0 tick", "ok tick 1 ended 0"),
+        ("0 tick", "ok tick 2 ended 1"),
+        ("1 ping 1", "no SessionGone"),
+        ("1 exists /e", "no NoNode"),
+        ("1 exists /", "ok stat 0 0 4 0 0 0 4 0 0 0"),
+    ],
+    // It belongs to the client that opened it.
+    &[
+        ("1 open 100", "ok session 1 timeout 20"),
+        ("1 create /e e:1 aGk=", "ok /e"),
+        ("1 create /e/x p aGk=", "no NoChildrenForEphemerals"),
+        ("2 create /f e:1 aGk=", "no SessionGone"),
+        ("2 ping 1", "no SessionGone"),
+        ("2 close 1", "no SessionGone"),
+        ("1 close 1", "ok closed"),
+        ("1 close 1", "no SessionGone"),
+    ],
+    // A ping keeps it alive.
+    &[
+        ("5 open 3", "ok session 1 timeout 3"),
+        ("0 tick", "ok tick 1 ended 0"),
+        ("0 tick", "ok tick 2 ended 0"),
+        ("5 ping 1", "ok pinged"),
+        ("0 tick", "ok tick 3 ended 0"),
+        ("0 tick", "ok tick 4 ended 0"),
+        ("0 tick", "ok tick 5 ended 1"),
+        ("5 open 20", "ok session 3 timeout 20"),
+    ],
+];
 
 #[test]
-fn ends_at_its_deadline(rt: HostRuntime) -> Result<(), Fail> {
-    let alloc = rt.alloc();
-    let mut machine = Machine::new(alloc)?;
-    let rows = [
-        (1, Act::Open(1), "/", ("opened", 1, 2)),
-        (1, Act::Create(owned(1)), "/e", ("created", 0, 0)),
-        (
-            1,
-            Act::Create(EphemeralSequential(SessionId::new(1))),
-            "/b",
-            ("created", 0, 0),
-        ),
-        (0, Act::Tick, "/", ("ticked", 1, 0)),
-        (0, Act::Tick, "/", ("ticked", 2, 1)),
-        (1, Act::Ping(1), "/", ("SessionGone", 0, 0)),
-    ];
-    play(&rt, alloc, &mut machine, &rows)?;
-    is_absent(&rt, alloc, &machine, "/e")?;
-    has_stat(&rt, alloc, &machine, "/", [0, 0, 4, 0, 0, 0, 4, 0, 0, 0])
-}
-
-#[test]
-fn belongs_to_its_client(rt: HostRuntime) -> Result<(), Fail> {
-    let alloc = rt.alloc();
-    let mut machine = Machine::new(alloc)?;
-    let rows = [
-        (1, Act::Open(100), "/", ("opened", 1, 20)),
-        (1, Act::Create(owned(1)), "/e", ("created", 0, 0)),
-        (
-            1,
-            Act::Create(Persistent),
-            "/e/x",
-            ("NoChildrenForEphemerals", 0, 0),
-        ),
-        (2, Act::Create(owned(1)), "/f", ("SessionGone", 0, 0)),
-        (2, Act::Ping(1), "/", ("SessionGone", 0, 0)),
-        (2, Act::Close(1), "/", ("SessionGone", 0, 0)),
-        (1, Act::Close(1), "/", ("closed", 0, 0)),
-        (1, Act::Close(1), "/", ("SessionGone", 0, 0)),
-    ];
-    play(&rt, alloc, &mut machine, &rows)
-}
-
-#[test]
-fn a_ping_keeps_it_alive(rt: HostRuntime) -> Result<(), Fail> {
-    let alloc = rt.alloc();
-    let mut machine = Machine::new(alloc)?;
-    let rows = [
-        (1, Act::Open(3), "/", ("opened", 1, 3)),
-        (0, Act::Tick, "/", ("ticked", 1, 0)),
-        (0, Act::Tick, "/", ("ticked", 2, 0)),
-        (1, Act::Ping(1), "/", ("pinged", 0, 0)),
-        (0, Act::Tick, "/", ("ticked", 3, 0)),
-        (0, Act::Tick, "/", ("ticked", 4, 0)),
-        (0, Act::Tick, "/", ("ticked", 5, 1)),
-        (1, Act::Open(20), "/", ("opened", 3, 20)),
-    ];
-    play(&rt, alloc, &mut machine, &rows)
+fn plays_sessions(rt: HostRuntime) -> Result<(), Fail> {
+    for row in ROWS {
+        plays_row(rt.alloc(), row)?;
+    }
+    Ok(())
 }
