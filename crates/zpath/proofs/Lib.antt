@@ -2,6 +2,7 @@ pub mod First
 pub mod NameTests
 pub mod Splits
 pub mod Spelling
+pub mod Plain
 pub mod Family
 pub mod UniqueSpelling
 pub mod Digits

@@ -32,7 +32,7 @@ no_fault text none =
       unreserved = off.1.1.1.1.1.1.1.1.0;
     }
 
-fault_of-none : (text : List ℕ) → HasNoFault text → fault_of text ≡ None
+pub fault_of-none : (text : List ℕ) → HasNoFault text → fault_of text ≡ None
 unfolding fault_of
 fault_of-none text has =
     first_that_holds-none (text_tests text) (has.filled, (has.absolute, (has.names.filled, (has.names.no_dots, (has.names.visible, (has.names.short, (has.short, (has.shallow, (has.unreserved, tt)))))))))
@@ -85,7 +85,7 @@ begins-text_of [] = ([], refl)
 begins-text_of (name ∷ names) = (name ++ flat_map segment_of names, refl)
 
 -- a text that begins with a slash passes the first two tests
-tests_of_absolute : (text rest : List ℕ) → text ≡ 47 ∷ rest → (is_empty text ≡ false) × (not (is_absolute text) ≡ false)
+pub tests_of_absolute : (text rest : List ℕ) → text ≡ 47 ∷ rest → (is_empty text ≡ false) × (not (is_absolute text) ≡ false)
 tests_of_absolute text rest begins = rw begins (grind (arith, nat_tests), refl)
 
 -- the text of a path has no fault

@@ -3,3 +3,4 @@ pub mod Grammar
 pub mod Faults
 pub mod Laws
 pub mod Numbered
+pub mod support
