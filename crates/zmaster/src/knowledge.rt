@@ -75,7 +75,8 @@ impl Knowledge {
 
     /// How many clients there are.
     pub(crate) fn clients(&self) -> u8
-        ensures { result ≡ self.now.clients }
+        ensures same { result ≡ self.now.clients }
+        ensures few { result ≤ MAX_CLIENTS }
     {
         self.clients
     }

@@ -47,7 +47,8 @@ impl Master {
 
     /// How many clients there are.
     pub fn clients(&self) -> u8
-        ensures { result ≡ self.now.clients }
+        ensures same { result ≡ self.now.clients }
+        ensures few { result ≤ MAX_CLIENTS }
     {
         self.known.clients()
     }

@@ -9,3 +9,5 @@ pub mod FrontSteps
 pub mod OpeningViews
 pub mod Results
 pub mod TakeSteps
+pub mod Tries
+pub mod Passes

@@ -9,6 +9,7 @@ use Rattle.zserver_table.specs.declared.process.Process.TheVariants.{Master, Ser
 use Rattle.zserver_table.specs.Machine.{kept_tree}
 use Rattle.zworld_model.specs.declared.event.Event.{Event}
 use Rattle.zworld_model.specs.declared.event.Event.TheVariants.{Begin, Retry, Take, Ignore, Fail, Join}
+use Rattle.zworld_model.specs.declared.outcome.Outcome.{Outcome}
 use Rattle.zworld_model.specs.declared.outcome.Outcome.TheVariants.{Acted}
 use Rattle.zworld_model.specs.History.{History}
 use Rattle.zworld_model.specs.World.{World}
@@ -41,7 +42,7 @@ same_if true x y same = same
 same_if false x y same = refl
 
 -- and so does every event
-read_acted : (w : World (KeptState Tree)) (event : Event) → read w event Acted ≡ event
+pub read_acted : (w : World (KeptState Tree)) (event : Event) → read w event Acted ≡ event
 read_acted w (Begin c call) = refl
 read_acted w (Retry c) = refl
 read_acted w (Take from Master) = refl
@@ -51,8 +52,19 @@ read_acted w (Ignore from to) = refl
 read_acted w (Fail s) = refl
 read_acted w (Join s) = refl
 
+-- how an event reads doesn't hang on the history either
+pub read_anyway : (held : Held) (history : History) (event : Event) (outcome : Outcome) → read (world_of held history) event outcome ≡ read (world_of held []) event outcome
+read_anyway held history (Begin c call) outcome = refl
+read_anyway held history (Retry c) outcome = refl
+read_anyway held history (Take from Master) outcome = refl
+read_anyway held history (Take from (Server s)) outcome = refl
+read_anyway held history (Take from (Client c)) outcome = refl
+read_anyway held history (Ignore from to) outcome = refl
+read_anyway held history (Fail s) outcome = refl
+read_anyway held history (Join s) outcome = refl
+
 -- an event that isn't enabled, or is
-happens_not : (w : World (KeptState Tree)) (event : Event) → is_enabled w event ≡ false → happens kept_tree w event ≡ w
+pub happens_not : (w : World (KeptState Tree)) (event : Event) → is_enabled w event ≡ false → happens kept_tree w event ≡ w
 happens_not w event off = ap (λ b. if b then acts kept_tree w event else w) off
 
 pub happens_so : (w : World (KeptState Tree)) (event : Event) → is_enabled w event ≡ true → happens kept_tree w event ≡ acts kept_tree w event

@@ -3,3 +3,4 @@ pub mod Members
 pub mod Posting
 pub mod Fronts
 pub mod Opening
+pub mod Settling

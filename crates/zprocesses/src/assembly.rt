@@ -50,7 +50,8 @@ impl Model for Assembly {
 impl Assembly {
     /// How many clients there are.
     pub(crate) fn clients(&self) -> u8
-        ensures { result ≡ self.now.master.clients }
+        ensures same { result ≡ self.now.master.clients }
+        ensures few { result ≤ MAX_CLIENTS }
     {
         self.master.clients()
     }

@@ -15,6 +15,7 @@ mod member;
 mod opening;
 mod post;
 mod processes;
+mod settling;
 
 pub use answer::Answer;
 pub use did::{Begun, Did, IdleCause};

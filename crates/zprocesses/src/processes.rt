@@ -172,4 +172,25 @@ impl Processes {
         self.is_broken = did.is_err();
         did
     }
+
+    /// Delivers messages, link by link, until none can be taken; then each client that waits sends its call once
+    /// more, and messages are delivered again. It ends early once so many events were done. The answers that clients
+    /// take are added to the answers, in order.
+    pub fn settle(&mut self, limit: usize, answers: &mut Vec<Answer>) -> Result<Settled, Memory>
+        ensures settled { IfOk result (λ settled. (told : List Outcome) × (given : List Answer)
+            × (answers.new.items ≡ answers.old.items ++ given)
+            × HasSettled self.old.held self.new.held limit settled told (answer_events given)) }
+        ensures partly { OnErr result
+            ((given : List Answer) × (answers.new.items ≡ answers.old.items ++ given)) }
+        ensures sound { OnOk result ((self.old.is_broken ≡ false) × (self.new.is_broken ≡ false)) }
+        ensures broken { OnErr result (self.new.is_broken ≡ true) }
+        ensures stays { self.old.is_broken ≡ true → IsErr result }
+    {
+        if self.is_broken {
+            return Err(Memory);
+        }
+        let settled = self.assembly.settle(limit, answers);
+        self.is_broken = settled.is_err();
+        settled
+    }
 }

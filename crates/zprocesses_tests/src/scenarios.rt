@@ -1,9 +1,10 @@
-//! A call from its beginning to its answer, and a join.
+//! A call from its beginning to its answer, a join, and a call that settles.
 
 use std::test::Fail;
 use zcalls::{Call, ClientId, Reply, Update};
 use zprocesses::{Begun, Did, Processes};
 use zserver_table::{Process, ServerId};
+use zworld_model::Settled;
 
 #[test]
 fn answers_a_call(rt: HostRuntime) -> Result<(), Fail> {
@@ -45,5 +46,22 @@ fn lets_a_server_join(rt: HostRuntime) -> Result<(), Fail> {
     ] {
         assert!(rt; processes.take(from, to, &mut answers)? == Did::Done);
     }
+    Ok(())
+}
+
+#[test]
+fn settles_a_call(rt: HostRuntime) -> Result<(), Fail> {
+    let last = ServerId::new(3).ok_or("there is such a server")?;
+    let client = ClientId::new(0).ok_or("there is such a client")?;
+    let mut processes = Processes::new(rt.alloc(), last, 1)?;
+    processes.begin(client, Call::Update(Update::Tick))?;
+    let mut answers = Vec::new(rt.alloc());
+    assert!(rt; processes.settle(2, &mut answers)? == Settled::Limit);
+    assert!(rt; answers.is_empty());
+    assert!(rt; processes.settle(100, &mut answers)? == Settled::Quiet);
+    assert!(rt; answers.len() == 1 && processes.outstanding(client).is_none());
+    assert!(rt;
+        matches!(answers.first(), Some(answer) if matches!(&answer.reply, Reply::Ticked(1, 0)))
+    );
     Ok(())
 }

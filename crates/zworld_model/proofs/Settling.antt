@@ -1,10 +1,10 @@
 -- Settling is a run, keeps its limit, and where it ends quiet nothing can be taken.
 use Rattle.std.proofs.Common.{◌≡◌, ℕ, ◌+◌, ◌<◌, ◌≤◌, zero, suc, Bool, true, false, if◌then◌else◌, List, [], ◌∷◌, ◌++◌, length}
-use Rattle.std.proofs.Common.{refl, sym, ap, ◌∙◌, arith, length-append}
+use Rattle.std.proofs.Common.{refl, sym, ap, ◌∙◌, inl, inr, arith, length-append, eqb-true}
 use mathlib.Core.Bool.{true≢false}
 use Rattle.std.proofs.lemmas.Bool.{ltb-true, lt-ltb}
 use Rattle.std.proofs.lemmas.Bool.Decides.{nat_tests}
-use Rattle.std.specs.Prelude.{◌&&◌, ◌||◌, not, ◌==◌, nat_lt}
+use Rattle.std.specs.Prelude.{◌⊎◌, ◌&&◌, ◌||◌, not, ◌==◌, nat_lt}
 use Rattle.std.specs.List.{list_any}
 use Rattle.zserver_table.specs.Machine.{Does}
 use Rattle.zworld_model.specs.declared.event.Event.{Event}
@@ -31,6 +31,17 @@ neither : (a b : Bool) → (a || not b) ≡ false → (a ≡ false) × (b ≡ tr
 neither false true e = (refl, refl)
 neither false false e = absurd (true≢false e)
 neither true b e = absurd (true≢false e)
+
+-- the same of two as they are
+neither_of : (a b : Bool) → (a || b) ≡ false → (a ≡ false) × (b ≡ false)
+neither_of false b none = (refl, none)
+neither_of true b none = absurd (true≢false none)
+
+-- what is over has spent its limit, or has nothing that can be taken
+spent_or_idle : (spent any : Bool) → (spent || not any) ≡ true → (spent ≡ true) ⊎ (any ≡ false)
+spent_or_idle true any over = inl refl
+spent_or_idle false false over = inr refl
+spent_or_idle false true over = absurd (true≢false (sym over))
 
 -- what is over below its limit has nothing that can be taken
 nothing_is_left : (spent any : Bool) → (if spent then Limit else Quiet) ≡ Quiet → (spent || not any) ≡ true → any ≡ false
@@ -124,6 +135,29 @@ module _ {M : Type 0} (machine : Does M) where
   is_idle : (s : Settling M) (event : Event) → is_enabled s.world event ≡ false → with_try machine s event ≡ s
   is_idle s event idle = rw idle (no_choice (nat_lt 0 s.left) _ s)
 
+  -- nor is one where no more may be done
+  is_spent : (s : Settling M) (event : Event) → s.left ≡ 0 → with_try machine s event ≡ s
+  is_spent s event none = ap (λ n. if nat_lt 0 n && is_enabled s.world event then with_event machine s (as_read s event) else s) none
+
+  -- so tries of events that aren't enabled do nothing
+  pub none_is_done : (s : Settling M) (events : List Event) → list_any (is_enabled s.world) events ≡ false → with_tries machine s events ≡ s
+  none_is_done s [] none = refl
+  none_is_done s (event ∷ events) none =
+      let both = neither_of (is_enabled s.world event) (list_any (is_enabled s.world) events) none in
+      ap (λ t. with_tries machine t events) (is_idle s event both.0) ∙ none_is_done s events both.1
+
+  -- nor do any where no more may be done
+  pub none_may_be_done : (s : Settling M) (events : List Event) → s.left ≡ 0 → with_tries machine s events ≡ s
+  none_may_be_done s [] none = refl
+  none_may_be_done s (event ∷ events) none = ap (λ t. with_tries machine t events) (is_spent s event none) ∙ none_may_be_done s events none
+
+  -- where it is over, a pass does nothing
+  pub over_does_nothing : (s : Settling M) (events : List Event) → is_over s events ≡ true → with_tries machine s events ≡ s
+  over_does_nothing s events over = elim (spent_or_idle (s.left == 0) (list_any (is_enabled s.world) events) over) [
+    | inl spent ↦ none_may_be_done s events (eqb-true s.left 0 spent)
+    | inr idle ↦ none_is_done s events idle
+  ]
+
   -- a first event that can be taken, or a later one
   goes_on : (s : Settling M) (event : Event) (events : List Event) (b : Bool) → is_enabled s.world event ≡ b
       → 0 < s.left → (b || list_any (is_enabled s.world) events) ≡ true
@@ -136,7 +170,7 @@ module _ {M : Type 0} (machine : Does M) where
   goes_on s event events false idle some any later = rw (is_idle s event idle) (later any)
 
   -- a pass takes one message at least, where one can be taken and one more may be
-  pass_takes : (s : Settling M) (events : List Event) → 0 < s.left → list_any (is_enabled s.world) events ≡ true → (with_tries machine s events).left < s.left
+  pub pass_takes : (s : Settling M) (events : List Event) → 0 < s.left → list_any (is_enabled s.world) events ≡ true → (with_tries machine s events).left < s.left
   pass_takes s [] some any = absurd (true≢false (sym any))
   pass_takes s (event ∷ events) some any = goes_on s event events (is_enabled s.world event) refl some any (pass_takes s events some)
 

@@ -1,0 +1,39 @@
+use Rattle.zlinks.proofs.Results.{on_err}
+use Rattle.zprocesses.specs.support.Settling.{takes}
+use Rattle.zprocesses.proofs.Passes.{first_pass, next_pass, last_pass, all_passes}
+use Rattle.zprocesses.proofs.Tries.{both_added}
+use Rattle.zprocesses.proofs.assembly.Assembly.passes.Goals as goal
+
+pub loop-pass-init : goal.loop-pass-init
+loop-pass-init c =
+    first_pass (takes c.args.processes.now c.args.processes.now) c.args.limit
+    (record { held = c.args.self.now; left = c.args.left; answers = c.args.answers.now.items })
+
+pub returns-in_err-left-clause-partly : goal.returns-in_err-left-clause-partly
+returns-in_err-left-clause-partly c =
+    let here = c.loop-pass.invariant in
+    on_err c.from_residual.result
+    (both_added c.args.answers.now.items c.loop-pass.answers.items c.pass.new.answers.items (here.1, here.2) c.in_err-left.ensures.partly)
+
+pub returns-then-left-before-clause-done : goal.returns-then-left-before-clause-done
+returns-then-left-before-clause-done c =
+    last_pass (takes c.args.processes.now c.args.processes.now) c.args.limit c.loop-pass.pass
+    (record { held = c.args.self.now; left = c.args.left; answers = c.args.answers.now.items })
+    (record { held = c.loop-pass.self; left = c.loop-pass.left; answers = c.loop-pass.answers.items })
+    (record { held = c.pass.new.self; left = c.in_ok-left.left; answers = c.pass.new.answers.items })
+    c.loop-pass-test.true c.loop-pass.invariant c.if-left-before.true c.in_ok-left.ensures.done
+
+pub loop-pass-preserved : goal.loop-pass-preserved
+loop-pass-preserved c =
+    next_pass (takes c.args.processes.now c.args.processes.now) c.args.limit c.loop-pass.pass
+    (record { held = c.args.self.now; left = c.args.left; answers = c.args.answers.now.items })
+    (record { held = c.loop-pass.self; left = c.loop-pass.left; answers = c.loop-pass.answers.items })
+    (record { held = c.pass.new.self; left = c.in_ok-left.left; answers = c.pass.new.answers.items })
+    c.loop-pass-test.true c.loop-pass.invariant c.if-left-before.false c.in_ok-left.ensures.done
+
+pub returns-clause-done : goal.returns-clause-done
+returns-clause-done c =
+    all_passes (takes c.args.processes.now c.args.processes.now) c.args.limit c.loop-pass.pass
+    (record { held = c.args.self.now; left = c.args.left; answers = c.args.answers.now.items })
+    (record { held = c.loop-pass.self; left = c.loop-pass.left; answers = c.loop-pass.answers.items })
+    c.loop-pass-test.false c.loop-pass.invariant
