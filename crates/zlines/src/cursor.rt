@@ -30,13 +30,6 @@ impl<'a> Cursor<'a> {
         Cursor { left: Some(line) }
     }
 
-    /// The same words.
-    pub(crate) fn again(&self) -> Cursor<'a>
-        ensures { result ≡ self.now }
-    {
-        Cursor { left: self.left }
-    }
-
     /// The next word, if there is one.
     pub(crate) fn next(&mut self) -> Option<&'a str>
         ensures word { IfSome result (λ word. self.old ≡ word.now ∷ self.new) }

@@ -85,16 +85,20 @@ fn read_words(alloc: Global, mut words: Cursor) -> Result<Line, LineFault>
 }
 
 // A client's command, which is played to its answer, or, behind `begin`, begins alone.
-fn read_client_line(alloc: Global, client: ClientId, words: Cursor) -> Result<Line, LineFault>
+fn read_client_line(alloc: Global, client: ClientId, mut words: Cursor) -> Result<Line, LineFault>
     ensures found { IfOk result (λ asked. client_line_in client words.entry ≡ Ok asked) }
     ensures fault { IfErr result (IsUnread (client_line_in client words.entry)) }
 {
-    let mut behind = words.again();
-    match behind.next() {
-        None => Err(LineFault::BadLine),
-        Some("begin") => Ok(Line::Begin(read_request(alloc, client, behind)?)),
-        Some(_) => Ok(Line::Call(read_request(alloc, client, words)?)),
+    let Some(verb) = words.next() else {
+        return Err(LineFault::BadLine);
+    };
+    if verb != "begin" {
+        return Ok(Line::Call(read_request(alloc, client, verb, words)?));
     }
+    let Some(verb) = words.next() else {
+        return Err(LineFault::BadLine);
+    };
+    Ok(Line::Begin(read_request(alloc, client, verb, words)?))
 }
 
 // take FROM TO

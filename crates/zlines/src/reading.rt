@@ -1,6 +1,6 @@
 //! Commands of clients, read.
 
-ghost use Rattle.std.specs.Prelude.{◌≡◌, Ok, Err, IfOk, IfErr};
+ghost use Rattle.std.specs.Prelude.{◌≡◌, ◌∷◌, Ok, Err, IfOk, IfErr};
 ghost use Rattle.zlines.specs.Request.{IsUnread, request_in, command_in, tick_in, call_in, number_in, asked_in, query_in, session_in, single_in, multi_in};
 ghost use Rattle.zcalls.specs.declared.call.Query.TheVariants.{GetData, Exists, GetChildren};
 ghost use Rattle.zcalls.specs.declared.call.Update.TheVariants.{Open, Ping, Close};
@@ -14,40 +14,44 @@ use std::alloc::Global;
 use zcalls::{Call, ClientId, Multi, Query, SessionId, Update};
 use zpath::Path;
 
-/// Reads a client's command.
+/// Reads a client's command: its verb, and the words behind it.
 pub(crate) fn read_request(
     alloc: Global,
     client: ClientId,
+    verb: &str,
     words: Cursor,
 ) -> Result<Request, LineFault>
-    ensures found { IfOk result (λ request. request_in client words.entry ≡ Ok request) }
-    ensures fault { IfErr result (IsUnread (request_in client words.entry)) }
+    ensures found { IfOk result (λ request. request_in client (verb.now ∷ words.entry)
+        ≡ Ok request) }
+    ensures fault { IfErr result (IsUnread (request_in client (verb.now ∷ words.entry))) }
 {
-    let call = read_command(alloc, client, words)?;
+    let call = read_command(alloc, client, verb, words)?;
     Ok(Request { client, call })
 }
 
 // The call that a client's command asks for. Client 0 is the clock: it gives `tick` alone, and no
 // other client gives it.
-fn read_command(alloc: Global, client: ClientId, words: Cursor) -> Result<Call, LineFault>
-    ensures found { IfOk result (λ call. command_in client words.entry ≡ Ok call) }
-    ensures fault { IfErr result (IsUnread (command_in client words.entry)) }
+fn read_command(
+    alloc: Global,
+    client: ClientId,
+    verb: &str,
+    words: Cursor,
+) -> Result<Call, LineFault>
+    ensures found { IfOk result (λ call. command_in client (verb.now ∷ words.entry) ≡ Ok call) }
+    ensures fault { IfErr result (IsUnread (command_in client (verb.now ∷ words.entry))) }
 {
     if client.number() == 0 {
-        read_tick(words)
+        read_tick(verb, words)
     } else {
-        read_call(alloc, words)
+        read_call(alloc, verb, words)
     }
 }
 
 // `tick`, and no further word.
-fn read_tick(mut words: Cursor) -> Result<Call, LineFault>
-    ensures found { IfOk result (λ call. tick_in words.entry ≡ Ok call) }
-    ensures fault { IfErr result (λ fault. tick_in words.entry ≡ Err fault) }
+fn read_tick(verb: &str, words: Cursor) -> Result<Call, LineFault>
+    ensures found { IfOk result (λ call. tick_in (verb.now ∷ words.entry) ≡ Ok call) }
+    ensures fault { IfErr result (λ fault. tick_in (verb.now ∷ words.entry) ≡ Err fault) }
 {
-    let Some(verb) = words.next() else {
-        return Err(LineFault::BadLine);
-    };
     if verb == "tick" && words.is_done() {
         Ok(Call::Update(Update::Tick))
     } else {
@@ -56,13 +60,10 @@ fn read_tick(mut words: Cursor) -> Result<Call, LineFault>
 }
 
 // The call that the words of a command ask for.
-fn read_call(alloc: Global, mut words: Cursor) -> Result<Call, LineFault>
-    ensures found { IfOk result (λ call. call_in words.entry ≡ Ok call) }
-    ensures fault { IfErr result (IsUnread (call_in words.entry)) }
+fn read_call(alloc: Global, verb: &str, words: Cursor) -> Result<Call, LineFault>
+    ensures found { IfOk result (λ call. call_in (verb.now ∷ words.entry) ≡ Ok call) }
+    ensures fault { IfErr result (IsUnread (call_in (verb.now ∷ words.entry))) }
 {
-    let Some(verb) = words.next() else {
-        return Err(LineFault::BadLine);
-    };
     match verb {
         "get" => read_get(alloc, words),
         "exists" => read_exists(alloc, words),

@@ -2,6 +2,7 @@
 
 ghost use Rattle.std.specs.Prelude.{OnOk};
 ghost use Rattle.zlines.specs.Texts.{Writes};
+ghost use Rattle.std.specs.Fmt.{decimal};
 ghost use Rattle.std.specs.List.{flat_map};
 ghost use Rattle.zlines.specs.Reply.{reply_text, stat_text, parts_text, part_text, next_part_text, spaced_number, spaced_name};
 
@@ -122,8 +123,20 @@ fn write_numbers(numbers: &[u64], out: &mut String) -> Result<(), Memory>
 {
     let mut buffer = Buffer::new();
     for number in numbers {
-        out.push_str(" ")?;
-        out.push_str(buffer.format(*number))?;
+        out.push(' ')?;
+        write_number(*number, &mut buffer, out)?;
+    }
+    Ok(())
+}
+
+// A number. Most have one digit, which is pushed as it is.
+fn write_number(number: u64, buffer: &mut Buffer, out: &mut String) -> Result<(), Memory>
+    ensures { OnOk result (Writes out.old out.new (decimal number)) }
+{
+    if number < 10 {
+        out.push(char::from(b'0' + number as u8))?;
+    } else {
+        out.push_str(buffer.format(number))?;
     }
     Ok(())
 }
