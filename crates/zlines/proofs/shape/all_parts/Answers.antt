@@ -1,4 +1,4 @@
-use Rattle.std.proofs.Common.{◌-◌, Ok, sym, ap, ◌∙◌, inr, arith}
+use Rattle.std.proofs.Common.{◌-◌, Ok, sym, ap, ◌∙◌, inr, arith, rules}
 use Rattle.zlines.specs.Shape.{parts_shape}
 use Rattle.zlines.specs.Request.{read_of}
 use Rattle.zlines.proofs.PartsShape.{before, flipped, none_in_none, none_left, no_part, last_part, not_separated, further_parts}
@@ -29,3 +29,6 @@ loop-room-preserved c =
 
 pub returns-clause-fault : goal.returns-clause-fault
 returns-clause-fault c = inr (ap read_of (c.loop-room.invariant ∙ none_in_none _ _ _ (omega (arith, c.loop-room-test.false))))
+
+pub loop-room-init : goal.loop-room-init
+loop-room-init c = search rules
