@@ -47,19 +47,19 @@ fn well_formed(line: &[u8]) -> Option<&str>
     }
 }
 
-// Whether a line has plain bytes alone and no empty word: no space at an end, and no two beside each other.
+// Whether a line has plain bytes alone and no empty word: no space at an end, and no two beside each other. The loop
+// always goes to the end, so the bytes can be looked at many at a time.
 fn is_spaced(line: &[u8]) -> bool
     ensures { result ≡ is_spaced true line.now }
 {
-    let mut after_space = true;
+    let mut is_spaced = true;
+    let mut previous = b' ';
     for &byte in line {
-        let is_space = byte == b' ';
-        if !(0x20..=0x7e).contains(&byte) || is_space && after_space {
-            return false;
-        }
-        after_space = is_space;
+        let is_double = byte == b' ' && previous == b' ';
+        is_spaced &= (0x20..=0x7e).contains(&byte) && !is_double;
+        previous = byte;
     }
-    !after_space
+    is_spaced && previous != b' '
 }
 
 // What the words of a line ask for.
