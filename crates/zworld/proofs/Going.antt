@@ -4,7 +4,6 @@ use Rattle.std.proofs.lemmas.List.{append-nil}
 use Rattle.ztree.specs.Tree.{Tree}
 use Rattle.zcalls.specs.Kept.{KeptState}
 use Rattle.zserver_table.specs.Machine.{kept_tree}
-use Rattle.zserver_table.specs.declared.process.Process.{Process}
 use Rattle.zserver_table.specs.declared.process.Process.TheVariants.{Master, Server, Client}
 use Rattle.zworld_model.specs.declared.event.Event.{Event}
 use Rattle.zworld_model.specs.declared.event.Event.TheVariants.{Begin, Retry, Take, Ignore, Fail, Join}
@@ -13,7 +12,7 @@ use Rattle.zworld_model.specs.declared.outcome.Outcome.TheVariants.{Acted, Stopp
 use Rattle.zworld_model.specs.History.{History}
 use Rattle.zworld_model.specs.World.{World, opening_world}
 use Rattle.zworld_model.specs.Events.{is_server, is_enabled, happens, run}
-use Rattle.zworld_model.specs.Reading.{read, read_all, is_fitting, IsReading}
+use Rattle.zworld_model.specs.Reading.{read, read_all, is_fitting}
 use Rattle.zworld_model.specs.Alike.{IsAlike}
 use Rattle.zworld_model.specs.PlainTree.{IsExplained}
 use Rattle.zworld_model.specs.Laws.{world_after}
@@ -29,34 +28,13 @@ use Rattle.zprocesses.specs.declared.answer.Answer.{Answer}
 use Rattle.zprocesses.specs.declared.did.Begun.{Begun}
 use Rattle.zprocesses.specs.declared.did.Begun.TheVariants as begun
 use Rattle.zprocesses.specs.Held.{Held, world_of}
+use Rattle.zprocesses.proofs.Steps.{enabled_anyway, read_anyway}
 use Rattle.zprocesses.specs.Steps.{HasStepped, HasBegun, outcome_of, answer_events, is_idle}
 use Rattle.zworld.specs.support.Course.{CourseView, GoesBy, did_of, told_of}
 use Rattle.zworld.specs.support.Past.{HasPast, LeadRead}
 use Rattle.zworld.specs.Steps.{WorldView, HasHappened, HasRun, HasBegunToRun}
 
--- what is enabled, how an event reads and what outcomes it can have don't ask for the history
-same_enabled : (held : Held) (history : History) (event : Event) → is_enabled (world_of held history) event ≡ is_enabled (world_of held []) event
-same_enabled held history (Begin c call) = refl
-same_enabled held history (Retry c) = refl
-same_enabled held history (Take from Master) = refl
-same_enabled held history (Take from (Server s)) = refl
-same_enabled held history (Take from (Client c)) = refl
-same_enabled held history (Ignore from Master) = refl
-same_enabled held history (Ignore from (Server s)) = refl
-same_enabled held history (Ignore from (Client c)) = refl
-same_enabled held history (Fail s) = refl
-same_enabled held history (Join s) = refl
-
-same_read : (held : Held) (history : History) (event : Event) (outcome : Outcome) → read (world_of held history) event outcome ≡ read (world_of held []) event outcome
-same_read held history (Begin c call) outcome = refl
-same_read held history (Retry c) outcome = refl
-same_read held history (Take from Master) outcome = refl
-same_read held history (Take from (Server s)) outcome = refl
-same_read held history (Take from (Client c)) outcome = refl
-same_read held history (Ignore from to) outcome = refl
-same_read held history (Fail s) outcome = refl
-same_read held history (Join s) outcome = refl
-
+-- what outcomes an event can have doesn't ask for the history
 same_fitting : (held : Held) (history : History) (event : Event) (outcome : Outcome) → is_fitting (world_of held history) event outcome ≡ is_fitting (world_of held []) event outcome
 same_fitting held history event Acted = refl
 same_fitting held history (Begin c call) Stopped = refl
@@ -81,9 +59,9 @@ pub happened : (old new : CourseView) (event : Event) (did : Did) → GoesBy old
     → HasHappened (world_of old.held old.history) event did (world_of new.held new.history)
 happened old new event did (told, after, stepped) =
     let leads = stepped.leads old.history in
-    let reads = sym (same_read old.held old.history event (outcome_of did)) in
+    let reads = sym (read_anyway old.held old.history event (outcome_of did)) in
     record {
-      idle = stepped.idle ∙ ap not (sym (same_enabled old.held old.history event));
+      idle = stepped.idle ∙ ap not (sym (enabled_anyway old.held old.history event));
       fits = same_fitting old.held old.history event (outcome_of did) ∙ stepped.fits;
       leads = subst (λ h. IsAlike (happens kept_tree (world_of old.held old.history) (read (world_of old.held old.history) event (outcome_of did))) (world_of new.held h)) (sym after)
           (subst (λ e. IsAlike (happens kept_tree (world_of old.held old.history) e) (world_of new.held (old.history ++ told))) reads leads);
@@ -98,14 +76,19 @@ run_both v (event ∷ events) more = run_both (happens kept_tree v event) events
 same_history : (v w : World (KeptState Tree)) → IsAlike v w → w.history ≡ v.history
 same_history v w alike = ap (λ (x : World (KeptState Tree)). x.history) alike.rest
 
--- the past goes on with a run
-goes_on : (held next : Held) (history later : History) (events : List Event) → HasPast false held history
+-- where a run leads from the end of a past
+pub stands_later : (held next : Held) (history later : History) (events : List Event) (past : HasPast false held history)
+    → IsAlike (run kept_tree (world_of held history) events) (world_of next later)
+    → IsAlike (world_after past.servers past.clients (past.events ++ events)) (world_of next later)
+stands_later held next history later events past leads =
+    let first = stay_alike kept_tree _ _ events (past.stands refl) in
+    subst (λ w. IsAlike w (world_of next later)) (sym (run_both _ past.events events)) (alike_through _ _ _ first leads)
+
+-- the past goes on with it
+pub goes_on : (held next : Held) (history later : History) (events : List Event) → HasPast false held history
     → IsAlike (run kept_tree (world_of held history) events) (world_of next later) → HasPast false next later
 goes_on held next history later events past leads =
-    let before = past.stands refl in
-    let first = stay_alike kept_tree _ _ events before in
-    let stands : IsAlike (world_after past.servers past.clients (past.events ++ events)) (world_of next later) =
-    subst (λ w. IsAlike w (world_of next later)) (sym (run_both _ past.events events)) (alike_through _ _ _ first leads) in
+    let stands = stands_later held next history later events past leads in
     record {
       servers = past.servers;
       clients = past.clients;
@@ -201,11 +184,17 @@ pub began : (old new : CourseView) (client : ℕ) (call : Call) (begun : Begun) 
 began old new client call (begun.Number number) has after = (call_event.Begin client number call ∷ [], after, has)
 began old new client call (begun.Idle cause) has after = ([], after, has)
 
--- the past after an event, where memory was refused or not
+-- the past after a call, where memory was refused or not
+pub past_after : {A : Type 0} (r : Result A Memory) (Goes : A → Type 0) (old new : CourseView) → HasPast false old.held old.history
+    → ((x : A) → Goes x → HasPast false new.held new.history) → IfOk r Goes → OnErr r (new.history ≡ old.history) → HasPast (is_err r) new.held new.history
+past_after (Ok x) Goes old new past goes_on goes stays = goes_on x goes
+past_after (Err memory) Goes old new past goes_on goes stays = past_stays false old.held new.held old.history new.history past stays
+
+-- so after an event
 pub past_after_step : (r : Result Did Memory) (old new : CourseView) (event : Event) → HasPast false old.held old.history
     → IfOk r (λ did. GoesBy old new event did) → OnErr r (new.history ≡ old.history) → HasPast (is_err r) new.held new.history
-past_after_step (Ok did) old new event past goes stays = past_goes_on old new event did past goes
-past_after_step (Err memory) old new event past goes stays = past_stays false old.held new.held old.history new.history past stays
+past_after_step r old new event past goes stays =
+    past_after r (λ did. GoesBy old new event did) old new past (λ did goes. past_goes_on old new event did past goes) goes stays
 
 -- a delivery of which all answers are told is an event of the processes
 pub told_by_taking : (old new : CourseView) (held : Held) (event : Event) (became : Did) (none answers : List Answer) → none ≡ []

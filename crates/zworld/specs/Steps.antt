@@ -2,16 +2,20 @@
 -- (Alike.antt of the world's model), by a reading of the events, since processes can want memory.
 -- Van Renesse and Schneider, "Chain Replication for Supporting High Throughput and Availability" (OSDI 2004), section 3:
 -- servers are fail-stop.
-use Rattle.std.specs.Prelude.{◌≡◌, ℕ, Bool, true, not, List, ◌++◌}
+use Rattle.std.specs.Prelude.{◌≡◌, ℕ, Bool, true, false, not, List, [], ◌++◌}
 use Rattle.ztree.specs.Tree.{Tree}
 use Rattle.zcalls.specs.Kept.{KeptState}
 use Rattle.zserver_table.specs.Machine.{kept_tree}
+use Rattle.zserver_table.specs.declared.process.Process.{Process}
 use Rattle.zworld_model.specs.declared.event.Event.{Event}
+use Rattle.zworld_model.specs.declared.event.Event.TheVariants.{Take}
 use Rattle.zworld_model.specs.declared.outcome.Outcome.{Outcome}
+use Rattle.zworld_model.specs.declared.settled.Settled.{Settled}
 use Rattle.zworld_model.specs.History.{History}
 use Rattle.zworld_model.specs.World.{World}
 use Rattle.zworld_model.specs.Events.{is_enabled, happens, run}
 use Rattle.zworld_model.specs.Reading.{read, is_fitting, IsReading}
+use Rattle.zworld_model.specs.Settle.{settle, settling_end}
 use Rattle.zworld_model.specs.Alike.{IsAlike}
 use Rattle.zprocesses.specs.declared.did.Did.{Did}
 use Rattle.zprocesses.specs.Held.{Held, world_of}
@@ -45,3 +49,14 @@ abbrev pub HasBegunToRun : World (KeptState Tree) → List Event → History →
 HasBegunToRun v events history =
     (front back : List Event) × (events ≡ front ++ back)
     × (readings : List Event) × IsReading kept_tree v front readings × ((run kept_tree v readings).history ≡ history)
+
+-- settling led from one world to another, and ended so: it is that of the definition, by some outcomes of its events, all
+-- of which it took
+abbrev pub HasSettled : World (KeptState Tree) → ℕ → Settled → World (KeptState Tree) → Type 0
+HasSettled v limit settled w =
+    (outcomes : List Outcome) × (settled ≡ settling_end (settle kept_tree v limit outcomes))
+    × ((settle kept_tree v limit outcomes).outcomes ≡ []) × IsAlike (settle kept_tree v limit outcomes).world w
+
+-- no message can be taken from any link
+abbrev pub IsAtRest : World (KeptState Tree) → Type 0
+IsAtRest w = (from to : Process) → is_enabled w (Take from to) ≡ false

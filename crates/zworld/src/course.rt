@@ -8,7 +8,7 @@ ghost use Rattle.zworld_model.specs.World.{opening_world};
 ghost use Rattle.zworld_model.specs.declared.event.Event.TheVariants.{Begin, Take};
 ghost use Rattle.zprocesses.specs.Held.{world_of};
 ghost use Rattle.zprocesses.specs.Steps.{answer_events};
-ghost use Rattle.zworld.specs.support.Course.{GoesBy, did_of, told_of};
+ghost use Rattle.zworld.specs.support.Course.{GoesBy, SettlesBy, did_of, told_of};
 
 use crate::answered::answered;
 use std::alloc::Global;
@@ -17,7 +17,7 @@ use zcalls::{Call, ClientId};
 use zpath::Memory;
 use zprocesses::{Answer, Begun, Did, Processes};
 use zserver_table::{Process, ServerId};
-use zworld_model::{CallEvent, Event};
+use zworld_model::{CallEvent, Event, Settled};
 
 /// All processes with the history of what callers saw. What they hold after `Memory` is the business of the owner.
 #[derive(Drop)]
@@ -156,6 +156,17 @@ impl Course {
         let did = self.processes.take(from, to, &mut answers)?;
         self.tell(answers)?;
         Ok(did)
+    }
+
+    /// Settles, with at most so many events.
+    pub(crate) fn settle(&mut self, limit: usize) -> Result<Settled, Memory>
+        ensures settles { IfOk result (SettlesBy self.old self.new limit) }
+        ensures stays { OnErr result (self.new.history ≡ self.old.history) }
+    {
+        let mut answers = Vec::new(self.alloc);
+        let settled = self.processes.settle(limit, &mut answers)?;
+        self.tell(answers)?;
+        Ok(settled)
     }
 
     // Tells of the answers, of all or of none.

@@ -5,10 +5,11 @@ ghost use Rattle.ztree.specs.declared.limits.TheConstants.{MAX_CLIENTS};
 ghost use Rattle.zserver_table.specs.Machine.{kept_tree};
 ghost use Rattle.zworld_model.specs.PlainTree.{IsExplained};
 ghost use Rattle.zworld_model.specs.World.{opening_world};
+ghost use Rattle.zworld_model.specs.declared.settled.Settled.TheVariants.{Quiet};
 ghost use Rattle.zprocesses.specs.declared.did.Did.TheVariants.{Idle};
 ghost use Rattle.zprocesses.specs.declared.did.IdleCause.{IdleCause};
 ghost use Rattle.zprocesses.specs.Steps.{IsCause, is_idle};
-ghost use Rattle.zworld.specs.Steps.{HasBegunToRun, HasHappened, HasRun, world_in};
+ghost use Rattle.zworld.specs.Steps.{HasBegunToRun, HasHappened, HasRun, HasSettled, IsAtRest, world_in};
 
 use crate::course::Course;
 use std::alloc::Global;
@@ -16,7 +17,7 @@ use std::marker::Model;
 use zpath::Memory;
 use zprocesses::Did;
 use zserver_table::ServerId;
-use zworld_model::{CallEvent, Event};
+use zworld_model::{CallEvent, Event, Settled};
 
 /// All processes with their links, and the history of what callers saw. After it met want of memory it answers
 /// `Memory` for good, and its history stays; but where a server finds none, that server stops, or doesn't hear a
@@ -110,5 +111,26 @@ impl World {
             self.step(event)?;
         }
         Ok(())
+    }
+
+    /// Delivers messages, link by link, until none can be taken; then each client that waits sends its call once
+    /// more, and messages are delivered again. It ends early once so many events were done. After `Memory` the
+    /// history is that of before.
+    pub fn settle(&mut self, limit: usize) -> Result<Settled, Memory>
+        ensures settled { IfOk result (λ settled.
+            HasSettled (world_in self.old) limit settled (world_in self.new)) }
+        ensures quiet { IfOk result (λ settled. settled ≡ Quiet → IsAtRest (world_in self.new)) }
+        ensures explained { IsExplained self.new.history }
+        ensures history { OnErr result (self.new.history ≡ self.old.history) }
+        ensures sound { OnOk result ((self.old.is_broken ≡ false) × (self.new.is_broken ≡ false)) }
+        ensures broken { OnErr result (self.new.is_broken ≡ true) }
+        ensures stays { self.old.is_broken ≡ true → IsErr result }
+    {
+        if self.is_broken {
+            return Err(Memory);
+        }
+        let settled = self.course.settle(limit);
+        self.is_broken = settled.is_err();
+        settled
     }
 }

@@ -160,7 +160,7 @@ links_are_visited servers clients events from to is =
     visited clients (world_after servers clients events) from to (after_within servers clients events is) _ refl
 
 -- what no one of a list passes, none that is among it passes
-none_passes : {A : Type 0} (f : A → Bool) (x : A) (xs : List A) → Among x xs → list_any f xs ≡ false → f x ≡ false
+pub none_passes : {A : Type 0} (f : A → Bool) (x : A) (xs : List A) → Among x xs → list_any f xs ≡ false → f x ≡ false
 none_passes f x (y ∷ ys) (inl e) none = subst (λ z. f z ≡ false) e (first_of_two (f y) (list_any f ys) none)
   where
     first_of_two : (b c : Bool) → (b || c) ≡ false → b ≡ false

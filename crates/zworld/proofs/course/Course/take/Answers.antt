@@ -1,5 +1,4 @@
 use Rattle.std.proofs.Common.{subst}
-use Rattle.zserver_table.specs.declared.process.Process.{Process}
 use Rattle.zworld_model.specs.declared.event.Event.TheVariants.{Take}
 use Rattle.zworld.specs.support.Course.{CourseView, GoesBy}
 use Rattle.zworld.proofs.Going.{told_by_taking}

@@ -1,4 +1,4 @@
-use Rattle.std.proofs.Common.{subst, sym, ap, ◌∙◌, [], ◌∷◌, ◌++◌, refl, ◌≡◌, append_assoc, false}
+use Rattle.std.proofs.Common.{subst, sym, ap, ◌∙◌, [], ◌∷◌, ◌++◌, ◌≡◌, append_assoc, false}
 use Rattle.std.proofs.lemmas.List.{append-nil, nil_from_length}
 use Rattle.zworld_model.specs.PlainTree.{IsExplained}
 use Rattle.zworld_model.proofs.Alike.{alike_itself}

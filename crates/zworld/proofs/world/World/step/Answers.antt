@@ -1,8 +1,7 @@
-use Rattle.std.proofs.Common.{sym, subst, ap, ◌∙◌, ◌≡◌, true, false}
-use Rattle.std.specs.Prelude.{IfOk, is_err}
+use Rattle.std.proofs.Common.{sym, subst, ◌≡◌, true}
+use Rattle.std.specs.Prelude.{IfOk}
 use Rattle.std.proofs.lemmas.Result.{IfOk-weaker}
 use Rattle.zworld_model.specs.PlainTree.{IsExplained}
-use Rattle.zprocesses.specs.declared.did.Did.{Did}
 use Rattle.zprocesses.specs.declared.did.Did.TheVariants.{Idle}
 use Rattle.zprocesses.specs.declared.did.IdleCause.{IdleCause}
 use Rattle.zprocesses.specs.Held.{world_of}
