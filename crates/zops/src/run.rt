@@ -1,9 +1,10 @@
 //! The parts of a multi, done one after the other.
 
-ghost use Rattle.std.specs.Prelude.{◌≡◌, ◌≤◌, Ok, length, IfOk, IfErr, OnOk};
+ghost use Rattle.std.specs.Prelude.{◌≡◌, ◌≤◌, ◌+◌, Ok, length, IfOk, IfErr, OnOk};
 ghost use Rattle.zcalls.specs.Multi.{run};
 ghost use Rattle.zcalls.specs.declared.limits.TheConstants.{MAX_PARTS};
-ghost use Rattle.zops.specs.support.Ready.{IsReady, IsRun};
+ghost use Rattle.zops.specs.support.Ready.{IsReady, IsRun, HasMark};
+ghost use Rattle.zstore.specs.StoreView.{Mark};
 ghost use Rattle.zops.specs.support.Stops.{IsHalt};
 
 use crate::part::part;
@@ -27,6 +28,8 @@ pub(crate) fn run(
         ≡ Ok (store.new.tree, replies.items)) }
     ensures stopped { IfErr result (IsHalt (run store.old.tree client parts.items)) }
     ensures stays { OnOk result (IsRun store.old store.new) }
+    ensures given { store.new.given ≤ store.old.given + MAX_PARTS }
+    ensures mark { (m : Mark) → HasMark (length parts.items) m store.old → HasMark 0 m store.new }
 {
     let mut replies = Vec::new(alloc);
     for wanted in parts {

@@ -4,7 +4,7 @@ ghost use Rattle.std.specs.Prelude.{◌≡◌, ◌<◌, ◌+◌, ◌≤◌, ◌^
 ghost use Rattle.ztree.specs.Sessions.{with_renewed_session, without_session, without_sessions, due_sessions};
 ghost use Rattle.ztree.specs.Tree.{with_next_zxid};
 ghost use Rattle.ztree.specs.declared.limits.TheConstants.{TICK_BOUND};
-ghost use Rattle.zops.specs.support.Ready.{IsSteady, IsReady, StaysBounded, Leaves};
+ghost use Rattle.zops.specs.support.Ready.{IsSteady, IsReady, StaysBounded, IsAsItWas};
 ghost use Rattle.zcalls.specs.Step.{granted_timeout, due_next, tick_result, update_result};
 ghost use Rattle.zcalls.specs.declared.call.Update.TheVariants.{Open, Ping, Close};
 ghost use Rattle.zcalls.specs.declared.reply.Reply.TheVariants as reply;
@@ -35,7 +35,8 @@ pub(crate) fn open(store: &mut Store, client: ClientId, ticks: u64) -> Result<Re
     requires { IsReady store.old }
     ensures done { IfOk result (λ reply. (store.new.tree, reply)
         ≡ update_result store.old.tree client (Open ticks)) }
-    ensures left { Leaves result store.old store.new }
+    ensures left { StaysBounded store.old store.new }
+    ensures err { OnErr result (IsAsItWas store.old store.new) }
 {
     if store.sessions() >= MAX_SESSIONS {
         return Ok(Reply::Refused(Refusal::TooManySessions));
@@ -94,7 +95,8 @@ pub(crate) fn tick(store: &mut Store) -> Result<Reply, Memory>
     requires time { store.old.tree.time + 1 < TICK_BOUND }
     ensures done { IfOk result (λ reply. (store.new.tree, reply)
         ≡ tick_result store.old.tree (due_next store.old.tree)) }
-    ensures left { Leaves result store.old store.new }
+    ensures left { StaysBounded store.old store.new }
+    ensures err { OnErr result (IsAsItWas store.old store.new) }
 {
     store.keeps_lawful();
     let due = store.due(store.now() + 1)?;

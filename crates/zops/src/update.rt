@@ -1,11 +1,12 @@
 //! An update, done to a store by the plain step.
 
-ghost use Rattle.std.specs.Prelude.{◌≡◌, ◌-◌, nat_le, IfOk};
+ghost use Rattle.std.specs.Prelude.{◌≡◌, ◌-◌, nat_le, IfOk, OnErr};
 ghost use Rattle.ztree.specs.declared.limits.TheConstants.{ZXID_BOUND};
 ghost use Rattle.zcalls.specs.declared.call.Update.TheVariants as update;
 ghost use Rattle.zcalls.specs.Part.{change_step};
 ghost use Rattle.zcalls.specs.Step.{step, change_result, update_result, is_exhausted};
-ghost use Rattle.zops.specs.support.Ready.{IsSteady, IsReady, Leaves};
+ghost use Rattle.zops.specs.support.Ready.{IsSteady, IsReady, StaysBounded, IsAsItWas};
+ghost use Rattle.zops.specs.support.Stops.{IsHaltAnswered};
 
 use crate::change::change;
 use crate::run::run;
@@ -18,7 +19,7 @@ use zstore::Store;
 use ztree::ClientId;
 use ztree::limits::{TICK_BOUND, ZXID_BOUND};
 
-/// Does an update. Where it finds no memory, the store is as it was.
+/// Does an update. Where it finds no memory, the tree is as it was.
 #[tactic(auto, unfolding(zcalls::specs::Step::step))]
 pub(crate) fn update(
     alloc: Global,
@@ -29,7 +30,8 @@ pub(crate) fn update(
     requires { IsSteady store.old }
     ensures done { IfOk result (λ reply. (store.new.tree, reply)
         ≡ step store.old.tree client update) }
-    ensures left { Leaves result store.old store.new }
+    ensures left { StaysBounded store.old store.new }
+    ensures err { OnErr result (IsAsItWas store.old store.new) }
 {
     if is_exhausted(store, &update) {
         return Ok(Reply::Refused(Refusal::Exhausted));
@@ -81,7 +83,8 @@ fn single(
     requires { IsReady store.old }
     ensures done { IfOk result (λ reply. (store.new.tree, reply)
         ≡ change_result store.old.tree (change_step store.old.tree client wanted)) }
-    ensures left { Leaves result store.old store.new }
+    ensures left { StaysBounded store.old store.new }
+    ensures err { OnErr result (IsAsItWas store.old store.new) }
 {
     match change(alloc, store, client, wanted) {
         Ok(did) => {
@@ -93,21 +96,34 @@ fn single(
     }
 }
 
-// Does the parts of a multi on a copy of the store, which takes its place where none is refused.
+// Does the parts of a multi from a mark on, and goes back to it where one is refused.
 fn multi(alloc: Global, store: &mut Store, client: ClientId, parts: Multi) -> Result<Reply, Memory>
     requires { IsReady store.old }
     ensures done { IfOk result (λ reply. (store.new.tree, reply)
         ≡ update_result store.old.tree client (update.Multi parts)) }
-    ensures left { Leaves result store.old store.new }
+    ensures left { StaysBounded store.old store.new }
+    ensures err { OnErr result (IsAsItWas store.old store.new) }
 {
-    let mut copy = store.copy()?;
-    match run(alloc, &mut copy, client, parts.into_parts()) {
+    let parts = parts.into_parts();
+    store.mark(2 * parts.len())?;
+    match run(alloc, store, client, parts) {
         Ok(replies) => {
-            copy.raise();
-            *store = copy;
+            store.raise();
             Ok(Reply::Multi(Replies::new(replies)))
         }
-        Err(Halt::Refused(number, refusal)) => Ok(Reply::MultiRefused(number, refusal)),
-        Err(Halt::Memory) => Err(Memory),
+        Err(halt) => {
+            store.back();
+            halted(halt)
+        }
+    }
+}
+
+// What is answered where the parts were not all done.
+fn halted(halt: Halt) -> Result<Reply, Memory>
+    ensures { IsHaltAnswered halt result }
+{
+    match halt {
+        Halt::Refused(number, refusal) => Ok(Reply::MultiRefused(number, refusal)),
+        Halt::Memory => Err(Memory),
     }
 }

@@ -4,6 +4,7 @@ pub mod Keyed
 pub mod Shown
 pub mod Laid
 pub mod Kept
+pub mod Undone
 pub mod Alive
 pub mod Families
 pub mod ChildRows

@@ -1,6 +1,6 @@
 -- What a store shows: the plain tree that it stands for, and which Ids name its nodes.
-use Rattle.std.specs.Prelude.{◌≡◌, ℕ, ◌+◌, ◌≤◌, List, Option, None, Some, refl, if◌then◌else◌}
-use Rattle.std.specs.Coded.{Coded, code_by, coded×, coded_ℕ}
+use Rattle.std.specs.Prelude.{◌≡◌, ℕ, ◌+◌, ◌-◌, ◌≤◌, nat_le, List, Option, None, Some, refl, if◌then◌else◌}
+use Rattle.std.specs.Coded.{Coded, code_by, coded×, coded_ℕ, coded_option}
 use Rattle.std.specs.Option.{option_and_then, option_map}
 use Rattle.std.specs.Ordering.{nat_cmp}
 use Rattle.std.specs.FinMap as finite
@@ -12,11 +12,18 @@ use Rattle.ztree.specs.Tree.{Tree, Name, Path, Nodes, has_node, stat_at, childre
 use Rattle.ztree.specs.Room.{AtParent}
 use Rattle.ztree.specs.support.Codes.{coded_tree, coded_path}
 
--- the tree, the paths of the live Ids, and how many Ids were given so far
+-- what stood where a mark was set, and how many steps more can be undone
+pub record Mark : Type 0 where
+  pub tree : Tree
+  pub places : FinMap nat_cmp Path
+  pub steps : ℕ
+
+-- the tree, the paths of the live Ids, how many Ids were given so far, and the mark, if one stands
 pub record StoreView : Type 0 where
   pub tree : Tree
   pub places : FinMap nat_cmp Path
   pub given : ℕ
+  pub marked : Option Mark
 
 -- the number of an Id: all that is seen of it
 abbrev pub number_of : Id → ℕ
@@ -93,8 +100,41 @@ WritesData old new id bytes = AtPath old id (λ path. new.tree ≡ with_data_at 
 abbrev pub DropsNode : StoreView → StoreView → Id → Type 0
 DropsNode old new id = AtPath old id (λ path. new.tree ≡ without_node old.tree path)
 
--- how it is stored
+-- a fact on the mark, where one stands
+abbrev pub AtMark : StoreView → (Mark → Type 0) → Type 0
+AtMark h P = (m : Mark) → h.marked ≡ Some m → P m
+
+-- the same without a mark
+abbrev pub without_mark : StoreView → StoreView
+without_mark h = record h { marked = None }
+
+-- a mark after so many steps: it is given up where it has no room for them
+abbrev pub stepped : ℕ → Option Mark → Option Mark
+stepped k None = None
+stepped k (Some m) = if nat_le k m.steps then Some (record m { steps = m.steps - k }) else None
+
+-- nothing has changed but that a mark stands here, with room for so many steps
+pub record MarksHere (steps : ℕ) (old new : StoreView) : Type 0 where
+  pub tree : new.tree ≡ old.tree
+  pub same : KeepsIds old new
+  pub mark : Mark
+  pub marked : new.marked ≡ Some mark
+  pub tree_here : mark.tree ≡ old.tree
+  pub places_here : mark.places ≡ old.places
+  pub room : steps ≤ mark.steps
+
+-- the tree is what it was at the mark, and every Id names what it named there
+abbrev pub GoesBack : StoreView → Mark → Type 0
+GoesBack new m = (new.tree ≡ m.tree) × (new.places ≡ m.places)
+
+-- how a mark is stored
+abbrev pub coded_mark : Coded Mark
+coded_mark =
+    code_by (Tree × (FinMap nat_cmp Path × ℕ)) (coded× coded_tree (coded× (finite.code coded_ℕ coded_path) coded_ℕ))
+    (λ m. (m.tree, (m.places, m.steps))) (λ p. record { tree = p.0; places = p.1.0; steps = p.1.1 }) (λ _. refl)
+
+-- how a store is stored
 abbrev pub coded_store_view : Coded StoreView
 coded_store_view =
-    code_by (Tree × (FinMap nat_cmp Path × ℕ)) (coded× coded_tree (coded× (finite.code coded_ℕ coded_path) coded_ℕ))
-    (λ h. (h.tree, (h.places, h.given))) (λ p. record { tree = p.0; places = p.1.0; given = p.1.1 }) (λ _. refl)
+    code_by (Tree × (FinMap nat_cmp Path × (ℕ × Option Mark))) (coded× coded_tree (coded× (finite.code coded_ℕ coded_path) (coded× coded_ℕ (coded_option coded_mark))))
+    (λ h. (h.tree, (h.places, (h.given, h.marked)))) (λ p. record { tree = p.0; places = p.1.0; given = p.1.1.0; marked = p.1.1.1 }) (λ _. refl)

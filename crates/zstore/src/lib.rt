@@ -9,6 +9,8 @@
 mod family;
 mod id;
 pub mod limits;
+mod log;
+mod marking;
 mod place;
 mod reading;
 mod row;
@@ -16,6 +18,8 @@ mod session_place;
 mod sessions;
 mod store;
 mod taking;
+mod undo;
+mod undoing;
 mod writing;
 
 pub use id::Id;

@@ -3,10 +3,11 @@
 ghost use Rattle.std.specs.Prelude.{◌≡◌, ◌≢◌, [], Some, None, IfOk, IfSome, IfNone, OnSome, is_some, IsSome};
 ghost use Rattle.std.specs.FinMap.{get};
 ghost use Rattle.ztree.specs.Tree.{parent_of, has_node};
-ghost use Rattle.zstore.specs.StoreView.{path_of, node_of, data_of, seq_of, IsStatOf, AreChildrenOf};
+ghost use Rattle.zstore.specs.StoreView.{path_of, node_of, data_of, seq_of, IsStatOf, AreChildrenOf, without_mark};
 
 use crate::family::{child_count, child_names};
 use crate::id::Id;
+use crate::log::Log;
 use crate::place::{parent_place, place_of, row_of};
 use crate::row::{copied_rows, copied_sessions};
 use crate::store::Store;
@@ -78,9 +79,9 @@ impl Store {
         }
     }
 
-    /// A store of its own with the same tree and the same Ids.
+    /// A store of its own with the same tree and the same Ids; a mark isn't copied.
     pub fn copy(&self) -> Result<Store, Memory>
-        ensures { IfOk result (λ copy. copy ≡ self.now) }
+        ensures { IfOk result (λ copy. copy ≡ without_mark self.now) }
     {
         Ok(Store {
             rows: copied_rows(self.alloc, &self.rows)?,
@@ -88,6 +89,7 @@ impl Store {
             time: self.time,
             zxid: self.zxid,
             given: self.given,
+            log: Log::new(self.alloc),
             alloc: self.alloc,
         })
     }

@@ -6,9 +6,6 @@ use std::alloc::Global;
 use zpath::{Memory, Path};
 use ztree::{Node, Session, SessionId};
 
-// A copy has room for so many rows more: a multi works on a copy, and need not move it to grow.
-const SPARE: usize = 64;
-
 /// A node, where it is, and the number of its Id.
 #[derive(Drop)]
 pub(crate) struct Row {
@@ -53,7 +50,7 @@ impl SessionRow {
 pub(crate) fn copied_rows(alloc: Global, rows: &[Row]) -> Result<Vec<Row>, Memory>
     ensures { IfOk result (λ copy. copy.items ≡ rows.now) }
 {
-    let mut copy = Vec::with_capacity(alloc, rows.len() + SPARE)?;
+    let mut copy = Vec::with_capacity(alloc, rows.len())?;
     for row in rows {
         copy.push(row.copied(alloc)?)?;
     }
@@ -64,7 +61,7 @@ pub(crate) fn copied_rows(alloc: Global, rows: &[Row]) -> Result<Vec<Row>, Memor
 pub(crate) fn copied_sessions(alloc: Global, rows: &[SessionRow]) -> Result<Vec<SessionRow>, Memory>
     ensures { IfOk result (λ copy. copy.items ≡ rows.now) }
 {
-    let mut copy = Vec::with_capacity(alloc, rows.len() + SPARE)?;
+    let mut copy = Vec::with_capacity(alloc, rows.len())?;
     for row in rows {
         copy.push(row.copied())?;
     }

@@ -50,6 +50,7 @@ impl Store {
         requires zxid { self.old.tree.zxid + 1 < ZXID_BOUND }
         ensures tree { OnOk result (self.new.tree ≡ with_session self.old.tree client timeout) }
         ensures same { OnOk result (KeepsIds self.old self.new) }
+        ensures unmarked { OnOk result (self.new.marked ≡ None) }
         ensures err { OnErr result (self.new ≡ self.old) }
     {
         let zxid = self.zxid.next();
@@ -61,6 +62,7 @@ impl Store {
         };
         let at = session_gap(&self.sessions, id);
         self.sessions.insert(at, SessionRow { id, session })?;
+        self.log.stop();
         Ok(())
     }
 
@@ -71,10 +73,12 @@ impl Store {
             → HasRoomForDeadline self.old.tree.time s.timeout }
         ensures tree { self.new.tree ≡ with_renewed_session self.old.tree id }
         ensures same { KeepsIds self.old self.new }
+        ensures unmarked { self.new.marked ≡ None }
     {
         if let Ok(at) = session_place(&self.sessions, id) {
             let session = &mut self.sessions[at].session;
             session.deadline = self.time + session.timeout;
+            self.log.stop();
         }
     }
 
@@ -88,6 +92,7 @@ impl Store {
         ensures tree { self.new.tree ≡ without_session self.old.tree id }
         ensures forgotten { ForgetsGone self.old self.new }
         ensures given { self.new.given ≡ self.old.given }
+        ensures unmarked { self.new.marked ≡ None }
     {
         self.is_kept_named();
         self.keeps_lawful();
@@ -103,8 +108,10 @@ impl Store {
         requires ticks { self.old.tree.time + 1 < TICK_BOUND }
         ensures tree { self.new.tree ≡ with_next_tick self.old.tree }
         ensures same { KeepsIds self.old self.new }
+        ensures unmarked { self.new.marked ≡ None }
     {
         self.time += 1;
+        self.log.stop();
     }
 
     // What every store keeps: an Id that names a path names a node that is there.
@@ -133,9 +140,11 @@ impl Store {
         requires owns_none { ephemerals self.old.tree.nodes session ≡ [] }
         ensures tree { self.new.tree ≡ tree_without_session self.old.tree session }
         ensures same { KeepsIds self.old self.new }
+        ensures unmarked { self.new.marked ≡ None }
     {
         if let Ok(at) = session_place(&self.sessions, session) {
             self.sessions.remove(at);
+            self.log.stop();
         }
     }
 }

@@ -1,8 +1,9 @@
 //! The store.
 
-ghost use Rattle.std.specs.Prelude.{◌≡◌, ◌≤◌, IfOk};
+ghost use Rattle.std.specs.Prelude.{◌≡◌, ◌≤◌, IfOk, None};
 ghost use Rattle.std.specs.FinMap as finite;
 
+use crate::log::Log;
 use crate::row::{Row, SessionRow};
 use std::alloc::Global;
 use std::marker::Model;
@@ -17,6 +18,7 @@ pub struct Store {
     pub(crate) time: u64,
     pub(crate) zxid: Zxid,
     pub(crate) given: u128,
+    pub(crate) log: Log,
     pub(crate) alloc: Global,
 }
 
@@ -27,11 +29,14 @@ impl Model for Store {
 
     ghost coded = { coded_store_view };
 
-    ghost use Rattle.zstore.specs.support.Rows.{held_by, IsKept};
+    ghost use Rattle.std.specs.Vec.{vec_capacity};
+    ghost use Rattle.zstore.specs.support.Rows.{held_by, IsStored};
+    ghost use Rattle.zstore.specs.support.Undoing.{notes_of};
 
     ghost view = { held_by };
 
-    ghost invariant = { λ s. IsKept s.rows.items s.sessions.items s.time s.zxid s.given };
+    ghost invariant = { λ s. IsStored (notes_of s.log) s.rows.items (vec_capacity s.rows)
+        s.sessions.items s.time s.zxid s.given };
 }
 
 impl Store {
@@ -42,6 +47,7 @@ impl Store {
     pub fn new(alloc: Global) -> Result<Store, Memory>
         ensures opening { IfOk result (λ s. s.tree ≡ opening_tree) }
         ensures given { IfOk result (λ s. s.given ≤ 1) }
+        ensures unmarked { IfOk result (λ s. s.marked ≡ None) }
     {
         let zxid = Zxid::new(0);
         let root = Node {
@@ -68,6 +74,7 @@ impl Store {
             time: 0,
             zxid,
             given: 1,
+            log: Log::new(alloc),
             alloc,
         })
     }

@@ -1,19 +1,20 @@
 //! How a node is taken away.
 
-ghost use Rattle.std.specs.Prelude.{◌≡◌, ◌≢◌, ◌<◌, ◌+◌, [], Some, None, IfSome, IfNone, OnSome, IsSome};
+ghost use Rattle.std.specs.Prelude.{◌≡◌, ◌≢◌, ◌<◌, ◌+◌, [], Some, IsSome};
 ghost use Rattle.std.specs.FinMap as finite;
 ghost use Rattle.std.specs.FinMap.{get};
 ghost use Rattle.ztree.specs.declared.limits.TheConstants.{ZXID_BOUND};
-ghost use Rattle.ztree.specs.Tree.{children};
+ghost use Rattle.ztree.specs.Tree.{children, parent_of};
 ghost use Rattle.ztree.specs.Room.{HasRoomForLosses};
-ghost use Rattle.zstore.specs.StoreView.{path_of, AtPath, AtNode, AtParentOf, KeepsIds};
+ghost use Rattle.zstore.specs.StoreView.{path_of, AtPath, AtNode, AtParentOf, KeepsIds, stepped};
 ghost use Rattle.zstore.specs.StoreView.{Forgets, ForgetsGone, DropsNode};
 ghost use Rattle.zstore.specs.support.Parts.{tree_without, LosesChild};
 
 use crate::id::Id;
 use crate::place::row_of;
 use crate::store::Store;
-use zpath::Path;
+use crate::undo::Undo;
+use crate::undoing::marks_of;
 
 impl Store {
     /// Takes away a node beneath which there is none, by the next change; its Id names nothing any
@@ -28,28 +29,45 @@ impl Store {
         ensures forgotten { Forgets self.old self.new id }
         ensures gone { ForgetsGone self.old self.new }
         ensures given { self.new.given ≡ self.old.given }
+        ensures marked { self.new.marked ≡ stepped 2 self.old.marked }
     {
-        if let Some(path) = self.take(id) {
-            if let Some(parent) = self.above(&path) {
-                self.child_gone(parent);
-            }
+        let parent = self.parent_id(id);
+        self.take(id);
+        self.child_gone(parent);
+    }
+
+    // The node right above a live one.
+    fn parent_id(&self, id: Id) -> Id
+        requires live { IsSome (path_of self.now id) }
+        requires below_root { AtPath self.now id (λ path. path ≢ []) }
+        ensures { AtPath self.now id (λ path. path_of self.now result ≡ Some (parent_of path)) }
+    {
+        let Some(at) = row_of(&self.rows, id) else {
+            unreachable!();
+        };
+        match self.above(&self.rows[at].path) {
+            Some(parent) => parent,
+            None => unreachable!(),
         }
     }
 
-    // A live Id's row gone, and where it was.
-    fn take(&mut self, id: Id) -> Option<Path>
+    // A live Id's row gone.
+    fn take(&mut self, id: Id)
+        requires live { IsSome (path_of self.old id) }
         requires below_root { AtPath self.old id (λ path. path ≢ []) }
         requires leaf { AtPath self.old id (λ path. children self.old.tree.nodes path ≡ []) }
-        ensures path { IfSome result (λ path. path_of self.old id ≡ Some path) }
-        ensures tree { IfSome result (λ path. self.new.tree ≡ tree_without self.old.tree path) }
-        ensures forgotten { OnSome result (Forgets self.old self.new id) }
-        ensures gone_alone { OnSome result (ForgetsGone self.old self.new) }
+        ensures tree { AtPath self.old id (λ path.
+            self.new.tree ≡ tree_without self.old.tree path) }
+        ensures forgotten { Forgets self.old self.new id }
+        ensures gone { ForgetsGone self.old self.new }
         ensures given { self.new.given ≡ self.old.given }
-        ensures gone { IfNone result (path_of self.old id ≡ None) }
+        ensures marked { self.new.marked ≡ stepped 1 self.old.marked }
     {
-        let at = row_of(&self.rows, id)?;
+        let Some(at) = row_of(&self.rows, id) else {
+            unreachable!();
+        };
         let row = self.rows.remove(at);
-        Some(row.path)
+        self.log.note(Undo::Removed(at, row));
     }
 
     // The marks of the next change at a node beneath which a child went.
@@ -59,12 +77,15 @@ impl Store {
         requires zxid { self.old.tree.zxid + 1 < ZXID_BOUND }
         ensures tree { LosesChild self.old self.new parent }
         ensures same { KeepsIds self.old self.new }
+        ensures marked { self.new.marked ≡ stepped 1 self.old.marked }
     {
         if let Some(at) = row_of(&self.rows, parent) {
             let zxid = self.zxid.next();
             let node = &mut self.rows[at].node;
+            let before = marks_of(node);
             node.pzxid = zxid;
             node.cversion += 1;
+            self.log.note(Undo::Marked(at, before));
         }
     }
 }

@@ -1,10 +1,10 @@
 -- When a store is ready for a call, and what a call leaves of it.
-use Rattle.std.specs.Prelude.{◌≡◌, ℕ, ◌+◌, ◌*◌, ◌<◌, ◌≤◌, Result, Ok, Err}
+use Rattle.std.specs.Prelude.{◌≡◌, ℕ, ◌+◌, ◌*◌, ◌<◌, ◌≤◌, Some}
 use Rattle.ztree.specs.Room.{HasRoom}
 use Rattle.ztree.specs.Lawful.{AllNodes}
 use Rattle.ztree.specs.declared.limits.TheConstants.{ZXID_BOUND}
 use Rattle.zstore.specs.declared.limits.TheConstants.{ID_BOUND}
-use Rattle.zstore.specs.StoreView.{StoreView}
+use Rattle.zstore.specs.StoreView.{StoreView, Mark}
 use Rattle.zcalls.specs.declared.limits.TheConstants.{MAX_PARTS, MAX_RAISES}
 use Rattle.zops.specs.declared.limits.TheConstants.{MAX_APPLIED}
 use Rattle.zcalls.specs.Bounds.{IsBounded, IsWithin}
@@ -31,16 +31,22 @@ pub record StaysBounded (old new : StoreView) : Type 0 where
   pub bounded : IsBounded new.tree
   pub given : new.given ≤ old.given + MAX_PARTS
 
--- what a call leaves, where it had memory; else all is as it was
-abbrev pub Leaves : {A E : Type 0} → Result A E → StoreView → StoreView → Type 0
-Leaves (Ok reply) old new = StaysBounded old new
-Leaves (Err memory) old new = new ≡ old
+-- the tree is as it was, and every Id names what it named; some numbers of Ids may be used up
+abbrev pub IsAsItWas : StoreView → StoreView → Type 0
+IsAsItWas old new = (new.tree ≡ old.tree) × (new.places ≡ old.places)
 
--- what the parts of a multi leave, before the change is counted: nodes that were raised once a part at most
+-- a mark stands that remembers what this one does, with room for undoing so many parts
+abbrev pub HasMark : ℕ → Mark → StoreView → Type 0
+HasMark parts m store = (n : Mark) × (store.marked ≡ Some n) × (n.tree ≡ m.tree) × (n.places ≡ m.places) × (2 * parts ≤ n.steps)
+
+-- one part uses up the room of one
+abbrev pub KeepsMark : StoreView → StoreView → Type 0
+KeepsMark old new = (parts : ℕ) (m : Mark) → HasMark (parts + 1) m old → HasMark parts m new
+
+-- what all parts of a multi leave, before the change is counted: nodes that were raised once a part at most
 pub record IsRun (old new : StoreView) : Type 0 where
   pub alone : ChangesNodesAlone old.tree new.tree
   pub within : AllNodes (IsWithin (MAX_RAISES * old.tree.zxid + MAX_PARTS)) new.tree.nodes
-  pub given : new.given ≤ old.given + MAX_PARTS
 
 -- what a machine keeps: bounded numbers, few entries, and few Ids for each entry
 pub record IsSound (store : StoreView) (applied : ℕ) : Type 0 where

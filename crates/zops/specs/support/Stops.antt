@@ -1,18 +1,22 @@
 -- What is left by a part, or by the parts of a multi, done to a store.
-use Rattle.std.specs.Prelude.{◌≡◌, ◌+◌, ◌≤◌, Option, Some, Result, Ok, Err}
+use Rattle.std.specs.Prelude.{◌≡◌, ◌+◌, ◌≤◌, Option, Some, Result, Ok, Err, IsErr}
 use Rattle.ztree.specs.Tree.{Tree}
 use Rattle.zstore.specs.StoreView.{StoreView}
 use Rattle.zcalls.specs.declared.refusal.Refusal.{Refusal}
+use Rattle.zops.specs.support.Ready.{KeepsMark}
+use Rattle.zcalls.specs.declared.reply.Reply.{Reply}
+use Rattle.zcalls.specs.declared.reply.Reply.TheVariants as reply
 use Rattle.zcalls.specs.Multi.{Run}
 use Rattle.zops.specs.declared.stop.Stop.{Stop}
 use Rattle.zops.specs.declared.stop.Stop.TheVariants as stop
 use Rattle.zops.specs.declared.stop.Halt.{Halt}
 use Rattle.zops.specs.declared.stop.Halt.TheVariants as halt
 
--- a change or a part was done: the tree and the reply are those of its step, and at most one Id was given
+-- a change or a part was done: the tree and the reply are those of its step, at most one Id was given, and a mark stands still
 pub record IsDone {A : Type 0} (step : Result (Tree × A) Refusal) (old new : StoreView) (reply : A) : Type 0 where
   pub step_is : step ≡ Ok (new.tree, reply)
   pub given : new.given ≤ old.given + 1
+  pub mark : KeepsMark old new
 
 -- what a step that was not done says: memory nothing, and a refusal that it is the step's
 abbrev pub IsStop : {A : Type 0} → Result A Refusal → Stop → Type 0
@@ -33,3 +37,8 @@ IsFirst refused (stop.Refused refusal) = refused ≡ Some refusal
 abbrev pub IsHalt : Run → Halt → Type 0
 IsHalt run halt.Memory = Unit {0}
 IsHalt run (halt.Refused number refusal) = run ≡ Err (number, refusal)
+
+-- what a multi answers then: the part and its refusal, or memory
+abbrev pub IsHaltAnswered : {E : Type 0} → Halt → Result Reply E → Type 0
+IsHaltAnswered halt.Memory result = IsErr result
+IsHaltAnswered (halt.Refused number refusal) result = result ≡ Ok (reply.MultiRefused number refusal)

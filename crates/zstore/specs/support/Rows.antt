@@ -3,6 +3,7 @@ use Rattle.std.specs.Str.{bytes_eq}
 use Rattle.std.specs.Prelude.{filter_map, Bool, true, false, ◌&&◌, ◌≡◌, ℕ, ◌<◌, ◌≤◌, List, [], ◌∷◌, ◌++◌, map, length, drop, suc, Option, slice_index_or, None, Some, if◌then◌else◌, ◌==◌, nat_le}
 use lib.Dec.{T}
 use Rattle.std.specs.List.{AllByRecursion, cons_option}
+use Rattle.std.specs.Option.{option_map}
 use Rattle.std.specs.Ordering.{nat_cmp}
 use Rattle.std.specs.declared.cmp.Ordering.TheVariants.{Less, Greater}
 use Rattle.std.specs.FinMap.{from_sorted, from_entries, is_sorted, find}
@@ -14,7 +15,8 @@ use Rattle.zstore.specs.declared.row.SessionRow.{SessionRow}
 use Rattle.zstore.specs.declared.store.Store.TheInside.{Inside}
 use Rattle.ztree.specs.Tree.{Tree, Path, Name, child_name, ephemerals}
 use Rattle.ztree.specs.Lawful.{IsLawful, HasPaths}
-use Rattle.zstore.specs.StoreView.{StoreView, path_of}
+use Rattle.zstore.specs.StoreView.{StoreView, Mark, path_of}
+use Rattle.zstore.specs.support.Undoing.{Notes, notes_of, all_undone, FitAll}
 use Rattle.zstore.specs.declared.id.Id.{Id}
 
 -- a row as an entry of the map of nodes
@@ -46,6 +48,15 @@ abbrev pub tree_of : List Row → List SessionRow → ℕ → ℕ → Tree
 tree_of nodes alive time zxid =
     record { nodes = from_sorted (node_rows nodes); sessions = from_sorted (session_rows alive); time = time; zxid = zxid }
 
+-- what stood at a mark, by what was noted since
+abbrev pub mark_of : List Row → List SessionRow → ℕ → ℕ → Notes → Mark
+mark_of nodes alive time zxid n =
+    record {
+      tree = tree_of (all_undone n.undos nodes) alive time zxid;
+      places = from_entries (place_rows (all_undone n.undos nodes));
+      steps = n.room;
+    }
+
 -- what the fields of a store stand for
 abbrev pub held_by : Inside → StoreView
 held_by s =
@@ -53,6 +64,7 @@ held_by s =
       tree = tree_of s.rows.items s.sessions.items s.time s.zxid;
       places = from_entries (place_rows s.rows.items);
       given = s.given;
+      marked = option_map (mark_of s.rows.items s.sessions.items s.time s.zxid) (notes_of s.log);
     }
 
 -- no number stands twice
@@ -72,6 +84,16 @@ pub record IsKept (nodes : List Row) (alive : List SessionRow) (time zxid bound 
   pub laid : IsLaid nodes alive bound
   pub lawful : IsLawful (tree_of nodes alive time zxid)
   pub paths : HasPaths (tree_of nodes alive time zxid).nodes
+
+-- where a mark stands, what was done since can be undone, and leads to rows that were kept
+abbrev pub CanGoBack : Option Notes → List Row → ℕ → List SessionRow → ℕ → ℕ → ℕ → Type 0
+CanGoBack None nodes room alive time zxid bound = Unit {0}
+CanGoBack (Some n) nodes room alive time zxid bound = FitAll n.undos nodes room × IsKept (all_undone n.undos nodes) alive time zxid bound
+
+-- what every store keeps
+pub record IsStored (notes : Option Notes) (nodes : List Row) (room : ℕ) (alive : List SessionRow) (time zxid bound : ℕ) : Type 0 where
+  pub kept : IsKept nodes alive time zxid bound
+  pub back : CanGoBack notes nodes room alive time zxid bound
 
 -- a fact on the row at a place
 abbrev pub AtRow : List Row → ℕ → (Row → Type 0) → Type 0

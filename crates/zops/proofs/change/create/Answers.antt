@@ -1,4 +1,4 @@
-use Rattle.std.proofs.Common.{ap, subst, sym, ◌∙◌, refl, Some, Ok}
+use Rattle.std.proofs.Common.{ap, arith, subst, sym, ◌∙◌, refl, Some, Ok}
 use Rattle.std.proofs.lemmas.Result.{err_from_is_err_and}
 use Rattle.std.specs.Option.{option_and_then}
 use Rattle.std.specs.FinMap as finite
@@ -9,6 +9,7 @@ use Rattle.zcalls.specs.Part.{create_step, is_owned, node_has}
 use Rattle.zcalls.proofs.Paths.{below, is_over-path, at_least, less_than, parent_of-made, made-below_root, not_root}
 use Rattle.zops.proofs.Creating.{created-refused, created-done, nameless, taken, full, all_clear}
 use Rattle.zcalls.proofs.Owners.{persistent, owner_lives}
+use Rattle.zops.proofs.Marks.{mark_steps}
 use Rattle.zops.proofs.change.create.Goals as goal
 
 pub returns-in_default-clause-stopped : goal.returns-in_default-clause-stopped
@@ -118,6 +119,7 @@ returns-clause-done c =
           ∙ (λ i. Ok (with_node t (sym c.in_ok-made.ensures.made i) create.bytes (sym c.owner-owner.ensures i) (sym c.is_sequential-is_sequential.ensures i), Created (sym c.in_ok-made.ensures.made i)))
           ∙ (λ i. Ok (sym c.in_ok-add.ensures.added i, Created (sym c.in_ok-path.ensures i)));
       given = c.in_ok-add.ensures.given.1;
+      mark = mark_steps 2 c.args.store.now c.add.new.self (omega arith) c.in_ok-add.ensures.marked;
     }
 
 pub returns-then-has_no_owner-clause-stopped : goal.returns-then-has_no_owner-clause-stopped

@@ -5,6 +5,7 @@ use Rattle.ztree.specs.Tree.{without_node}
 use Rattle.zcalls.specs.declared.change.ChangeReply.TheVariants.{Deleted}
 use Rattle.zcalls.specs.Part.{delete_step, delete_refusals, unless_refused}
 use Rattle.zcalls.proofs.Paths.{is_root-no_names}
+use Rattle.zops.proofs.Marks.{mark_steps}
 use Rattle.zops.proofs.change.delete.Goals as goal
 
 pub returns-then-is_empty-clause-stopped : goal.returns-then-is_empty-clause-stopped
@@ -47,4 +48,5 @@ returns-clause-done c =
       step_is = ap (λ o. unless_refused o (without_node t path, Deleted)) none
           ∙ (λ i. Ok (sym (c.drop_leaf.ensures.tree path c.in-Some.ensures.found) i, Deleted));
       given = let same = c.drop_leaf.ensures.given in omega (arith, same);
+      mark = mark_steps 2 c.args.store.now c.drop_leaf.new.self (omega arith) c.drop_leaf.ensures.marked;
     }

@@ -5,6 +5,7 @@ use Rattle.zcalls.specs.declared.change.ChangeReply.TheVariants.{Set}
 use Rattle.zcalls.specs.Part.{set_step}
 use Rattle.zcalls.proofs.Tables.{absent-on_version, stale-on_version, node_there}
 use Rattle.zcalls.proofs.Told.{set_step-done}
+use Rattle.zops.proofs.Marks.{mark_steps}
 use Rattle.zops.proofs.change.set.Goals as goal
 
 pub returns-in_default-clause-stopped : goal.returns-in_default-clause-stopped
@@ -29,4 +30,5 @@ returns-clause-done c =
     record {
       step_is = set_step-done t set there.0 c.in-Some-stat.stat there.1 fresh told ∙ (λ i. Ok (sym tree i, Set c.in-Some-stat.stat));
       given = let same = c.in_ok-put_data.ensures.same.1 in omega (arith, same);
+      mark = mark_steps 1 c.args.store.now c.put_data.new.self (omega arith) c.in_ok-put_data.ensures.marked;
     }

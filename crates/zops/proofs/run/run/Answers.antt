@@ -6,6 +6,9 @@ use Rattle.zcalls.proofs.Bounds.{IsWithinAll, part_roomy, within_more, has_room}
 use Rattle.zcalls.proofs.Leaving.{Leaves}
 use Rattle.zcalls.proofs.NodesAlone.{alone_itself, part-alone, alone_then}
 use Rattle.zcalls.proofs.Runs.{behind_all, run-start, run-part, run-refused, run-end}
+use Rattle.zstore.specs.StoreView.{StoreView}
+use Rattle.zops.specs.support.Ready.{HasMark}
+use Rattle.zops.proofs.Marks.{mark_fewer}
 use Rattle.zops.proofs.run.run.Goals as goal
 
 pub loop-wanted-init : goal.loop-wanted-init
@@ -21,6 +24,7 @@ loop-wanted-init c =
       stays = alone_itself t;
       count = omega (arith, no_length, length_all);
       given = omega arith;
+      mark = λ m has. subst (λ n. HasMark n m c.args.store.now) (sym length_all) has;
     }
 
 pub part-requires : goal.part-requires
@@ -60,6 +64,7 @@ loop-wanted-preserved c =
       stays = alone_then old before c.part.new.store.tree here.stays alone;
       count = omega (arith, longer, shorter, here.count);
       given = let one = c.in-Ok.ensures.done.given in omega (arith, longer, one, here.given);
+      mark = λ m has. c.in-Ok.ensures.done.mark (length rest) m (subst (λ n. HasMark n m c.loop-wanted.store) (shorter ∙ omega arith) (here.mark m has));
     }
 
 pub returns-in-Err-Refused-clause-stopped : goal.returns-in-Err-Refused-clause-stopped
@@ -85,5 +90,22 @@ returns-clause-stays c =
     record {
       alone = here.stays;
       within = λ path n e. within_more _ _ n (omega (arith, few, count)) (here.within path n e);
-      given = let more = here.given in omega (arith, few, count, more);
     }
+
+pub returns-in_err-push-in-Ok-clause-mark : goal.returns-in_err-push-in-Ok-clause-mark
+returns-in_err-push-in-Ok-clause-mark c = λ m has.
+    let rest = c.next.new.self.rest.items in
+    let left : length c.loop-wanted.wanted-iterator.rest.items ≡ length rest + 1 = ap length c.in-Some.ensures.steps.0 ∙ omega arith in
+    mark_fewer (length rest) 0 m c.part.new.store (omega arith) (c.in-Ok.ensures.done.mark (length rest) m (subst (λ n. HasMark n m c.loop-wanted.store) left (c.loop-wanted.invariant.mark m has)))
+
+pub returns-in-Err-Refused-clause-mark : goal.returns-in-Err-Refused-clause-mark
+returns-in-Err-Refused-clause-mark c = λ m has.
+    mark_fewer (length c.loop-wanted.wanted-iterator.rest.items) 0 m c.part.new.store (omega arith) (subst (λ (s : StoreView). HasMark (length c.loop-wanted.wanted-iterator.rest.items) m s) (sym c.in-Err-Refused.ensures.stopped.same) (c.loop-wanted.invariant.mark m has))
+
+pub returns-in-Err-Memory-clause-mark : goal.returns-in-Err-Memory-clause-mark
+returns-in-Err-Memory-clause-mark c = λ m has.
+    mark_fewer (length c.loop-wanted.wanted-iterator.rest.items) 0 m c.part.new.store (omega arith) (subst (λ (s : StoreView). HasMark (length c.loop-wanted.wanted-iterator.rest.items) m s) (sym c.in-Err-Memory.ensures.stopped.same) (c.loop-wanted.invariant.mark m has))
+
+pub returns-clause-mark : goal.returns-clause-mark
+returns-clause-mark c = λ m has.
+    mark_fewer (length c.loop-wanted.wanted-iterator.rest.items) 0 m c.loop-wanted.store (omega arith) (c.loop-wanted.invariant.mark m has)

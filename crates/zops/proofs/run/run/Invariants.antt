@@ -4,6 +4,8 @@ use Rattle.zcalls.specs.support.Alone.{ChangesNodesAlone}
 use Rattle.zcalls.specs.Multi.{run}
 use Rattle.zcalls.proofs.Runs.{behind_all}
 use Rattle.ztree.specs.Lawful.{AllNodes}
+use Rattle.zstore.specs.StoreView.{Mark}
+use Rattle.zops.specs.support.Ready.{HasMark}
 use Rattle.zops.proofs.run.run.Given as goal
 
 abbrev pub invariant-loop-wanted : goal.invariant-loop-wanted
@@ -13,4 +15,5 @@ invariant-loop-wanted l = record {
   stays : ChangesNodesAlone l.initial.store.tree l.store.tree;
   count : length l.replies.items + length l.wanted-iterator.rest.items ≡ length l.fn.parts.items;
   given : l.store.given ≤ l.initial.store.given + length l.replies.items;
+  mark : (m : Mark) → HasMark (length l.fn.parts.items) m l.initial.store → HasMark (length l.wanted-iterator.rest.items) m l.store;
 }

@@ -1,37 +1,72 @@
-use Rattle.std.proofs.Common.{◌≡◌, ◌+◌, ◌*◌, Ok, subst, sym, ap, ◌∙◌, arith}
+use Rattle.std.proofs.Common.{◌≡◌, ◌+◌, ◌*◌, ◌≤◌, false, true, Result, Ok, Err, IfOk, OnErr, length, refl, subst, sym, ap, ◌∙◌, arith}
 use Rattle.ztree.specs.Lawful.{AllNodes}
-use Rattle.zcalls.specs.declared.reply.Reply.TheVariants.{Multi}
+use Rattle.zcalls.specs.declared.reply.Reply.TheVariants.{MultiRefused}
 use Rattle.zcalls.specs.Bounds.{IsBounded, IsWithin}
 use Rattle.zcalls.specs.support.Alone.{ChangesNodesAlone}
-use Rattle.zcalls.specs.Multi.{run}
+use Rattle.ztree.specs.Tree.{Tree}
+use Rattle.zcalls.specs.declared.reply.Reply.{Reply}
+use Rattle.zops.specs.declared.stop.Halt.{Halt}
+use Rattle.zops.specs.declared.stop.Halt.TheVariants.{Memory, Refused}
+use Rattle.zops.specs.support.Stops.{IsHalt, IsHaltAnswered}
+use Rattle.zcalls.specs.Multi.{Run, run}
 use Rattle.zcalls.specs.Step.{multi_result}
 use Rattle.zcalls.proofs.Bounds.{raised_bounded}
-use Rattle.zops.specs.support.Ready.{IsReady}
+use Rattle.zops.proofs.Marks.{mark_after, mark_stands, back_at_mark}
 use Rattle.zops.proofs.update.multi.Goals as goal
 
-pub run-requires : goal.run-requires
-run-requires c = record { ready = subst IsReady (sym c.in_ok-copy.ensures) c.requires; few = rw c.into_parts.ensures.parts c.into_parts.ensures.few }
+on_err : {A E : Type 0} (result : Result A E) (P : Type 0) → P → OnErr result P
+on_err (Ok x) P p = tt
+on_err (Err e) P p = p
 
-pub raise-requires : goal.raise-requires
-raise-requires c = rw c.in-Ok.ensures.stays.alone.zxid (rw c.in_ok-copy.ensures c.requires.zxid)
+-- a refusal that is answered is the run's, and the tree that of before
+halted_is : {E : Type 0} (halt : Halt) (result : Result Reply E) (t u : Tree) (ran : Run) → u ≡ t → IsHalt ran halt → IsHaltAnswered halt result → IfOk result (λ reply. (u, reply) ≡ multi_result t ran)
+halted_is Memory (Ok reply) t u ran same is answered = absurd (clash answered)
+  where
+    clash : false ≡ true → ⊥
+    clash e = cc
+halted_is Memory (Err memory) t u ran same is answered = tt
+halted_is (Refused number refusal) result t u ran same is answered = rw answered ((λ i. (same i, MultiRefused number refusal)) ∙ sym (ap (multi_result t) is))
+
+pub back-requires : goal.back-requires
+back-requires c =
+    let here = c.in_ok-mark.ensures.marked in
+    let has = mark_after (length c.into_parts-parts.result.items) c.args.store.now c.mark.new.self c.run.new.store here (let len = c.len.ensures in let items = c.into_parts-parts.result.ok.0 in omega (arith, len, items)) c.run.ensures.mark in
+    record { marked = mark_stands here.mark c.run.new.store has }
 
 pub returns-in-Ok-clause-left : goal.returns-in-Ok-clause-left
 returns-in-Ok-clause-left c =
     let t = c.args.store.now.tree in
-    let is_copy : c.in_ok-copy.copy.tree ≡ t = λ i. (c.in_ok-copy.ensures i).tree in
-    let given : c.in_ok-copy.copy.given ≡ c.args.store.now.given = λ i. (c.in_ok-copy.ensures i).given in
+    let here = c.in_ok-mark.ensures.marked in
     let stays = c.in-Ok.ensures.stays in
     record {
       bounded = subst IsBounded (sym c.raise.ensures.tree)
           (raised_bounded t c.run.new.store.tree (4096 * t.zxid + 64) c.requires.steady.bounded c.requires.zxid (omega arith)
-          (subst (λ t. ChangesNodesAlone t c.run.new.store.tree) is_copy stays.alone)
-          (subst (λ t. AllNodes (IsWithin (4096 * t.zxid + 64)) c.run.new.store.tree.nodes) is_copy stays.within));
-      given = let same = c.raise.ensures.same.1 in let more = stays.given in omega (arith, same, more, given);
+          (subst (λ t. ChangesNodesAlone t c.run.new.store.tree) here.tree stays.alone)
+          (subst (λ t. AllNodes (IsWithin (4096 * t.zxid + 64)) c.run.new.store.tree.nodes) here.tree stays.within));
+      given = let same = c.raise.ensures.same.1 in let more = c.run.ensures.given in let before = here.same.1 in omega (arith, same, more, before);
     }
 
-pub returns-in-Ok-clause-done : goal.returns-in-Ok-clause-done
-returns-in-Ok-clause-done c =
+pub returns-in-Err-clause-done : goal.returns-in-Err-clause-done
+returns-in-Err-clause-done c =
     let t = c.args.store.now.tree in
-    let did : run t c.args.client c.args.parts ≡ Ok (c.run.new.store.tree, c.in-Ok.replies.items) =
-    (λ i. run (sym c.in_ok-copy.ensures i).tree c.args.client (sym c.into_parts.ensures.parts i)) ∙ c.in-Ok.ensures.done in
-    sym (ap (multi_result t) did ∙ (λ i. (sym c.raise.ensures.tree i, Multi (sym c.new.ensures i))))
+    let here = c.in_ok-mark.ensures.marked in
+    let has = mark_after (length c.into_parts-parts.result.items) c.args.store.now c.mark.new.self c.run.new.store here (let len = c.len.ensures in let items = c.into_parts-parts.result.ok.0 in omega (arith, len, items)) c.run.ensures.mark in
+    let back = back_at_mark c.args.store.now c.mark.new.self c.run.new.store c.back.new.self here has c.back.ensures.tree in
+    let ran : run c.mark.new.self.tree c.args.client c.into_parts-parts.result.items ≡ run t c.args.client c.args.parts = λ i. run (here.tree i) c.args.client (c.into_parts-parts.ensures.parts i) in
+    halted_is c.in-Err.halt c.halted.result t c.back.new.self.tree (run t c.args.client c.args.parts) back.0 (subst (λ (r : Run). IsHalt r c.in-Err.halt) ran c.in-Err.ensures.stopped) c.halted.ensures
+
+pub returns-in-Err-clause-left : goal.returns-in-Err-clause-left
+returns-in-Err-clause-left c =
+    let here = c.in_ok-mark.ensures.marked in
+    let has = mark_after (length c.into_parts-parts.result.items) c.args.store.now c.mark.new.self c.run.new.store here (let len = c.len.ensures in let items = c.into_parts-parts.result.ok.0 in omega (arith, len, items)) c.run.ensures.mark in
+    let back = back_at_mark c.args.store.now c.mark.new.self c.run.new.store c.back.new.self here has c.back.ensures.tree in
+    let same = c.back.ensures.given in
+    let more = c.run.ensures.given in
+    let before = here.same.1 in
+    record { bounded = subst IsBounded (sym back.0) c.requires.steady.bounded; given = omega (arith, same, more, before) }
+
+pub returns-in-Err-clause-err : goal.returns-in-Err-clause-err
+returns-in-Err-clause-err c =
+    let here = c.in_ok-mark.ensures.marked in
+    let has = mark_after (length c.into_parts-parts.result.items) c.args.store.now c.mark.new.self c.run.new.store here (let len = c.len.ensures in let items = c.into_parts-parts.result.ok.0 in omega (arith, len, items)) c.run.ensures.mark in
+    on_err c.halted.result _ (back_at_mark c.args.store.now c.mark.new.self c.run.new.store c.back.new.self here has c.back.ensures.tree)

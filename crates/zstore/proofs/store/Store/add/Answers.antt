@@ -2,10 +2,10 @@ use Rattle.std.proofs.Common.{◌+◌, sym, ap, ◌∙◌, rules}
 use Rattle.std.specs.FinMap as finite
 use Rattle.ztree.specs.declared.node.Node.{Node}
 use Rattle.ztree.specs.Tree.{Tree, parent_of, new_node, with_change_at, with_child}
-use Rattle.zstore.specs.StoreView.{StoreView}
+use Rattle.zstore.specs.StoreView.{StoreView, stepped}
 use Rattle.std.specs.Option.{option_and_then}
 use Rattle.ztree.proofs.Nodes.{get-insert-other, parent_is_other}
-use Rattle.zstore.proofs.ids.Naming.{still_named}
+use Rattle.zstore.proofs.ids.Naming.{still_named, stepped_twice}
 use Rattle.zstore.proofs.store.Store.add.Goals as goal
 
 pub child_changed-requires-clause-live : goal.child_changed-requires-clause-live
@@ -30,3 +30,6 @@ returns-clause-added c =
     c.child_changed.ensures.tree (parent_of path) live
     ∙ ap (λ (t : Tree). record t { nodes = with_change_at t.nodes (parent_of path) (with_child (t.zxid + 1) c.args.sequential) }) c.in_ok-id.ensures.tree
     ∙ ap (λ (n : Node). record c.args.self.now.tree { nodes = with_change_at (finite.insert c.args.self.now.tree.nodes path n) (parent_of path) (with_child (c.args.self.now.tree.zxid + 1) c.args.sequential) }) made
+
+pub returns-clause-marked : goal.returns-clause-marked
+returns-clause-marked c = c.child_changed.ensures.marked ∙ ap (stepped 1) c.in_ok-id.ensures.marked ∙ stepped_twice c.args.self.now.marked

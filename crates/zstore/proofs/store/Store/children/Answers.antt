@@ -17,12 +17,12 @@ returns c = if_ok c.child_names.result _ _ (rw c.deref-in-Some.ensures.value at 
     let found = rw c.deref.ensures.value at c.in-Some.ensures.found in
     let rows = c.self.inside.rows.items in
     let at = c.in-Some.at in
-    let held = path_of-held c.self.inside c.self.invariant.laid _ c.self.view_is c.args.id at some_row found.0 (found.1 some_row) in
+    let held = path_of-held c.self.inside c.self.invariant.kept.laid _ c.self.view_is c.args.id at some_row found.0 (found.1 some_row) in
     let same : path ≡ (get_or rows at some_row).path = cc (sym named ∙ held) in
     are some_row ∙ ap (λ (p : Path). names_beneath p rows) (sym same)
-    ∙ sym (ap (λ (h : StoreView). children h.tree.nodes path) (sym c.self.view_is) ∙ ap (filter_map (child_name path)) (keys-shown rows c.self.invariant.laid.sorted)))
+    ∙ sym (ap (λ (h : StoreView). children h.tree.nodes path) (sym c.self.view_is) ∙ ap (filter_map (child_name path)) (keys-shown rows c.self.invariant.kept.laid.sorted)))
 
 pub unreachable-requires : goal.unreachable-requires
 unreachable-requires c =
     let absent = rw c.deref.ensures.value at c.in-None.ensures.absent in
-    not_none _ c.requires.live (path_of-gone c.self.inside c.self.invariant.laid _ c.self.view_is c.args.id absent)
+    not_none _ c.requires.live (path_of-gone c.self.inside c.self.invariant.kept.laid _ c.self.view_is c.args.id absent)

@@ -16,19 +16,19 @@ returns-clause-found c =
     let row = c.index.result.now in
     let id : Id = record { number = row.number; hint = c.in_ok-at.at } in (
       _,
-      path_of-held s c.self.invariant.laid _ c.self.view_is id c.in_ok-at.at row found.0 (ap (λ (r : Row). r.number) (sym c.index.ensures)),
+      path_of-held s c.self.invariant.kept.laid _ c.self.view_is id c.in_ok-at.at row found.0 (ap (λ (r : Row). r.number) (sym c.index.ensures)),
       owned_by c.args.session (drop (suc c.in_ok-at.at) s.rows.items),
-      ap (λ (h : StoreView). ephemerals h.tree.nodes c.args.session) (sym c.self.view_is) ∙ ephemerals-shown c.args.session s.rows.items c.self.invariant.laid.sorted ∙ found.1 row,
+      ap (λ (h : StoreView). ephemerals h.tree.nodes c.args.session) (sym c.self.view_is) ∙ ephemerals-shown c.args.session s.rows.items c.self.invariant.kept.laid.sorted ∙ found.1 row,
     )
 
 pub returns-in_err-at-clause-absent : goal.returns-in_err-at-clause-absent
 returns-in_err-at-clause-absent c =
     let s = c.self.inside in
     let absent = rw c.deref.ensures.value at c.in_err-at.ensures.absent in
-    if_none c.from_residual.result _ (ap (λ (h : StoreView). ephemerals h.tree.nodes c.args.session) (sym c.self.view_is) ∙ ephemerals-shown c.args.session s.rows.items c.self.invariant.laid.sorted ∙ absent)
+    if_none c.from_residual.result _ (ap (λ (h : StoreView). ephemerals h.tree.nodes c.args.session) (sym c.self.view_is) ∙ ephemerals-shown c.args.session s.rows.items c.self.invariant.kept.laid.sorted ∙ absent)
 
 pub returns-clause-lawful : goal.returns-clause-lawful
-returns-clause-lawful c = subst (λ (h : StoreView). IsLawful h.tree) c.self.view_is c.self.invariant.lawful
+returns-clause-lawful c = subst (λ (h : StoreView). IsLawful h.tree) c.self.view_is c.self.invariant.kept.lawful
 
 pub returns-in_err-at-clause-lawful : goal.returns-in_err-at-clause-lawful
-returns-in_err-at-clause-lawful c = subst (λ (h : StoreView). IsLawful h.tree) c.self.view_is c.self.invariant.lawful
+returns-in_err-at-clause-lawful c = subst (λ (h : StoreView). IsLawful h.tree) c.self.view_is c.self.invariant.kept.lawful

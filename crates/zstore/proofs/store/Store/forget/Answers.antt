@@ -14,20 +14,23 @@ pub invariant_of-self : goal.invariant_of-self
 invariant_of-self c =
     let s = c.self.inside in
     let here = rw c.deref.ensures.value at c.in-Ok.ensures.found in
-    let gone = alive_remove s.sessions.items c.args.session c.in-Ok.at c.self.invariant.laid.sessions here in
+    let gone = alive_remove s.sessions.items c.args.session c.in-Ok.at c.self.invariant.kept.laid.sessions here in
     let none = ap (λ (h : StoreView). ephemerals h.tree.nodes c.args.session) c.self.view_is ∙ c.requires.owns_none in
-    let laid = c.self.invariant.laid in
-    rw c.remove.ensures.items (record {
-      laid = record { sorted = laid.sorted; apart = laid.apart; numbers = laid.numbers; sessions = gone.0 };
-      lawful = subst (λ (m : Sessions). IsLawful (record { nodes = nodes_of s.rows.items; sessions = m; time = s.time; zxid = s.zxid })) (sym gone.1) (lawful_forgotten (tree_of s.rows.items s.sessions.items s.time s.zxid) c.args.session c.self.invariant.lawful none);
-      paths = c.self.invariant.paths;
+    let laid = c.self.invariant.kept.laid in
+    rw (c.remove.ensures.items, c.stop.ensures.off) (record {
+      kept = record {
+        laid = record { sorted = laid.sorted; apart = laid.apart; numbers = laid.numbers; sessions = gone.0 };
+        lawful = subst (λ (m : Sessions). IsLawful (record { nodes = nodes_of s.rows.items; sessions = m; time = s.time; zxid = s.zxid })) (sym gone.1) (lawful_forgotten (tree_of s.rows.items s.sessions.items s.time s.zxid) c.args.session c.self.invariant.kept.lawful none);
+        paths = c.self.invariant.kept.paths;
+      };
+      back = tt;
     })
 
 pub returns-in-Ok-clause-tree : goal.returns-in-Ok-clause-tree
 returns-in-Ok-clause-tree c =
     let s = c.self.inside in
     let here = rw c.deref.ensures.value at c.in-Ok.ensures.found in
-    let gone = alive_remove s.sessions.items c.args.session c.in-Ok.at c.self.invariant.laid.sessions here in
+    let gone = alive_remove s.sessions.items c.args.session c.in-Ok.at c.self.invariant.kept.laid.sessions here in
     rw (c.remove.ensures.items, ← c.self.view_is, gone.1) refl
 
 pub returns-in-Ok-clause-same : goal.returns-in-Ok-clause-same
@@ -37,5 +40,12 @@ pub returns-in_default-clause-tree : goal.returns-in_default-clause-tree
 returns-in_default-clause-tree c =
     let s = c.self.inside in
     let gap = rw c.deref.ensures.value at c.in_default.ensures.absent in
-    let none = ap (λ (h : StoreView). finite.get h.tree.sessions c.args.session) (sym c.self.view_is) ∙ alive_nowhere s.sessions.items c.args.session c.in_default.field-0 c.self.invariant.laid.sessions gap in
+    let none = ap (λ (h : StoreView). finite.get h.tree.sessions c.args.session) (sym c.self.view_is) ∙ alive_nowhere s.sessions.items c.args.session c.in_default.field-0 c.self.invariant.kept.laid.sessions gap in
+    absurd (not_none _ c.requires.live none)
+
+pub returns-in_default-clause-unmarked : goal.returns-in_default-clause-unmarked
+returns-in_default-clause-unmarked c =
+    let s = c.self.inside in
+    let gap = rw c.deref.ensures.value at c.in_default.ensures.absent in
+    let none = ap (λ (h : StoreView). finite.get h.tree.sessions c.args.session) (sym c.self.view_is) ∙ alive_nowhere s.sessions.items c.args.session c.in_default.field-0 c.self.invariant.kept.laid.sessions gap in
     absurd (not_none _ c.requires.live none)

@@ -10,4 +10,4 @@ pub returns : goal.returns
 returns c =
     let s = c.self.inside in
     subst (λ (h : StoreView). ForgetsGone h h) c.self.view_is (λ id.
-    still_there s.rows.items c.self.invariant.laid.sorted id.number _ (sym (get-from_entries nat_cmp_total (place_rows s.rows.items) id.number)))
+    still_there s.rows.items c.self.invariant.kept.laid.sorted id.number _ (sym (get-from_entries nat_cmp_total (place_rows s.rows.items) id.number)))

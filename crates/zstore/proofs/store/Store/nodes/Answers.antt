@@ -8,4 +8,4 @@ pub returns : goal.returns
 returns c =
     let rows = c.self.inside.rows.items in
     let len : c.len.result ≡ length rows = search rules in
-    len ∙ sym (ap (λ (h : StoreView). finite.len h.tree.nodes) (sym c.self.view_is) ∙ len-shown rows c.self.invariant.laid.sorted)
+    len ∙ sym (ap (λ (h : StoreView). finite.len h.tree.nodes) (sym c.self.view_is) ∙ len-shown rows c.self.invariant.kept.laid.sorted)

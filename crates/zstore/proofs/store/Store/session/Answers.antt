@@ -11,7 +11,7 @@ returns-in-Ok c =
     let row = c.index.result.now in
     sym (
     ap (λ (h : StoreView). finite.get h.tree.sessions c.args.id) (sym c.self.view_is)
-    ∙ alive_at c.self.inside.sessions.items c.args.id c.in-Ok.at c.self.invariant.laid.sessions here row
+    ∙ alive_at c.self.inside.sessions.items c.args.id c.in-Ok.at c.self.invariant.kept.laid.sessions here row
     ∙ ap (λ (r : SessionRow). Some r.session) (sym c.index.ensures)
     )
 
@@ -20,5 +20,5 @@ returns-in-Err c =
     let gap = rw c.deref.ensures.value at c.in-Err.ensures.absent in
     sym (
     ap (λ (h : StoreView). finite.get h.tree.sessions c.args.id) (sym c.self.view_is)
-    ∙ alive_nowhere c.self.inside.sessions.items c.args.id c.in-Err.field-0 c.self.invariant.laid.sessions gap
+    ∙ alive_nowhere c.self.inside.sessions.items c.args.id c.in-Err.field-0 c.self.invariant.kept.laid.sessions gap
     )

@@ -11,5 +11,5 @@ pub returns : goal.returns
 returns c =
     let rows = c.self.inside.sessions.items in
     let len : c.len.result ≡ length rows = search rules in
-    let shown = finite.len-entries _ ∙ ap length (entries-from_sorted nat_cmp (session_rows rows) c.self.invariant.laid.sessions) ∙ length-map rows session_row in
+    let shown = finite.len-entries _ ∙ ap length (entries-from_sorted nat_cmp (session_rows rows) c.self.invariant.kept.laid.sessions) ∙ length-map rows session_row in
     len ∙ sym (ap (λ (h : StoreView). finite.len h.tree.sessions) (sym c.self.view_is) ∙ shown)
