@@ -6,7 +6,7 @@ use std::test::Fail;
 use zops::{Check, Expected, MAX_PARTS, Multi, Part};
 use zpath::Path;
 
-const ROWS: [Row; 2] = [
+const ROWS: [Row; 3] = [
     // One that is refused leaves all as it was, and takes no number.
     &[
         (
@@ -25,6 +25,21 @@ const ROWS: [Row; 2] = [
         ),
         ("7 exists /", "ok stat 0 0 1 0 0 0 2 0 0 2"),
         ("7 get /b", "ok data aGk= stat 1 1 1 0 0 0 0 0 2 0"),
+    ],
+    // One that is refused at its end brings back what its parts took away, wrote and counted.
+    &[
+        ("7 create /q p -", "ok /q"),
+        ("7 create /q/e p aGk=", "ok /q/e"),
+        (
+            "7 multi delete /q/e any ; create /q/n- ps - ; set /q any eA== ; create /q p -",
+            "no multi 4 NodeExists",
+        ),
+        ("7 get /q", "ok data - stat 1 1 2 0 0 0 1 0 0 1"),
+        ("7 get /q/e", "ok data aGk= stat 2 2 2 0 0 0 0 0 2 0"),
+        (
+            "7 multi delete /q/e any ; create /q/n- ps - ; set /q any eA==",
+            "ok multi deleted ; /q/n-0000000000 ; stat 1 3 3 0 0 1 3 0 1 1",
+        ),
     ],
 ];
 
