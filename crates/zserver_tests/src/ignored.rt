@@ -3,10 +3,11 @@
 use crate::joining::handed_over;
 use crate::mending::{is_as_before, set_up};
 use crate::shown::{Shown, next};
-use crate::values::{call_number, client, epoch, hand, log_number, server, update};
+use crate::values::{hand, update};
 use std::alloc::Global;
 use std::test::Fail;
 use zcalls::{Query, Update};
+use zliterals::{call_number, client, epoch, log_number, server};
 use zout::Out;
 use zpath::{Memory, Path};
 use zserver::{Server, Snapshot};

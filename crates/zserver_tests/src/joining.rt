@@ -1,10 +1,11 @@
 //! A join: a server without state takes a snapshot, and answers from then on.
 
 use crate::shown::{Shown, next};
-use crate::values::{call_number, client, epoch, hand, server};
+use crate::values::hand;
 use std::alloc::Global;
 use std::test::Fail;
 use zcalls::{Query, Update};
+use zliterals::{call_number, client, epoch, server};
 use zout::Out;
 use zpath::{Memory, Path};
 use zserver::{Server, Snapshot};

@@ -4,8 +4,9 @@ ghost use Rattle.std.specs.Prelude.{◌<◌, ◌≤◌};
 ghost use Rattle.zserver_table.specs.declared.limits.TheConstants.{MAX_SERVERS};
 
 use crate::shown::{Shown, next};
-use crate::values::{epoch, hand, log_number, server, update};
+use crate::values::{hand, update};
 use std::test::Fail;
+use zliterals::{epoch, log_number, server};
 use zout::Out;
 use zserver::{Server, Snapshot};
 use zserver_table::{Message, Process, ServerId};

@@ -1,0 +1,173 @@
+//! A client that finds no memory to send its call: nothing is put, and it knows what it knew.
+
+use crate::ended::{Ended, tell};
+use crate::taking::has_put;
+use crate::values::{create, path};
+use std::alloc::Global;
+use std::test::Fail;
+use zcalls::{Call, Query, Update};
+use zclient::{BeginFault, ClientCore};
+use zliterals::{epoch, server};
+use zout::Out;
+use zpath::Memory;
+use zserver_table::{Message, Process};
+
+// What a client puts: no Snapshot is among it.
+type Outbox = Out<()>;
+
+#[test]
+fn begins_an_update(rt: HostRuntime) -> Result<(), Fail> {
+    tell(&rt, update_begins(rt.alloc()))
+}
+
+#[test]
+fn begins_a_query(rt: HostRuntime) -> Result<(), Fail> {
+    tell(&rt, query_begins(rt.alloc()))
+}
+
+#[test]
+fn takes_a_config(rt: HostRuntime) -> Result<(), Fail> {
+    tell(&rt, config_is_taken(rt.alloc()))
+}
+
+#[test]
+fn retries(rt: HostRuntime) -> Result<(), Fail> {
+    tell(&rt, call_is_retried(rt.alloc()))
+}
+
+fn update_begins(alloc: Global) -> Result<Ended, Memory> {
+    let update = create(alloc, "/a")?;
+    Ok(begins(alloc, Call::Update(update)))
+}
+
+fn query_begins(alloc: Global) -> Result<Ended, Memory> {
+    let query = Query::GetData(path(alloc, "/a")?);
+    Ok(begins(alloc, Call::Query(query)))
+}
+
+fn begins(alloc: Global, call: Call) -> Ended {
+    let mut core = ClientCore::new(alloc, server(1));
+    let mut out: Outbox = Out::new(alloc);
+    begins_at(&mut core, call, &mut out)
+}
+
+// A refused call doesn't count: the next one has the first number.
+fn begins_at(core: &mut ClientCore, call: Call, out: &mut Outbox) -> Ended {
+    match core.begin(call, out) {
+        Ok(number) => Ended::done(number.number() == 1 && has_put_to(1, out)),
+        Err(BeginFault::Memory) => Ended::refused(is_idle(core, out) && begins_a_tick(core, out)),
+        Err(_) => Ended::Wrong,
+    }
+}
+
+// Whether nothing was put, and the client waits for no call.
+fn is_idle(core: &ClientCore, out: &mut Outbox) -> bool {
+    !has_put(out) && core.outstanding().is_none()
+}
+
+// Whether a call begins as the first.
+fn begins_a_tick(core: &mut ClientCore, out: &mut Outbox) -> bool {
+    match core.begin(Call::Update(Update::Tick), out) {
+        Ok(number) => number.number() == 1,
+        Err(_) => false,
+    }
+}
+
+fn config_is_taken(alloc: Global) -> Result<Ended, Memory> {
+    let mut core = waiting(alloc)?;
+    let mut out: Outbox = Out::new(alloc);
+    Ok(hears(&mut core, &mut out))
+}
+
+// From now on server 2 is the whole chain.
+fn config() -> Message<()> {
+    Message::Config(epoch(1), Some(server(2)), Some(server(2)))
+}
+
+// The message that is handed back is the one that was given, and nothing has changed.
+fn hears(core: &mut ClientCore, out: &mut Outbox) -> Ended {
+    let taken = core.take(Process::Master, config(), out);
+    let is_refused = taken.is_err();
+    let is_as_said = match &taken {
+        Ok(reply) => reply.is_none(),
+        Err(back) => is_config(back),
+    };
+    drop(taken);
+    if is_refused {
+        Ended::refused(is_as_said && waits(core, out) && hears_again(core, out))
+    } else {
+        Ended::done(is_as_said && has_put_to(2, out))
+    }
+}
+
+fn is_config(message: &Message<()>) -> bool {
+    match message {
+        Message::Config(epoch, Some(head), Some(tail)) => {
+            epoch.number() == 1 && head.number() == 2 && tail.number() == 2
+        }
+        _ => false,
+    }
+}
+
+fn hears_again(core: &mut ClientCore, out: &mut Outbox) -> bool {
+    let taken = core.take(Process::Master, config(), out);
+    let is_taken = taken.is_ok();
+    drop(taken);
+    is_taken && has_put_to(2, out)
+}
+
+fn call_is_retried(alloc: Global) -> Result<Ended, Memory> {
+    let core = waiting(alloc)?;
+    let mut out: Outbox = Out::new(alloc);
+    Ok(sends(&core, &mut out))
+}
+
+fn sends(core: &ClientCore, out: &mut Outbox) -> Ended {
+    match core.retry(out) {
+        Ok(has_sent) => Ended::done(has_sent && has_put_to(1, out)),
+        Err(Memory) => Ended::refused(waits(core, out) && sends_again(core, out)),
+    }
+}
+
+fn sends_again(core: &ClientCore, out: &mut Outbox) -> bool {
+    core.retry(out).is_ok() && has_put_to(1, out)
+}
+
+// A client of a chain of one server that waits for its first call.
+fn waiting(alloc: Global) -> Result<ClientCore, Memory> {
+    let update = create(alloc, "/a")?;
+    let mut core = ClientCore::new(alloc, server(1));
+    if begins_first(alloc, &mut core, update) {
+        Ok(core)
+    } else {
+        Err(Memory)
+    }
+}
+
+fn begins_first(alloc: Global, core: &mut ClientCore, update: Update) -> bool {
+    let mut before: Outbox = Out::new(alloc);
+    core.begin(Call::Update(update), &mut before).is_ok()
+}
+
+// Whether nothing was put, and the client still waits for its first call.
+fn waits(core: &ClientCore, out: &mut Outbox) -> bool {
+    !has_put(out) && matches!(core.outstanding(), Some(number) if number.number() == 1)
+}
+
+// Whether the first message that was put goes to this server.
+fn has_put_to(number: u8, out: &mut Outbox) -> bool {
+    let post = out.next();
+    let is_there = match &post {
+        Some((receiver, _)) => is_server(receiver, number),
+        None => false,
+    };
+    drop(post);
+    is_there
+}
+
+fn is_server(receiver: &Process, number: u8) -> bool {
+    match receiver {
+        Process::Server(server) => server.number() == number,
+        _ => false,
+    }
+}

@@ -1,0 +1,73 @@
+//! A server takes a message: it acts, or it has stopped for good and put nothing.
+
+use crate::ended::Ended;
+use std::alloc::Global;
+use zliterals::epoch;
+use zout::Out;
+use zserver::{Server, Snapshot, Stopped, Taken};
+use zserver_table::{Message, Process};
+
+/// Hands a server a message before that of the story; whether it acted. What it puts is let go.
+pub(crate) fn hand(
+    alloc: Global,
+    server: &mut Server,
+    from: Process,
+    message: Message<Snapshot>,
+) -> bool {
+    let mut out = Out::new(alloc);
+    acts(server, from, message, &mut out)
+}
+
+/// Hands a server a message, with nothing put before; whether it acted.
+pub(crate) fn acts(
+    server: &mut Server,
+    from: Process,
+    message: Message<Snapshot>,
+    out: &mut Out<Snapshot>,
+) -> bool {
+    match server.take(from, message, out) {
+        Ok(Taken::Acted) => true,
+        Ok(Taken::Unheard) | Err(Stopped) => false,
+    }
+}
+
+/// Hands a server the message of a story; it puts something where it acts.
+pub(crate) fn takes(
+    alloc: Global,
+    server: &mut Server,
+    from: Process,
+    message: Message<Snapshot>,
+) -> Ended {
+    let mut out = Out::new(alloc);
+    takes_at(server, from, message, &mut out)
+}
+
+fn takes_at(
+    server: &mut Server,
+    from: Process,
+    message: Message<Snapshot>,
+    out: &mut Out<Snapshot>,
+) -> Ended {
+    match server.take(from, message, out) {
+        Ok(Taken::Acted) => Ended::done(has_put(out)),
+        Ok(Taken::Unheard) => Ended::Wrong,
+        Err(Stopped) => Ended::refused(has_stopped(server, out)),
+    }
+}
+
+/// Whether something was put; takes it out.
+pub(crate) fn has_put<T: Drop>(out: &mut Out<T>) -> bool {
+    let post = out.next();
+    let is_some = post.is_some();
+    drop(post);
+    is_some
+}
+
+// Whether nothing was put, and the server takes nothing more, not even what needs no memory.
+fn has_stopped(server: &mut Server, out: &mut Out<Snapshot>) -> bool {
+    !has_put(out) && !becomes_head(server, out) && !has_put(out)
+}
+
+fn becomes_head(server: &mut Server, out: &mut Out<Snapshot>) -> bool {
+    acts(server, Process::Master, Message::BecomeHead(epoch(1)), out)
+}
