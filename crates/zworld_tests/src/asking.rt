@@ -1,19 +1,15 @@
 //! Calls of the one client, and what the history says of them.
 
-use crate::base::{client, process};
+use crate::base::client;
 use crate::trouble::Trouble;
 use std::alloc::Global;
 use zcalls::{Call, Create, Data, Kind, Query, Reply, Update};
 use zpath::Path;
-use zprocesses::Did;
 use zworld::World;
-use zworld_model::{CallEvent, Event};
+use zworld_model::{CallEvent, Event, Settled};
 
-// Far more passes than any list here takes.
-const PASSES: usize = 100;
-
-// The master, the four servers that can ever be members, and the two clients.
-const PROCESSES: u8 = 7;
+// Far more events than any settling here takes.
+const LIMIT: usize = 1000;
 
 /// A create of a node without data begins.
 pub fn creates(alloc: Global, path: &str, kind: Kind) -> Result<Event, Trouble> {
@@ -29,41 +25,12 @@ pub fn lists(alloc: Global) -> Result<Event, Trouble> {
     Ok(Event::Begin(client()?, Call::Query(Query::GetChildren(path))))
 }
 
-/// Delivers messages until none can be taken; then a client that waits asks again, and messages are delivered
-/// again.
+/// The world settles, and is quiet then.
 pub fn settles(world: &mut World) -> Result<(), Trouble> {
-    delivers(world)?;
-    world.step(Event::Retry(client()?))?;
-    delivers(world)
-}
-
-// Passes over all links, until one takes nothing.
-fn delivers(world: &mut World) -> Result<(), Trouble> {
-    for _ in 0..PASSES {
-        if !passes(world)? {
-            return Ok(());
-        }
+    match world.settle(LIMIT)? {
+        Settled::Quiet => Ok(()),
+        Settled::Limit => Err(Trouble::NotQuiet),
     }
-    Err(Trouble::NotQuiet)
-}
-
-// A pass over all links, in order: whether it took a message.
-fn passes(world: &mut World) -> Result<bool, Trouble> {
-    let mut has_taken = false;
-    for from in 0..PROCESSES {
-        for to in 0..PROCESSES {
-            if takes(world, from, to)? {
-                has_taken = true;
-            }
-        }
-    }
-    Ok(has_taken)
-}
-
-// A delivery, if there is a message.
-fn takes(world: &mut World, from: u8, to: u8) -> Result<bool, Trouble> {
-    let did = world.step(Event::Take(process(from)?, process(to)?))?;
-    Ok(!matches!(did, Did::Idle(_)))
 }
 
 /// Whether every call was answered.

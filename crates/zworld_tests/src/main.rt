@@ -1,5 +1,5 @@
 //! Failures everywhere: each base list of events is run with each failure of a server at each place, and with each
-//! pair of such failures, each through one `World::run`; then the world settles. Where a server of the opening
+//! pair of such failures, each through one `World::run`; then `World::settle` settles it. Where a server of the opening
 //! chain lives, the state lives: then every call is answered, an update has acted once, and another one is answered.
 #![tactic(auto)]
 
