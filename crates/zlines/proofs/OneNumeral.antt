@@ -1,5 +1,5 @@
 -- A number below NUMBER_BOUND is spelled by its decimal text alone.
-use Rattle.std.proofs.Common.{◌≡◌, ℕ, zero, suc, ◌<◌, ◌^◌, Bool, true, false, not, ◌||◌, List, [], ◌∷◌, length, get_or, Some, None, if◌then◌else◌, refl, sym, ap, ◌∙◌, arith, decimal}
+use Rattle.std.proofs.Common.{◌≡◌, ℕ, zero, suc, ◌<◌, ◌≤◌, ◌+◌, ◌-◌, ◌^◌, Bool, true, false, not, ◌||◌, List, [], ◌∷◌, length, get_or, Some, None, if◌then◌else◌, refl, sym, ap, ◌∙◌, arith, decimal}
 use Rattle.std.specs.Prelude.{nat_le}
 use Rattle.std.specs.Char.{is_ascii_digit}
 use Rattle.std.specs.List.{list_all}
@@ -8,7 +8,7 @@ use Rattle.std.proofs.lemmas.Bool.Decides.{nat_tests}
 use Rattle.std.proofs.lemmas.Fmt.{digits_decimal, digits_value-decimal, decimal-digits_value, decimal_nonempty, decimal_digit, first_decimal}
 use Rattle.zpath.specs.Grammar.{is_empty}
 use Rattle.zlines.specs.declared.limits.TheConstants.{NUMBER_BOUND}
-use Rattle.zlines.specs.LineWords.{has_leading_zero}
+use Rattle.zlines.specs.LineWords.{has_leading_zero, number_of}
 use Rattle.zlines.specs.Laws.{ReadsDecimal, IsDecimal}
 use Rattle.zlines.proofs.Numerals.{own, filled, under, both_false}
 
@@ -25,6 +25,13 @@ pub reads_decimal : ReadsDecimal
 reads_decimal n h =
     let small : n < 2 ^ 64 = omega arith in
     rw (digits_decimal own n small, no_leading_zero n small, filled (decimal n) (decimal_nonempty n small), digits_value-decimal own n small, under n h) refl
+
+-- a word of one digit spells its value
+pub one_digit : (digit : ℕ) → 48 ≤ digit → digit ≤ 57 → number_of (digit ∷ []) ≡ Some (digit - 48)
+one_digit digit low high =
+    let is : 48 + (digit - 48) ≡ digit = omega arith in
+    let spelled = decimal_digit (digit - 48) (omega arith) ∙ ap (λ byte. byte ∷ []) is in
+    ap number_of (sym spelled) ∙ reads_decimal (digit - 48) (omega arith)
 
 -- a number is given only where no test holds
 some_of : (t : Bool) (v n : ℕ) → (if t then None else Some v) ≡ Some n → (t ≡ false) × (v ≡ n)

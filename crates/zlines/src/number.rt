@@ -8,9 +8,14 @@ ghost use Rattle.zlines.specs.LineWords.{number_of, has_leading_zero};
 use crate::limits::NUMBER_BOUND;
 
 /// The number that a word spells: decimal, without leading zeros, below `NUMBER_BOUND`.
+#[tactic(auto, using(crate::proofs::OneNumeral::one_digit))]
 pub(crate) fn number(word: &str) -> Option<u64>
     ensures { result ≡ number_of word.now }
 {
+    // Most numbers have one digit.
+    if let [digit @ b'0'..=b'9'] = word.as_bytes() {
+        return Some(u64::from(*digit - b'0'));
+    }
     if !has_digits_alone(word) || has_leading_zero(word) {
         return None;
     }
