@@ -1,0 +1,134 @@
+//! A chain of servers, in one thread.
+
+use crate::calls::{Calls, number_after};
+use crate::order::{Kind, Order};
+use crate::trouble::Trouble;
+use std::alloc::Global;
+use zcalls::Entry;
+use zout::Out;
+use zserver::{Server, Snapshot};
+use zserver_table::{Message, Process, ServerId};
+
+/// The servers from the head to the tail, with places from 0 on, and what one of them put.
+#[derive(Drop)]
+pub struct Chain {
+    servers: Vec<Server>,
+    count: u8,
+    out: Out<Snapshot>,
+    answered: u64,
+}
+
+impl Chain {
+    /// A chain of so many servers that have the calls' node.
+    pub fn new(alloc: Global, count: u8, calls: &Calls) -> Result<Chain, Trouble> {
+        let mut chain = Chain {
+            servers: opened(alloc, count)?,
+            count,
+            out: Out::new(alloc),
+            answered: 0,
+        };
+        let entry = calls.first()?;
+        chain.submits(entry)?;
+        chain.answered = 0;
+        Ok(chain)
+    }
+
+    /// Gives it the calls of an order, each when the one before it is done; how many it answered.
+    pub fn plays(&mut self, calls: &Calls, order: &Order) -> Result<u64, Trouble> {
+        for number in 0..order.count {
+            match order.kind {
+                Kind::Update => self.updates(calls, number.saturating_add(1))?,
+                Kind::Query => self.asks(calls, number)?,
+            }
+        }
+        Ok(self.answered)
+    }
+
+    fn updates(&mut self, calls: &Calls, number: u64) -> Result<(), Trouble> {
+        let entry = calls.update(number)?;
+        self.submits(entry)
+    }
+
+    // The update goes down the chain, its answer to the client, and the acknowledgement up the chain.
+    fn submits(&mut self, entry: Entry) -> Result<(), Trouble> {
+        let from = Process::Client(entry.client);
+        self.takes(0, from, Message::Submit(entry.number, entry.update))?;
+        let count = self.count;
+        for place in 1..count {
+            self.passes(place - 1, place)?;
+        }
+        self.tells();
+        for below in 1..count {
+            let place = count - below;
+            self.passes(place, place - 1)?;
+        }
+        Ok(())
+    }
+
+    // The tail answers the query.
+    fn asks(&mut self, calls: &Calls, number: u64) -> Result<(), Trouble> {
+        let query = calls.query()?;
+        let Some(number) = number_after(number) else {
+            drop(query);
+            return Err(Trouble::BadOrder);
+        };
+        let from = Process::Client(calls.client());
+        let tail = self.count.saturating_sub(1);
+        self.takes(tail, from, Message::Query(number, query))?;
+        self.tells();
+        Ok(())
+    }
+
+    // What the server at the first place put goes to the server at the second.
+    fn passes(&mut self, from: u8, to: u8) -> Result<(), Trouble> {
+        let from = process(from)?;
+        match self.out.next() {
+            Some((_, message)) => self.takes(to, from, message),
+            None => Err(Trouble::BadOrder),
+        }
+    }
+
+    fn takes(
+        &mut self,
+        place: u8,
+        from: Process,
+        message: Message<Snapshot>,
+    ) -> Result<(), Trouble> {
+        let Some(server) = self.servers.get_mut(place as usize) else {
+            drop(message);
+            return Err(Trouble::BadOrder);
+        };
+        let _ = server.take(from, message, &mut self.out)?;
+        Ok(())
+    }
+
+    // The tail's answer is counted, and let go.
+    fn tells(&mut self) {
+        if self.out.next().is_some() {
+            self.answered = self.answered.saturating_add(1);
+        }
+    }
+}
+
+// The servers of the opening chain.
+fn opened(alloc: Global, count: u8) -> Result<Vec<Server>, Trouble> {
+    let mut servers = Vec::new(alloc);
+    for number in 1..=count {
+        let pred = ServerId::new(number.saturating_sub(1));
+        let succ = if number < count {
+            ServerId::new(number.saturating_add(1))
+        } else {
+            None
+        };
+        servers.push(Server::first(alloc, pred, succ)?)?;
+    }
+    Ok(servers)
+}
+
+// The server at a place, as who puts a message.
+fn process(at: u8) -> Result<Process, Trouble> {
+    match ServerId::new(at.saturating_add(1)) {
+        Some(server) => Ok(Process::Server(server)),
+        None => Err(Trouble::BadOrder),
+    }
+}

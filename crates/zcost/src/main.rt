@@ -1,0 +1,41 @@
+//! What a call costs at the servers alone, without links, clients and text: the same calls, made and let go,
+//! given to one machine, or handed down a chain of servers in one thread until each is answered and each entry
+//! acknowledged. Each line of the input is an order `PLACE KIND COUNT`; PLACE is `nowhere`, `machine` or a number
+//! of servers from 1 to 8, and KIND is `update` or `query`. Its answer is how many of the calls were answered.
+//! Who counts the instructions is `bench/chain.py`.
+#![tactic(auto)]
+
+mod calls;
+mod chain;
+mod machine;
+mod order;
+mod trouble;
+
+use calls::Calls;
+use chain::Chain;
+use machine::Alone;
+use order::{Order, Place};
+use std::alloc::Global;
+use std::io;
+use trouble::Trouble;
+
+fn main(rt: HostRuntime) -> io::Result<()> {
+    for line in rt.lines(rt.alloc()) {
+        match obeyed(rt.alloc(), line?.as_str()) {
+            Ok(answered) => println!(rt; "{answered} answered")?,
+            Err(trouble) => println!(rt; "{trouble}")?,
+        }
+    }
+    Ok(())
+}
+
+// How many calls of the line's order are answered.
+fn obeyed(alloc: Global, line: &str) -> Result<u64, Trouble> {
+    let order = Order::read(line)?;
+    let calls = Calls::new(alloc)?;
+    match order.place {
+        Place::Nowhere => calls.let_go(&order),
+        Place::Machine => Alone::new(alloc, &calls)?.plays(&calls, &order),
+        Place::Chain(servers) => Chain::new(alloc, servers, &calls)?.plays(&calls, &order),
+    }
+}

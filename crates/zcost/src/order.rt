@@ -1,0 +1,71 @@
+//! The orders.
+
+use crate::trouble::Trouble;
+
+/// Who gets the calls.
+#[derive(Clone, Copy)]
+pub enum Place {
+    /// Nobody: what is left is the cost of making them.
+    Nowhere,
+    /// One machine.
+    Machine,
+    /// A chain of so many servers.
+    Chain(u8),
+}
+
+/// What the calls are.
+#[derive(Clone, Copy)]
+pub enum Kind {
+    /// Each sets the data of one node.
+    Update,
+    /// Each asks for that data.
+    Query,
+}
+
+/// So many calls of one kind, given to one of the places.
+#[derive(Clone, Copy)]
+pub struct Order {
+    pub place: Place,
+    pub kind: Kind,
+    pub count: u64,
+}
+
+impl Order {
+    /// Reads an order.
+    pub fn read(line: &str) -> Result<Order, Trouble> {
+        let mut words = line.split(' ');
+        let place = place_of(words.next())?;
+        let kind = kind_of(words.next())?;
+        let count = number_of(words.next())?;
+        Ok(Order { place, kind, count })
+    }
+}
+
+fn place_of(word: Option<&str>) -> Result<Place, Trouble> {
+    match word {
+        Some("nowhere") => Ok(Place::Nowhere),
+        Some("machine") => Ok(Place::Machine),
+        _ => match number_of(word)? {
+            servers @ 1..=8 => Ok(Place::Chain(servers as u8)),
+            _ => Err(Trouble::BadOrder),
+        },
+    }
+}
+
+fn kind_of(word: Option<&str>) -> Result<Kind, Trouble> {
+    match word {
+        Some("update") => Ok(Kind::Update),
+        Some("query") => Ok(Kind::Query),
+        _ => Err(Trouble::BadOrder),
+    }
+}
+
+fn number_of(word: Option<&str>) -> Result<u64, Trouble> {
+    let Some(word) = word else {
+        return Err(Trouble::BadOrder);
+    };
+    match word.parse::<u64>() {
+        Ok(number) => Ok(number),
+        Err(_) => Err(Trouble::BadOrder),
+    }
+}
