@@ -25,7 +25,7 @@ use Rattle.zlines.specs.Request.{Read}
 use Rattle.zlines.specs.Line.{line_of}
 use Rattle.zlines.specs.Reply.{reply_text}
 use Rattle.zanswers.specs.declared.limits.TheConstants.{MAX_EVENTS}
-use Rattle.zanswers.specs.ChainLine.{ServiceWorld, ChainState, LineEffect, forgotten, no_effect, after_try, event_effect, after_settling, settled_text, settle_effect, reply_in, call_answered, call_effect, not_begun_text, line_effect, read_effect, effect_of, effect_text, taken_text, chain_answer, chain_after}
+use Rattle.zanswers.specs.Line.{ServiceWorld, ScriptState, LineEffect, forgotten, no_effect, after_try, event_effect, after_settling, settled_text, settle_effect, reply_in, call_answered, call_effect, not_begun_text, line_effect, read_effect, effect_of, effect_text, taken_text, answer, after}
 
 -- settling of the service
 abbrev Service : Type 0
@@ -141,10 +141,10 @@ module _ (v : ServiceWorld) (others : ℕ → ServerView (KeptState Tree)) (link
   abbrev other : ServiceWorld
   other = record v { servers = others; links = links }
 
-  abbrev here : ChainState
+  abbrev here : ScriptState
   here = record { world = v; outcomes = outcomes }
 
-  abbrev there : ChainState
+  abbrev there : ScriptState
   there = record { world = other; outcomes = outcomes }
 
   tried_like : (event : Event) → Like (after_try here event) (after_try there event)
@@ -211,7 +211,7 @@ texts_alike e f like =
     ∙ ap (λ (g : LineEffect). flat_map (taken_text g.own) f.did.world.history ++ g.result ++ 10 ∷ []) (sym like.1)
 
 left_alike : (e f : LineEffect) → EffectLike e f
-    → ◌≡◌ {A = ChainState} (record { world = forgotten e.did.world; outcomes = e.did.outcomes }) (record { world = forgotten f.did.world; outcomes = f.did.outcomes })
+    → ◌≡◌ {A = ScriptState} (record { world = forgotten e.did.world; outcomes = e.did.outcomes }) (record { world = forgotten f.did.world; outcomes = f.did.outcomes })
 left_alike e f like =
     ap (λ (w : ServiceWorld). record { world = w; outcomes = e.did.outcomes }) (forgotten_alike e.did.world f.did.world like.0.0)
     ∙ ap (λ (u : Service). record { world = forgotten f.did.world; outcomes = u.outcomes }) (sym like.0.1)
@@ -224,11 +224,11 @@ effects_alike v w outcomes line alike =
     (sym alike.rest) (effects_like v w.servers w.links outcomes (subst (IsAlike v) alike.rest alike) line)
 
 pub answers_alike : (v w : ServiceWorld) (outcomes : List Outcome) (line : List ℕ) → IsAlike v w
-    → chain_answer (record { world = v; outcomes = outcomes }) line ≡ chain_answer (record { world = w; outcomes = outcomes }) line
-unfolding chain_answer
+    → answer (record { world = v; outcomes = outcomes }) line ≡ answer (record { world = w; outcomes = outcomes }) line
+unfolding answer
 answers_alike v w outcomes line alike = texts_alike _ _ (effects_alike v w outcomes line alike)
 
 pub leaves_alike : (v w : ServiceWorld) (outcomes : List Outcome) (line : List ℕ) → IsAlike v w
-    → chain_after (record { world = v; outcomes = outcomes }) line ≡ chain_after (record { world = w; outcomes = outcomes }) line
-unfolding chain_after
+    → after (record { world = v; outcomes = outcomes }) line ≡ after (record { world = w; outcomes = outcomes }) line
+unfolding after
 leaves_alike v w outcomes line alike = left_alike _ _ (effects_alike v w outcomes line alike)

@@ -1,5 +1,5 @@
-pub mod LineDone
 pub mod LongLine
 pub mod Past
 pub mod OneRun
 pub mod AlikeLines
+pub mod Opening

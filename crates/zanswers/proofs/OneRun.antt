@@ -23,7 +23,7 @@ use Rattle.zlines.specs.declared.request.Request.{Request}
 use Rattle.zlines.specs.Request.{Read}
 use Rattle.zlines.specs.Line.{line_of}
 use Rattle.zanswers.specs.declared.limits.TheConstants.{MAX_EVENTS}
-use Rattle.zanswers.specs.ChainLine.{ServiceWorld, ChainState, LineEffect, opening_chain, forgotten, after_try, after_settling, call_effect, not_begun_text, no_effect, call_answered, line_effect, read_effect, effect_of, chain_after, histories}
+use Rattle.zanswers.specs.Line.{ServiceWorld, ScriptState, LineEffect, opening_script, forgotten, after_try, after_settling, call_effect, not_begun_text, no_effect, call_answered, line_effect, read_effect, effect_of, after, histories}
 use Rattle.zanswers.proofs.Past.{with_past, run_past}
 
 -- the settling's world is where its events lead from a world
@@ -41,7 +41,7 @@ of_choice P true x y first second = first
 of_choice P false x y first second = second
 
 -- one event
-tried_leads : (s : ChainState) (event : Event) → LeadsFrom s.world (after_try s event)
+tried_leads : (s : ScriptState) (event : Event) → LeadsFrom s.world (after_try s event)
 tried_leads s event =
     let opening = opening_settling s.world 1 s.outcomes in
     of_choice (LeadsFrom s.world) (nat_lt 0 1 && is_enabled s.world event)
@@ -56,7 +56,7 @@ settled_leads w before leads =
     ∙ sym (run_append w before.events did.events)
 
 -- a call
-call_leads : (s : ChainState) (request : Request) → LeadsFrom s.world (call_effect s request).did
+call_leads : (s : ScriptState) (request : Request) → LeadsFrom s.world (call_effect s request).did
 call_leads s request =
     let begins = event.Begin request.client request.call in
     of_choice (λ (effect : LineEffect). LeadsFrom s.world effect.did) (is_enabled s.world begins)
@@ -65,7 +65,7 @@ call_leads s request =
     (settled_leads s.world (after_try s begins) (tried_leads s begins)) refl
 
 -- each line
-line_leads : (s : ChainState) (line : Line) → LeadsFrom s.world (line_effect s line).did
+line_leads : (s : ScriptState) (line : Line) → LeadsFrom s.world (line_effect s line).did
 line_leads s (asked.Call request) = call_leads s request
 line_leads s (asked.Begin request) = tried_leads s (event.Begin request.client request.call)
 line_leads s (asked.Take from to) = tried_leads s (event.Take from to)
@@ -75,11 +75,11 @@ line_leads s (asked.Join server) = tried_leads s (event.Join server)
 line_leads s (asked.Retry client) = tried_leads s (event.Retry client)
 line_leads s asked.Settle = settled_leads s.world (opening_settling s.world 0 s.outcomes) refl
 
-read_leads : (s : ChainState) (line : Read Line) → LeadsFrom s.world (read_effect s line).did
+read_leads : (s : ScriptState) (line : Read Line) → LeadsFrom s.world (read_effect s line).did
 read_leads s (Err fault) = refl
 read_leads s (Ok line) = line_leads s line
 
-effect_leads : (s : ChainState) (line : List ℕ) → LeadsFrom s.world (effect_of s line).did
+effect_leads : (s : ScriptState) (line : List ℕ) → LeadsFrom s.world (effect_of s line).did
 unfolding effect_of
 effect_leads s line = read_leads s (line_of line)
 
@@ -93,10 +93,10 @@ forgets past w = record {
 
 -- lines that are played from a world, whatever was told before
 runs_from :
-    (lines : List (List ℕ)) (s : ChainState) (v : ServiceWorld) (past : History)
+    (lines : List (List ℕ)) (s : ScriptState) (v : ServiceWorld) (past : History)
     → s.world.history ≡ [] → IsAlike v (with_past past s.world)
     → (events : List Event) × ((run kept_tree v events).history ≡ past ++ histories s lines)
-unfolding chain_after
+unfolding after
 runs_from [] s v past none alike = ([], ap (λ (w : ServiceWorld). w.history) (sym alike.rest) ∙ ap (λ h. past ++ h) none)
 runs_from (line ∷ lines) s v past none alike =
     let did = (effect_of s line).did in
@@ -104,16 +104,16 @@ runs_from (line ∷ lines) s v past none alike =
     run_past kept_tree past s.world did.events ∙ ap (with_past past) (sym (effect_leads s line)) in
     let alike_after : IsAlike (run kept_tree v did.events) (with_past past did.world) =
     subst (IsAlike (run kept_tree v did.events)) leads (stay_alike kept_tree v (with_past past s.world) did.events alike) in
-    let rest = runs_from lines (chain_after s line) (run kept_tree v did.events) (past ++ did.world.history) refl
+    let rest = runs_from lines (after s line) (run kept_tree v did.events) (past ++ did.world.history) refl
     (alike_through _ _ _ alike_after (forgets past did.world)) in (
       did.events ++ rest.0,
-      ap (λ (w : ServiceWorld). w.history) (run_append v did.events rest.0) ∙ rest.1 ∙ append_assoc past did.world.history (histories (chain_after s line) lines),
+      ap (λ (w : ServiceWorld). w.history) (run_append v did.events rest.0) ∙ rest.1 ∙ append_assoc past did.world.history (histories (after s line) lines),
     )
 
 -- from the opening
 pub lines_tell_one_run :
     (servers : ℕ) (outcomes : List Outcome) (lines : List (List ℕ))
-    → (events : List Event) × ((run kept_tree (opening_world kept_tree servers MAX_CLIENTS) events).history ≡ histories (opening_chain servers outcomes) lines)
+    → (events : List Event) × ((run kept_tree (opening_world kept_tree servers MAX_CLIENTS) events).history ≡ histories (opening_script servers outcomes) lines)
 lines_tell_one_run servers outcomes lines =
     let opening : ServiceWorld = opening_world kept_tree servers MAX_CLIENTS in
-    runs_from lines (opening_chain servers outcomes) opening [] refl (alike_itself opening)
+    runs_from lines (opening_script servers outcomes) opening [] refl (alike_itself opening)

@@ -1,4 +1,4 @@
 pub mod Line
-pub mod ChainLine
+pub mod Done
 pub mod Laws
 pub mod support

@@ -3,11 +3,11 @@
 ghost use Rattle.std.specs.Prelude.{◌≡◌, [], ◌∷◌, ◌++◌, codes, Some, None};
 ghost use Rattle.zcalls.specs.declared.reply.Reply.TheVariants.{Children, Deleted, Pinged};
 ghost use Rattle.zworld_model.specs.declared.history.CallEvent.TheVariants.{Answer};
-ghost use Rattle.zanswers.specs.ChainLine.{taken_text, reply_in};
+ghost use Rattle.zanswers.specs.Line.{taken_text, reply_in};
 ghost use Rattle.zanswers.specs.support.Rows.{AreAnswered};
 
 /// Events that aren't enabled, failures and joins.
-#[tactic(auto, unfolding(crate::specs::ChainLine::effect_of, crate::specs::ChainLine::chain_answer, crate::specs::ChainLine::chain_after, zlines::specs::Line::line_of, zmaster_table::specs::Table::join_fault))]
+#[tactic(auto, unfolding(crate::specs::Line::effect_of, crate::specs::Line::answer, crate::specs::Line::after, zlines::specs::Line::line_of, zmaster_table::specs::Table::join_fault))]
 pub fn chain_lines()
     ensures own_link { AreAnswered ((codes "take s1 s1", codes "idle") ∷ []) }
     ensures no_server { AreAnswered ((codes "take s9 m", codes "bad line") ∷ []) }

@@ -13,4 +13,4 @@ sink_taking bytes = record { took = λ taken. taken ≡ bytes; failed = λ count
 
 -- Where one byte was read, and neither an LF nor the end, nothing was written.
 abbrev pub UnendedLinesHaveNoAnswer : Type 0
-UnendedLinesHaveNoAnswer = (text : List ℕ) → IsCut (source_giving (97 ∷ [])) (sink_taking text) → text ≡ []
+UnendedLinesHaveNoAnswer = (servers : ℕ) (text : List ℕ) → IsCut servers (source_giving (97 ∷ [])) (sink_taking text) → text ≡ []

@@ -1,57 +1,59 @@
 -- What a run of the player comes to, told by what its devices did from its start to its end. Each names the
 -- outcomes of the run's events, in turn, under which the text was the one that was written.
 use Rattle.std.specs.Prelude.{◌≡◌, ℕ, ◌<◌, ◌⊎◌, List, [], ◌++◌, length, codes}
-use Rattle.zops.specs.Machine.{MachineState, opening_machine}
+use Rattle.ztree.specs.declared.limits.TheConstants.{MAX_CLIENTS}
+use Rattle.zserver_table.specs.Machine.{kept_tree}
 use Rattle.zscript.specs.Device.{SourceRun, SinkRun, Failed, TookBeginning}
 use Rattle.zworld_model.specs.declared.outcome.Outcome.{Outcome}
-use Rattle.zanswers.specs.Line.{script_state}
-use Rattle.zscript.specs.Script.{lines_of, whole_lines_of, answers, opening_script, text_of}
+use Rattle.zworld_model.specs.World.{opening_world}
+use Rattle.zanswers.specs.Line.{ServiceWorld, script_state, opening_script, answers}
+use Rattle.zscript.specs.Script.{lines_of, whole_lines_of, text_of}
 use Rattle.zscript.specs.declared.fault.PlayFault.{PlayFault}
 use Rattle.zscript.specs.declared.fault.PlayFault.TheVariants.{Read, Write, Memory}
 
 -- Every line was played: the source told its end, the sink took the text of all that it gave, and neither failed.
-pub record IsPlayed (source : SourceRun) (sink : SinkRun) : Type 0 where
+pub record IsPlayed (servers : ℕ) (source : SourceRun) (sink : SinkRun) : Type 0 where
   pub bytes : List ℕ
   pub given : source.gave bytes
   pub outcomes : List Outcome
-  pub taken : sink.took (text_of outcomes bytes)
+  pub taken : sink.took (text_of servers outcomes bytes)
   pub ended : source.ended
   pub source_sound : source.failed 0
   pub sink_sound : sink.failed 0
 
 -- Of these lines the first ones were played, and the sink took a beginning of their answers.
-pub record IsStopped (state : MachineState) (lines : List (List ℕ)) (took : List ℕ → Type 0) : Type 0 where
+pub record IsStopped (world : ServiceWorld) (lines : List (List ℕ)) (took : List ℕ → Type 0) : Type 0 where
   pub played : List (List ℕ)
   pub rest : List (List ℕ)
   pub split : lines ≡ played ++ rest
   pub outcomes : List Outcome
-  pub taken : TookBeginning took (answers (script_state state outcomes) played)
+  pub taken : TookBeginning took (answers (script_state world outcomes) played)
 
 -- These lines of the bytes were read: each has its LF, or the source told its end, which ends the last one.
 abbrev pub AreRead : Type 0 → List ℕ → List (List ℕ) → Type 0
 AreRead ended bytes lines = (lines ≡ whole_lines_of bytes) ⊎ (ended × (lines ≡ lines_of bytes))
 
 -- A fault ended the run among the lines that were read.
-pub record IsCut (source : SourceRun) (sink : SinkRun) : Type 0 where
+pub record IsCut (servers : ℕ) (source : SourceRun) (sink : SinkRun) : Type 0 where
   pub bytes : List ℕ
   pub given : source.gave bytes
   pub lines : List (List ℕ)
   pub read : AreRead source.ended bytes lines
-  pub stopped : IsStopped opening_machine lines sink.took
+  pub stopped : IsStopped (opening_world kept_tree servers MAX_CLIENTS) lines sink.took
 
 -- Some line was not played.
-pub record IsCutBeforeLine (source : SourceRun) (sink : SinkRun) : Type 0 where
+pub record IsCutBeforeLine (servers : ℕ) (source : SourceRun) (sink : SinkRun) : Type 0 where
   pub bytes : List ℕ
   pub given : source.gave bytes
-  pub stopped : IsStopped opening_machine (lines_of bytes) sink.took
+  pub stopped : IsStopped (opening_world kept_tree servers MAX_CLIENTS) (lines_of bytes) sink.took
   pub some : 0 < length stopped.rest
 
 -- Each line that had its LF was answered, and no other.
-pub record AnswersWholeLines (source : SourceRun) (sink : SinkRun) : Type 0 where
+pub record AnswersWholeLines (servers : ℕ) (source : SourceRun) (sink : SinkRun) : Type 0 where
   pub bytes : List ℕ
   pub given : source.gave bytes
   pub outcomes : List Outcome
-  pub taken : sink.took (answers (opening_script outcomes) (whole_lines_of bytes))
+  pub taken : sink.took (answers (opening_script servers outcomes) (whole_lines_of bytes))
 
 -- Nothing was read, and nothing written.
 abbrev pub IsIdle : SourceRun → SinkRun → Type 0
@@ -59,11 +61,11 @@ IsIdle source sink = source.gave [] × sink.took []
 
 -- What each fault means.
 -- Of memory: the line that met the want of it was not played, or nothing was read or written at all.
-abbrev pub IsCutBy : SourceRun → SinkRun → PlayFault → Type 0
-IsCutBy source sink Read = AnswersWholeLines source sink × Failed source.failed × sink.failed 0
-IsCutBy source sink Write = IsCut source sink × source.failed 0 × Failed sink.failed
-IsCutBy source sink Memory =
-    (IsCutBeforeLine source sink ⊎ IsIdle source sink) × source.failed 0 × sink.failed 0
+abbrev pub IsCutBy : ℕ → SourceRun → SinkRun → PlayFault → Type 0
+IsCutBy servers source sink Read = AnswersWholeLines servers source sink × Failed source.failed × sink.failed 0
+IsCutBy servers source sink Write = IsCut servers source sink × source.failed 0 × Failed sink.failed
+IsCutBy servers source sink Memory =
+    (IsCutBeforeLine servers source sink ⊎ IsIdle source sink) × source.failed 0 × sink.failed 0
 
 -- The text of a fault.
 abbrev pub play_fault_text : PlayFault → List ℕ

@@ -2,9 +2,8 @@
 -- each event in turn, where processes can want memory, is told beside the bytes.
 use Rattle.std.specs.Prelude.{ℕ, List, [], ◌∷◌, ◌++◌, ◌==◌, if◌then◌else◌}
 use Rattle.std.specs.List.{onto_first}
-use Rattle.zops.specs.Machine.{opening_machine}
 use Rattle.zworld_model.specs.declared.outcome.Outcome.{Outcome}
-use Rattle.zanswers.specs.Line.{ScriptState, script_state, answer, after}
+use Rattle.zanswers.specs.Line.{opening_script, answers}
 
 -- All lines, each without its LF. What follows the last LF is a line only if it has a byte.
 abbrev pub lines_of : List ℕ → List (List ℕ)
@@ -21,15 +20,6 @@ abbrev pub whole_lines_of : List ℕ → List (List ℕ)
 whole_lines_of [] = []
 whole_lines_of (b ∷ bs) = if b == 10 then [] ∷ whole_lines_of bs else onto_line b (whole_lines_of bs)
 
--- The bytes that answer some lines.
-abbrev pub answers : ScriptState → List (List ℕ) → List ℕ
-answers state [] = []
-answers state (line ∷ lines) = answer state line ++ answers (after state line) lines
-
--- The state that a script starts in, and what will become of its events.
-abbrev pub opening_script : List Outcome → ScriptState
-opening_script outcomes = script_state opening_machine outcomes
-
--- The whole text that a script is answered with, under what becomes of its events.
-abbrev pub text_of : List Outcome → List ℕ → List ℕ
-text_of outcomes bytes = answers (opening_script outcomes) (lines_of bytes)
+-- The whole text that a script with so many servers is answered with, under what becomes of its events.
+abbrev pub text_of : ℕ → List Outcome → List ℕ → List ℕ
+text_of servers outcomes bytes = answers (opening_script servers outcomes) (lines_of bytes)

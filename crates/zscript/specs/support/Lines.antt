@@ -1,9 +1,7 @@
 -- Lines as a player meets them: a line that has begun is carried on from block to block.
 use Rattle.std.specs.Prelude.{◌≡◌, ℕ, false, List, [], ◌∷◌, ◌++◌, ◌==◌, if◌then◌else◌}
-use Rattle.zops.specs.Machine.{MachineState}
 use Rattle.zworld_model.specs.declared.outcome.Outcome.{Outcome}
-use Rattle.zanswers.specs.Line.{ScriptState, script_state, after}
-use Rattle.zscript.specs.Script.{answers}
+use Rattle.zanswers.specs.Line.{ServiceWorld, ScriptState, script_state, after, answers}
 
 -- The lines that end within some bytes, each without its LF, where a line has begun before them.
 abbrev pub whole_lines_after : List ℕ → List ℕ → List (List ℕ)
@@ -31,7 +29,7 @@ after_all state [] = state
 after_all state (line ∷ lines) = after_all (after state line) lines
 
 -- Lines were done, one after the other, and this written: these outcomes were met at them, whatever comes after them.
-pub record AreLinesDone (old : MachineState) (lines : List (List ℕ)) (new : MachineState) (writes : List ℕ → Type 0) : Type 0 where
+pub record AreLinesDone (old : ServiceWorld) (lines : List (List ℕ)) (new : ServiceWorld) (writes : List ℕ → Type 0) : Type 0 where
   pub told : List Outcome
   pub text : List ℕ
   pub written : writes text

@@ -2,25 +2,36 @@
 use Rattle.std.specs.Prelude.{◌≡◌, ℕ, List, [], ◌++◌, take}
 use Rattle.std.specs.Coded.{Coded, code_by, coded×, coded_ℕ, coded_list}
 use Rattle.std.proofs.Common.{refl}
-use Rattle.zops.specs.Machine.{MachineState, opening_machine}
-use Rattle.zops.specs.support.Codes.{coded_machine_state}
+use Rattle.ztree.specs.declared.limits.TheConstants.{MAX_CLIENTS}
+use Rattle.zserver_table.specs.Machine.{kept_tree}
+use Rattle.zworld_model.specs.World.{opening_world}
+use Rattle.zprocesses.specs.Held.{Held}
+use Rattle.zprocesses.specs.support.Codes.{coded_held}
+use Rattle.zanswers.specs.Line.{ServiceWorld}
+use Rattle.zanswers.specs.Done.{world_between}
 use Rattle.zscript.specs.declared.limits.TheConstants.{KEPT}
 
--- The state, what is kept of the line that has begun, and the replies that were not written yet.
+-- What its chain holds, what is kept of the line that has begun, and the replies that were not written yet.
 pub record PlayerView : Type 0 where
-  pub state : MachineState
+  pub chain : Held
   pub line : List ℕ
   pub held : List ℕ
 
 -- How it is stored.
 abbrev pub coded_player_view : Coded PlayerView
-coded_player_view = code_by (MachineState × (List ℕ × List ℕ)) (coded× coded_machine_state (coded× (coded_list coded_ℕ) (coded_list coded_ℕ)))
-    (λ p. (p.state, (p.line, p.held)))
-    (λ q. record { state = q.0; line = q.1.0; held = q.1.1 }) (λ _. refl)
+coded_player_view = code_by (Held × (List ℕ × List ℕ)) (coded× coded_held (coded× (coded_list coded_ℕ) (coded_list coded_ℕ)))
+    (λ p. (p.chain, (p.line, p.held)))
+    (λ q. record { chain = q.0; line = q.1.0; held = q.1.1 }) (λ _. refl)
 
--- A player that has heard nothing.
-abbrev pub opening_player : PlayerView
-opening_player = record { state = opening_machine; line = []; held = [] }
+-- The world that it stands for, between two lines.
+abbrev pub world_now : PlayerView → ServiceWorld
+world_now p = world_between p.chain
+
+-- A player of so many servers that has heard nothing.
+pub record IsOpening (servers : ℕ) (p : PlayerView) : Type 0 where
+  pub world : world_now p ≡ opening_world kept_tree servers MAX_CLIENTS
+  pub line : p.line ≡ []
+  pub held : p.held ≡ []
 
 -- What is kept of a line: no more than shows that it is too long.
 unfoldable pub kept_front : List ℕ → List ℕ

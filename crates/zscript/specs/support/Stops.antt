@@ -1,38 +1,38 @@
 -- A player's own faults: within one block of bytes, and within one line.
 use Rattle.std.specs.Prelude.{ℕ, ◌<◌, List, [], ◌++◌, length}
-use Rattle.zops.specs.Machine.{MachineState}
-use Rattle.zanswers.specs.Line.{IsLineDone}
+use Rattle.zanswers.specs.Line.{ServiceWorld}
+use Rattle.zanswers.specs.Done.{IsLineDone}
 use Rattle.zscript.specs.Device.{SinkRun, Failed, TookBeginning}
 use Rattle.zscript.specs.Outcome.{IsStopped}
 use Rattle.zscript.specs.support.Lines.{whole_lines_after, last_line, lines_after}
-use Rattle.zscript.specs.support.PlayerView.{PlayerView}
+use Rattle.zscript.specs.support.PlayerView.{PlayerView, world_now}
 use Rattle.zscript.specs.declared.fault.PlayFault.{PlayFault}
 use Rattle.zscript.specs.declared.fault.PlayFault.TheVariants.{Read, Write, Memory}
 
 -- A write fails among the whole lines; memory runs out before one of all lines.
 abbrev pub IsStoppedBy :
-    MachineState → (whole all : List (List ℕ)) → (took : List ℕ → Type 0) (failed : ℕ → Type 0) → PlayFault → Type 0
-IsStoppedBy state whole all took failed Read = ⊥
-IsStoppedBy state whole all took failed Write = IsStopped state whole took × Failed failed
-IsStoppedBy state whole all took failed Memory = (stopped : IsStopped state all took) × (0 < length stopped.rest) × failed 0
+    ServiceWorld → (whole all : List (List ℕ)) → (took : List ℕ → Type 0) (failed : ℕ → Type 0) → PlayFault → Type 0
+IsStoppedBy world whole all took failed Read = ⊥
+IsStoppedBy world whole all took failed Write = IsStopped world whole took × Failed failed
+IsStoppedBy world whole all took failed Memory = (stopped : IsStopped world all took) × (0 < length stopped.rest) × failed 0
 
 -- In a block, among the lines that end in it; the line that it leaves may find no memory.
 abbrev pub IsBlockStoppedBy : PlayerView → List ℕ → SinkRun → PlayFault → Type 0
 IsBlockStoppedBy p bytes sink =
-    IsStoppedBy p.state (whole_lines_after p.line bytes) (lines_after p.line bytes) sink.took sink.failed
+    IsStoppedBy (world_now p) (whole_lines_after p.line bytes) (lines_after p.line bytes) sink.took sink.failed
 
 -- In a block, among the lines that end in it.
 abbrev pub AreLinesStoppedBy : PlayerView → List ℕ → SinkRun → PlayFault → Type 0
 AreLinesStoppedBy p bytes sink =
-    IsStoppedBy p.state (whole_lines_after p.line bytes) (whole_lines_after p.line bytes) sink.took sink.failed
+    IsStoppedBy (world_now p) (whole_lines_after p.line bytes) (whole_lines_after p.line bytes) sink.took sink.failed
 
 -- At the last line.
 abbrev pub IsEndStoppedBy : PlayerView → SinkRun → PlayFault → Type 0
-IsEndStoppedBy p sink = IsStoppedBy p.state (last_line p.line) (last_line p.line) sink.took sink.failed
+IsEndStoppedBy p sink = IsStoppedBy (world_now p) (last_line p.line) (last_line p.line) sink.took sink.failed
 
 -- Within one line, where what is held, and its reply at the end, is to be told.
 abbrev pub IsLineStoppedBy : PlayerView → List ℕ → SinkRun → PlayFault → Type 0
 IsLineStoppedBy p line sink Read = ⊥
 IsLineStoppedBy p line sink Write =
-    (new : MachineState) × IsLineDone p.state line new (λ text. TookBeginning sink.took (p.held ++ text)) × Failed sink.failed
+    (new : ServiceWorld) × IsLineDone (world_now p) line new (λ text. TookBeginning sink.took (p.held ++ text)) × Failed sink.failed
 IsLineStoppedBy p line sink Memory = sink.took [] × sink.failed 0

@@ -2,9 +2,9 @@ use Rattle.std.proofs.Common.{refl}
 use Rattle.zpath.specs.Faults.{fault_of}
 use Rattle.zlines.specs.Line.{line_of}
 use Rattle.zworld_model.proofs.Tables.{all_tables}
-use Rattle.zanswers.specs.ChainLine.{effect_of, chain_answer, chain_after}
+use Rattle.zanswers.specs.Line.{effect_of, answer, after}
 use Rattle.zanswers.proofs.rows.chain_calls.Goals as goal
 
 pub returns : goal.returns
-unfolding fault_of line_of all_tables effect_of chain_answer chain_after
+unfolding fault_of line_of all_tables effect_of answer after
 returns c = record { begun = refl; taken = refl; lost = refl; joins = refl }
