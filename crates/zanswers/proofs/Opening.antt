@@ -1,6 +1,5 @@
 -- At its opening a world has nothing to forget.
 use Rattle.std.proofs.Common.{◌≡◌, ℕ, [], refl, ap}
-use Rattle.std.specs.Prelude.{if◌then◌else◌}
 use mathlib.Core.Path.{fun_ext}
 use Rattle.ztree.specs.Tree.{Tree}
 use Rattle.zcalls.specs.Kept.{KeptState}

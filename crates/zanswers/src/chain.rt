@@ -10,7 +10,7 @@ ghost use Rattle.zanswers.specs.Done.{IsLineDone, world_between};
 use std::alloc::Global;
 use std::marker::Model;
 use zpath::Memory;
-use zprocesses::Processes;
+use zprocesses::{Answer, Processes};
 use zserver_table::ServerId;
 use ztree::limits::MAX_CLIENTS;
 
@@ -20,10 +20,11 @@ use ztree::limits::MAX_CLIENTS;
 pub struct Chain {
     alloc: Global,
     processes: Processes,
+    answers: Vec<Answer>,
 }
 
 impl Model for Chain {
-    ghost use Rattle.std.specs.Prelude.{◌≡◌};
+    ghost use Rattle.std.specs.Prelude.{◌≡◌, false};
     ghost use Rattle.ztree.specs.declared.limits.TheConstants.{MAX_CLIENTS};
     ghost use Rattle.zprocesses.specs.Held.{Held};
     ghost use Rattle.zprocesses.specs.support.Codes.{coded_held};
@@ -34,7 +35,8 @@ impl Model for Chain {
 
     ghost view = { λ chain. chain.processes.held };
 
-    ghost invariant = { λ chain. chain.processes.held.master.clients ≡ MAX_CLIENTS };
+    ghost invariant = { λ chain. chain.processes.is_broken ≡ false
+        → chain.processes.held.master.clients ≡ MAX_CLIENTS };
 }
 
 impl Chain {
@@ -46,6 +48,7 @@ impl Chain {
         Ok(Chain {
             alloc,
             processes: Processes::new(alloc, last, MAX_CLIENTS)?,
+            answers: Vec::new(alloc),
         })
     }
 
