@@ -3,3 +3,4 @@ pub mod Past
 pub mod OneRun
 pub mod AlikeLines
 pub mod Opening
+pub mod Replies
