@@ -1,11 +1,11 @@
 -- A player's fault, as the fault of the whole run.
 use Rattle.std.proofs.Common.{◌≡◌, ◌<◌, ◌+◌, inl, inr, ℕ, List, [], ◌++◌, length, refl, sym, ap, ◌∙◌, subst, arith}
 use Rattle.std.proofs.lemmas.List.{append-nil}
-use Rattle.zops.specs.Machine.{MachineState, opening_machine}
+use Rattle.zanswers.specs.Line.{ServiceWorld, opening_script, answers}
 use Rattle.zscript.specs.Device.{SourceRun, SinkRun, Failed}
-use Rattle.zscript.specs.Script.{whole_lines_of, answers, opening_script}
+use Rattle.zscript.specs.Script.{opening_of, whole_lines_of}
 use Rattle.zscript.specs.support.Lines.{whole_lines_after, line_left, last_line, lines_after, AreLinesDone}
-use Rattle.zscript.specs.support.PlayerView.{PlayerView}
+use Rattle.zscript.specs.support.PlayerView.{PlayerView, world_now}
 use Rattle.zscript.specs.Outcome.{IsPlayed, IsCut, IsCutBeforeLine, IsCutBy}
 use Rattle.zscript.specs.support.Stops.{IsBlockStoppedBy, IsEndStoppedBy}
 use Rattle.zscript.specs.declared.fault.PlayFault.{PlayFault}
@@ -16,8 +16,8 @@ use Rattle.zscript.proofs.Stops.{failed_after}
 use Rattle.zscript.proofs.Done.{done-text}
 
 -- the whole lines among which a fault came, where a line was not played
-IsCut-before_line : (source : SourceRun) (sink : SinkRun) → IsCutBeforeLine source sink → IsCut source sink
-IsCut-before_line source sink h =
+IsCut-before_line : (servers : ℕ) (source : SourceRun) (sink : SinkRun) → IsCutBeforeLine servers source sink → IsCut servers source sink
+IsCut-before_line servers source sink h =
     let last = line_left [] h.bytes in
     let split : whole_lines_of h.bytes ++ last_line last ≡ h.stopped.played ++ h.stopped.rest =
     ap (λ t. t ++ last_line last) (whole_lines_of-carried h.bytes) ∙ sym (lines_of-carried h.bytes) ∙ h.stopped.split in
@@ -31,8 +31,8 @@ IsCut-before_line source sink h =
     }
 
 -- each fault leaves a beginning of what the lines that were played are answered with
-IsCut-from_fault : (source : SourceRun) (sink : SinkRun) (fault : PlayFault) → IsCutBy source sink fault → IsCut source sink
-IsCut-from_fault source sink Read h = record {
+IsCut-from_fault : (servers : ℕ) (source : SourceRun) (sink : SinkRun) (fault : PlayFault) → IsCutBy servers source sink fault → IsCut servers source sink
+IsCut-from_fault servers source sink Read h = record {
   bytes = h.0.bytes;
   given = h.0.given;
   lines = whole_lines_of h.0.bytes;
@@ -42,13 +42,13 @@ IsCut-from_fault source sink Read h = record {
     rest = [];
     split = sym (append-nil _);
     outcomes = h.0.outcomes;
-    taken = (answers (opening_script h.0.outcomes) (whole_lines_of h.0.bytes), ([], sym (append-nil _)), h.0.taken);
+    taken = (answers (opening_script servers h.0.outcomes) (whole_lines_of h.0.bytes), ([], sym (append-nil _)), h.0.taken);
   };
 }
-IsCut-from_fault source sink Write h = h.0
-IsCut-from_fault source sink Memory h =
+IsCut-from_fault servers source sink Write h = h.0
+IsCut-from_fault servers source sink Memory h =
     elim h.0 [
-      | inl cut ↦ IsCut-before_line source sink cut
+      | inl cut ↦ IsCut-before_line servers source sink cut
       | inr none ↦ record {
         bytes = [];
         given = none.0;
@@ -59,49 +59,49 @@ IsCut-from_fault source sink Memory h =
     ]
 
 -- a fault of the run, and what any fault leaves
-pub record Ended (source : SourceRun) (sink : SinkRun) (fault : PlayFault) : Type 0 where
-  pub by : IsCutBy source sink fault
-  pub cut : IsCut source sink
+pub record Ended (servers : ℕ) (source : SourceRun) (sink : SinkRun) (fault : PlayFault) : Type 0 where
+  pub by : IsCutBy servers source sink fault
+  pub cut : IsCut servers source sink
 
-ended : (source : SourceRun) (sink : SinkRun) (fault : PlayFault) → IsCutBy source sink fault → Ended source sink fault
-ended source sink fault h = record { by = h; cut = IsCut-from_fault source sink fault h }
+ended : (servers : ℕ) (source : SourceRun) (sink : SinkRun) (fault : PlayFault) → IsCutBy servers source sink fault → Ended servers source sink fault
+ended servers source sink fault h = record { by = h; cut = IsCut-from_fault servers source sink fault h }
 
 -- memory ran out before anything was read
-pub ended_unread : (source : SourceRun) (sink : SinkRun) → source.gave [] → sink.took [] → source.failed 0 → sink.failed 0 → Ended source sink Memory
-ended_unread source sink unread unwritten sound sink_sound = ended source sink Memory (inr (unread, unwritten), sound, sink_sound)
+pub ended_unread : (servers : ℕ) (source : SourceRun) (sink : SinkRun) → source.gave [] → sink.took [] → source.failed 0 → sink.failed 0 → Ended servers source sink Memory
+ended_unread servers source sink unread unwritten sound sink_sound = ended servers source sink Memory (inr (unread, unwritten), sound, sink_sound)
 
 -- the source failed
-pub ended_read : (source : SourceRun) (sink : SinkRun) (player : PlayerView) (bytes : List ℕ) → source.gave bytes → Heard sink.took bytes player → source.failed 1 → sink.failed 0 → Ended source sink Read
-ended_read source sink player bytes given heard failed sound =
+pub ended_read : (servers : ℕ) (source : SourceRun) (sink : SinkRun) (player : PlayerView) (bytes : List ℕ) → source.gave bytes → Heard (opening_of servers) sink.took bytes player → source.failed 1 → sink.failed 0 → Ended servers source sink Read
+ended_read servers source sink player bytes given heard failed sound =
     let outcomes = heard.done.told ++ [] in
-    let text = ap (answers (opening_script outcomes)) (sym (whole_lines_of-carried bytes)) in
-    let taken = done-text sink.took opening_machine player.state (whole_lines_after [] bytes) heard.done in
-    ended source sink Read (record { bytes = bytes; given = given; outcomes = outcomes; taken = subst sink.took text taken }, (1, omega arith, failed), sound)
+    let text = ap (answers (opening_script servers outcomes)) (sym (whole_lines_of-carried bytes)) in
+    let taken = done-text sink.took (opening_of servers) (world_now player) (whole_lines_after [] bytes) heard.done in
+    ended servers source sink Read (record { bytes = bytes; given = given; outcomes = outcomes; taken = subst sink.took text taken }, (1, omega arith, failed), sound)
 
 -- every line was played
-pub played_whole : (source : SourceRun) (sink : SinkRun) (new : MachineState) (bytes : List ℕ) → source.gave bytes → AreLinesDone opening_machine (lines_after [] bytes) new sink.took → source.ended → source.failed 0 → sink.failed 0 → IsPlayed source sink
-played_whole source sink new bytes given done end sound sink_sound =
+pub played_whole : (servers : ℕ) (source : SourceRun) (sink : SinkRun) (new : ServiceWorld) (bytes : List ℕ) → source.gave bytes → AreLinesDone (opening_of servers) (lines_after [] bytes) new sink.took → source.ended → source.failed 0 → sink.failed 0 → IsPlayed servers source sink
+played_whole servers source sink new bytes given done end sound sink_sound =
     let outcomes = done.told ++ [] in
-    let text = ap (answers (opening_script outcomes)) (sym (lines_of-carried bytes)) in
+    let text = ap (answers (opening_script servers outcomes)) (sym (lines_of-carried bytes)) in
     record {
       bytes = bytes;
       given = given;
       outcomes = outcomes;
-      taken = subst sink.took text (done-text sink.took opening_machine new (lines_after [] bytes) done);
+      taken = subst sink.took text (done-text sink.took (opening_of servers) new (lines_after [] bytes) done);
       ended = end;
       source_sound = sound;
       sink_sound = sink_sound;
     }
 
 -- what was read and written before a step of the player, and how the step adds to it
-pub record Before (took : List ℕ → Type 0) (step all : SinkRun) (player : PlayerView) (bytes : List ℕ) : Type 0 where
+pub record Before (servers : ℕ) (took : List ℕ → Type 0) (step all : SinkRun) (player : PlayerView) (bytes : List ℕ) : Type 0 where
   pub both : (a b : List ℕ) → took a → step.took b → all.took (a ++ b)
   pub counts : (count : ℕ) → step.failed count → all.failed (0 + count)
-  pub heard : Heard took bytes player
+  pub heard : Heard (opening_of servers) took bytes player
 
-module _ (source : SourceRun) (took : List ℕ → Type 0) (step all : SinkRun) (player : PlayerView) (bytes : List ℕ) (before : Before took step all player bytes) where
+module _ (servers : ℕ) (source : SourceRun) (took : List ℕ → Type 0) (step all : SinkRun) (player : PlayerView) (bytes : List ℕ) (before : Before servers took step all player bytes) where
   -- memory ran out before a line
-  by_line : (whole : List ℕ) (left : ℕ) → source.gave whole → source.failed 0 → StoppedLater all.took opening_machine (lines_after [] whole) left → (0 < left) × step.failed 0 → IsCutBy source all Memory
+  by_line : (whole : List ℕ) (left : ℕ) → source.gave whole → source.failed 0 → StoppedLater all.took (opening_of servers) (lines_after [] whole) left → (0 < left) × step.failed 0 → IsCutBy servers source all Memory
   by_line whole left given sound later h = (
     inl (record {
       bytes = whole;
@@ -120,7 +120,7 @@ module _ (source : SourceRun) (took : List ℕ → Type 0) (step all : SinkRun) 
   )
 
   -- a write failed among the whole lines
-  by_write : (whole : List ℕ) (left : ℕ) → source.gave whole → source.failed 0 → StoppedLater all.took opening_machine (whole_lines_after [] whole) left → Failed step.failed → IsCutBy source all Write
+  by_write : (whole : List ℕ) (left : ℕ) → source.gave whole → source.failed 0 → StoppedLater all.took (opening_of servers) (whole_lines_after [] whole) left → Failed step.failed → IsCutBy servers source all Write
   by_write whole left given sound later h = (
     record { bytes = whole; given = given; lines = whole_lines_after [] whole; read = inl (sym (whole_lines_of-carried whole)); stopped = later.stopped },
     sound,
@@ -128,31 +128,31 @@ module _ (source : SourceRun) (took : List ℕ → Type 0) (step all : SinkRun) 
   )
 
   -- a write failed at the line that the end ends
-  by_last_write : (left : ℕ) → source.gave bytes → source.ended → source.failed 0 → StoppedLater all.took opening_machine (lines_after [] bytes) left → Failed step.failed → IsCutBy source all Write
+  by_last_write : (left : ℕ) → source.gave bytes → source.ended → source.failed 0 → StoppedLater all.took (opening_of servers) (lines_after [] bytes) left → Failed step.failed → IsCutBy servers source all Write
   by_last_write left given end sound later h = (
     record { bytes = bytes; given = given; lines = lines_after [] bytes; read = inr (end, sym (lines_of-carried bytes)); stopped = later.stopped },
     sound,
     failed_after step.failed all.failed before.counts h,
   )
 
-  last : source.gave bytes → source.ended → source.failed 0 → (fault : PlayFault) → IsEndStoppedBy player step fault → IsCutBy source all fault
+  last : source.gave bytes → source.ended → source.failed 0 → (fault : PlayFault) → IsEndStoppedBy player step fault → IsCutBy servers source all fault
   last given end sound Read h = absurd h
   last given end sound Write h =
-      by_last_write (length h.0.rest) given end sound (stopped-last took step.took all.took before.both player bytes before.heard h.0) h.1
+      by_last_write (length h.0.rest) given end sound (stopped-last (opening_of servers) took step.took all.took before.both player bytes before.heard h.0) h.1
   last given end sound Memory h =
-      by_line bytes (length h.0.rest) given sound (stopped-last took step.took all.took before.both player bytes before.heard h.0) (h.1, h.2)
+      by_line bytes (length h.0.rest) given sound (stopped-last (opening_of servers) took step.took all.took before.both player bytes before.heard h.0) (h.1, h.2)
 
-  chunk : (more : List ℕ) → source.gave (bytes ++ more) → source.failed 0 → (fault : PlayFault) → IsBlockStoppedBy player more step fault → IsCutBy source all fault
+  chunk : (more : List ℕ) → source.gave (bytes ++ more) → source.failed 0 → (fault : PlayFault) → IsBlockStoppedBy player more step fault → IsCutBy servers source all fault
   chunk more given sound Read h = absurd h
   chunk more given sound Write h =
-      by_write (bytes ++ more) (length h.0.rest) given sound (stopped-append_whole took step.took all.took before.both player bytes more before.heard h.0) h.1
+      by_write (bytes ++ more) (length h.0.rest) given sound (stopped-append_whole (opening_of servers) took step.took all.took before.both player bytes more before.heard h.0) h.1
   chunk more given sound Memory h =
-      by_line (bytes ++ more) (length h.0.rest) given sound (stopped-append took step.took all.took before.both player bytes more before.heard h.0) (h.1, h.2)
+      by_line (bytes ++ more) (length h.0.rest) given sound (stopped-append (opening_of servers) took step.took all.took before.both player bytes more before.heard h.0) (h.1, h.2)
 
   -- a fault at the line that the end of the script ends
-  pub cut_at_last : source.gave bytes → source.ended → source.failed 0 → (fault : PlayFault) → IsEndStoppedBy player step fault → Ended source all fault
-  cut_at_last given end sound fault h = ended source all fault (last given end sound fault h)
+  pub cut_at_last : source.gave bytes → source.ended → source.failed 0 → (fault : PlayFault) → IsEndStoppedBy player step fault → Ended servers source all fault
+  cut_at_last given end sound fault h = ended servers source all fault (last given end sound fault h)
 
   -- a fault among the lines that end in one more block
-  pub cut_in_block : (more : List ℕ) → source.gave (bytes ++ more) → source.failed 0 → (fault : PlayFault) → IsBlockStoppedBy player more step fault → Ended source all fault
-  cut_in_block more given sound fault h = ended source all fault (chunk more given sound fault h)
+  pub cut_in_block : (more : List ℕ) → source.gave (bytes ++ more) → source.failed 0 → (fault : PlayFault) → IsBlockStoppedBy player more step fault → Ended servers source all fault
+  cut_in_block more given sound fault h = ended servers source all fault (chunk more given sound fault h)

@@ -1,21 +1,20 @@
 -- Lines that were done: none, one, and some and then others.
 use Rattle.std.proofs.Common.{◌≡◌, ℕ, List, [], ◌∷◌, ◌++◌, map, refl, sym, ap, ◌∙◌, subst, append_assoc}
 use Rattle.std.proofs.lemmas.List.{append-nil}
-use Rattle.zops.specs.Machine.{MachineState}
 use Rattle.zworld_model.specs.declared.outcome.Outcome.{Outcome}
-use Rattle.zanswers.specs.Line.{script_state, IsLineDone}
+use Rattle.zanswers.specs.Line.{ServiceWorld, script_state, answers}
+use Rattle.zanswers.specs.Done.{IsLineDone}
 use Rattle.zscript.specs.Device.{TookBeginning}
-use Rattle.zscript.specs.Script.{answers}
 use Rattle.zscript.specs.Outcome.{IsStopped}
 use Rattle.zscript.specs.support.Lines.{after_all, AreLinesDone}
 use Rattle.zscript.specs.support.PlayerView.{kept_front}
 use Rattle.zscript.proofs.Kept.{answers-alike, after_all-alike}
 use Rattle.zscript.proofs.Cuts.{after_all-append, answers-append}
 
-pub done-none : (state : MachineState) (writes : List ℕ → Type 0) → writes [] → AreLinesDone state [] state writes
-done-none state writes none = record { told = []; text = []; written = none; left = λ _. refl; answered = λ _. refl }
+pub done-none : (world : ServiceWorld) (writes : List ℕ → Type 0) → writes [] → AreLinesDone world [] world writes
+done-none world writes none = record { told = []; text = []; written = none; left = λ _. refl; answered = λ _. refl }
 
-pub done-line : (old new : MachineState) (line : List ℕ) (writes : List ℕ → Type 0) → IsLineDone old line new writes → AreLinesDone old (line ∷ []) new writes
+pub done-line : (old new : ServiceWorld) (line : List ℕ) (writes : List ℕ → Type 0) → IsLineDone old line new writes → AreLinesDone old (line ∷ []) new writes
 done-line old new line writes h = record {
   told = h.told;
   text = h.text;
@@ -25,7 +24,7 @@ done-line old new line writes h = record {
 }
 
 -- what is written for a line that is done can be told otherwise
-pub line_done-written : (writes more : List ℕ → Type 0) (old new : MachineState) (line : List ℕ) → ((text : List ℕ) → writes text → more text) → IsLineDone old line new writes → IsLineDone old line new more
+pub line_done-written : (writes more : List ℕ → Type 0) (old new : ServiceWorld) (line : List ℕ) → ((text : List ℕ) → writes text → more text) → IsLineDone old line new writes → IsLineDone old line new more
 line_done-written writes more old new line grow h = record {
   told = h.told;
   text = h.text;
@@ -35,7 +34,7 @@ line_done-written writes more old new line grow h = record {
 }
 
 -- and for lines
-pub done-written : (writes more : List ℕ → Type 0) (old new : MachineState) (lines : List (List ℕ)) → ((text : List ℕ) → writes text → more text) → AreLinesDone old lines new writes → AreLinesDone old lines new more
+pub done-written : (writes more : List ℕ → Type 0) (old new : ServiceWorld) (lines : List (List ℕ)) → ((text : List ℕ) → writes text → more text) → AreLinesDone old lines new writes → AreLinesDone old lines new more
 done-written writes more old new lines grow h = record {
   told = h.told;
   text = h.text;
@@ -45,7 +44,7 @@ done-written writes more old new lines grow h = record {
 }
 
 -- lines of which the same is kept
-pub done-alike : (writes : List ℕ → Type 0) (old new : MachineState) (xs ys : List (List ℕ)) → map kept_front xs ≡ map kept_front ys → AreLinesDone old xs new writes → AreLinesDone old ys new writes
+pub done-alike : (writes : List ℕ → Type 0) (old new : ServiceWorld) (xs ys : List (List ℕ)) → map kept_front xs ≡ map kept_front ys → AreLinesDone old xs new writes → AreLinesDone old ys new writes
 done-alike writes old new xs ys e h = record {
   told = h.told;
   text = h.text;
@@ -55,12 +54,12 @@ done-alike writes old new xs ys e h = record {
 }
 
 -- the answers to done lines, and to others behind them
-pub done-answers : (writes : List ℕ → Type 0) (old mid : MachineState) (xs ys : List (List ℕ)) (outcomes : List Outcome) (h : AreLinesDone old xs mid writes) → answers (script_state old (h.told ++ outcomes)) (xs ++ ys) ≡ h.text ++ answers (script_state mid outcomes) ys
+pub done-answers : (writes : List ℕ → Type 0) (old mid : ServiceWorld) (xs ys : List (List ℕ)) (outcomes : List Outcome) (h : AreLinesDone old xs mid writes) → answers (script_state old (h.told ++ outcomes)) (xs ++ ys) ≡ h.text ++ answers (script_state mid outcomes) ys
 done-answers writes old mid xs ys outcomes h =
     answers-append xs (script_state old (h.told ++ outcomes)) ys
     ∙ (λ i. h.answered outcomes i ++ answers (h.left outcomes i) ys)
 
-pub done-append : (writes more all : List ℕ → Type 0) (old mid new : MachineState) (xs ys : List (List ℕ)) → ((a b : List ℕ) → writes a → more b → all (a ++ b)) → AreLinesDone old xs mid writes → AreLinesDone mid ys new more → AreLinesDone old (xs ++ ys) new all
+pub done-append : (writes more all : List ℕ → Type 0) (old mid new : ServiceWorld) (xs ys : List (List ℕ)) → ((a b : List ℕ) → writes a → more b → all (a ++ b)) → AreLinesDone old xs mid writes → AreLinesDone mid ys new more → AreLinesDone old (xs ++ ys) new all
 done-append writes more all old mid new xs ys both h k = record {
   told = h.told ++ k.told;
   text = h.text ++ k.text;
@@ -77,15 +76,15 @@ done-append writes more all old mid new xs ys both h k = record {
 }
 
 -- a text was written under what was told at its lines
-pub done-text : (writes : List ℕ → Type 0) (old new : MachineState) (lines : List (List ℕ)) (h : AreLinesDone old lines new writes) → writes (answers (script_state old (h.told ++ [])) lines)
+pub done-text : (writes : List ℕ → Type 0) (old new : ServiceWorld) (lines : List (List ℕ)) (h : AreLinesDone old lines new writes) → writes (answers (script_state old (h.told ++ [])) lines)
 done-text writes old new lines h = subst writes (sym (h.answered [])) h.written
 
 -- lines that are played, of which a beginning was written
-abbrev pub done-stopped : (took : List ℕ → Type 0) (state new : MachineState) (played rest lines : List (List ℕ)) → lines ≡ played ++ rest → AreLinesDone state played new (TookBeginning took) → IsStopped state lines took
-done-stopped took state new played rest lines split h = record {
+abbrev pub done-stopped : (took : List ℕ → Type 0) (old new : ServiceWorld) (played rest lines : List (List ℕ)) → lines ≡ played ++ rest → AreLinesDone old played new (TookBeginning took) → IsStopped old lines took
+done-stopped took old new played rest lines split h = record {
   played = played;
   rest = rest;
   split = split;
   outcomes = h.told ++ [];
-  taken = done-text (TookBeginning took) state new played h;
+  taken = done-text (TookBeginning took) old new played h;
 }

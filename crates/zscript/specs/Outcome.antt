@@ -1,13 +1,10 @@
 -- What a run of the player comes to, told by what its devices did from its start to its end. Each names the
 -- outcomes of the run's events, in turn, under which the text was the one that was written.
 use Rattle.std.specs.Prelude.{◌≡◌, ℕ, ◌<◌, ◌⊎◌, List, [], ◌++◌, length, codes}
-use Rattle.ztree.specs.declared.limits.TheConstants.{MAX_CLIENTS}
-use Rattle.zserver_table.specs.Machine.{kept_tree}
 use Rattle.zscript.specs.Device.{SourceRun, SinkRun, Failed, TookBeginning}
 use Rattle.zworld_model.specs.declared.outcome.Outcome.{Outcome}
-use Rattle.zworld_model.specs.World.{opening_world}
 use Rattle.zanswers.specs.Line.{ServiceWorld, script_state, opening_script, answers}
-use Rattle.zscript.specs.Script.{lines_of, whole_lines_of, text_of}
+use Rattle.zscript.specs.Script.{opening_of, lines_of, whole_lines_of, text_of}
 use Rattle.zscript.specs.declared.fault.PlayFault.{PlayFault}
 use Rattle.zscript.specs.declared.fault.PlayFault.TheVariants.{Read, Write, Memory}
 
@@ -39,13 +36,13 @@ pub record IsCut (servers : ℕ) (source : SourceRun) (sink : SinkRun) : Type 0 
   pub given : source.gave bytes
   pub lines : List (List ℕ)
   pub read : AreRead source.ended bytes lines
-  pub stopped : IsStopped (opening_world kept_tree servers MAX_CLIENTS) lines sink.took
+  pub stopped : IsStopped (opening_of servers) lines sink.took
 
 -- Some line was not played.
 pub record IsCutBeforeLine (servers : ℕ) (source : SourceRun) (sink : SinkRun) : Type 0 where
   pub bytes : List ℕ
   pub given : source.gave bytes
-  pub stopped : IsStopped (opening_world kept_tree servers MAX_CLIENTS) (lines_of bytes) sink.took
+  pub stopped : IsStopped (opening_of servers) (lines_of bytes) sink.took
   pub some : 0 < length stopped.rest
 
 -- Each line that had its LF was answered, and no other.

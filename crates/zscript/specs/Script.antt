@@ -1,9 +1,12 @@
 -- What a script's bytes are answered with: line by line, each on the state that the lines before it left. What becomes of
 -- each event in turn, where processes can want memory, is told beside the bytes.
-use Rattle.std.specs.Prelude.{ℕ, List, [], ◌∷◌, ◌++◌, ◌==◌, if◌then◌else◌}
+use Rattle.std.specs.Prelude.{ℕ, List, [], ◌∷◌, ◌==◌, if◌then◌else◌}
 use Rattle.std.specs.List.{onto_first}
+use Rattle.ztree.specs.declared.limits.TheConstants.{MAX_CLIENTS}
+use Rattle.zserver_table.specs.Machine.{kept_tree}
 use Rattle.zworld_model.specs.declared.outcome.Outcome.{Outcome}
-use Rattle.zanswers.specs.Line.{opening_script, answers}
+use Rattle.zworld_model.specs.World.{opening_world}
+use Rattle.zanswers.specs.Line.{ServiceWorld, opening_script, answers}
 
 -- All lines, each without its LF. What follows the last LF is a line only if it has a byte.
 abbrev pub lines_of : List ℕ → List (List ℕ)
@@ -19,6 +22,10 @@ onto_line b (line ∷ lines) = (b ∷ line) ∷ lines
 abbrev pub whole_lines_of : List ℕ → List (List ℕ)
 whole_lines_of [] = []
 whole_lines_of (b ∷ bs) = if b == 10 then [] ∷ whole_lines_of bs else onto_line b (whole_lines_of bs)
+
+-- The world that a script with so many servers begins in.
+abbrev pub opening_of : ℕ → ServiceWorld
+opening_of servers = opening_world kept_tree servers MAX_CLIENTS
 
 -- The whole text that a script with so many servers is answered with, under what becomes of its events.
 abbrev pub text_of : ℕ → List Outcome → List ℕ → List ℕ

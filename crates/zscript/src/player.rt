@@ -2,27 +2,27 @@
 
 ghost use Rattle.std.specs.Prelude.{◌≡◌, ◌<◌, ◌≤◌, List, ℕ, [], ◌++◌, length, IfOk, IfErr, IfSome, IfNone, OnOk, OnErr, string_bytes};
 ghost use Rattle.zscript.specs.Device.{Between, sink_run, TookBeginning, Failed};
-ghost use Rattle.zanswers.specs.Line.{IsLineDone};
+ghost use Rattle.zscript.specs.Script.{opening_of};
+ghost use Rattle.zanswers.specs.Done.{IsLineDone};
 ghost use Rattle.zscript.specs.support.Lines.{whole_lines_after, line_left, last_line, AreLinesDone, IsPart, IsCutAtEnd};
-ghost use Rattle.zscript.specs.support.PlayerView.{opening_player, kept_front, Tells};
+ghost use Rattle.zscript.specs.support.PlayerView.{IsFresh, world_now, kept_front, Tells};
 ghost use Rattle.zscript.specs.support.Stops.{IsBlockStoppedBy, IsEndStoppedBy, AreLinesStoppedBy, IsLineStoppedBy};
 
 use crate::device::{DeviceFault, Sink};
 use crate::fault::PlayFault;
 use crate::limits::KEPT;
 use crate::output::Output;
+use crate::servers::Servers;
 use memchr::memchr;
 use std::alloc::Global;
 use std::marker::Model;
-use zanswers::answer_line;
-use zops::Machine;
+use zanswers::Chain;
 use zpath::Memory;
 
 /// Plays a script.
 #[derive(Drop)]
 pub(crate) struct Player {
-    alloc: Global,
-    machine: Machine,
+    chain: Chain,
     line: Vec<u8>,
     output: Output,
 }
@@ -37,7 +37,7 @@ impl Model for Player {
     ghost coded = { coded_player_view };
 
     ghost view = { λ p. record {
-      state = p.machine.state;
+      chain = p.chain;
       line = p.line.items;
       held = string_bytes p.output.block;
     } };
@@ -47,12 +47,12 @@ impl Model for Player {
 
 impl Player {
     /// A player that has heard nothing.
-    pub(crate) fn new(alloc: Global) -> Result<Player, Memory>
-        ensures { IfOk result (λ player. player ≡ opening_player) }
+    pub(crate) fn new(alloc: Global, servers: Servers) -> Result<Player, Memory>
+        ensures world { IfOk result (λ player. world_now player ≡ opening_of servers) }
+        ensures fresh { IfOk result (λ player. IsFresh player) }
     {
         Ok(Player {
-            alloc,
-            machine: Machine::new(alloc)?,
+            chain: Chain::new(alloc, servers.last())?,
             line: Vec::new(alloc),
             output: Output::new(alloc),
         })
@@ -61,8 +61,8 @@ impl Player {
     /// Plays the lines that end in these bytes, and writes their replies. What follows the last LF is kept.
     pub(crate) fn hear<K: Sink>(&mut self, sink: &mut K, bytes: &[u8]) -> Result<(), PlayFault>
         requires { self.old.held ≡ [] }
-        ensures done { OnOk result (AreLinesDone self.old.state
-            (whole_lines_after self.old.line bytes.now) self.new.state
+        ensures done { OnOk result (AreLinesDone (world_now self.old)
+            (whole_lines_after self.old.line bytes.now) (world_now self.new)
             (Between K.took sink.old sink.new)) }
         ensures line { OnOk result (self.new.line
             ≡ kept_front (line_left self.old.line bytes.now)) }
@@ -82,8 +82,8 @@ impl Player {
     /// Plays a last line that has no LF, if it has a byte, and writes its reply.
     pub(crate) fn finish<K: Sink>(&mut self, sink: &mut K) -> Result<(), PlayFault>
         requires { self.old.held ≡ [] }
-        ensures done { OnOk result (AreLinesDone self.old.state (last_line self.old.line)
-            self.new.state (Between K.took sink.old sink.new)) }
+        ensures done { OnOk result (AreLinesDone (world_now self.old) (last_line self.old.line)
+            (world_now self.new) (Between K.took sink.old sink.new)) }
         ensures sound { OnOk result (K.failed sink.old 0 sink.new) }
         ensures stopped { IfErr result (IsEndStoppedBy self.old
             (sink_run K.took K.failed sink.old sink.new)) }
@@ -105,8 +105,8 @@ impl Player {
         bytes: &'a [u8],
     ) -> Result<&'a [u8], PlayFault>
         requires { self.old.held ≡ [] }
-        ensures done { OnOk result (AreLinesDone self.old.state
-            (whole_lines_after self.old.line bytes.entry.now) self.new.state
+        ensures done { OnOk result (AreLinesDone (world_now self.old)
+            (whole_lines_after self.old.line bytes.entry.now) (world_now self.new)
             (λ text. Tells (Between K.took sink.old sink.new) text self.new.held)) }
         ensures line { IfOk result (λ rest. line_left self.old.line bytes.entry.now
             ≡ self.new.line ++ rest.now) }
@@ -124,8 +124,8 @@ impl Player {
 
     // Ends the line with these bytes, and plays it. Where nothing is kept of it, it is not copied.
     fn end_line<K: Sink>(&mut self, sink: &mut K, end: &[u8]) -> Result<(), PlayFault>
-        ensures done { OnOk result (IsLineDone self.old.state (self.old.line ++ end.now)
-            self.new.state
+        ensures done { OnOk result (IsLineDone (world_now self.old) (self.old.line ++ end.now)
+            (world_now self.new)
             (λ text. Tells (Between K.took sink.old sink.new)
             (self.old.held ++ text) self.new.held)) }
         ensures line { OnOk result (self.new.line ≡ []) }
@@ -142,21 +142,16 @@ impl Player {
 
     // The same, but the reply is held.
     fn answer(&mut self, end: &[u8]) -> Result<(), Memory>
-        ensures done { OnOk result (IsLineDone self.old.state (self.old.line ++ end.now)
-            self.new.state
+        ensures done { OnOk result (IsLineDone (world_now self.old) (self.old.line ++ end.now)
+            (world_now self.new)
             (λ text. self.new.held ≡ self.old.held ++ text)) }
         ensures line { OnOk result (self.new.line ≡ []) }
     {
         if self.line.is_empty() {
-            return answer_line(self.alloc, &mut self.machine, end, &mut self.output.block);
+            return self.chain.answer(end, &mut self.output.block);
         }
         self.keep(end)?;
-        answer_line(
-            self.alloc,
-            &mut self.machine,
-            &self.line,
-            &mut self.output.block,
-        )?;
+        self.chain.answer(&self.line, &mut self.output.block)?;
         self.line.clear();
         Ok(())
     }
@@ -164,7 +159,7 @@ impl Player {
     // Adds these bytes to the line that has begun, so far as they are kept.
     fn keep(&mut self, part: &[u8]) -> Result<(), Memory>
         ensures line { OnOk result (self.new.line ≡ kept_front (self.old.line ++ part.now)) }
-        ensures state { OnOk result (self.new.state ≡ self.old.state) }
+        ensures world { OnOk result (world_now self.new ≡ world_now self.old) }
         ensures held { OnOk result (self.new.held ≡ self.old.held) }
         ensures some { OnErr result (0 < length part.now) }
     {

@@ -1,9 +1,10 @@
 //! Plays a script from a source to a sink.
 
-ghost use Rattle.std.specs.Prelude.{◌≡◌, ◌<◌, length, IfOk, OnOk, OnErr, IfErr, vec_len};
+ghost use Rattle.std.specs.Prelude.{◌≡◌, ℕ, ◌<◌, length, IfOk, OnOk, OnErr, IfErr, vec_len};
 ghost use Rattle.zscript.specs.Device.{source_run, sink_run};
+ghost use Rattle.zscript.specs.Script.{opening_of};
 ghost use Rattle.zscript.specs.Outcome.{IsPlayed, IsCut, IsCutBy};
-ghost use Rattle.zscript.specs.support.PlayerView.{opening_player};
+ghost use Rattle.zscript.specs.support.PlayerView.{IsFresh, world_now};
 
 use crate::device::{Sink, Source};
 use crate::fault::PlayFault;
@@ -17,46 +18,49 @@ use std::alloc::{AllocError, Global};
 ///
 /// All replies to the lines that were read are written before more is read. After any fault the sink has
 /// taken a beginning of the answers to the lines that were played. The text is the one under the outcomes
-/// that the run met. The count of servers is not used yet: one machine answers, and meets none.
+/// that the run met: what became of each event where a server could find no memory.
 pub fn play<S: Source, K: Sink>(
     alloc: Global,
     source: &mut S,
     sink: &mut K,
-    _servers: Servers,
+    servers: Servers,
 ) -> Result<(), PlayFault>
-    ensures played { OnOk result (IsPlayed
+    ensures played { OnOk result (IsPlayed servers
         (source_run S.gave S.failed S.has_ended source.old source.new)
         (sink_run K.took K.failed sink.old sink.new)) }
-    ensures cut { OnErr result (IsCut
+    ensures cut { OnErr result (IsCut servers
         (source_run S.gave S.failed S.has_ended source.old source.new)
         (sink_run K.took K.failed sink.old sink.new)) }
-    ensures fault { IfErr result (IsCutBy
+    ensures fault { IfErr result (IsCutBy servers
         (source_run S.gave S.failed S.has_ended source.old source.new)
         (sink_run K.took K.failed sink.old sink.new)) }
 {
     let mut block = zeros(alloc, BLOCK)?;
-    let mut player = Player::new(alloc)?;
+    let mut player = Player::new(alloc, servers)?;
     play_blocks(&mut player, source, sink, &mut block)
 }
 
-// Plays block by block, with a player that has heard nothing.
+// Plays block by block, with a player that has heard nothing, however many servers it began with.
 fn play_blocks<S: Source, K: Sink>(
     player: &mut Player,
     source: &mut S,
     sink: &mut K,
     block: &mut [u8],
 ) -> Result<(), PlayFault>
-    requires opening { player.old ≡ opening_player }
+    requires fresh { IsFresh player.old }
     requires room { 0 < length block.old }
-    ensures played { OnOk result (IsPlayed
+    ensures played { OnOk result ((servers : ℕ) → world_now player.old ≡ opening_of servers
+        → IsPlayed servers
         (source_run S.gave S.failed S.has_ended source.old source.new)
         (sink_run K.took K.failed sink.old sink.new)) }
-    ensures cut { OnErr result (IsCut
+    ensures cut { OnErr result ((servers : ℕ) → world_now player.old ≡ opening_of servers
+        → IsCut servers
         (source_run S.gave S.failed S.has_ended source.old source.new)
         (sink_run K.took K.failed sink.old sink.new)) }
-    ensures fault { IfErr result (IsCutBy
+    ensures fault { IfErr result (λ fault. (servers : ℕ)
+        → world_now player.old ≡ opening_of servers → IsCutBy servers
         (source_run S.gave S.failed S.has_ended source.old source.new)
-        (sink_run K.took K.failed sink.old sink.new)) }
+        (sink_run K.took K.failed sink.old sink.new) fault) }
 {
     loop {
         let Ok(count) = source.read(block) else {

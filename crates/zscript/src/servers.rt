@@ -3,8 +3,9 @@
 ghost use Rattle.std.specs.Prelude.{◌≡◌, ◌≤◌};
 
 use std::marker::Model;
+use zserver_table::ServerId;
 
-/// How many servers run: 1 to `limits::MAX_SERVERS`.
+/// How many servers the chain begins with: 1 to `zserver_table::MAX_SERVERS`. The others are spare, and can join.
 #[derive(Clone, Copy, Debug, PartialEq, Eq)]
 pub struct Servers {
     count: u8,
@@ -40,5 +41,15 @@ impl Servers {
         ensures few { IsServers result }
     {
         self.count
+    }
+
+    /// The last of them: they have the numbers from 1 on.
+    pub(crate) fn last(self) -> ServerId
+        ensures { result ≡ self }
+    {
+        match ServerId::new(self.count) {
+            Some(last) => last,
+            None => unreachable!(),
+        }
     }
 }

@@ -2,9 +2,6 @@
 use Rattle.std.specs.Prelude.{◌≡◌, ℕ, List, [], ◌++◌, take}
 use Rattle.std.specs.Coded.{Coded, code_by, coded×, coded_ℕ, coded_list}
 use Rattle.std.proofs.Common.{refl}
-use Rattle.ztree.specs.declared.limits.TheConstants.{MAX_CLIENTS}
-use Rattle.zserver_table.specs.Machine.{kept_tree}
-use Rattle.zworld_model.specs.World.{opening_world}
 use Rattle.zprocesses.specs.Held.{Held}
 use Rattle.zprocesses.specs.support.Codes.{coded_held}
 use Rattle.zanswers.specs.Line.{ServiceWorld}
@@ -27,11 +24,9 @@ coded_player_view = code_by (Held × (List ℕ × List ℕ)) (coded× coded_held
 abbrev pub world_now : PlayerView → ServiceWorld
 world_now p = world_between p.chain
 
--- A player of so many servers that has heard nothing.
-pub record IsOpening (servers : ℕ) (p : PlayerView) : Type 0 where
-  pub world : world_now p ≡ opening_world kept_tree servers MAX_CLIENTS
-  pub line : p.line ≡ []
-  pub held : p.held ≡ []
+-- A player that has heard nothing yet, or keeps nothing of what it has heard.
+abbrev pub IsFresh : PlayerView → Type 0
+IsFresh p = (p.line ≡ []) × (p.held ≡ [])
 
 -- What is kept of a line: no more than shows that it is too long.
 unfoldable pub kept_front : List ℕ → List ℕ

@@ -3,7 +3,7 @@ use Rattle.std.proofs.lemmas.List.{append-nil}
 use Rattle.std.proofs.lemmas.Bool.Decides.{nat_tests}
 use Rattle.std.proofs.lemmas.Result.{err_from_is_err_and}
 use Rattle.zscript.specs.Device.{Between}
-use Rattle.zscript.specs.support.PlayerView.{PlayerView}
+use Rattle.zscript.specs.support.PlayerView.{PlayerView, world_now}
 use Rattle.zscript.proofs.Stops.{line-stopped, line-cut, last_line-some, failed_after, line-told, none-told}
 use Rattle.zscript.proofs.player.Player.finish.Goals as goal
 
@@ -11,7 +11,7 @@ pub returns-then-is_empty-clause-done : goal.returns-then-is_empty-clause-done
 returns-then-is_empty-clause-done g c =
     let line : c.self.inside.line.items ≡ c.args.self.now.line = ap (λ (p : PlayerView). p.line) c.self.view_is in
     let none : length c.self.inside.line.items ≡ 0 = grind (arith, nat_tests) in
-    none-told _ c.args.self.now.state c.args.self.now.line (omega (arith, none, ap length line)) (g.met.K.Sink.took_nothing _)
+    none-told _ (world_now c.args.self.now) c.args.self.now.line (omega (arith, none, ap length line)) (g.met.K.Sink.took_nothing _)
 
 pub returns-in_err-end_line-clause-stopped : goal.returns-in_err-end_line-clause-stopped
 returns-in_err-end_line-clause-stopped g c =
@@ -32,7 +32,7 @@ returns-in_default-clause-stopped g c =
           (Between g.K.Sink.took c.end_line.new.sink c.write_replies.new.sink)
           (Between g.K.Sink.took c.args.sink.now c.write_replies.new.sink)
           (λ a b. g.met.K.Sink.took_both _ _ _ a b)
-          c.args.self.now.state c.end_line.new.self.state c.args.self.now.held c.args.self.now.line c.end_line.new.self.held
+          (world_now c.args.self.now) (world_now c.end_line.new.self) c.args.self.now.held c.args.self.now.line c.end_line.new.self.held
           c.requires done c.in_default.ensures.beginning),
       failed_after _ (Between g.K.Sink.failed c.args.sink.now c.write_replies.new.sink) (λ n. g.met.K.Sink.failed_both _ _ _ 0 n c.in_ok-end_line.ensures.sound) c.in_default.ensures.failed,
     )
@@ -42,14 +42,14 @@ returns-clause-done g c =
     let line : c.self.inside.line.items ≡ c.args.self.now.line = ap (λ (p : PlayerView). p.line) c.self.view_is in
     let some : 0 < length c.self.inside.line.items = grind (arith, nat_tests) in
     let last = last_line-some c.args.self.now.line (omega (arith, ap length line)) in
-    let state = ap (λ (p : PlayerView). p.state) c.in-Ok.ensures.written in
+    let world = ap world_now c.in-Ok.ensures.written in
     let done = rw append-nil at c.in_ok-end_line.ensures.done in
-    rw (last, state) (line-told
+    rw (last, world) (line-told
     (Between g.K.Sink.took c.args.sink.now c.end_line.new.sink)
     (Between g.K.Sink.took c.end_line.new.sink c.write_replies.new.sink)
     (Between g.K.Sink.took c.args.sink.now c.write_replies.new.sink)
     (λ a b. g.met.K.Sink.took_both _ _ _ a b)
-    c.args.self.now.state c.end_line.new.self.state c.args.self.now.held c.args.self.now.line c.end_line.new.self.held
+    (world_now c.args.self.now) (world_now c.end_line.new.self) c.args.self.now.held c.args.self.now.line c.end_line.new.self.held
     c.requires done c.in-Ok.ensures.took)
 
 pub returns-clause-sound : goal.returns-clause-sound

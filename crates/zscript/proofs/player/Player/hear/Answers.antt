@@ -2,7 +2,7 @@ use Rattle.std.proofs.Common.{◌<◌, length, length-append, ap, ◌∙◌, ari
 use Rattle.std.proofs.lemmas.Result.{err_from_is_err_and}
 use Rattle.zscript.specs.Device.{Between}
 use Rattle.zscript.specs.support.Lines.{whole_lines_after, line_left, last_line}
-use Rattle.zscript.specs.support.PlayerView.{PlayerView}
+use Rattle.zscript.specs.support.PlayerView.{world_now}
 use Rattle.zscript.proofs.Stops.{stopped-longer, left-stopped, replies-stopped, replies-written, failed_after}
 use Rattle.zscript.proofs.player.Player.hear.Goals as goal
 
@@ -10,7 +10,7 @@ pub returns-in_err-rest-clause-stopped : goal.returns-in_err-rest-clause-stopped
 returns-in_err-rest-clause-stopped g c =
     let p = err_from_is_err_and c.from_residual.result c.from_residual.ensures.1 in
     let self = c.args.self.now in
-    rw (p.1, p.2) (stopped-longer _ _ self.state (whole_lines_after self.line c.args.bytes.now) (last_line (line_left self.line c.args.bytes.now)) c.in_err-rest.field-0.0 c.in_err-rest.ensures.stopped)
+    rw (p.1, p.2) (stopped-longer _ _ (world_now self) (whole_lines_after self.line c.args.bytes.now) (last_line (line_left self.line c.args.bytes.now)) c.in_err-rest.field-0.0 c.in_err-rest.ensures.stopped)
 
 pub returns-in_err-keep-clause-stopped : goal.returns-in_err-keep-clause-stopped
 returns-in_err-keep-clause-stopped g c =
@@ -18,7 +18,7 @@ returns-in_err-keep-clause-stopped g c =
     let self = c.args.self.now in
     let line = c.in_ok-rest.ensures.line in
     let some : 0 < length (line_left self.line c.args.bytes.now) = omega (arith, ap length line, length-append c.play_lines.new.self.line c.in_ok-rest.rest.now, c.in_err-keep.ensures.some) in
-    let stopped = left-stopped _ self.state c.play_lines.new.self.state self.line c.args.bytes.now c.play_lines.new.self.held some c.in_ok-rest.ensures.done in
+    let stopped = left-stopped _ (world_now self) (world_now c.play_lines.new.self) self.line c.args.bytes.now c.play_lines.new.self.held some c.in_ok-rest.ensures.done in
     rw (p.1, p.2) (stopped.0, stopped.1, c.in_ok-rest.ensures.sound)
 
 pub returns-in_default-clause-stopped : goal.returns-in_default-clause-stopped
@@ -30,7 +30,7 @@ returns-in_default-clause-stopped g c =
           (Between g.K.Sink.took c.play_lines.new.sink c.write_replies.new.sink)
           (Between g.K.Sink.took c.args.sink.now c.write_replies.new.sink)
           (λ a b. g.met.K.Sink.took_both _ _ _ a b)
-          self.state c.play_lines.new.self.state self.line c.args.bytes.now c.play_lines.new.self.held
+          (world_now self) (world_now c.play_lines.new.self) self.line c.args.bytes.now c.play_lines.new.self.held
           c.in_ok-rest.ensures.done (rw held at c.in_default.ensures.beginning),
       failed_after _ (Between g.K.Sink.failed c.args.sink.now c.write_replies.new.sink) (λ n. g.met.K.Sink.failed_both _ _ _ 0 n c.in_ok-rest.ensures.sound) c.in_default.ensures.failed,
     )
@@ -39,13 +39,13 @@ pub returns-clause-done : goal.returns-clause-done
 returns-clause-done g c =
     let self = c.args.self.now in
     let held = c.in_ok-keep.ensures.held in
-    let state = ap (λ (p : PlayerView). p.state) c.in-Ok.ensures.written ∙ c.in_ok-keep.ensures.state in
-    rw state (replies-written
+    let world = ap world_now c.in-Ok.ensures.written ∙ c.in_ok-keep.ensures.world in
+    rw world (replies-written
     (Between g.K.Sink.took c.args.sink.now c.play_lines.new.sink)
     (Between g.K.Sink.took c.play_lines.new.sink c.write_replies.new.sink)
     (Between g.K.Sink.took c.args.sink.now c.write_replies.new.sink)
     (λ a b. g.met.K.Sink.took_both _ _ _ a b)
-    self.state c.play_lines.new.self.state (whole_lines_after self.line c.args.bytes.now) c.play_lines.new.self.held
+    (world_now self) (world_now c.play_lines.new.self) (whole_lines_after self.line c.args.bytes.now) c.play_lines.new.self.held
     c.in_ok-rest.ensures.done (rw held at c.in-Ok.ensures.took))
 
 pub returns-clause-sound : goal.returns-clause-sound
