@@ -2,9 +2,8 @@
 
 ghost use Rattle.std.specs.Prelude.{◌≡◌, ◌≤◌, [], codes};
 ghost use Rattle.zscript.specs.Device.{source_run, sink_run};
-ghost use Rattle.zscript.specs.Outcome.{IsPlayed};
 ghost use Rattle.zcommand.specs.Words.{words_fault_text, words_fault_status};
-ghost use Rattle.zcommand.specs.Command.{IsTold, IsCutAndTold};
+ghost use Rattle.zcommand.specs.Command.{IsTold, IsPlayedBySome, IsCutAndTold};
 
 use crate::fault::WordsFault;
 use crate::order::Settings;
@@ -26,7 +25,7 @@ pub fn command<S: Source, K: Sink, F: Sink>(
     ensures status { result ≤ 2 }
 
     // All was played, and nothing was said.
-    ensures played { result ≡ 0 → IsPlayed
+    ensures played { result ≡ 0 → IsPlayedBySome
         (source_run S.gave S.failed S.has_ended source.old source.new)
         (sink_run K.took K.failed sink.old sink.new) }
     ensures silent { result ≡ 0 → F.took faults.old [] faults.new }

@@ -1,6 +1,7 @@
 //! A program's words.
 
-ghost use Rattle.std.specs.Prelude.{◌≡◌, IfOk};
+ghost use Rattle.std.specs.Prelude.{◌≡◌, ℕ, IfOk};
+ghost use Rattle.zscript.specs.Servers.{IsServers};
 
 use crate::fault::WordsFault;
 use crate::order::Settings;
@@ -8,13 +9,14 @@ use clap::error::ErrorKind;
 use clap::{Arg, Command, value_parser};
 use std::alloc::{AllocError, Global};
 use zscript::Servers;
+use zserver_table::MAX_SERVERS;
 
-/// Reads `NAME script [--servers N]`, where N is 1 to 8, and 1 if it is not given.
+/// Reads `NAME script [--servers N]`, where N is 1 to `MAX_SERVERS`, and 1 if it is not given.
 ///
-/// All else is `BadWords`, a request for help too. Chains of servers are not there yet, so each number but 1
-/// is `BadWords` as well. `Memory` comes only where memory runs out.
+/// All else is `BadWords`, a request for help too. `Memory` comes only where memory runs out.
 pub fn settings<'a>(alloc: Global, words: &'a [&'a str]) -> Result<Settings, WordsFault>
-    ensures { IfOk result (λ settings. settings ≡ Settings.Script 1) }
+    ensures { IfOk result (λ settings. (servers : ℕ) × IsServers servers
+        × (settings ≡ Settings.Script servers)) }
 {
     let Ok(command) = command_line(alloc) else {
         return Err(WordsFault::Memory);
@@ -32,7 +34,9 @@ pub fn settings<'a>(alloc: Global, words: &'a [&'a str]) -> Result<Settings, Wor
         return Err(WordsFault::BadWords);
     };
     match script.get_one::<u8>("servers") {
-        Some(1) => Ok(Settings::Script(Servers::new(1))),
+        Some(count) if (1..=MAX_SERVERS).contains(&count) => {
+            Ok(Settings::Script(Servers::new(count)))
+        }
         _ => Err(WordsFault::BadWords),
     }
 }
@@ -41,7 +45,7 @@ pub fn settings<'a>(alloc: Global, words: &'a [&'a str]) -> Result<Settings, Wor
 fn command_line<'a>(alloc: Global) -> Result<Command<'a>, AllocError> {
     let servers = Arg::new(alloc, "servers")
         .long("servers")
-        .value_parser(value_parser!(u8).range(1..=8))
+        .value_parser(value_parser!(u8))
         .default_value("1");
     let script = Command::new(alloc, "script").arg(servers)?;
     Command::new(alloc, "zk").subcommand(script)

@@ -1,4 +1,4 @@
-use Rattle.std.proofs.Common.{◌≡◌, ℕ, List, inr, sym, subst, ◌∙◌}
+use Rattle.std.proofs.Common.{ℕ, List, inr, sym, subst, ◌∙◌, arith}
 use Rattle.zscript.specs.Device.{sink_run}
 use Rattle.zscript.specs.declared.fault.PlayFault.TheVariants.{Memory}
 use Rattle.zcommand.specs.Command.{IsTold}
@@ -11,9 +11,11 @@ returns-in-Err-clause-refused g c = λ two.
     (text-status_2 c.in-Err.fault (sym c.refuse.ensures.status ∙ two))
     c.refuse.ensures.told
 
--- where there is no memory for the words, nothing was read and nothing written
+-- where there is no memory for the words, nothing was read and nothing written, whatever the count
 pub returns-in-Err-clause-cut : goal.returns-in-Err-clause-cut
 returns-in-Err-clause-cut g c = λ one. (
+  1,
+  (omega arith, omega arith),
   Memory,
   (
     inr (g.met.S.Source.gave_nothing c.args.source.now, g.met.K.Sink.took_nothing c.args.sink.now),
