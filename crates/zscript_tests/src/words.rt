@@ -3,12 +3,15 @@
 use std::alloc::{AllocError, Global};
 use std::test::Fail;
 use zcommand::{Settings, WordsFault, command, settings};
-use zscript::{Servers, SliceSource, VecSink};
+use zscript::{SliceSource, VecSink};
 
-const GOOD: [&str; 3] = [
-    "zk script",
-    "zk script --servers 1",
-    "zk script --servers=1",
+// Words, and beside them how many servers they ask for.
+const GOOD: [(&str, u8); 5] = [
+    ("zk script", 1),
+    ("zk script --servers 1", 1),
+    ("zk script --servers=1", 1),
+    ("zk script --servers 2", 2),
+    ("zk script --servers 8", 8),
 ];
 
 const BAD: [&str; 13] = [
@@ -20,8 +23,8 @@ const BAD: [&str; 13] = [
     "zk script more",
     "zk script --servers",
     "zk script --servers 0",
-    "zk script --servers 2",
     "zk script --servers 9",
+    "zk script --servers 257",
     "zk script --servers one",
     "zk script --servers 1 --servers 1",
     "zk --servers 1 script",
@@ -29,10 +32,11 @@ const BAD: [&str; 13] = [
 
 #[test]
 fn reads_good_words(rt: HostRuntime) -> Result<(), Fail> {
-    for text in GOOD {
+    for (text, count) in GOOD {
         let words: Vec<&str> = text.split(' ').collect(rt.alloc())?;
         let read = settings(rt.alloc(), &words);
-        assert_eq!(rt; read, Ok(Settings::Script(Servers::new(1))), "{text}");
+        let asked = read.map(|Settings::Script(servers)| servers.count());
+        assert_eq!(rt; asked, Ok(count), "{text}");
     }
     Ok(())
 }
