@@ -32,7 +32,7 @@ abbrev Service : Type 0
 Service = Settling (KeptState Tree)
 
 -- the settlings differ in their worlds alone, and these are alike
-abbrev Like : Service → Service → Type 0
+abbrev pub Like : Service → Service → Type 0
 Like s t = IsAlike s.world t.world × (t ≡ record s { world = t.world })
 
 -- a choice in both
@@ -111,7 +111,7 @@ settling_in s w alike =
     let like = settle_alike s.world w MAX_EVENTS s.outcomes alike in
     (like.0, ap (λ (u : Service). record u { events = s.events ++ u.events }) like.1)
 
-settling_like : (s t : Service) → Like s t → Like (after_settling s) (after_settling t)
+pub settling_like : (s t : Service) → Like s t → Like (after_settling s) (after_settling t)
 settling_like s t like = subst (λ u. Like (after_settling s) (after_settling u)) (sym like.1) (settling_in s t.world like.0)
 
 -- the effects differ in their worlds alone
@@ -119,7 +119,7 @@ abbrev EffectLike : LineEffect → LineEffect → Type 0
 EffectLike e f = Like e.did f.did × (f ≡ record e { did = f.did })
 
 -- one history
-same_history : (v w : ServiceWorld) → IsAlike v w → w.history ≡ v.history
+pub same_history : (v w : ServiceWorld) → IsAlike v w → w.history ≡ v.history
 same_history v w alike = ap (λ (u : ServiceWorld). u.history) alike.rest
 
 called_like : (s t : Service) (call : Option (ℕ × ℕ)) → Like s t → EffectLike (call_answered s call) (call_answered t call)

@@ -4,3 +4,7 @@ pub mod OneRun
 pub mod AlikeLines
 pub mod Opening
 pub mod Replies
+pub mod Counted
+pub mod Effects
+pub mod CallEffects
+pub mod LineDone

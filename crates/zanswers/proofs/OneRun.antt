@@ -84,7 +84,7 @@ unfolding effect_of
 effect_leads s line = read_leads s (line_of line)
 
 -- a world is like what is kept of it between two lines, with its history
-forgets : (past : History) (w : ServiceWorld) → IsAlike (with_past past w) (with_past (past ++ w.history) (forgotten w))
+pub forgets : (past : History) (w : ServiceWorld) → IsAlike (with_past past w) (with_past (past ++ w.history) (forgotten w))
 forgets past w = record {
   rest = ap (λ (h : History). record (forgotten w) { history = h }) (append-nil (past ++ w.history));
   servers = λ s alive. rw alive refl;

@@ -1,2 +1,3 @@
--- What serves worked rows alone.
+-- What serves worked rows and proofs alone.
 pub mod Rows
+pub mod Effects

@@ -5,10 +5,14 @@ ghost use Rattle.ztree.specs.declared.limits.TheConstants.{MAX_CLIENTS};
 ghost use Rattle.zserver_table.specs.Machine.{kept_tree};
 ghost use Rattle.zworld_model.specs.World.{opening_world};
 ghost use Rattle.zlines.specs.Texts.{Writes};
+ghost use Rattle.zanswers.specs.Line.{effect_of};
+ghost use Rattle.zanswers.specs.support.Effects.{IsEffectDone};
 ghost use Rattle.zanswers.specs.Done.{IsLineDone, world_between};
 
+use crate::texts::write_fault;
 use std::alloc::Global;
 use std::marker::Model;
+use zlines::read_line;
 use zpath::Memory;
 use zprocesses::{Answer, Processes};
 use zserver_table::ServerId;
@@ -19,8 +23,8 @@ use ztree::limits::MAX_CLIENTS;
 #[derive(Drop)]
 pub struct Chain {
     alloc: Global,
-    processes: Processes,
-    answers: Vec<Answer>,
+    pub(crate) processes: Processes,
+    pub(crate) answers: Vec<Answer>,
 }
 
 impl Model for Chain {
@@ -57,6 +61,19 @@ impl Chain {
         ensures done { OnOk result (IsLineDone (world_between self.old) line.now
             (world_between self.new) (Writes out.old out.new)) }
     {
-        Err(Memory)
+        self.answer_read(line, out)?;
+        out.push('\n')?;
+        Ok(())
+    }
+
+    // The same, without the LF.
+    fn answer_read(&mut self, line: &[u8], out: &mut String) -> Result<(), Memory>
+        ensures { OnOk result (IsEffectDone self.old self.new (λ s. effect_of s line.now)
+            (Writes out.old out.new)) }
+    {
+        match read_line(self.alloc, line) {
+            Ok(asked) => self.play(asked, out),
+            Err(fault) => write_fault(fault, out),
+        }
     }
 }

@@ -8,6 +8,8 @@
 mod chain;
 pub mod laws;
 pub mod limits;
+mod play;
 mod rows;
+mod texts;
 
 pub use chain::Chain;

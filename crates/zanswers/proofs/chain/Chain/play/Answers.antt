@@ -1,0 +1,7 @@
+use Rattle.zanswers.proofs.chain.Chain.play.Goals as goal
+
+pub returns-in-Call : goal.returns-in-Call
+returns-in-Call c = rw c.in-Call.is c.call.ensures
+
+pub returns-in-Settle : goal.returns-in-Settle
+returns-in-Settle c = rw c.in-Settle.is c.settle.ensures
