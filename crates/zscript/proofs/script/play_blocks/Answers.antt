@@ -16,6 +16,10 @@ loop-count-init g c = record {
   sink_sound = g.met.K.Sink.failed_never _;
 }
 
+-- a source that failed told no end
+pub returns-in_default-clause-played : goal.returns-in_default-clause-played
+returns-in_default-clause-played g c = tt
+
 pub returns-in_default-clause-fault : goal.returns-in_default-clause-fault
 returns-in_default-clause-fault g c = λ servers opening.
     let so_far = c.loop-count.invariant.so_far in
