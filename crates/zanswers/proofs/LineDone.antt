@@ -1,6 +1,6 @@
 -- What processes brought about of the effect of a line is the line, done.
-use Rattle.std.proofs.Common.{◌≡◌, ℕ, List, [], ◌∷◌, ◌++◌, None, refl, sym, ap, subst, ◌∙◌, inl, inr}
-use Rattle.std.specs.Prelude.{Ok, Err}
+use Rattle.std.proofs.Common.{◌≡◌, ℕ, List, [], ◌∷◌, ◌++◌, None, refl, sym, ap, subst, ◌∙◌, inl, inr, append_assoc}
+use Rattle.std.specs.Prelude.{Ok, Err, String, string_bytes}
 use Rattle.std.specs.List.{flat_map}
 use Rattle.zworld_model.specs.declared.outcome.Outcome.{Outcome}
 use Rattle.zworld_model.proofs.Alike.{alike_itself}
@@ -9,6 +9,7 @@ use Rattle.zlines.specs.declared.request.LineFault.{LineFault}
 use Rattle.zlines.specs.declared.request.LineFault.TheVariants.{Memory}
 use Rattle.zlines.specs.Request.{Read, IsUnread}
 use Rattle.zlines.specs.Line.{line_of}
+use Rattle.zlines.specs.Texts.{Writes}
 use Rattle.zprocesses.specs.Held.{Held, world_of}
 use Rattle.zanswers.specs.Line.{ServiceWorld, ScriptState, script_state, LineEffect, line_fault_text, line_effect, read_effect, effect_of, taken_text, answer, after}
 use Rattle.zanswers.specs.Done.{IsLineDone, world_between}
@@ -16,6 +17,11 @@ use Rattle.zanswers.specs.support.Effects.{IsEffectDone}
 use Rattle.zanswers.proofs.AlikeLines.{answers_alike, leaves_alike, forgotten_alike, same_history}
 use Rattle.zanswers.proofs.OneRun.{forgets}
 
+-- one text behind another
+pub writes_more : {A : Type 0} (old mid new : String A) (first more : List ℕ) → Writes old mid first → Writes mid new more → Writes old new (first ++ more)
+writes_more old mid new first more before after = after ∙ ap (λ text. text ++ more) before ∙ append_assoc (string_bytes old) first more
+
+-- a line, done
 pub line_done : (old new : Held) (line : List ℕ) (wrote writes : List ℕ → Type 0) → ((text : List ℕ) → wrote text → writes (text ++ 10 ∷ []))
     → IsEffectDone old new (λ s. effect_of s line) wrote → IsLineDone (world_between old) line (world_between new) writes
 unfolding answer after

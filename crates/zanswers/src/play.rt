@@ -66,7 +66,7 @@ impl Chain {
         ensures begun { IfOk result (HasBegun self.old self.new client call) }
         ensures there { OnOk result (nat_lt client self.old.master.clients ≡ true) }
     {
-        // Its number is below that of all clients that there can be, and those there are.
+        // A client's number is below `MAX_CLIENTS`, and so many clients there are.
         let _ = client.number();
         self.processes.begin(client, call)
     }
