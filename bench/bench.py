@@ -4,10 +4,10 @@
     bench/bench.py [NAME=PROGRAM ..]
 
 Without words it measures ../zk alone; each NAME=PROGRAM names one more program of the same text, called as
-`PROGRAM script --servers 1`, to stand beside it. For each script: instructions a line (counted by valgrind, which no
-neighbour on the machine disturbs; left out where there is no valgrind), lines a second of processor time (median of
-five rounds, in turns) and the peak of resident memory. The outputs of all programs are compared; where they differ,
-the row says so and the exit status is 1.
+`PROGRAM script --servers 1`, to stand beside it, and zk=PROGRAM one to measure in the place of ../zk. For each script:
+instructions a line (counted by valgrind, which no neighbour on the machine disturbs; left out where there is no
+valgrind), lines a second of processor time (median of five rounds, in turns) and the peak of resident memory. The
+outputs of all programs are compared; where they differ, the row says so and the exit status is 1.
 """
 import hashlib
 import os
@@ -101,23 +101,23 @@ SCRIPTS = [
 ]
 
 
-def timed(program, script):
+def timed(called, script):
     """Processor seconds, and the output's hash and length."""
     with open(script, 'rb') as source, tempfile.TemporaryFile() as out:
-        child = subprocess.Popen(program + ['script', '--servers', '1'], stdin=source, stdout=out)
+        child = subprocess.Popen(called, stdin=source, stdout=out)
         _, status, use = os.wait4(child.pid, 0)
         child.returncode = os.waitstatus_to_exitcode(status)
         if child.returncode != 0:
-            raise SystemExit('%s: exit status %d' % (program[0], child.returncode))
+            raise SystemExit('%s: exit status %d' % (called[0], child.returncode))
         out.seek(0)
         text = out.read()
         return use.ru_utime + use.ru_stime, hashlib.sha256(text).hexdigest(), len(text)
 
 
-def peak(program, script, length):
+def peak(called, script, length):
     """The most resident memory in KiB, read when all is answered and the input is still held open."""
     with open(script, 'rb') as source, tempfile.TemporaryFile() as out:
-        child = subprocess.Popen(program + ['script', '--servers', '1'], stdin=subprocess.PIPE, stdout=out)
+        child = subprocess.Popen(called, stdin=subprocess.PIPE, stdout=out)
         child.stdin.write(source.read())
         child.stdin.flush()
         for _ in range(1000):
@@ -131,24 +131,34 @@ def peak(program, script, length):
         return int(found.group(1))
 
 
-def instructions(program, script):
+def instructions(called, script):
     """Instructions of a whole run, or None."""
     if not shutil.which('valgrind'):
         return None
     words = ['valgrind', '--tool=cachegrind', '--cache-sim=no', '--cachegrind-out-file=/dev/null']
     with open(script, 'rb') as source:
-        done = subprocess.run(words + program + ['script', '--servers', '1'], stdin=source, stdout=subprocess.DEVNULL, stderr=subprocess.PIPE)
+        done = subprocess.run(words + called, stdin=source, stdout=subprocess.DEVNULL, stderr=subprocess.PIPE)
     found = re.search(rb'I +refs: +([0-9,]+)', done.stderr)
     return int(found.group(1).replace(b',', b'')) if found else None
 
 
+def programs_named(words):
+    """The paths by name of the programs that words name as NAME=PROGRAM; where none is zk, it is built and stands first."""
+    named = dict(word.split('=', 1) for word in words)
+    if 'zk' in named:
+        return named
+    subprocess.run([os.path.join(HERE, '..', 'zk'), 'script'], stdin=subprocess.DEVNULL, check=True)
+    return {'zk': os.path.join(HERE, '..', 'crates', 'zk', 'out', 'zk'), **named}
+
+
+def command(program, servers):
+    """The words that call a program."""
+    return [program, 'script', '--servers', str(servers)]
+
+
 def main():
     resource.setrlimit(resource.RLIMIT_CORE, (0, 0))
-    subprocess.run([os.path.join(HERE, '..', 'zk'), 'script'], stdin=subprocess.DEVNULL, check=True)
-    programs = [('zk', [os.path.join(HERE, '..', 'crates', 'zk', 'out', 'zk')])]
-    for word in sys.argv[1:]:
-        name, _, path = word.partition('=')
-        programs.append((name, [path]))
+    programs = [(name, command(path, 1)) for name, path in programs_named(sys.argv[1:]).items()]
     print('| Script | Program | instructions a line | lines a second | peak KiB |')
     print('|---|---|---|---|---|')
     same = True
