@@ -2,7 +2,7 @@
 //! given to one machine, or handed down a chain of servers in one thread until each is answered and each entry
 //! acknowledged. Each line of the input is an order `PLACE KIND COUNT`; PLACE is `nowhere`, `machine` or a number
 //! of servers from 1 to 8, and KIND is `update` or `query`. Its answer is how many of the calls were answered.
-//! Who counts the instructions is `bench/chain.py`.
+//! Who counts the instructions is `bench/servers.py`.
 #![tactic(auto)]
 
 mod calls;
