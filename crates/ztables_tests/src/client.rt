@@ -11,34 +11,49 @@ use zserver_table::{Epoch, Message, Process, ServerId};
 
 #[test]
 fn begins_and_retries_an_update(rt: HostRuntime) -> Result<(), Fail> {
-    let mut client = client_of(rt.alloc(), 3)?;
-    let mut out: Outbox = Out::new(rt.alloc());
-    assert!(rt; begins_tick(&mut client, &mut out));
-    assert!(rt; client.retry(&mut out)?);
-    assert_eq!(rt; next_server(&mut out), Some(1));
-    assert_eq!(rt; next_server(&mut out), Some(1));
+    assert!(rt; asks_the_head_twice(rt.alloc())?);
     Ok(())
 }
 
 #[test]
 fn asks_the_new_tail(rt: HostRuntime) -> Result<(), Fail> {
-    let mut client = client_of(rt.alloc(), 3)?;
-    let mut out: Outbox = Out::new(rt.alloc());
-    assert!(rt; begins_query(rt.alloc(), &mut client, &mut out));
-    assert!(rt; hears_of_tail(&mut client, 1, &mut out)?);
-    assert_eq!(rt; next_server(&mut out), Some(3));
-    assert_eq!(rt; next_server(&mut out), Some(1));
+    assert!(rt; asks_both_tails(rt.alloc())?);
     Ok(())
 }
 
 #[test]
 fn hands_out_the_reply(rt: HostRuntime) -> Result<(), Fail> {
-    let mut client = client_of(rt.alloc(), 1)?;
-    let mut out: Outbox = Out::new(rt.alloc());
-    assert!(rt; begins_tick(&mut client, &mut out));
-    assert_eq!(rt; tick_told(&mut client, &mut out)?, Some(1));
-    assert!(rt; !client.retry(&mut out)?);
+    assert!(rt; hands_out_a_tick(rt.alloc())?);
     Ok(())
+}
+
+// Whether a client of three servers begins a tick and sends it again, both times to the head.
+fn asks_the_head_twice(alloc: Global) -> Result<bool, Fail> {
+    let mut client = client_of(alloc, 3)?;
+    let mut out: Outbox = Out::new(alloc);
+    let has_asked = begins_tick(&mut client, &mut out) && client.retry(&mut out)?;
+    drop(client);
+    Ok(has_asked && next_server(&mut out) == Some(1) && next_server(&mut out) == Some(1))
+}
+
+// Whether a client of three servers asks the last one, and the first one once it hears that it is the tail.
+fn asks_both_tails(alloc: Global) -> Result<bool, Fail> {
+    let mut client = client_of(alloc, 3)?;
+    let mut out: Outbox = Out::new(alloc);
+    let has_asked = begins_query(alloc, &mut client, &mut out)
+        && hears_of_tail(&mut client, 1, &mut out)?;
+    drop(client);
+    Ok(has_asked && next_server(&mut out) == Some(3) && next_server(&mut out) == Some(1))
+}
+
+// Whether a client hands out the reply to its tick, and then has nothing to send again.
+fn hands_out_a_tick(alloc: Global) -> Result<bool, Fail> {
+    let mut client = client_of(alloc, 1)?;
+    let mut out: Outbox = Out::new(alloc);
+    let has_begun = begins_tick(&mut client, &mut out);
+    let told = tick_told(&mut client, &mut out)?;
+    let is_silent = matches!(client.retry(&mut out), Ok(false));
+    Ok(has_begun && told == Some(1) && is_silent)
 }
 
 // A client of the opening chain of so many servers.
@@ -71,8 +86,9 @@ fn tick_told(client: &mut ClientCore, out: &mut Outbox) -> Result<Option<u64>, F
     let server = ServerId::new(1).ok_or("there is such a server")?;
     let first = CallNumber::new(1).ok_or("there is such a number")?;
     let answer = Message::Answer(first, Reply::Ticked(1, 0));
-    match client.take(Process::Server(server), answer, out) {
-        Ok(Some(Reply::Ticked(now, _))) => Ok(Some(now)),
-        _ => Ok(None),
-    }
+    let told = client.take(Process::Server(server), answer, out);
+    Ok(match &told {
+        Ok(Some(Reply::Ticked(now, _))) => Some(*now),
+        _ => None,
+    })
 }
