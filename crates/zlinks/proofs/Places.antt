@@ -1,9 +1,9 @@
 -- The links that rows keep, and one that is written.
-use Rattle.std.proofs.Common.{◌≡◌, ℕ, ◌+◌, ◌<◌, ◌≤◌, zero, suc, Bool, true, false, if◌then◌else◌, List, [], ◌∷◌, ◌++◌, length, get_or, set, refl, sym, ap, ◌∙◌, arith, inl, inr, get_or-set_same, get_or-set_other, eqb-true, eq-eqb}
+use Rattle.std.proofs.Common.{◌≡◌, ℕ, ◌+◌, ◌<◌, ◌≤◌, zero, suc, Bool, true, false, if◌then◌else◌, List, [], ◌∷◌, length, get_or, set, refl, sym, ap, ◌∙◌, arith, inl, inr, get_or-set_same, get_or-set_other, eqb-true, eq-eqb}
 use mathlib.Core.Bool.{true≢false}
 use Rattle.std.proofs.lemmas.List.{get_or_default, get_or_past, set-get_or}
 use Rattle.std.proofs.lemmas.Bool.Decides.{nat_tests}
-use Rattle.std.specs.Prelude.{◌&&◌, ◌==◌, not, nat_lt, nat_le}
+use Rattle.std.specs.Prelude.{not, nat_lt}
 use Rattle.zworld_model.proofs.Visited.{at_least_one, at_most}
 use Rattle.zcalls.proofs.Among.{test}
 use Rattle.ztree.specs.declared.limits.TheConstants.{MAX_CLIENTS}
@@ -14,7 +14,7 @@ use Rattle.zserver_table.specs.declared.process.Process.TheVariants.{Master, Ser
 use Rattle.zworld_model.specs.Events.{is_server}
 use Rattle.zworld_model.specs.Links.{is_same}
 use Rattle.zlinks.specs.declared.limits.TheConstants.{PROCESSES}
-use Rattle.zlinks.specs.Places.{place_of, links_of, with_link, without_receiver, holds, is_silent}
+use Rattle.zlinks.specs.Places.{place_of, links_of, with_link, without_receiver, is_silent}
 use Rattle.zlinks.specs.support.Rows.{ClearedTo}
 use Rattle.zlinks.proofs.Rows.{silent_at}
 

@@ -1,9 +1,9 @@
 -- Rows of queues: what they hold, and a queue that is written.
-use Rattle.std.proofs.Common.{◌≡◌, ℕ, ◌+◌, ◌<◌, ◌≤◌, zero, suc, Bool, true, false, List, [], ◌∷◌, ◌++◌, length, get_or, set, refl, sym, ap, ◌∙◌, arith, length-set}
+use Rattle.std.proofs.Common.{◌≡◌, ℕ, ◌+◌, ◌<◌, ◌≤◌, zero, suc, true, false, List, [], ◌∷◌, ◌++◌, length, get_or, set, refl, sym, ap, ◌∙◌, arith, length-set}
 use mathlib.Core.Bool.{true≢false}
 use Rattle.std.proofs.lemmas.List.{get_or_default}
 use Rattle.std.proofs.lemmas.Bool.Decides.{nat_tests}
-use Rattle.std.specs.Prelude.{not, ◌==◌, ◌||◌}
+use Rattle.std.specs.Prelude.{not, ◌==◌}
 use Rattle.std.specs.List.{list_any}
 use Rattle.zlinks.specs.Places.{holds}
 use Rattle.zlinks.specs.declared.limits.TheConstants.{PROCESSES}

@@ -1,10 +1,10 @@
 //! The links.
 
-ghost use Rattle.std.specs.Prelude.{◌≡◌, [], ◌∷◌, ◌++◌, List, MatchOption, IfNone, IfOk, OnErr, OnOk, drop};
+ghost use Rattle.std.specs.Prelude.{◌≡◌, ◌<◌, ◌≤◌, true, false, [], ◌∷◌, ◌++◌, List, MatchOption, IfNone, IfOk, OnErr, OnOk, drop};
 ghost use Rattle.zserver_table.specs.declared.message.Message.{Message};
 ghost use Rattle.zserver_table.specs.declared.process.Process.{Process};
 ghost use Rattle.zlinks.specs.declared.limits.TheConstants.{PROCESSES};
-ghost use Rattle.zlinks.specs.Places.{links_of, with_link, without_receiver, is_silent};
+ghost use Rattle.zlinks.specs.Places.{place_of, links_of, with_link, without_receiver, is_silent, holds};
 
 use crate::limits::PROCESSES;
 use crate::place::place;
@@ -49,6 +49,34 @@ impl<T: Drop> Links<T> {
         ensures { result ≡ is_silent self.now from.now }
     {
         self.rows[place(from)].is_silent()
+    }
+
+    /// The first place, from this one on, of a process of which something is under way; or `PROCESSES`. The master has
+    /// place 0, then come the servers and the clients, each by number.
+    pub fn next_sender(&self, at: usize) -> usize
+        ensures few { result ≤ PROCESSES }
+        ensures silent { (from : Process) → at ≤ place_of from → place_of from < result
+            → is_silent self.now from ≡ true }
+        ensures sends { (from : Process) → place_of from ≡ result → result < PROCESSES
+            → (at ≤ result) × (is_silent self.now from ≡ false) }
+    {
+        for place in at..PROCESSES {
+            if !self.rows[place].is_silent() {
+                return place;
+            }
+        }
+        PROCESSES
+    }
+
+    /// The first place, from this one on, of a process to which the first one has something under way; or `PROCESSES`.
+    pub fn next_receiver(&self, from: &Process, at: usize) -> usize
+        ensures few { result ≤ PROCESSES }
+        ensures empty { (to : Process) → at ≤ place_of to → place_of to < result
+            → links_of self.now from.now to ≡ [] }
+        ensures held { (to : Process) → place_of to ≡ result → result < PROCESSES
+            → (at ≤ result) × (holds (links_of self.now from.now to) ≡ true) }
+    {
+        self.rows[place(from)].next_held(at)
     }
 
     /// Puts a message last on a link.

@@ -1,6 +1,6 @@
 //! The links from one process.
 
-ghost use Rattle.std.specs.Prelude.{◌≡◌, ◌<◌, [], ◌∷◌, ◌++◌, List, MatchOption, IfNone, IfOk, OnErr, OnOk, length, get_or, set, drop, not};
+ghost use Rattle.std.specs.Prelude.{◌≡◌, ◌<◌, ◌≤◌, ℕ, true, [], ◌∷◌, ◌++◌, List, MatchOption, IfNone, IfOk, OnErr, OnOk, length, get_or, set, drop, not};
 ghost use Rattle.std.specs.List.{list_any};
 ghost use Rattle.zserver_table.specs.declared.message.Message.{Message};
 ghost use Rattle.zlinks.specs.declared.limits.TheConstants.{PROCESSES};
@@ -50,6 +50,21 @@ impl<T: Drop> Row<T> {
         ensures { result ≡ not (list_any holds self.now) }
     {
         self.held == 0
+    }
+
+    /// The first place, from this one on, on the link to which something is; or `PROCESSES`.
+    pub(crate) fn next_held(&self, at: usize) -> usize
+        ensures few { result ≤ PROCESSES }
+        ensures empty { (i : ℕ) → at ≤ i → i < result → get_or self.now i [] ≡ [] }
+        ensures held { result < PROCESSES
+            → (at ≤ result) × (holds (get_or self.now result []) ≡ true) }
+    {
+        for place in at..PROCESSES {
+            if !self.links[place].is_empty() {
+                return place;
+            }
+        }
+        PROCESSES
     }
 
     /// Puts a message last on the link to this place.

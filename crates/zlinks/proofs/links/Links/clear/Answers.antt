@@ -1,4 +1,4 @@
-use Rattle.std.proofs.Common.{◌≡◌, ap, sym, ◌∙◌, length}
+use Rattle.std.proofs.Common.{ap, sym, ◌∙◌, length}
 use Rattle.zlinks.proofs.Places.{cleared}
 use Rattle.zlinks.proofs.links.Links.clear.Goals as goal
 

@@ -1,4 +1,4 @@
-use Rattle.std.proofs.Common.{◌≡◌, length, get_or, [], List, ℕ, ◌<◌}
+use Rattle.std.proofs.Common.{◌≡◌, length, ℕ}
 use Rattle.zlinks.specs.declared.limits.TheConstants.{PROCESSES}
 use Rattle.zlinks.specs.support.Rows.{ClearedTo}
 use Rattle.zlinks.proofs.links.Links.clear.Given as goal

@@ -1,4 +1,3 @@
-use Rattle.std.proofs.Common.{◌≡◌, [], get_or}
 use Rattle.zlinks.proofs.Places.{row_at}
 use Rattle.zlinks.proofs.links.Links.front.Goals as goal
 

@@ -1,4 +1,4 @@
-use Rattle.std.proofs.Common.{[], ap, sym, ◌∙◌, arith, get_or}
+use Rattle.std.proofs.Common.{[], ap, ◌∙◌, arith, get_or}
 use Rattle.std.proofs.lemmas.List.{get_or_default}
 use Rattle.std.specs.Prelude.{not}
 use Rattle.std.specs.List.{list_any}

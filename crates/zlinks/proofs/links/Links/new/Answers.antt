@@ -1,4 +1,4 @@
-use Rattle.std.proofs.Common.{◌≡◌, ◌∷◌, [], ◌++◌, sym, refl, arith, length-append}
+use Rattle.std.proofs.Common.{◌∷◌, [], arith, length-append}
 use Rattle.zlinks.specs.Places.{links_of, place_of}
 use Rattle.zlinks.proofs.Rows.{are_blank_more, are_blank_at}
 use Rattle.zlinks.proofs.links.Links.new.Goals as goal

@@ -1,4 +1,4 @@
-use Rattle.std.proofs.Common.{◌≡◌, ap, sym, ◌∷◌, [], drop, get_or, set}
+use Rattle.std.proofs.Common.{ap, sym, [], drop, get_or}
 use Rattle.zlinks.proofs.Places.{row_written, row_at}
 use Rattle.zlinks.proofs.links.Links.next.Goals as goal
 

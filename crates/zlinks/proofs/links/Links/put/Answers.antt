@@ -1,4 +1,4 @@
-use Rattle.std.proofs.Common.{◌≡◌, ap, sym, ◌∷◌, [], ◌++◌, get_or, set}
+use Rattle.std.proofs.Common.{ap, sym, ◌∷◌, [], ◌++◌, get_or}
 use Rattle.std.proofs.lemmas.Result.{on_ok_weaker, on_err_weaker}
 use Rattle.zlinks.proofs.Places.{row_written, row_at, row_same}
 use Rattle.zlinks.proofs.links.Links.put.Goals as goal

@@ -1,4 +1,4 @@
-use Rattle.std.proofs.Common.{◌≡◌, ◌+◌, ◌-◌, ap, sym, ◌∙◌, arith}
+use Rattle.std.proofs.Common.{◌≡◌, ◌-◌, ap, sym, ◌∙◌, arith}
 use Rattle.zlinks.specs.support.Rows.{share}
 use Rattle.zlinks.proofs.Rows.{row_written, held_some, share_some}
 use Rattle.zlinks.proofs.row.Row.clear.Goals as goal

@@ -1,4 +1,4 @@
-use Rattle.std.proofs.Common.{◌≡◌, ◌∷◌, [], ◌++◌, sym, refl, arith, length-append}
+use Rattle.std.proofs.Common.{◌∷◌, [], sym, arith, length-append}
 use Rattle.zlinks.proofs.Rows.{blank_more, blank_holds_nothing}
 use Rattle.zlinks.proofs.row.Row.new.Goals as goal
 
