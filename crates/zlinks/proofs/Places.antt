@@ -31,7 +31,7 @@ same_place (Client s) Master same = absurd (true≢false (sym same))
 same_place (Client s) (Server t) same = absurd (true≢false (sym same))
 
 -- a server's place, and a client's
-server_place : (s : ℕ) → place_of (Server s) < PROCESSES → (place_of (Server s) ≡ s) × (s ≤ MAX_SERVERS) × (0 < s)
+pub server_place : (s : ℕ) → place_of (Server s) < PROCESSES → (place_of (Server s) ≡ s) × (s ≤ MAX_SERVERS) × (0 < s)
 server_place s few = elim (test (is_server s)) [
   | inl is ↦
       let some : 0 < s = at_least_one s is in

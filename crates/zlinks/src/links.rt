@@ -55,10 +55,11 @@ impl<T: Drop> Links<T> {
     /// place 0, then come the servers and the clients, each by number.
     pub fn next_sender(&self, at: usize) -> usize
         ensures few { result ≤ PROCESSES }
+        ensures ahead { at ≤ PROCESSES → at ≤ result }
         ensures silent { (from : Process) → at ≤ place_of from → place_of from < result
             → is_silent self.now from ≡ true }
         ensures sends { (from : Process) → place_of from ≡ result → result < PROCESSES
-            → (at ≤ result) × (is_silent self.now from ≡ false) }
+            → is_silent self.now from ≡ false }
     {
         for place in at..PROCESSES {
             if !self.rows[place].is_silent() {
@@ -71,10 +72,11 @@ impl<T: Drop> Links<T> {
     /// The first place, from this one on, of a process to which the first one has something under way; or `PROCESSES`.
     pub fn next_receiver(&self, from: &Process, at: usize) -> usize
         ensures few { result ≤ PROCESSES }
+        ensures ahead { at ≤ PROCESSES → at ≤ result }
         ensures empty { (to : Process) → at ≤ place_of to → place_of to < result
             → links_of self.now from.now to ≡ [] }
         ensures held { (to : Process) → place_of to ≡ result → result < PROCESSES
-            → (at ≤ result) × (holds (links_of self.now from.now to) ≡ true) }
+            → holds (links_of self.now from.now to) ≡ true }
     {
         self.rows[place(from)].next_held(at)
     }

@@ -56,8 +56,8 @@ impl<T: Drop> Row<T> {
     pub(crate) fn next_held(&self, at: usize) -> usize
         ensures few { result ≤ PROCESSES }
         ensures empty { (i : ℕ) → at ≤ i → i < result → get_or self.now i [] ≡ [] }
-        ensures held { result < PROCESSES
-            → (at ≤ result) × (holds (get_or self.now result []) ≡ true) }
+        ensures ahead { at ≤ PROCESSES → at ≤ result }
+        ensures held { result < PROCESSES → holds (get_or self.now result []) ≡ true }
     {
         for place in at..PROCESSES {
             if !self.links[place].is_empty() {

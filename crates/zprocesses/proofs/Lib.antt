@@ -10,4 +10,5 @@ pub mod OpeningViews
 pub mod Results
 pub mod TakeSteps
 pub mod Tries
+pub mod Skips
 pub mod Passes

@@ -1,7 +1,7 @@
 -- A settling goes on where the processes do: ways from one point to another, and events that are tried.
-use Rattle.std.proofs.Common.{◌≡◌, ℕ, ◌-◌, ◌<◌, ◌+◌, suc, Bool, true, false, not, if◌then◌else◌, nat_lt, List, [], ◌∷◌, ◌++◌, length, map, take, drop, get_or, refl, sym, ap, subst, ◌∙◌, append-nil, append_assoc, lt-ltb, arith}
+use Rattle.std.proofs.Common.{◌≡◌, ℕ, ◌-◌, ◌<◌, ◌+◌, suc, Bool, true, false, not, if◌then◌else◌, nat_lt, List, [], ◌∷◌, ◌++◌, length, take, drop, get_or, refl, sym, ap, subst, ◌∙◌, append-nil, append_assoc, lt-ltb, arith}
 use Rattle.std.specs.Prelude.{◌&&◌, ◌||◌}
-use Rattle.std.specs.List.{list_any, range_with_len}
+use Rattle.std.specs.List.{list_any}
 use Rattle.std.proofs.Math.Seq.{take-suc}
 use Rattle.std.proofs.lemmas.List.FromFn.{map-range_with_len_more}
 use Rattle.std.proofs.lemmas.List.{map-append}
@@ -122,6 +122,14 @@ silent_tries from receivers p silent =
     none_taken [] s none = refl
     none_taken (to ∷ receivers) s none = ap (λ b. b || list_any (is_enabled s.world) (takes_from receivers from)) (none to) ∙ none_taken receivers s none
 
+-- nor from a link on which nothing is
+pub empty_try : (from to : Process) (p : Point) → (world_of p.held []).links from to ≡ [] → Tries (Take from to ∷ []) p p
+empty_try from to p empty =
+    tries_nothing (Take from to ∷ []) p (λ history outcomes s stands.
+    let off : is_enabled (world_of p.held history) (Take from to) ≡ false = rw empty refl in
+    none_is_done kept_tree s (Take from to ∷ []) (ap (λ b. b || false)
+    (have_the_same_enabled kept_tree s.world (world_of p.held history) (Take from to) stands.alike ∙ off)))
+
 -- an event that was tried
 module _ (old new : Held) (event : Event) (did : Did) (given : List Answer) (stepped : HasStepped old new event did (answer_events given)) where
   -- where it is enabled
@@ -205,14 +213,6 @@ module _ (old new : Held) (event : Event) (did : Did) (given : List Answer) (ste
                 let next = goes history left outcomes s active some stands in
                 (next.0, subst (λ n. StandsAt new (history ++ answer_events given) n outcomes next.0) (sym less) next.1, next.2),
           )
-
--- what is put on a list of processes, one by one
-pub pushed_more : (f : ℕ → Process) (start count k : ℕ) (old mid new : List Process) → mid ≡ old ++ map f (range_with_len start count) → new ≡ mid ++ f k ∷ []
-    → k ≡ start + count → new ≡ old ++ map f (range_with_len start (count + 1))
-pushed_more f start count k old mid new was pushed is =
-    let done = map f (range_with_len start count) in
-    pushed ∙ ap (λ xs. xs ++ f k ∷ []) was ∙ append_assoc old done (f k ∷ [])
-    ∙ ap (λ xs. old ++ xs) (sym (map-range_with_len_more f start count k (sym is)))
 
 -- nothing that a silent process put is under way
 pub silent_process : (inside held : Held) (from : Process) (silent owes : Bool) → inside ≡ held → silent ≡ is_silent inside.links from → silent ≡ true

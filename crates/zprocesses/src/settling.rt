@@ -1,25 +1,23 @@
 //! Settling: passes over all links, one retry of each client that waits, and passes again.
 
-ghost use Rattle.std.specs.Prelude.{◌≡◌, ◌==◌, ◌≤◌, ◌<◌, ◌-◌, ◌∷◌, ◌++◌, [], List, false, true, IfOk, OnErr, OnOk, if◌then◌else◌, map};
-ghost use Rattle.std.specs.List.{range_with_len};
+ghost use Rattle.std.specs.Prelude.{◌≡◌, ◌==◌, ◌≤◌, ◌<◌, ◌-◌, ◌∷◌, ◌++◌, [], List, length, IfOk, OnErr, if◌then◌else◌};
 ghost use Rattle.ztree.specs.declared.limits.TheConstants.{MAX_CLIENTS};
 ghost use Rattle.zserver_table.specs.Machine.{kept_tree};
-ghost use Rattle.zserver_table.specs.declared.limits.TheConstants.{MAX_SERVERS};
 ghost use Rattle.zserver_table.specs.declared.process.Process.{Process};
-ghost use Rattle.zserver_table.specs.declared.process.Process.TheVariants.{Server, Client};
+ghost use Rattle.zlinks.specs.declared.limits.TheConstants.{PROCESSES};
+ghost use Rattle.zlinks.specs.Places.{place_of};
 ghost use Rattle.zworld_model.specs.declared.event.Event.TheVariants.{Retry, Take};
 ghost use Rattle.zworld_model.specs.declared.outcome.Outcome.{Outcome};
 ghost use Rattle.zworld_model.specs.declared.settled.Settled.TheVariants.{Limit, Quiet};
-ghost use Rattle.zworld_model.specs.Settle.{processes, passes, retry_events};
+ghost use Rattle.zworld_model.specs.Settle.{processes, deliveries, passes, retry_events};
 ghost use Rattle.zprocesses.specs.declared.answer.Answer.{Answer};
-ghost use Rattle.zprocesses.specs.Held.{last_words, world_of};
+ghost use Rattle.zprocesses.specs.Held.{world_of};
 ghost use Rattle.zprocesses.specs.Steps.{HasSettled, answer_events, is_idle};
-ghost use Rattle.zprocesses.specs.support.Settling.{Does, GoOn, Tries, takes, takes_from};
+ghost use Rattle.zprocesses.specs.support.Settling.{Does, GoOn, Tries, process_at, takes_from};
 
 use crate::answer::Answer;
 use crate::assembly::Assembly;
 use crate::did::Did;
-use std::alloc::Global;
 use zcalls::ClientId;
 use zpath::Memory;
 use zserver_table::{MAX_SERVERS, Process, ServerId};
@@ -38,30 +36,29 @@ impl Assembly {
         ensures partly { OnErr result (GoOn answers.new.items answers.old.items) }
     {
         let clients = self.clients();
-        let processes = all_processes(self.alloc, clients)?;
-        let left = self.passes(&processes, limit, limit, answers)?;
+        let left = self.passes(clients, limit, limit, answers)?;
         let left = self.retry_all(clients, left)?;
-        let left = self.passes(&processes, limit, left, answers)?;
+        let left = self.passes(clients, limit, left, answers)?;
         Ok(settled(left))
     }
 
     // Passes over all links until one does nothing, and how many events are left.
     fn passes(
         &mut self,
-        processes: &[Process],
+        clients: u8,
         limit: usize,
         mut left: usize,
         answers: &mut Vec<Answer>,
     ) -> Result<usize, Memory>
-        ensures done { IfOk result (λ after. Does
-            (passes kept_tree (takes processes.now processes.now) limit)
+        requires { clients ≤ MAX_CLIENTS }
+        ensures done { IfOk result (λ after. Does (passes kept_tree (deliveries clients) limit)
             (record { held = self.old; left = left; answers = answers.old.items })
             (record { held = self.new; left = after; answers = answers.new.items })) }
         ensures partly { OnErr result (GoOn answers.new.items answers.old.items) }
     {
         for pass in 0..limit {
             let before = left;
-            left = self.pass(processes, before, answers)?;
+            left = self.pass(clients, before, answers)?;
             if left == before {
                 return Ok(left);
             }
@@ -69,20 +66,24 @@ impl Assembly {
         Ok(left)
     }
 
-    // One pass over all links, in order, and how many events are left.
+    // One pass over all links, in order, and how many events are left. It goes from one process of which something is
+    // under way to the next, as they are when it comes there.
     fn pass(
         &mut self,
-        processes: &[Process],
+        clients: u8,
         mut left: usize,
         answers: &mut Vec<Answer>,
     ) -> Result<usize, Memory>
-        ensures done { IfOk result (λ after. Tries (takes processes.now processes.now)
+        requires { clients ≤ MAX_CLIENTS }
+        ensures done { IfOk result (λ after. Tries (deliveries clients)
             (record { held = self.old; left = left; answers = answers.old.items })
             (record { held = self.new; left = after; answers = answers.new.items })) }
         ensures partly { OnErr result (GoOn answers.new.items answers.old.items) }
     {
-        for &from in processes {
-            left = self.take_all(from, processes, left, answers)?;
+        let mut place = self.next_sender(0);
+        while place < count_of(clients) {
+            left = self.take_all(process_at(place), clients, left, answers)?;
+            place = self.next_sender(place + 1);
         }
         Ok(left)
     }
@@ -91,20 +92,21 @@ impl Assembly {
     fn take_all(
         &mut self,
         from: Process,
-        processes: &[Process],
+        clients: u8,
         mut left: usize,
         answers: &mut Vec<Answer>,
     ) -> Result<usize, Memory>
-        ensures done { IfOk result (λ after. Tries (takes_from processes.now from)
+        requires { clients ≤ MAX_CLIENTS }
+        ensures done { IfOk result (λ after. Tries (takes_from (processes clients) from)
             (record { held = self.old; left = left; answers = answers.old.items })
             (record { held = self.new; left = after; answers = answers.new.items })) }
         ensures partly { OnErr result (GoOn answers.new.items answers.old.items) }
     {
-        if self.is_silent(&from) {
-            return Ok(left);
-        }
-        for &to in processes {
-            left = self.try_take(from, to, left, answers)?;
+        left = self.try_take(from, Process::Master, left, answers)?;
+        let mut place = self.links.next_receiver(&from, 1);
+        while place < count_of(clients) {
+            left = self.try_take(from, process_at(place), left, answers)?;
+            place = self.links.next_receiver(&from, place + 1);
         }
         Ok(left)
     }
@@ -158,21 +160,20 @@ impl Assembly {
         Ok(left_after(left, did))
     }
 
-    // Whether nothing that a process put is still under way, its last words among it.
-    fn is_silent(&self, from: &Process) -> bool
-        ensures { result ≡ true → (to : Process) → (world_of self.now []).links from.now to ≡ [] }
+    // The first place, from this one on, of a process of which something is under way, its last words among it.
+    fn next_sender(&self, at: usize) -> usize
+        ensures few { result ≤ PROCESSES }
+        ensures ahead { at ≤ PROCESSES → at ≤ result }
+        ensures silent { (from to : Process) → at ≤ place_of from → place_of from < result
+            → (world_of self.now []).links from to ≡ [] }
     {
-        self.links.is_silent(from) && !self.owes_gone(from)
-    }
-
-    // Whether the master is still to hear that a process has failed, which only a server does.
-    fn owes_gone(&self, process: &Process) -> bool
-        ensures { (to : Process) → result ≡ false → last_words self.now.members process.now to ≡ [] }
-    {
-        match process {
-            Process::Server(server) => self.members[server.number() as usize - 1].owes_gone(),
-            _ => false,
+        let next = self.links.next_sender(at);
+        for server in 1..MAX_SERVERS as usize + 1 {
+            if at <= server && server < next && self.members[server - 1].owes_gone() {
+                return server;
+            }
         }
+        next
     }
 }
 
@@ -198,43 +199,31 @@ fn settled(left: usize) -> Settled
     }
 }
 
-// The processes in order: the master, the servers and the clients, each by number.
-fn all_processes(alloc: Global, clients: u8) -> Result<Vec<Process>, Memory>
+// How many processes there are with so many clients.
+fn count_of(clients: u8) -> usize
     requires { clients ≤ MAX_CLIENTS }
-    ensures { IfOk result (λ all. all.items ≡ processes clients) }
+    ensures { result ≡ length (processes clients) }
 {
-    let mut all = Vec::new(alloc);
-    all.push(Process::Master)?;
-    push_servers(&mut all)?;
-    push_clients(&mut all, clients)?;
-    Ok(all)
+    1 + MAX_SERVERS as usize + clients as usize
 }
 
-// All servers come next.
-fn push_servers(all: &mut Vec<Process>) -> Result<(), Memory>
-    ensures { OnOk result (all.new.items
-        ≡ all.old.items ++ map Server (range_with_len 1 MAX_SERVERS)) }
+// The process in a place: the master is first, then the servers and the clients, each by number.
+fn process_at(place: usize) -> Process
+    requires { place < PROCESSES }
+    ensures { result ≡ process_at place }
 {
-    for number in 1..MAX_SERVERS + 1 {
+    let number = place as u8;
+    if number == 0 {
+        return Process::Master;
+    }
+    if number <= MAX_SERVERS {
         let Some(server) = ServerId::new(number) else {
             unreachable!();
         };
-        all.push(Process::Server(server))?;
+        return Process::Server(server);
     }
-    Ok(())
-}
-
-// So many clients come next.
-fn push_clients(all: &mut Vec<Process>, clients: u8) -> Result<(), Memory>
-    requires { clients ≤ MAX_CLIENTS }
-    ensures { OnOk result (all.new.items
-        ≡ all.old.items ++ map Client (range_with_len 0 clients)) }
-{
-    for number in 0..clients {
-        let Some(client) = ClientId::new(number) else {
-            unreachable!();
-        };
-        all.push(Process::Client(client))?;
-    }
-    Ok(())
+    let Some(client) = ClientId::new(number - MAX_SERVERS - 1) else {
+        unreachable!();
+    };
+    Process::Client(client)
 }

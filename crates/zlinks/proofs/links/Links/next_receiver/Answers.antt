@@ -17,5 +17,5 @@ returns-clause-held g c to here few =
     let rows = c.self.inside.rows.items in
     let row_is = c.index.ensures ∙ get_or_default rows c.place.result c.index.result.now [] (omega (arith, c.place.ensures.small, c.self.invariant))
     ∙ ap (λ i. get_or rows i []) c.place.ensures.place ∙ ap (λ rs. get_or rs (place_of c.args.from.now) []) c.self.view_is in
-    let held = c.next_held.ensures.held few in
-    (held.0, subst (λ row. holds (get_or row (place_of to) []) ≡ true) row_is (subst (λ i. holds (get_or c.index.result.now i []) ≡ true) (sym here) held.1))
+    subst (λ row. holds (get_or row (place_of to) []) ≡ true) row_is
+    (subst (λ i. holds (get_or c.index.result.now i []) ≡ true) (sym here) (c.next_held.ensures.held few))

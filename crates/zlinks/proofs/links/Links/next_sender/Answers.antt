@@ -13,7 +13,7 @@ returns-then-not-is_silent-clause-sends g c from here few =
     let rows = c.self.inside.rows.items in
     let row_is = c.index.ensures ∙ get_or_default rows c.loop-place.place c.index.result.now [] (omega (arith, few, c.self.invariant))
     ∙ ap (λ i. get_or rows i []) (sym here) ∙ ap (λ rs. get_or rs (place_of from) []) c.self.view_is in
-    (c.loop-place.invariant.0, ap (λ row. not (list_any holds row)) (sym row_is) ∙ sym c.is_silent.ensures ∙ c.if-not-is_silent.true)
+    ap (λ row. not (list_any holds row)) (sym row_is) ∙ sym c.is_silent.ensures ∙ c.if-not-is_silent.true
 
 pub loop-place-preserved : goal.loop-place-preserved
 unfolding is_silent

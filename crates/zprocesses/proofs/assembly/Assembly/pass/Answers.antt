@@ -1,30 +1,49 @@
-use Rattle.std.proofs.Common.{subst}
+use Rattle.std.proofs.Common.{◌≤◌, ◌<◌, ◌+◌, length, subst, arith}
 use Rattle.std.proofs.lemmas.List.{take_all}
-use Rattle.zlinks.proofs.Results.{on_err}
-use Rattle.zprocesses.specs.support.Settling.{Tries, takes}
-use Rattle.zprocesses.proofs.Tries.{goes_nowhere, one_more_sender, both_added}
+use Rattle.zlinks.specs.declared.limits.TheConstants.{PROCESSES}
+use Rattle.zworld_model.specs.Settle.{processes}
+use Rattle.zprocesses.specs.support.Settling.{Point, Tries, takes}
+use Rattle.zprocesses.proofs.Tries.{goes_nowhere, one_more_sender}
+use Rattle.zprocesses.proofs.Skips.{length-processes, listed_as, senders_to}
 use Rattle.zprocesses.proofs.assembly.Assembly.pass.Goals as goal
 
-pub loop-from-init : goal.loop-from-init
-loop-from-init c = goes_nowhere (λ s. s) (record { held = c.args.self.now; left = c.args.left; answers = c.args.answers.now.items })
+pub loop-place-init : goal.loop-place-init
+loop-place-init c =
+    let old : Point = record { held = c.args.self.now; left = c.args.left; answers = c.args.answers.now.items } in
+    let found = c.next_sender-place.ensures in
+    (found.few, senders_to c.args.clients old old 0 c.next_sender-place.result (omega arith) found.few found.silent (goes_nowhere (λ s. s) old))
 
-pub returns-in_err-left-clause-partly : goal.returns-in_err-left-clause-partly
-returns-in_err-left-clause-partly c =
-    let here = c.loop-from.invariant in
-    on_err c.from_residual.result
-    (both_added c.args.answers.now.items c.loop-from.answers.items c.take_all.new.answers.items (here.1, here.2) c.in_err-left.ensures.partly)
+pub process_at-requires : goal.process_at-requires
+process_at-requires c =
+    let inside : c.loop-place.place < c.count_of.result = c.loop-place-test.true in
+    omega (arith, inside, c.count_of.ensures, length-processes c.args.clients, c.requires)
 
-pub loop-from-preserved : goal.loop-from-preserved
-loop-from-preserved c =
-    one_more_sender c.args.processes.now c.args.processes.now c.loop-from.from-index c.from-item.result
-    (record { held = c.args.self.now; left = c.args.left; answers = c.args.answers.now.items })
-    (record { held = c.loop-from.self; left = c.loop-from.left; answers = c.loop-from.answers.items })
-    (record { held = c.take_all.new.self; left = c.in_ok-left.left; answers = c.take_all.new.answers.items })
-    c.loop-from-test.true c.from-item.is c.loop-from.invariant c.in_ok-left.ensures.done
+pub loop-place-smaller : goal.loop-place-smaller
+loop-place-smaller c =
+    let inside : c.loop-place.place < c.count_of.result = c.loop-place-test.true in
+    let small : c.loop-place.place < PROCESSES = omega (arith, inside, c.count_of.ensures, length-processes c.args.clients, c.requires) in
+    let ahead : c.loop-place.place + 1 ≤ c.next_sender-place-in-loop-place.result = c.next_sender-place-in-loop-place.ensures.ahead (omega (arith, small)) in
+    omega (arith, small, ahead)
+
+pub loop-place-preserved : goal.loop-place-preserved
+loop-place-preserved c =
+    let old : Point = record { held = c.args.self.now; left = c.args.left; answers = c.args.answers.now.items } in
+    let before : Point = record { held = c.loop-place.self; left = c.loop-place.left; answers = c.loop-place.answers.items } in
+    let here : Point = record { held = c.take_all.new.self; left = c.in_ok-left.left; answers = c.take_all.new.answers.items } in
+    let inside : c.loop-place.place < c.count_of.result = c.loop-place-test.true in
+    let listed : c.loop-place.place < length (processes c.args.clients) = omega (arith, inside, c.count_of.ensures) in
+    let small : c.loop-place.place < PROCESSES = omega (arith, listed, length-processes c.args.clients, c.requires) in
+    let found = c.next_sender-place-in-loop-place.ensures in (
+      found.few,
+      senders_to c.args.clients here old (c.loop-place.place + 1) c.next_sender-place-in-loop-place.result (found.ahead (omega (arith, small))) found.few found.silent
+          (one_more_sender (processes c.args.clients) (processes c.args.clients) c.loop-place.place c.process_at.result old before here listed
+          (listed_as c.args.clients c.loop-place.place c.process_at.result c.process_at.ensures listed) c.loop-place.invariant.1 c.in_ok-left.ensures.done),
+    )
 
 pub returns-clause-done : goal.returns-clause-done
 returns-clause-done c =
-    subst (λ ps. Tries (takes c.args.processes.now ps)
+    let all : length (processes c.args.clients) ≤ c.loop-place.place = omega (arith, c.loop-place-test.false, c.count_of.ensures) in
+    subst (λ ps. Tries (takes (processes c.args.clients) ps)
     (record { held = c.args.self.now; left = c.args.left; answers = c.args.answers.now.items })
-    (record { held = c.loop-from.self; left = c.loop-from.left; answers = c.loop-from.answers.items }))
-    (take_all c.loop-from.from-index c.args.processes.now c.loop-from-test.false) c.loop-from.invariant
+    (record { held = c.loop-place.self; left = c.loop-place.left; answers = c.loop-place.answers.items }))
+    (take_all c.loop-place.place (processes c.args.clients) all) c.loop-place.invariant.1

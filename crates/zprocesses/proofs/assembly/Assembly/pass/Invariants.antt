@@ -1,9 +1,15 @@
-use Rattle.std.proofs.Common.{take}
+use Rattle.std.proofs.Common.{◌≤◌, ◌-◌, take}
+use Rattle.zworld_model.specs.Settle.{processes}
+use Rattle.zlinks.specs.declared.limits.TheConstants.{PROCESSES}
 use Rattle.zprocesses.specs.support.Settling.{Tries, takes}
 use Rattle.zprocesses.proofs.assembly.Assembly.pass.Given as goal
 
-abbrev pub invariant-loop-from : goal.invariant-loop-from
-invariant-loop-from l =
-    Tries (takes l.processes (take l.from-index l.processes))
+abbrev pub decreases-loop-place : goal.decreases-loop-place
+decreases-loop-place l = PROCESSES - l.place
+
+abbrev pub invariant-loop-place : goal.invariant-loop-place
+invariant-loop-place l =
+    (l.place ≤ PROCESSES)
+    × Tries (takes (processes l.clients) (take l.place (processes l.clients)))
     (record { held = l.fn.self; left = l.fn.left; answers = l.fn.answers.items })
     (record { held = l.self; left = l.left; answers = l.answers.items })

@@ -1,12 +1,12 @@
 use Rattle.zlinks.proofs.Results.{on_err}
-use Rattle.zprocesses.specs.support.Settling.{takes}
+use Rattle.zworld_model.specs.Settle.{deliveries}
 use Rattle.zprocesses.proofs.Passes.{first_pass, next_pass, last_pass, all_passes}
 use Rattle.zprocesses.proofs.Tries.{both_added}
 use Rattle.zprocesses.proofs.assembly.Assembly.passes.Goals as goal
 
 pub loop-pass-init : goal.loop-pass-init
 loop-pass-init c =
-    first_pass (takes c.args.processes.now c.args.processes.now) c.args.limit
+    first_pass (deliveries c.args.clients) c.args.limit
     (record { held = c.args.self.now; left = c.args.left; answers = c.args.answers.now.items })
 
 pub returns-in_err-left-clause-partly : goal.returns-in_err-left-clause-partly
@@ -17,7 +17,7 @@ returns-in_err-left-clause-partly c =
 
 pub returns-then-left-before-clause-done : goal.returns-then-left-before-clause-done
 returns-then-left-before-clause-done c =
-    last_pass (takes c.args.processes.now c.args.processes.now) c.args.limit c.loop-pass.pass
+    last_pass (deliveries c.args.clients) c.args.limit c.loop-pass.pass
     (record { held = c.args.self.now; left = c.args.left; answers = c.args.answers.now.items })
     (record { held = c.loop-pass.self; left = c.loop-pass.left; answers = c.loop-pass.answers.items })
     (record { held = c.pass.new.self; left = c.in_ok-left.left; answers = c.pass.new.answers.items })
@@ -25,7 +25,7 @@ returns-then-left-before-clause-done c =
 
 pub loop-pass-preserved : goal.loop-pass-preserved
 loop-pass-preserved c =
-    next_pass (takes c.args.processes.now c.args.processes.now) c.args.limit c.loop-pass.pass
+    next_pass (deliveries c.args.clients) c.args.limit c.loop-pass.pass
     (record { held = c.args.self.now; left = c.args.left; answers = c.args.answers.now.items })
     (record { held = c.loop-pass.self; left = c.loop-pass.left; answers = c.loop-pass.answers.items })
     (record { held = c.pass.new.self; left = c.in_ok-left.left; answers = c.pass.new.answers.items })
@@ -33,7 +33,7 @@ loop-pass-preserved c =
 
 pub returns-clause-done : goal.returns-clause-done
 returns-clause-done c =
-    all_passes (takes c.args.processes.now c.args.processes.now) c.args.limit c.loop-pass.pass
+    all_passes (deliveries c.args.clients) c.args.limit c.loop-pass.pass
     (record { held = c.args.self.now; left = c.args.left; answers = c.args.answers.now.items })
     (record { held = c.loop-pass.self; left = c.loop-pass.left; answers = c.loop-pass.answers.items })
     c.loop-pass-test.false c.loop-pass.invariant

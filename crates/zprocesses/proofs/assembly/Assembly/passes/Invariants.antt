@@ -1,12 +1,12 @@
 use Rattle.std.proofs.Common.{◌-◌}
 use Rattle.zserver_table.specs.Machine.{kept_tree}
-use Rattle.zworld_model.specs.Settle.{passes}
-use Rattle.zprocesses.specs.support.Settling.{GoesOn, takes}
+use Rattle.zworld_model.specs.Settle.{deliveries, passes}
+use Rattle.zprocesses.specs.support.Settling.{GoesOn}
 use Rattle.zprocesses.proofs.assembly.Assembly.passes.Given as goal
 
 -- what all passes make of a settling, those that are left make of it from here
 abbrev pub invariant-loop-pass : goal.invariant-loop-pass
 invariant-loop-pass l =
-    GoesOn (passes kept_tree (takes l.processes l.processes) l.limit) (passes kept_tree (takes l.processes l.processes) (l.limit - l.pass))
+    GoesOn (passes kept_tree (deliveries l.clients) l.limit) (passes kept_tree (deliveries l.clients) (l.limit - l.pass))
     (record { held = l.fn.self; left = l.fn.left; answers = l.fn.answers.items })
     (record { held = l.self; left = l.left; answers = l.answers.items })

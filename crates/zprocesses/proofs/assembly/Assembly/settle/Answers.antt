@@ -1,7 +1,4 @@
-use Rattle.std.proofs.Common.{◌≡◌, ◌∙◌, subst}
-use Rattle.zserver_table.specs.Machine.{kept_tree}
-use Rattle.zworld_model.specs.Settle.{processes, passes}
-use Rattle.zprocesses.specs.support.Settling.{Point, Does, takes}
+use Rattle.zprocesses.specs.support.Settling.{Point}
 use Rattle.zprocesses.proofs.Passes.{settles}
 use Rattle.zprocesses.proofs.assembly.Assembly.settle.Goals as goal
 
@@ -12,10 +9,8 @@ returns-clause-settled c =
     let passed : Point = record { held = c.passes.new.self; left = c.in_ok-left.left; answers = c.passes.new.answers.items } in
     let asked : Point = record { held = c.retry_all.new.self; left = c.in_ok-left-2.left; answers = c.passes.new.answers.items } in
     let new : Point = record { held = c.passes-2.new.self; left = c.in_ok-left-3.left; answers = c.passes-2.new.answers.items } in
-    let first : c.deref.result.now ≡ processes clients = c.deref.ensures.value ∙ c.in_ok-processes.ensures in
-    let second : c.deref-2.result.now ≡ processes clients = c.deref-2.ensures.value ∙ c.in_ok-processes.ensures in
     settles old.held new.held c.args.limit new.left old.answers new.answers clients passed.left asked.left passed.held asked.held passed.answers c.settled.result
     c.clients-clients.ensures.same c.settled.ensures
-    (subst (λ ps. Does (passes kept_tree (takes ps ps) c.args.limit) old passed) first c.in_ok-left.ensures.done)
+    c.in_ok-left.ensures.done
     (c.in_ok-left-2.ensures passed.answers)
-    (subst (λ ps. Does (passes kept_tree (takes ps ps) c.args.limit) asked new) second c.in_ok-left-3.ensures.done)
+    c.in_ok-left-3.ensures.done

@@ -1,35 +1,55 @@
-use Rattle.std.proofs.Common.{subst}
+use Rattle.std.proofs.Common.{◌≤◌, ◌<◌, ◌+◌, length, subst, arith}
 use Rattle.std.proofs.lemmas.List.{take_all}
-use Rattle.zlinks.proofs.Results.{on_err}
-use Rattle.zprocesses.specs.support.Settling.{Tries, takes_from}
-use Rattle.zprocesses.proofs.Tries.{goes_nowhere, silent_tries, one_more_receiver, both_added}
+use Rattle.zlinks.specs.declared.limits.TheConstants.{PROCESSES}
+use Rattle.zworld_model.specs.Settle.{processes}
+use Rattle.zprocesses.specs.support.Settling.{Point, Tries, takes_from}
+use Rattle.zprocesses.proofs.Tries.{one_more_receiver}
+use Rattle.zprocesses.proofs.Skips.{empty_link, length-processes, listed_as, receivers_to}
 use Rattle.zprocesses.proofs.assembly.Assembly.take_all.Goals as goal
 
-pub returns-then-is_silent-clause-done : goal.returns-then-is_silent-clause-done
-returns-then-is_silent-clause-done c =
-    silent_tries c.args.from c.args.processes.now (record { held = c.args.self.now; left = c.args.left; answers = c.args.answers.now.items })
-    (c.is_silent.ensures c.if-is_silent.true)
+pub loop-place-init : goal.loop-place-init
+loop-place-init c =
+    let old : Point = record { held = c.args.self.now; left = c.args.left; answers = c.args.answers.now.items } in
+    let here : Point = record { held = c.try_take.new.self; left = c.in_ok-left.left; answers = c.try_take.new.answers.items } in
+    let found = c.next_receiver-place.ensures in (
+      found.few,
+      receivers_to c.args.clients here c.args.from old 1 c.next_receiver-place.result (found.ahead (omega arith)) found.few
+          (λ to behind before. empty_link _ c.try_take.new.self c.args.from to c.self.view_is (found.empty to behind before) behind)
+          c.in_ok-left.ensures.done,
+    )
 
-pub loop-to-init : goal.loop-to-init
-loop-to-init c = goes_nowhere (λ s. s) (record { held = c.args.self.now; left = c.args.left; answers = c.args.answers.now.items })
+pub process_at-requires : goal.process_at-requires
+process_at-requires c =
+    let inside : c.loop-place.place < c.count_of.result = c.loop-place-test.true in
+    omega (arith, inside, c.count_of.ensures, length-processes c.args.clients, c.requires)
 
-pub returns-in_err-left-clause-partly : goal.returns-in_err-left-clause-partly
-returns-in_err-left-clause-partly c =
-    let here = c.loop-to.invariant in
-    on_err c.from_residual.result
-    (both_added c.args.answers.now.items c.loop-to.answers.items c.try_take.new.answers.items (here.1, here.2) c.in_err-left.ensures.partly)
+pub loop-place-smaller : goal.loop-place-smaller
+loop-place-smaller c =
+    let inside : c.loop-place.place < c.count_of.result = c.loop-place-test.true in
+    let small : c.loop-place.place < PROCESSES = omega (arith, inside, c.count_of.ensures, length-processes c.args.clients, c.requires) in
+    let ahead : c.loop-place.place + 1 ≤ c.next_receiver-place-in-loop-place.result = c.next_receiver-place-in-loop-place.ensures.ahead (omega (arith, small)) in
+    omega (arith, small, ahead)
 
-pub loop-to-preserved : goal.loop-to-preserved
-loop-to-preserved c =
-    one_more_receiver c.args.processes.now c.loop-to.to-index c.args.from c.to-item.result
-    (record { held = c.args.self.now; left = c.args.left; answers = c.args.answers.now.items })
-    (record { held = c.loop-to.self; left = c.loop-to.left; answers = c.loop-to.answers.items })
-    (record { held = c.try_take.new.self; left = c.in_ok-left.left; answers = c.try_take.new.answers.items })
-    c.loop-to-test.true c.to-item.is c.loop-to.invariant c.in_ok-left.ensures.done
+pub loop-place-preserved : goal.loop-place-preserved
+loop-place-preserved c =
+    let old : Point = record { held = c.args.self.now; left = c.args.left; answers = c.args.answers.now.items } in
+    let before : Point = record { held = c.loop-place.self; left = c.loop-place.left; answers = c.loop-place.answers.items } in
+    let here : Point = record { held = c.try_take-in-loop-place.new.self; left = c.in_ok-left-2.left; answers = c.try_take-in-loop-place.new.answers.items } in
+    let inside : c.loop-place.place < c.count_of.result = c.loop-place-test.true in
+    let listed : c.loop-place.place < length (processes c.args.clients) = omega (arith, inside, c.count_of.ensures) in
+    let small : c.loop-place.place < PROCESSES = omega (arith, listed, length-processes c.args.clients, c.requires) in
+    let found = c.next_receiver-place-in-loop-place.ensures in (
+      found.few,
+      receivers_to c.args.clients here c.args.from old (c.loop-place.place + 1) c.next_receiver-place-in-loop-place.result (found.ahead (omega (arith, small))) found.few
+          (λ to behind until. empty_link _ c.try_take-in-loop-place.new.self c.args.from to c.self-in-loop-place.view_is (found.empty to behind until) (omega (arith, behind)))
+          (one_more_receiver (processes c.args.clients) c.loop-place.place c.args.from c.process_at.result old before here listed
+          (listed_as c.args.clients c.loop-place.place c.process_at.result c.process_at.ensures listed) c.loop-place.invariant.1 c.in_ok-left-2.ensures.done),
+    )
 
 pub returns-clause-done : goal.returns-clause-done
 returns-clause-done c =
+    let all : length (processes c.args.clients) ≤ c.loop-place.place = omega (arith, c.loop-place-test.false, c.count_of.ensures) in
     subst (λ ps. Tries (takes_from ps c.args.from)
     (record { held = c.args.self.now; left = c.args.left; answers = c.args.answers.now.items })
-    (record { held = c.loop-to.self; left = c.loop-to.left; answers = c.loop-to.answers.items }))
-    (take_all c.loop-to.to-index c.args.processes.now c.loop-to-test.false) c.loop-to.invariant
+    (record { held = c.loop-place.self; left = c.loop-place.left; answers = c.loop-place.answers.items }))
+    (take_all c.loop-place.place (processes c.args.clients) all) c.loop-place.invariant.1

@@ -1,9 +1,15 @@
-use Rattle.std.proofs.Common.{take}
+use Rattle.std.proofs.Common.{◌≤◌, ◌-◌, take}
+use Rattle.zworld_model.specs.Settle.{processes}
+use Rattle.zlinks.specs.declared.limits.TheConstants.{PROCESSES}
 use Rattle.zprocesses.specs.support.Settling.{Tries, takes_from}
 use Rattle.zprocesses.proofs.assembly.Assembly.take_all.Given as goal
 
-abbrev pub invariant-loop-to : goal.invariant-loop-to
-invariant-loop-to l =
-    Tries (takes_from (take l.to-index l.processes) l.from)
+abbrev pub decreases-loop-place : goal.decreases-loop-place
+decreases-loop-place l = PROCESSES - l.place
+
+abbrev pub invariant-loop-place : goal.invariant-loop-place
+invariant-loop-place l =
+    (l.place ≤ PROCESSES)
+    × Tries (takes_from (take l.place (processes l.clients)) l.from)
     (record { held = l.fn.self; left = l.fn.left; answers = l.fn.answers.items })
     (record { held = l.self; left = l.left; answers = l.answers.items })
