@@ -2,7 +2,9 @@
 
 ghost use Rattle.std.specs.Prelude.{◌≡◌, ◌≤◌, ◌+◌, ◌++◌, length, Some, IfOk, refl, nat_eq};
 ghost use Rattle.std.specs.Cmp;
-ghost use Rattle.std.specs.Cmp.Lexicographic.{pointwise, nat_list_cmp_total, nat_list_eq_equiv, texts_po, texts_ties};
+ghost use Rattle.std.specs.Cmp.Lexicographic.{pointwise, bytes_decides, nat_list_cmp_total, nat_list_eq_equiv, texts_po, texts_ties};
+ghost use Rattle.std.specs.Hash as fed;
+ghost use mathlib.Core.Path.{ap};
 ghost use Rattle.zpath.specs.Grammar.{name_cmp};
 ghost use Rattle.zpath.specs.Numbered.{digits};
 ghost use Rattle.zpath.specs.declared.limits.TheConstants.{COUNTER_DIGITS, MAX_NAME_LEN};
@@ -10,9 +12,10 @@ ghost use Rattle.zpath.specs.declared.limits.TheConstants.{COUNTER_DIGITS, MAX_N
 use crate::limits::COUNTER_DIGITS;
 use crate::memory::Memory;
 use crate::numbered::push_digits;
-use std::alloc::Global;
+use std::alloc::{AllocError, Global};
 use std::cmp::Ordering;
 use std::fmt;
+use std::hash::{Hash, Hasher};
 use std::marker::Model;
 
 /// A name: 1 to `MAX_NAME_LEN` visible bytes without a slash, and neither `.` nor `..`.
@@ -84,6 +87,17 @@ impl fmt::Display for Name {
     }
 }
 
+// As `copied`, into the memory that the name is in.
+impl Clone for Name {
+    ghost is_clone = { λ name copy. copy ≡ name };
+
+    fn clone(&self) -> Result<Self, AllocError> {
+        Ok(Name {
+            text: self.text.clone()?,
+        })
+    }
+}
+
 impl PartialEq for Name {
     ghost eq = { pointwise nat_eq };
 
@@ -96,6 +110,17 @@ impl PartialEq for Name {
 
 impl Eq for Name {
     ghost laws = { nat_list_eq_equiv };
+}
+
+// A name is hashed as its text.
+impl Hash for Name {
+    ghost hash_input = { fed.str };
+
+    ghost respects_eq = { λ left right equal. ap fed.str ((bytes_decides left right).0 equal) };
+
+    fn hash<H: Hasher>(&self, state: &mut H) {
+        self.as_str().hash(state);
+    }
 }
 
 impl PartialOrd for Name {
