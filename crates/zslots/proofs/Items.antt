@@ -1,14 +1,14 @@
 -- What the map of the slots' items finds, and how it changes with one slot.
-use Rattle.std.proofs.Common.{◌≡◌, ◌≢◌, ◌⊎◌, inl, inr, ℕ, zero, suc, ◌+◌, ◌<◌, Bool, true, false, cond, List, [], ◌∷◌, Option, Some, None, refl, sym, ap, ◌∙◌, arith, get_or, tests, zero-add, is_some, IsSome}
+use Rattle.std.proofs.Common.{◌≡◌, ◌≢◌, ◌⊎◌, inl, inr, ℕ, zero, suc, ◌+◌, ◌<◌, Bool, true, false, cond, List, [], ◌∷◌, Option, Some, None, refl, sym, ap, ◌∙◌, arith, get_or, tests, zero-add, is_some, IsSome, count_by}
 use Rattle.std.proofs.lemmas.Bool.{cases_eq}
 use Rattle.std.specs.Ordering.{eq_by_cmp, is_eq}
 use Rattle.std.specs.Cmp.{tied_itself}
 use Rattle.std.specs.FinMap as finite
-use Rattle.std.specs.FinMap.{find, get-from_entries}
+use Rattle.std.specs.FinMap.{find, get-from_entries, len-empty, len-insert}
 use Rattle.std.specs.Prelude.{◌==◌, if◌then◌else◌}
 use Rattle.slab.specs.Slab.{Slab, Updates, get, with_value, slab_len}
 use Rattle.slab.proofs.SlabLemmas.{Updates-with_value, ContainsKey-within}
-use Rattle.std.proofs.lemmas.List.Sums.{sum_by-set}
+use Rattle.std.proofs.lemmas.List.Sums.{sum_by-set, sum_by-cons}
 use Rattle.zslots.specs.declared.id.Id.{Id}
 use Rattle.zslots.specs.declared.slots.Slot.{Slot}
 use Rattle.zslots.specs.Fields.{entries_from, items_of}
@@ -52,6 +52,18 @@ module _ {T : Type 0} where
   find-below k (Some s ∷ slots) id below =
       let other : id ≢ id_at k s.generation = λ e. let same : id.index ≡ k = ap (λ (i : Id). i.index) e in absurd (omega arith) in
       ap (λ t. cond t (Some s.item) (find id_cmp id (entries_from (k + 1) slots))) (not_tied id _ other) ∙ find-below (k + 1) slots id (omega arith)
+
+  -- the map has an item for each slot with one
+  pub len-entries_from : (k : ℕ) (slots : List (Option (Slot T))) → finite.len (finite.from_entries {R = id_cmp} (entries_from k slots)) ≡ count_by is_some slots
+  len-entries_from k [] = len-empty id_cmp T
+  len-entries_from k (None ∷ slots) = let more = len-entries_from (k + 1) slots in omega (arith, more)
+  len-entries_from k (Some s ∷ slots) =
+      let rest = finite.from_entries {R = id_cmp} (entries_from (k + 1) slots) in
+      let free = get-from_entries id_cmp_total (entries_from (k + 1) slots) (id_at k s.generation) ∙ find-below (k + 1) slots (id_at k s.generation) (omega arith) in
+      let counted : finite.len (finite.insert rest (id_at k s.generation) s.item) ≡ finite.len rest + 1 =
+      len-insert id_cmp_total rest (id_at k s.generation) s.item ∙ ap (λ o. cond (is_some o) (finite.len rest) (finite.len rest + 1)) free in
+      let one : count_by is_some (Some s ∷ slots) ≡ 1 + count_by is_some slots = sum_by-cons (λ o. cond (is_some o) 1 0) (Some s) slots in
+      counted ∙ omega (arith, len-entries_from (k + 1) slots, one)
 
   pub find-entries : (k : ℕ) (slots : List (Option (Slot T))) (at generation : ℕ) → find id_cmp (id_at (k + at) generation) (entries_from k slots) ≡ item_at (get_or slots at None) generation
   find-entries k [] at generation = refl

@@ -4,3 +4,7 @@ pub mod Surgery
 pub mod Moves
 pub mod ListMoves
 pub mod RunLaws
+pub mod Members
+pub mod Families
+pub mod Walks
+pub mod Mapped

@@ -21,8 +21,14 @@ module _ {T : Type 0} where
 
   -- what the fields stand for
   abbrev pub view_of : Inside T → SlotsView T
-  view_of s = record { items = items_of s.slab.slots; given = s.given; room = s.slab.capacity - slab_len s.slab }
+  view_of s =
+      record {
+        items = items_of s.slab.slots;
+        given = s.given;
+        room = s.slab.capacity - slab_len s.slab;
+      }
 
   -- each slot's generation was given
   abbrev pub HasGivenSlots : List (Option (Slot T)) → ℕ → Type 0
-  HasGivenSlots slots given = (index : ℕ) (s : Slot T) → slice_index_or slots index None ≡ Some s → s.generation < given
+  HasGivenSlots slots given =
+      (index : ℕ) (s : Slot T) → slice_index_or slots index None ≡ Some s → s.generation < given

@@ -1,5 +1,5 @@
 -- Ids as keys of a map, whose order has no meaning of its own, and lists of Ids.
-use Rattle.std.specs.Prelude.{◌≢◌, ℕ, List, [], ◌∷◌, Option, Some, None, refl}
+use Rattle.std.specs.Prelude.{◌≡◌, ◌≢◌, ◌⊎◌, ℕ, List, [], ◌∷◌, Option, Some, None, refl}
 use Rattle.std.specs.Option.{option_map_or}
 use Rattle.std.specs.Ordering.{nat_cmp}
 use Rattle.std.specs.declared.cmp.Ordering.{Ordering}
@@ -24,6 +24,11 @@ coded_id =
 -- Ids, one after the other
 abbrev pub Ids : Type 0
 Ids = List Id
+
+-- the Id is one of these
+abbrev pub IsIn : Id → Ids → Type 0
+IsIn id [] = ⊥
+IsIn id (other ∷ ids) = (id ≡ other) ⊎ IsIn id ids
 
 -- no Id of the list is this one
 abbrev pub NotIn : Id → Ids → Type 0

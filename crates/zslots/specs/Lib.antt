@@ -8,5 +8,7 @@ pub mod Lists
 pub mod Runs
 pub mod SlotsLaws
 pub mod ListLaws
+pub mod Families
+pub mod Mapped
 pub mod Rows
 pub mod support

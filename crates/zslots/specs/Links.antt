@@ -1,4 +1,4 @@
--- What the calls of a list write into the items' links. A neighbour that isn't there is not written.
+-- What the calls of a list write into the items' links. A neighbour that isn't there isn't written.
 use Rattle.std.specs.Prelude.{Option, Some, None}
 use Rattle.std.specs.Option.{option_map_or}
 use Rattle.std.specs.FinMap.{get, insert}
@@ -23,15 +23,17 @@ module _ {T : Type 0} (links : T → Links) (with_links : T → Links → T) whe
   abbrev pub with_next_at : Items T → Option Id → Option Id → Items T
   with_next_at m None next = m
   with_next_at m (Some id) next =
-      option_map_or (λ x. insert m id (with_links x (record { next = next; prev = (links x).prev }))) (get m id) m
+      option_map_or (λ x. insert m id (with_links x (record { next = next; prev = (links x).prev })))
+      (get m id) m
 
   -- the items with one item's previous Id written
   abbrev pub with_prev_at : Items T → Option Id → Option Id → Items T
   with_prev_at m None prev = m
   with_prev_at m (Some id) prev =
-      option_map_or (λ x. insert m id (with_links x (record { next = (links x).next; prev = prev }))) (get m id) m
+      option_map_or (λ x. insert m id (with_links x (record { next = (links x).next; prev = prev })))
+      (get m id) m
 
-  -- the items with two ends written: what follows the left one, and what the right one stands behind
+  -- the items with two ends written: what follows the left one, and what stands before the right
   abbrev pub with_ends : Items T → Option Id → Option Id → Option Id → Option Id → Items T
   with_ends m left next right prev = with_prev_at (with_next_at m left next) right prev
 
@@ -48,4 +50,5 @@ module _ {T : Type 0} (links : T → Links) (with_links : T → Links → T) whe
 
   -- an item put between the neighbours that its own links name
   abbrev pub with_between : Items T → Id → Items T
-  with_between m id = with_ends m (links_at links m id).prev (Some id) (links_at links m id).next (Some id)
+  with_between m id =
+      with_ends m (links_at links m id).prev (Some id) (links_at links m id).next (Some id)

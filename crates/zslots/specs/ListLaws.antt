@@ -12,20 +12,25 @@ use Rattle.zslots.specs.Lists.{IsList, list_without, list_with_between}
 
 -- a list is one list of Ids alone
 abbrev pub IsOneList : ℕ → {T : Type 0} → (T → Links) → Type 0
-IsOneList L {T} links = (m : Items T) (list : IdList L) (a b : Ids) → IsList links m list a → IsList links m list b → a ≡ b
+IsOneList L {T} links =
+    (m : Items T) (list : IdList L) (a b : Ids) → IsList links m list a →
+    IsList links m list b → a ≡ b
 
 -- a list begins with the first of its Ids
 abbrev pub BeginsWithFirst : ℕ → {T : Type 0} → (T → Links) → Type 0
 BeginsWithFirst L {T} links =
-    (m : Items T) (list : IdList L) (ids : Ids) → IsList links m list ids → list.first ≡ first_of ids
+    (m : Items T) (list : IdList L) (ids : Ids) → IsList links m list ids →
+    list.first ≡ first_of ids
 
 module _ {T : Type 0} (links : T → Links) (with_links : T → Links → T) where
   -- an item that was taken out and put back leaves all items and the list as they were
   abbrev pub RelinkUndoesUnlink : ℕ → Type 0
   RelinkUndoesUnlink L =
-      (m : Items T) (list : IdList L) (front back : Ids) (id : Id) → IsList links m list (front ++ id ∷ back) →
+      (m : Items T) (list : IdList L) (front back : Ids) (id : Id) →
+      IsList links m list (front ++ id ∷ back) →
       (with_between links with_links (without links with_links m id) id ≡ m)
-      × (list_with_between links (without links with_links m id) (list_without links m list id) id ≡ list)
+      × (list_with_between links (without links with_links m id) (list_without links m list id) id
+      ≡ list)
 
   -- no call of a list changes a part of an item that a write of its links leaves
   abbrev pub LeavesOtherParts : Type 0 → Type 0
@@ -40,7 +45,8 @@ module _ {T : Type 0} (links : T → Links) (with_links : T → Links → T) whe
   abbrev pub LeavesOtherLists : ℕ → Type 0
   LeavesOtherLists K =
       (other : T → Links) → ((x : T) (to : Links) → other (with_links x to) ≡ other x) →
-      (m : Items T) (list : IdList K) (ids : Ids) → IsList other m list ids → (first : Option Id) (id : Id) →
+      (m : Items T) (list : IdList K) (ids : Ids) → IsList other m list ids →
+      (first : Option Id) (id : Id) →
       IsList other (with_front links with_links m first id) list ids
       × IsList other (without links with_links m id) list ids
       × IsList other (with_between links with_links m id) list ids

@@ -9,7 +9,8 @@ use Rattle.zslots.specs.Links.{links_at}
 use Rattle.zslots.specs.Chains.{Chain}
 
 -- the list is these Ids
-pub record IsList {L : ℕ} {T : Type 0} (links : T → Links) (m : Items T) (list : IdList L) (ids : Ids) : Type 0 where
+pub record IsList {L : ℕ} {T : Type 0} (links : T → Links) (m : Items T) (list : IdList L)
+    (ids : Ids) : Type 0 where
   pub chain : Chain links m None list.first ids
   pub no_two : NoTwo ids
   pub count : list.len ≡ length ids
@@ -35,9 +36,15 @@ module _ {L : ℕ} where
     -- a list whose item was taken out
     abbrev pub list_without : Items T → IdList L → Id → IdList L
     list_without m list id =
-        record { first = first_if (links_at links m id).prev list.first (links_at links m id).next; len = list.len - 1 }
+        record {
+          first = first_if (links_at links m id).prev list.first (links_at links m id).next;
+          len = list.len - 1;
+        }
 
     -- a list with an item between the neighbours that its own links name
     abbrev pub list_with_between : Items T → IdList L → Id → IdList L
     list_with_between m list id =
-        record { first = first_if (links_at links m id).prev list.first (Some id); len = list.len + 1 }
+        record {
+          first = first_if (links_at links m id).prev list.first (Some id);
+          len = list.len + 1;
+        }

@@ -5,7 +5,8 @@ use Rattle.zslots.specs.declared.id.Id.{Id}
 use Rattle.zslots.specs.Ids.{Ids}
 use Rattle.zslots.specs.SlotsView.{SlotsView, IsNew}
 
--- a call that changes what a `Slots` holds: an insert with the Id that it gave, a remove, a write through `get_mut`
+-- a call that changes what a `Slots` holds: an insert with the Id that it gave, a remove, a write
+-- through `get_mut`
 pub data Change (T : Type 0) : Type 0 where
   Insert : Id → T → Change T
   Remove : Id → Change T
@@ -23,7 +24,8 @@ module _ {T : Type 0} where
   -- the calls, one after the other, make the new of the old
   abbrev pub IsRun : SlotsView T → List (Change T) → SlotsView T → Type 0
   IsRun old [] new = (new.items ≡ old.items) × (new.given ≡ old.given)
-  IsRun old (change ∷ changes) new = (next : SlotsView T) × IsChange old change next × IsRun next changes new
+  IsRun old (change ∷ changes) new =
+      (next : SlotsView T) × IsChange old change next × IsRun next changes new
 
   -- the Ids that a run gave, in order
   abbrev pub ids_of_run : List (Change T) → Ids

@@ -9,10 +9,12 @@ use Rattle.zslots.specs.Runs.Change.{Remove}
 
 -- no Id is given twice
 abbrev pub GivesEachIdOnce : Type 0 → Type 0
-GivesEachIdOnce T = (s : SlotsView T) (changes : List (Change T)) → IsRun empty_slots changes s → NoTwo (ids_of_run changes)
+GivesEachIdOnce T =
+    (s : SlotsView T) (changes : List (Change T)) → IsRun empty_slots changes s →
+    NoTwo (ids_of_run changes)
 
 -- an Id that named an item, once removed, names nothing after any more calls
 abbrev pub LeavesRemovedIds : Type 0 → Type 0
 LeavesRemovedIds T =
-    (s t u : SlotsView T) (id : Id) (before after : List (Change T)) → IsRun empty_slots before s → IsSome (get s.items id) →
-    IsChange s (Remove id) t → IsRun t after u → get u.items id ≡ None
+    (s t u : SlotsView T) (id : Id) (before after : List (Change T)) → IsRun empty_slots before s →
+    IsSome (get s.items id) → IsChange s (Remove id) t → IsRun t after u → get u.items id ≡ None

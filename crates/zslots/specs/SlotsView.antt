@@ -20,7 +20,8 @@ pub record SlotsView (T : Type 0) : Type 0 where
 abbrev pub coded_view : {T : Type 0} → Coded T → Coded (SlotsView T)
 coded_view {T} code =
     code_by (Items T × (ℕ × ℕ)) (coded× (finite.code coded_id code) (coded× coded_ℕ coded_ℕ))
-    (λ s. (s.items, (s.given, s.room))) (λ p. record { items = p.0; given = p.1.0; room = p.1.1 }) (λ _. refl)
+    (λ s. (s.items, (s.given, s.room)))
+    (λ p. record { items = p.0; given = p.1.0; room = p.1.1 }) (λ _. refl)
 
 module _ {T : Type 0} where
   -- no item, and no Id given

@@ -65,6 +65,13 @@ impl<T> Slots<T> {
         self.given
     }
 
+    /// How many items there are.
+    pub fn len(&self) -> usize
+        ensures { result ≡ finite.len self.now.items }
+    {
+        self.slab.len()
+    }
+
     /// Makes room, so that the next `more` inserts succeed.
     pub fn reserve(&mut self, more: usize) -> Result<(), Memory>
         ensures room { OnOk result (more ≤ self.new.room) }

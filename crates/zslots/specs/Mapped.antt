@@ -1,0 +1,11 @@
+-- A map of what a function gives of another map's values.
+use Rattle.std.specs.Prelude.{Option}
+use Rattle.std.specs.Option.{option_map}
+use Rattle.std.specs.List.{filter_map}
+use Rattle.std.specs.FinMap.{FinMap, entries, from_entries}
+use Rattle.std.specs.declared.cmp.Ordering.{Ordering}
+
+-- under each key what the function gives of its value, where it gives something
+abbrev pub mapped :
+    {K X Y : Type 0} {R : K → K → Ordering} → (X → Option Y) → FinMap R X → FinMap R Y
+mapped f m = from_entries (filter_map (λ e. option_map (λ y. (e.0, y)) (f e.1)) (entries m))
