@@ -1,2 +1,3 @@
-pub mod rows
+pub mod parts
+pub mod order
 pub mod ids

@@ -2,10 +2,10 @@
 use Rattle.std.specs.Prelude.{◌≡◌, ℕ, ◌+◌, ◌-◌, ◌≤◌, nat_le, List, Option, None, Some, refl, if◌then◌else◌}
 use Rattle.std.specs.Coded.{Coded, code_by, coded×, coded_ℕ, coded_option}
 use Rattle.std.specs.Option.{option_and_then, option_map}
-use Rattle.std.specs.Ordering.{nat_cmp}
 use Rattle.std.specs.FinMap as finite
 use Rattle.std.specs.FinMap.{FinMap, get, insert, remove}
-use Rattle.zstore.specs.declared.id.Id.{Id}
+use Rattle.zslots.specs.declared.id.Id.{Id}
+use Rattle.zslots.specs.Ids.{id_cmp, coded_id}
 use Rattle.ztree.specs.declared.node.Node.{Node}
 use Rattle.ztree.specs.declared.node.Stat.{Stat}
 use Rattle.ztree.specs.Tree.{Tree, Name, Path, Nodes, has_node, stat_at, children, with_data_at, without_node}
@@ -15,23 +15,23 @@ use Rattle.ztree.specs.support.Codes.{coded_tree, coded_path}
 -- what stood where a mark was set, and how many steps more can be undone
 pub record Mark : Type 0 where
   pub tree : Tree
-  pub places : FinMap nat_cmp Path
+  pub places : FinMap id_cmp Path
   pub steps : ℕ
 
 -- the tree, the paths of the live Ids, how many Ids were given so far, and the mark, if one stands
 pub record StoreView : Type 0 where
   pub tree : Tree
-  pub places : FinMap nat_cmp Path
+  pub places : FinMap id_cmp Path
   pub given : ℕ
   pub marked : Option Mark
 
--- the number of an Id: all that is seen of it
+-- the number of an Id: how many were given before it
 abbrev pub number_of : Id → ℕ
-number_of id = id.number
+number_of id = id.generation
 
 -- the path of the node that an Id names
 abbrev pub path_of : StoreView → Id → Option Path
-path_of h id = get h.places (number_of id)
+path_of h id = get h.places id
 
 -- the node that an Id names
 abbrev pub node_of : StoreView → Id → Option Node
@@ -76,13 +76,13 @@ GivesAtMostOne old new = (old.given ≤ new.given) × (new.given ≤ old.given +
 -- the Id is the next that is given, and it names this path and no other, and every other Id names what it named
 pub record NamesNew (old new : StoreView) (id : Id) (path : Path) : Type 0 where
   pub free : path_of old id ≡ None
-  pub named : new.places ≡ insert old.places (number_of id) path
+  pub named : new.places ≡ insert old.places id path
   pub next : number_of id ≡ old.given
   pub given : new.given ≡ old.given + 1
 
 -- the Id names nothing any more, and every other Id names what it named
 abbrev pub Forgets : StoreView → StoreView → Id → Type 0
-Forgets old new id = new.places ≡ remove old.places (number_of id)
+Forgets old new id = new.places ≡ remove old.places id
 
 -- a path where it has a node still
 abbrev pub while_there : Nodes → Path → Option Path
@@ -90,7 +90,8 @@ while_there nodes path = if has_node nodes path then Some path else None
 
 -- an Id whose node went names nothing any more, and every other Id names what it named
 abbrev pub ForgetsGone : StoreView → StoreView → Type 0
-ForgetsGone old new = (id : Id) → path_of new id ≡ option_and_then (while_there new.tree.nodes) (path_of old id)
+ForgetsGone old new = (id : Id) →
+    path_of new id ≡ option_and_then (while_there new.tree.nodes) (path_of old id)
 
 -- the data of the node that an Id names is written by the next change
 abbrev pub WritesData : StoreView → StoreView → Id → List ℕ → Type 0
@@ -130,11 +131,16 @@ GoesBack new m = (new.tree ≡ m.tree) × (new.places ≡ m.places)
 -- how a mark is stored
 abbrev pub coded_mark : Coded Mark
 coded_mark =
-    code_by (Tree × (FinMap nat_cmp Path × ℕ)) (coded× coded_tree (coded× (finite.code coded_ℕ coded_path) coded_ℕ))
-    (λ m. (m.tree, (m.places, m.steps))) (λ p. record { tree = p.0; places = p.1.0; steps = p.1.1 }) (λ _. refl)
+    code_by (Tree × (FinMap id_cmp Path × ℕ))
+    (coded× coded_tree (coded× (finite.code coded_id coded_path) coded_ℕ))
+    (λ m. (m.tree, (m.places, m.steps))) (λ p. record { tree = p.0; places = p.1.0; steps = p.1.1 })
+    (λ _. refl)
 
 -- how a store is stored
 abbrev pub coded_store_view : Coded StoreView
 coded_store_view =
-    code_by (Tree × (FinMap nat_cmp Path × (ℕ × Option Mark))) (coded× coded_tree (coded× (finite.code coded_ℕ coded_path) (coded× coded_ℕ (coded_option coded_mark))))
-    (λ h. (h.tree, (h.places, (h.given, h.marked)))) (λ p. record { tree = p.0; places = p.1.0; given = p.1.1.0; marked = p.1.1.1 }) (λ _. refl)
+    code_by (Tree × (FinMap id_cmp Path × (ℕ × Option Mark)))
+    (coded× coded_tree
+    (coded× (finite.code coded_id coded_path) (coded× coded_ℕ (coded_option coded_mark))))
+    (λ h. (h.tree, (h.places, (h.given, h.marked))))
+    (λ p. record { tree = p.0; places = p.1.0; given = p.1.1.0; marked = p.1.1.1 }) (λ _. refl)

@@ -1,4 +1,4 @@
--- What serves proofs alone: the rows of a store, and the parts of its changes.
+-- What serves proofs alone: what a store keeps, how changes are undone, and the parts of its changes.
 pub mod Undoing
-pub mod Rows
+pub mod Stored
 pub mod Parts

@@ -3,10 +3,10 @@
 ghost use Rattle.std.specs.Prelude.{◌≡◌, ◌<◌, ◌≤◌, ◌+◌, ◌++◌, ◌∷◌, []};
 ghost use Rattle.std.specs.Vec.{vec_len, vec_capacity};
 
-use crate::row::Row;
 use crate::undo::Undo;
-use crate::undoing::undo_all;
+use crate::undoing::{free_all, free_one, undo_all};
 use std::alloc::Global;
+use znodes::Nodes;
 use zpath::Memory;
 
 /// What undoes the changes since the mark, if one stands. Its room is made when the mark is set.
@@ -18,7 +18,8 @@ pub(crate) struct Log {
 
 impl Log {
     ghost use Rattle.std.specs.Prelude.{None, OnOk, OnErr};
-    ghost use Rattle.zstore.specs.support.Undoing.{notes_of, noted, StartsWith, FitAll, all_undone};
+    ghost use Rattle.zstore.specs.support.Undoing.{notes_of, noted, held_after, undos_of, StartsWith, GivesUp};
+    ghost use Rattle.zstore.specs.support.Undoing.{FitAll, parts_of, all_undone, all_returning, all_freed, AllHeld};
 
     /// No mark.
     pub(crate) fn new(alloc: Global) -> Log
@@ -30,48 +31,76 @@ impl Log {
         }
     }
 
-    /// A mark here, with room for so many notes; one that stood is given up.
-    pub(crate) fn start(&mut self, steps: usize) -> Result<(), Memory>
-        ensures ok { OnOk result (StartsWith steps (notes_of self.new)) }
+    /// A mark here, with room for so many notes, and for as many nodes that come back; one that stood is given up.
+    pub(crate) fn start(&mut self, nodes: &mut Nodes, steps: usize) -> Result<(), Memory>
+        requires { AllHeld (undos_of (notes_of self.old)) nodes.old.held }
+        ensures ok { OnOk result (StartsWith steps (notes_of self.new) nodes.new.room) }
         ensures err { OnErr result (notes_of self.new ≡ None) }
+        ensures nodes { GivesUp (undos_of (notes_of self.old)) nodes.old nodes.new }
     {
-        self.stop();
+        self.stop(nodes);
         self.undos.reserve(steps)?;
+        nodes.reserve(self.undos.capacity())?;
         self.is_on = true;
         Ok(())
     }
 
     /// Notes what undoes a change. A mark that has no room left is given up.
-    pub(crate) fn note(&mut self, undo: Undo)
-        ensures { notes_of self.new ≡ noted undo (notes_of self.old) }
+    pub(crate) fn note(&mut self, nodes: &mut Nodes, undo: Undo)
+        requires { AllHeld (undos_of (notes_of self.old) ++ undo ∷ []) nodes.old.held }
+        ensures notes { notes_of self.new ≡ noted undo (notes_of self.old) }
+        ensures nodes { nodes.new ≡ record nodes.old {
+          held = held_after undo (notes_of self.old) nodes.old.held;
+        } }
     {
-        if !self.is_on {
+        if self.is_on && self.undos.len() < self.undos.capacity() {
+            push_within(&mut self.undos, undo);
             return;
         }
-        if self.undos.len() == self.undos.capacity() {
-            return self.stop();
-        }
-        push_within(&mut self.undos, undo);
+        free_one(nodes, &undo);
+        self.stop(nodes);
     }
 
     /// Undoes what was noted; then there is no mark any more. It takes no memory.
-    pub(crate) fn undo(&mut self, rows: &mut Vec<Row>)
-        requires { FitAll self.old.undos.items rows.old.items (vec_capacity rows.old) }
-        ensures rows { rows.new.items ≡ all_undone self.old.undos.items rows.old.items }
-        ensures room { vec_capacity rows.old ≤ vec_capacity rows.new }
+    pub(crate) fn undo(&mut self, nodes: &mut Nodes)
+        requires fit { FitAll nodes.old.owners (undos_of (notes_of self.old)) (parts_of nodes.old) }
+        requires room { all_returning (undos_of (notes_of self.old)) ≤ nodes.old.room }
+        ensures parts { parts_of nodes.new
+            ≡ all_undone (undos_of (notes_of self.old)) (parts_of nodes.old) }
+        ensures owners { nodes.new.owners ≡ nodes.old.owners }
+        ensures given { nodes.new.given ≡ nodes.old.given }
         ensures off { notes_of self.new ≡ None }
     {
-        undo_all(rows, &mut self.undos);
-        self.stop();
+        if self.is_on {
+            undo_all(nodes, &mut self.undos);
+            self.is_on = false;
+        }
     }
 
-    /// No mark any more; what was done stays.
-    pub(crate) fn stop(&mut self)
+    /// No mark any more; what was done stays, and what was taken away is given up.
+    pub(crate) fn stop(&mut self, nodes: &mut Nodes)
+        requires { AllHeld (undos_of (notes_of self.old)) nodes.old.held }
         ensures off { notes_of self.new ≡ None }
         ensures empty { self.new.undos.items ≡ [] }
+        ensures nodes { nodes.new ≡ record nodes.old {
+          held = all_freed (undos_of (notes_of self.old)) nodes.old.held;
+        } }
     {
+        self.free_taken(nodes);
         self.undos.clear();
         self.is_on = false;
+    }
+
+    /// Gives up what was taken away since the mark, if one stands, in the nodes or in a copy of them.
+    pub(crate) fn free_taken(&self, nodes: &mut Nodes)
+        requires { AllHeld (undos_of (notes_of self.now)) nodes.old.held }
+        ensures { nodes.new ≡ record nodes.old {
+          held = all_freed (undos_of (notes_of self.now)) nodes.old.held;
+        } }
+    {
+        if self.is_on {
+            free_all(nodes, &self.undos);
+        }
     }
 }
 

@@ -13,7 +13,7 @@ impl Store {
         ensures marked { OnOk result (MarksHere steps self.old self.new) }
         ensures err { OnErr result (self.new ≡ without_mark self.old) }
     {
-        self.log.start(steps)?;
+        self.log.start(&mut self.nodes, steps)?;
         Ok(())
     }
 
@@ -25,13 +25,13 @@ impl Store {
         ensures given { self.new.given ≡ self.old.given }
         ensures unmarked { self.new.marked ≡ None }
     {
-        self.log.undo(&mut self.rows);
+        self.log.undo(&mut self.nodes);
     }
 
     /// Gives up the mark, if one stands: what was done stays.
     pub fn keep(&mut self)
         ensures { self.new ≡ without_mark self.old }
     {
-        self.log.stop();
+        self.log.stop(&mut self.nodes);
     }
 }

@@ -10,13 +10,10 @@ ghost use Rattle.ztree.specs.declared.limits.TheConstants.{MAX_SESSIONS, ZXID_BO
 ghost use Rattle.ztree.specs.declared.session.Session.{Session};
 ghost use Rattle.ztree.specs.Room.{HasRoomForEnd, HasRoomForDeadline};
 ghost use Rattle.zstore.specs.StoreView.{KeepsIds, ForgetsGone};
-ghost use Rattle.zstore.specs.support.Rows.{IsFirstOwned};
-ghost use Rattle.zstore.specs.support.Parts.{tree_without_session};
+ghost use Rattle.zstore.specs.support.Parts.{tree_without_session, IsOwned};
 
-use crate::id::Id;
-use crate::row::SessionRow;
-use crate::session_place::{owned_place, reached, session_gap, session_place};
 use crate::store::Store;
+use znodes::Id;
 use zpath::Memory;
 use ztree::{ClientId, Session, SessionId};
 
@@ -25,19 +22,16 @@ impl Store {
     pub fn session(&self, id: SessionId) -> Option<Session>
         ensures { result ≡ get self.now.tree.sessions id }
     {
-        match session_place(&self.sessions, id) {
-            Ok(at) => Some(self.sessions[at].session),
-            Err(_) => None,
-        }
+        self.sessions.get(id)
     }
 
     /// The ids of the sessions that the next tick ends, in their order: those whose deadline it
-    /// reaches. All sessions are looked at.
+    /// reaches.
     pub fn due(&self, tick: u64) -> Result<Vec<SessionId>, Memory>
         requires next { tick ≡ self.now.tree.time + 1 }
         ensures { IfOk result (λ ids. ids.items ≡ due_sessions self.now.tree.sessions tick) }
     {
-        reached(self.alloc, &self.sessions, tick)
+        self.sessions.due(tick)
     }
 
     /// Opens a session, whose id is the number of the next change and whose deadline is its timeout
@@ -53,16 +47,18 @@ impl Store {
         ensures unmarked { OnOk result (self.new.marked ≡ None) }
         ensures err { OnErr result (self.new ≡ self.old) }
     {
-        let zxid = self.zxid.next();
-        let id = SessionId::of(zxid);
+        let id = SessionId::of(self.zxid.next());
         let session = Session {
             client,
             timeout,
             deadline: self.time + timeout,
         };
-        let at = session_gap(&self.sessions, id);
-        self.sessions.insert(at, SessionRow { id, session })?;
-        self.log.stop();
+        self.nodes.open_owner(id.number())?;
+        if let Err(memory) = self.sessions.open(id, session) {
+            self.nodes.close_owner(id.number());
+            return Err(memory);
+        }
+        self.log.stop(&mut self.nodes);
         Ok(())
     }
 
@@ -75,16 +71,15 @@ impl Store {
         ensures same { KeepsIds self.old self.new }
         ensures unmarked { self.new.marked ≡ None }
     {
-        if let Ok(at) = session_place(&self.sessions, id) {
-            let session = &mut self.sessions[at].session;
-            session.deadline = self.time + session.timeout;
-            self.log.stop();
+        if let Some(session) = self.sessions.get(id) {
+            self.sessions.renew(id, self.time + session.timeout);
+            self.log.stop(&mut self.nodes);
         }
     }
 
     /// Ends a session by the next change: it goes, and with it every node that it owns; the Ids of
-    /// these name nothing any more. It takes no memory. All rows are looked at, once for each such
-    /// node.
+    /// these name nothing any more. It takes no memory. It costs by
+    /// these nodes.
     pub fn end_session(&mut self, id: SessionId)
         requires live { IsSome (get self.old.tree.sessions id) }
         requires counters { HasRoomForEnd self.old.tree id }
@@ -111,27 +106,24 @@ impl Store {
         ensures unmarked { self.new.marked ≡ None }
     {
         self.time += 1;
-        self.log.stop();
+        self.log.stop(&mut self.nodes);
     }
 
     // What every store keeps: an Id that names a path names a node that is there.
     fn is_kept_named(&self)
         ensures { ForgetsGone self.now self.now }
     {
-        let _ = &self.rows;
+        let _ = &self.time;
     }
 
-    // The first node that a session owns, if it owns one.
+    // A node that a live session owns, if it owns one.
     fn first_owned(&self, session: SessionId) -> Option<Id>
+        requires live { IsSome (get self.now.tree.sessions session) }
         ensures lawful { IsLawful self.now.tree }
-        ensures found { IfSome result (λ id. IsFirstOwned self.now session id) }
+        ensures found { IfSome result (IsOwned self.now session) }
         ensures absent { IfNone result (ephemerals self.now.tree.nodes session ≡ []) }
     {
-        let at = owned_place(&self.rows, session)?;
-        Some(Id {
-            number: self.rows[at].number,
-            hint: at,
-        })
+        self.nodes.first_owned(session.number())
     }
 
     // A session that owns no node gone.
@@ -142,9 +134,8 @@ impl Store {
         ensures same { KeepsIds self.old self.new }
         ensures unmarked { self.new.marked ≡ None }
     {
-        if let Ok(at) = session_place(&self.sessions, session) {
-            self.sessions.remove(at);
-            self.log.stop();
-        }
+        self.nodes.close_owner(session.number());
+        self.sessions.end(session);
+        self.log.stop(&mut self.nodes);
     }
 }

@@ -4,20 +4,20 @@ ghost use Rattle.std.specs.Prelude.{◌≡◌, ◌≤◌, IfOk, None};
 ghost use Rattle.std.specs.FinMap as finite;
 
 use crate::log::Log;
-use crate::row::{Row, SessionRow};
 use std::alloc::Global;
 use std::marker::Model;
-use zpath::{Memory, Path};
+use znodes::Nodes;
+use zpath::Memory;
+use zsessions::Sessions;
 use ztree::{Data, Node, Zxid};
 
 /// The znodes and sessions of one machine, its clock and the number of its last change.
 #[derive(Drop)]
 pub struct Store {
-    pub(crate) rows: Vec<Row>,
-    pub(crate) sessions: Vec<SessionRow>,
+    pub(crate) nodes: Nodes,
+    pub(crate) sessions: Sessions,
     pub(crate) time: u64,
     pub(crate) zxid: Zxid,
-    pub(crate) given: u128,
     pub(crate) log: Log,
     pub(crate) alloc: Global,
 }
@@ -29,14 +29,12 @@ impl Model for Store {
 
     ghost coded = { coded_store_view };
 
-    ghost use Rattle.std.specs.Vec.{vec_capacity};
-    ghost use Rattle.zstore.specs.support.Rows.{held_by, IsStored};
+    ghost use Rattle.zstore.specs.support.Stored.{held_by, IsStored};
     ghost use Rattle.zstore.specs.support.Undoing.{notes_of};
 
     ghost view = { held_by };
 
-    ghost invariant = { λ s. IsStored (notes_of s.log) s.rows.items (vec_capacity s.rows)
-        s.sessions.items s.time s.zxid s.given };
+    ghost invariant = { λ s. IsStored (notes_of s.log) s.nodes s.sessions s.time s.zxid };
 }
 
 impl Store {
@@ -62,18 +60,11 @@ impl Store {
             owner: 0,
             seq: 0,
         };
-        let mut rows = Vec::new(alloc);
-        rows.push(Row {
-            path: Path::root(alloc),
-            number: 0,
-            node: root,
-        })?;
         Ok(Store {
-            rows,
-            sessions: Vec::new(alloc),
+            nodes: Nodes::new(alloc, root)?,
+            sessions: Sessions::new(alloc),
             time: 0,
             zxid,
-            given: 1,
             log: Log::new(alloc),
             alloc,
         })
@@ -97,7 +88,7 @@ impl Store {
     pub fn nodes(&self) -> usize
         ensures { result ≡ finite.len self.now.tree.nodes }
     {
-        self.rows.len()
+        self.nodes.len()
     }
 
     /// How many sessions there are.
@@ -111,20 +102,20 @@ impl Store {
     pub fn keeps_lawful(&self)
         ensures { IsLawful self.now.tree }
     {
-        let _ = &self.rows;
+        let _ = &self.time;
     }
 
     /// What every store keeps: each key of its tree is a path.
     pub fn keeps_paths(&self)
         ensures { HasPaths self.now.tree.nodes }
     {
-        let _ = &self.rows;
+        let _ = &self.time;
     }
 
     /// How many Ids were given so far.
     pub fn given(&self) -> u128
         ensures { result ≡ self.now.given }
     {
-        self.given
+        self.nodes.given()
     }
 }

@@ -10,11 +10,9 @@ ghost use Rattle.zstore.specs.StoreView.{path_of, AtPath, AtNode, AtParentOf, Ke
 ghost use Rattle.zstore.specs.StoreView.{Forgets, ForgetsGone, DropsNode};
 ghost use Rattle.zstore.specs.support.Parts.{tree_without, LosesChild};
 
-use crate::id::Id;
-use crate::place::row_of;
 use crate::store::Store;
 use crate::undo::Undo;
-use crate::undoing::marks_of;
+use znodes::{Id, Marks};
 
 impl Store {
     /// Takes away a node beneath which there is none, by the next change; its Id names nothing any
@@ -42,16 +40,13 @@ impl Store {
         requires below_root { AtPath self.now id (λ path. path ≢ []) }
         ensures { AtPath self.now id (λ path. path_of self.now result ≡ Some (parent_of path)) }
     {
-        let Some(at) = row_of(&self.rows, id) else {
-            unreachable!();
-        };
-        match self.above(&self.rows[at].path) {
+        match self.nodes.above(id) {
             Some(parent) => parent,
             None => unreachable!(),
         }
     }
 
-    // A live Id's row gone.
+    // A live Id's node gone.
     fn take(&mut self, id: Id)
         requires live { IsSome (path_of self.old id) }
         requires below_root { AtPath self.old id (λ path. path ≢ []) }
@@ -63,11 +58,8 @@ impl Store {
         ensures given { self.new.given ≡ self.old.given }
         ensures marked { self.new.marked ≡ stepped 1 self.old.marked }
     {
-        let Some(at) = row_of(&self.rows, id) else {
-            unreachable!();
-        };
-        let row = self.rows.remove(at);
-        self.log.note(Undo::Removed(at, row));
+        self.nodes.take(id);
+        self.log.note(&mut self.nodes, Undo::Taken(id));
     }
 
     // The marks of the next change at a node beneath which a child went.
@@ -79,13 +71,13 @@ impl Store {
         ensures same { KeepsIds self.old self.new }
         ensures marked { self.new.marked ≡ stepped 1 self.old.marked }
     {
-        if let Some(at) = row_of(&self.rows, parent) {
-            let zxid = self.zxid.next();
-            let node = &mut self.rows[at].node;
-            let before = marks_of(node);
-            node.pzxid = zxid;
-            node.cversion += 1;
-            self.log.note(Undo::Marked(at, before));
+        if let Some(node) = self.nodes.node(parent) {
+            let marks = Marks {
+                pzxid: self.zxid.next(),
+                cversion: node.cversion + 1,
+                seq: node.seq,
+            };
+            self.put_marks(parent, marks);
         }
     }
 }

@@ -1,35 +1,17 @@
-//! What undoes one change of the rows.
+//! What undoes one change of the nodes.
 
-use crate::row::Row;
-use ztree::{Data, Zxid};
+use znodes::{Content, Id, Marks};
 
-/// What undoes one change of the rows, at the place where the row stood. Changes are undone from the last to the first,
-/// so each place is right when its turn comes.
+/// What undoes one change of the nodes. Changes are undone from the last to the first, so each finds the nodes as its
+/// change left them.
 #[derive(Drop)]
 pub(crate) enum Undo {
-    /// A row was added there: it goes.
-    Added(usize),
-    /// This row was taken away there: it comes back.
-    Removed(usize, Row),
-    /// The marks of the children were written in the row there: these come back.
-    Marked(usize, Marks),
-    /// The data was written in the row there: this comes back.
-    Written(usize, Content),
-}
-
-/// What a child that comes or goes changes in the node above it.
-#[derive(Clone, Copy)]
-pub(crate) struct Marks {
-    pub(crate) pzxid: Zxid,
-    pub(crate) cversion: u64,
-    pub(crate) seq: u64,
-}
-
-/// What a write of its data changes in a node.
-#[derive(Drop)]
-pub(crate) struct Content {
-    pub(crate) bytes: Data,
-    pub(crate) mzxid: Zxid,
-    pub(crate) mtime: u64,
-    pub(crate) version: u64,
+    /// A node was added under the Id: it goes.
+    Added(Id),
+    /// The node of the Id was taken away: it comes back.
+    Taken(Id),
+    /// The marks of the children were written in the node of the Id: these come back.
+    Marked(Id, Marks),
+    /// The data was written in the node of the Id: this comes back.
+    Written(Id, Content),
 }

@@ -1,75 +1,67 @@
-//! How changes of the rows are noted and undone.
+//! How changes of the nodes are undone, and how they are kept.
 
-ghost use Rattle.std.specs.Prelude.{◌≡◌, ◌≤◌};
-ghost use Rattle.std.specs.Vec.{vec_capacity};
-ghost use Rattle.zstore.specs.support.Undoing.{Fits, FitAll, undone, all_undone};
-ghost use Rattle.zstore.specs.support.Undoing.{marks_of, node_with_marks, node_with_content};
+ghost use Rattle.std.specs.Prelude.{◌≡◌, ◌≤◌, ◌+◌};
+ghost use Rattle.zstore.specs.support.Undoing.{Fits, FitAll, parts_of, undone, all_undone, returning, all_returning};
+ghost use Rattle.zstore.specs.support.Undoing.{freed, all_freed, IsHeld, AllHeld};
 
-use crate::row::Row;
-use crate::undo::{Content, Marks, Undo};
-use ztree::Node;
-
-/// What the children left in a node.
-pub(crate) fn marks_of(node: &Node) -> Marks
-    ensures { result ≡ marks_of node.now }
-{
-    Marks {
-        pzxid: node.pzxid,
-        cversion: node.cversion,
-        seq: node.seq,
-    }
-}
+use crate::undo::Undo;
+use znodes::Nodes;
 
 /// Undoes all changes that were noted, from the last to the first. It takes no memory.
-pub(crate) fn undo_all(rows: &mut Vec<Row>, undos: &mut Vec<Undo>)
-    requires { FitAll undos.old.items rows.old.items (vec_capacity rows.old) }
-    ensures rows { rows.new.items ≡ all_undone undos.old.items rows.old.items }
-    ensures room { vec_capacity rows.old ≤ vec_capacity rows.new }
+pub(crate) fn undo_all(nodes: &mut Nodes, undos: &mut Vec<Undo>)
+    requires fit { FitAll nodes.old.owners undos.old.items (parts_of nodes.old) }
+    requires room { all_returning undos.old.items ≤ nodes.old.room }
+    ensures parts { parts_of nodes.new ≡ all_undone undos.old.items (parts_of nodes.old) }
+    ensures owners { nodes.new.owners ≡ nodes.old.owners }
+    ensures given { nodes.new.given ≡ nodes.old.given }
 {
     while let Some(undo) = undos.pop() {
-        undo_one(rows, undo);
+        undo_one(nodes, undo);
     }
 }
 
 // Undoes one change.
-fn undo_one(rows: &mut Vec<Row>, undo: Undo)
-    requires { Fits undo rows.old.items (vec_capacity rows.old) }
-    ensures rows { rows.new.items ≡ undone undo rows.old.items }
-    ensures room { vec_capacity rows.old ≤ vec_capacity rows.new }
+fn undo_one(nodes: &mut Nodes, undo: Undo)
+    requires fits { Fits nodes.old.owners undo (parts_of nodes.old) }
+    requires room { returning undo ≤ nodes.old.room }
+    ensures parts { parts_of nodes.new ≡ undone undo (parts_of nodes.old) }
+    ensures owners { nodes.new.owners ≡ nodes.old.owners }
+    ensures given { nodes.new.given ≡ nodes.old.given }
+    ensures room { nodes.old.room ≤ nodes.new.room + returning undo }
 {
     match undo {
-        Undo::Added(at) => {
-            rows.remove(at);
+        Undo::Added(id) => {
+            nodes.take(id);
+            nodes.free(id);
         }
-        Undo::Removed(at, row) => {
-            if rows.insert(at, row).is_err() {
-                unreachable!();
-            }
+        Undo::Taken(id) => nodes.put_back(id),
+        Undo::Marked(id, marks) => {
+            nodes.put_marks(id, marks);
         }
-        Undo::Marked(at, marks) => {
-            put_marks(&mut rows[at].node, marks);
-        }
-        Undo::Written(at, content) => {
-            put_content(&mut rows[at].node, content);
+        Undo::Written(id, content) => {
+            nodes.put_content(id, content);
         }
     }
 }
 
-// Writes what the children left.
-fn put_marks(node: &mut Node, marks: Marks)
-    ensures { node.new ≡ node_with_marks marks node.old }
+/// Gives up what all these changes took away, from the last to the first: they won't be undone.
+pub(crate) fn free_all(nodes: &mut Nodes, undos: &[Undo])
+    requires { AllHeld undos.now nodes.old.held }
+    ensures { nodes.new ≡ record nodes.old { held = all_freed undos.now nodes.old.held } }
 {
-    node.pzxid = marks.pzxid;
-    node.cversion = marks.cversion;
-    node.seq = marks.seq;
+    let mut left = undos;
+    while let Some((last, before)) = left.split_last() {
+        free_one(nodes, last);
+        left = before;
+    }
 }
 
-// Writes what the writes of data left.
-fn put_content(node: &mut Node, content: Content)
-    ensures { node.new ≡ node_with_content content node.old }
+/// Gives up what one change took away, if it took something.
+pub(crate) fn free_one(nodes: &mut Nodes, undo: &Undo)
+    requires { IsHeld undo.now nodes.old.held }
+    ensures { nodes.new ≡ record nodes.old { held = freed undo.now nodes.old.held } }
 {
-    node.bytes = content.bytes;
-    node.mzxid = content.mzxid;
-    node.mtime = content.mtime;
-    node.version = content.version;
+    if let Undo::Taken(id) = undo {
+        nodes.free(*id);
+    }
 }

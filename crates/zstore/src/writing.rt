@@ -9,16 +9,12 @@ ghost use Rattle.ztree.specs.Tree.{parent_of, has_node, with_node, with_next_zxi
 ghost use Rattle.ztree.specs.Room.{HasRoomForChild, HasRoomForData};
 ghost use Rattle.zstore.specs.StoreView.{path_of, node_of, AtNode};
 ghost use Rattle.zstore.specs.StoreView.{KeepsIds, GivesAtMostOne, NamesNew, WritesData, stepped};
-ghost use Rattle.zstore.specs.support.Parts.{tree_with, GainsChild};
+ghost use Rattle.zstore.specs.support.Parts.{tree_with, GainsChild, WritesMarks, WritesContent};
 ghost use Rattle.ztree.specs.Lawful.{IsPersistent, IsOwner};
 
-use crate::id::Id;
-use crate::place::{gap_of, row_of};
-use crate::row::Row;
 use crate::store::Store;
-use crate::undo::{Content, Undo};
-use crate::undoing::marks_of;
-use std::mem;
+use crate::undo::Undo;
+use znodes::{Content, Id, Marks};
 use zpath::{Memory, Path};
 use ztree::{Data, Node};
 
@@ -31,7 +27,7 @@ impl Store {
         ensures unmarked { self.new.marked ≡ None }
     {
         self.zxid = self.zxid.next();
-        self.log.stop();
+        self.log.stop(&mut self.nodes);
     }
 
     /// Adds a node that the next change makes, beneath a live parent, at a path that is free. The
@@ -73,7 +69,7 @@ impl Store {
             owner,
             seq: 0,
         };
-        let id = self.insert(path, node)?;
+        let id = self.insert(parent, path, node)?;
         self.child_changed(parent, sequential);
         Ok(id)
     }
@@ -88,27 +84,24 @@ impl Store {
         ensures marked { OnOk result (self.new.marked ≡ stepped 1 self.old.marked) }
         ensures err { OnErr result (self.new ≡ self.old) }
     {
-        if let Some(at) = row_of(&self.rows, id) {
-            let zxid = self.zxid.next();
-            let node = &mut self.rows[at].node;
-            let before = Content {
-                bytes: mem::replace(&mut node.bytes, bytes),
-                mzxid: node.mzxid,
-                mtime: node.mtime,
-                version: node.version,
+        if let Some(node) = self.nodes.node(id) {
+            let content = Content {
+                bytes,
+                mzxid: self.zxid.next(),
+                mtime: self.time,
+                version: node.version + 1,
             };
-            node.mzxid = zxid;
-            node.mtime = self.time;
-            node.version += 1;
-            self.log.note(Undo::Written(at, before));
+            self.put_content(id, content);
         }
         Ok(())
     }
 
-    // A row at a free path, under a new Id.
-    fn insert(&mut self, path: Path, node: Node) -> Result<Id, Memory>
+    // A node at a free path, under a new Id.
+    fn insert(&mut self, parent: Id, path: Path, node: Node) -> Result<Id, Memory>
+        requires below_root { path ≢ [] }
+        requires live { path_of self.old parent ≡ Some (parent_of path) }
         requires free { has_node self.old.tree.nodes path ≡ false }
-        requires parent { IsPersistent (get self.old.tree.nodes (parent_of path)) }
+        requires persistent { IsPersistent (node_of self.old parent) }
         requires owner { IsOwner self.old.tree.sessions node.owner }
         requires few { finite.len self.old.tree.nodes < MAX_NODES }
         requires given { self.old.given < ID_BOUND }
@@ -117,14 +110,11 @@ impl Store {
         ensures marked { OnOk result (self.new.marked ≡ stepped 1 self.old.marked) }
         ensures err { OnErr result (self.new ≡ self.old) }
     {
-        // A path's names are those of a path: the row keeps that.
+        // A path's names are those of a path: the store keeps that.
         let _ = path.names();
-        let at = gap_of(&self.rows, &path);
-        let number = self.given;
-        self.rows.insert(at, Row { path, number, node })?;
-        self.log.note(Undo::Added(at));
-        self.given += 1;
-        Ok(Id { number, hint: at })
+        let id = self.nodes.add(parent, path, node)?;
+        self.log.note(&mut self.nodes, Undo::Added(id));
+        Ok(id)
     }
 
     // The marks of the next change at a node beneath which a child came.
@@ -136,14 +126,35 @@ impl Store {
         ensures same { KeepsIds self.old self.new }
         ensures marked { self.new.marked ≡ stepped 1 self.old.marked }
     {
-        if let Some(at) = row_of(&self.rows, parent) {
-            let zxid = self.zxid.next();
-            let node = &mut self.rows[at].node;
-            let before = marks_of(node);
-            node.pzxid = zxid;
-            node.cversion += 1;
-            node.seq += u64::from(sequential);
-            self.log.note(Undo::Marked(at, before));
+        if let Some(node) = self.nodes.node(parent) {
+            let marks = Marks {
+                pzxid: self.zxid.next(),
+                cversion: node.cversion + 1,
+                seq: node.seq + u64::from(sequential),
+            };
+            self.put_marks(parent, marks);
         }
+    }
+
+    // The marks of a live node written.
+    pub(crate) fn put_marks(&mut self, id: Id, marks: Marks)
+        requires live { IsSome (path_of self.old id) }
+        ensures tree { WritesMarks self.old self.new id marks }
+        ensures same { KeepsIds self.old self.new }
+        ensures marked { self.new.marked ≡ stepped 1 self.old.marked }
+    {
+        let before = self.nodes.put_marks(id, marks);
+        self.log.note(&mut self.nodes, Undo::Marked(id, before));
+    }
+
+    // The data of a live node written.
+    fn put_content(&mut self, id: Id, content: Content)
+        requires live { IsSome (path_of self.old id) }
+        ensures tree { WritesContent self.old self.new id content }
+        ensures same { KeepsIds self.old self.new }
+        ensures marked { self.new.marked ≡ stepped 1 self.old.marked }
+    {
+        let before = self.nodes.put_content(id, content);
+        self.log.note(&mut self.nodes, Undo::Written(id, before));
     }
 }

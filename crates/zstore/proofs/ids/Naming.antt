@@ -1,48 +1,38 @@
--- The map of Ids after one more entry.
-use Rattle.std.proofs.Common.{◌≡◌, ◌≢◌, ◌-◌, Option, Bool, true, false, cond, Some, None, refl, sym, ap, ◌∙◌, arith}
-use lib.Dec.{eqb}
+-- What Ids name after one more was given, and after one was forgotten.
+use Rattle.std.proofs.Common.{◌≡◌, ◌≢◌, ◌⊎◌, inl, inr, ◌-◌, Option, Bool, true, false, cond, Some, None, refl, sym, ap, ◌∙◌, arith}
 use Rattle.std.specs.Prelude.{nat_le, IsSome}
-use Rattle.std.specs.Cmp.{nat_cmp_total, unsigned_tied}
 use Rattle.std.specs.FinMap as finite
-use Rattle.std.specs.FinMap.{get-insert, get-remove}
 use Rattle.std.proofs.lemmas.Bool.Decides.{nat_tests}
-use Rattle.zstore.specs.declared.id.Id.{Id}
+use Rattle.zslots.specs.declared.id.Id.{Id}
+use Rattle.zslots.proofs.Maps.{id_cmp_total, id_cmp_same}
 use Rattle.ztree.specs.Tree.{Path}
+use Rattle.ztree.proofs.Maps.{same_some, none_some, same_or_other, get-insert-elsewhere, get-remove-elsewhere}
 use Rattle.zstore.specs.StoreView.{StoreView, Mark, path_of, NamesNew, Forgets, stepped}
 
 -- an Id that names a path still names it after another Id was given
-pub still_named : (old new : StoreView) (id : Id) (path : Path) (other : Id) (p : Path) → NamesNew old new id path → path_of old other ≡ Some p → path_of new other ≡ Some p
-still_named old new id path other p names is =
-    ap (λ places. finite.get places other.number) names.named
-    ∙ get-insert nat_cmp_total old.places id.number path other.number
-    ∙ (λ i. cond (unsigned_tied other.number id.number i) (Some path) (finite.get old.places other.number))
-    ∙ by (eqb other.number id.number) refl
+pub still_named : (old new : StoreView) (id : Id) (path : Path) (other : Id) (p : Path) →
+    NamesNew old new id path → path_of old other ≡ Some p → path_of new other ≡ Some p
+still_named old new id path other p names is = ap (λ places. finite.get places other) names.named
+    ∙ by (same_or_other id_cmp_total id_cmp_same other id)
   where
-    by : (t : Bool) → eqb other.number id.number ≡ t → cond t (Some path) (finite.get old.places other.number) ≡ Some p
-    by true e =
-        let same : other.number ≡ id.number = grind (arith, nat_tests) in
-        absurd (clash p (sym is ∙ ap (finite.get old.places) same ∙ names.free))
-      where
-        clash : (x : Path) → Some x ≡ None → ⊥
-        clash x e = cc
-    by false e = is
+    by : (other ≡ id) ⊎ (other ≢ id) → finite.get (finite.insert old.places id path) other ≡ Some p
+    by (inl same) =
+        absurd (none_some p (sym names.free ∙ ap (finite.get old.places) (sym same) ∙ is))
+    by (inr differs) =
+        get-insert-elsewhere id_cmp_total id_cmp_same old.places id path other differs ∙ is
 
 -- and so does one after another was forgotten
-pub not_forgotten : (old new : StoreView) (id other : Id) (path p : Path) → Forgets old new id → path_of old id ≡ Some path → path_of old other ≡ Some p → p ≢ path → path_of new other ≡ Some p
+pub not_forgotten : (old new : StoreView) (id other : Id) (path p : Path) → Forgets old new id →
+    path_of old id ≡ Some path → path_of old other ≡ Some p → p ≢ path → path_of new other ≡ Some p
 not_forgotten old new id other path p forgets named is differs =
-    ap (λ places. finite.get places other.number) forgets
-    ∙ get-remove nat_cmp_total old.places id.number other.number
-    ∙ (λ i. cond (unsigned_tied other.number id.number i) None (finite.get old.places other.number))
-    ∙ by (eqb other.number id.number) refl
+    ap (λ places. finite.get places other) forgets
+    ∙ by (same_or_other id_cmp_total id_cmp_same other id)
   where
-    some : (x y : Path) → Some x ≡ Some y → x ≡ y
-    some x y e = cc
-
-    by : (t : Bool) → eqb other.number id.number ≡ t → cond t None (finite.get old.places other.number) ≡ Some p
-    by true e =
-        let same : other.number ≡ id.number = grind (arith, nat_tests) in
-        absurd (differs (some p path (sym is ∙ ap (finite.get old.places) same ∙ named)))
-    by false e = is
+    by : (other ≡ id) ⊎ (other ≢ id) → finite.get (finite.remove old.places id) other ≡ Some p
+    by (inl same) =
+        absurd (differs (same_some p path (sym is ∙ ap (finite.get old.places) same ∙ named)))
+    by (inr another) = get-remove-elsewhere id_cmp_total id_cmp_same old.places id other another
+        ∙ is
 
 -- the path of a live Id
 pub path_there : (o : Option Path) → IsSome o → (path : Path) × (o ≡ Some path)
@@ -57,13 +47,17 @@ pub stepped_twice : (m : Option Mark) → stepped 1 (stepped 1 m) ≡ stepped 2 
 stepped_twice None = refl
 stepped_twice (Some m) = by (nat_le 1 m.steps) refl (nat_le 2 m.steps) refl
   where
-    twice : (b : Bool) → nat_le 1 (m.steps - 1) ≡ b → (d : Bool) → nat_le 2 m.steps ≡ d → cond b (Some (record m { steps = m.steps - 1 - 1 })) None ≡ cond d (Some (record m { steps = m.steps - 2 })) None
+    twice : (b : Bool) → nat_le 1 (m.steps - 1) ≡ b → (d : Bool) → nat_le 2 m.steps ≡ d →
+        cond b (Some (record m { steps = m.steps - 1 - 1 })) None ≡ cond d
+        (Some (record m { steps = m.steps - 2 })) None
     twice true e true f = ap (λ n. Some (record m { steps = n })) (omega arith)
     twice false e false f = refl
     twice true e false f = absurd (grind (arith, nat_tests))
     twice false e true f = absurd (grind (arith, nat_tests))
 
-    by : (a : Bool) → nat_le 1 m.steps ≡ a → (d : Bool) → nat_le 2 m.steps ≡ d → stepped 1 (cond a (Some (record m { steps = m.steps - 1 })) None) ≡ cond d (Some (record m { steps = m.steps - 2 })) None
+    by : (a : Bool) → nat_le 1 m.steps ≡ a → (d : Bool) → nat_le 2 m.steps ≡ d →
+        stepped 1 (cond a (Some (record m { steps = m.steps - 1 })) None) ≡ cond d
+        (Some (record m { steps = m.steps - 2 })) None
     by true e d f = twice (nat_le 1 (m.steps - 1)) refl d f
     by false e true f = absurd (grind (arith, nat_tests))
     by false e false f = refl

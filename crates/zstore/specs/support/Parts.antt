@@ -1,10 +1,13 @@
 -- The parts of a change of the tree, each by a function of its own.
-use Rattle.std.specs.Prelude.{◌≡◌, ℕ, ◌+◌, Bool}
-use Rattle.std.specs.FinMap.{insert, remove}
+use Rattle.std.specs.Prelude.{◌≡◌, ℕ, ◌+◌, Bool, Some}
+use Rattle.std.specs.FinMap.{get, insert, remove}
 use Rattle.ztree.specs.declared.node.Node.{Node}
 use Rattle.ztree.specs.Tree.{Tree, Path, with_change_at, with_child, without_child}
-use Rattle.zstore.specs.declared.id.Id.{Id}
-use Rattle.zstore.specs.StoreView.{StoreView, AtPath}
+use Rattle.zslots.specs.declared.id.Id.{Id}
+use Rattle.znodes.specs.declared.parts.Marks.{Marks}
+use Rattle.znodes.specs.declared.parts.Content.{Content}
+use Rattle.znodes.specs.NodesView.{node_with_marks, node_with_content}
+use Rattle.zstore.specs.StoreView.{StoreView, AtPath, path_of}
 
 -- one more node
 abbrev pub tree_with : Tree → Path → Node → Tree
@@ -12,7 +15,8 @@ tree_with t path n = record t { nodes = insert t.nodes path n }
 
 -- the marks of the next change at a node beneath which a child came
 abbrev pub with_child_at : Tree → Path → Bool → Tree
-with_child_at t path sequential = record t { nodes = with_change_at t.nodes path (with_child (t.zxid + 1) sequential) }
+with_child_at t path sequential =
+    record t { nodes = with_change_at t.nodes path (with_child (t.zxid + 1) sequential) }
 
 -- one node fewer
 abbrev pub tree_without : Tree → Path → Tree
@@ -20,11 +24,13 @@ tree_without t path = record t { nodes = remove t.nodes path }
 
 -- the marks of the next change at a node beneath which a child went
 abbrev pub without_child_at : Tree → Path → Tree
-without_child_at t path = record t { nodes = with_change_at t.nodes path (without_child (t.zxid + 1)) }
+without_child_at t path =
+    record t { nodes = with_change_at t.nodes path (without_child (t.zxid + 1)) }
 
 -- a child came beneath the node that an Id names
 abbrev pub GainsChild : StoreView → StoreView → Id → Bool → Type 0
-GainsChild old new id sequential = AtPath old id (λ path. new.tree ≡ with_child_at old.tree path sequential)
+GainsChild old new id sequential =
+    AtPath old id (λ path. new.tree ≡ with_child_at old.tree path sequential)
 
 -- a child went from beneath the node that an Id names
 abbrev pub LosesChild : StoreView → StoreView → Id → Type 0
@@ -33,3 +39,23 @@ LosesChild old new id = AtPath old id (λ path. new.tree ≡ without_child_at ol
 -- one session fewer
 abbrev pub tree_without_session : Tree → ℕ → Tree
 tree_without_session t id = record t { sessions = remove t.sessions id }
+
+-- the marks of the node that an Id names are written
+abbrev pub WritesMarks : StoreView → StoreView → Id → Marks → Type 0
+WritesMarks old new id marks =
+    AtPath old id
+    (λ path. new.tree ≡ record old.tree
+    { nodes = with_change_at old.tree.nodes path (node_with_marks marks) })
+
+-- the data of the node that an Id names is written
+abbrev pub WritesContent : StoreView → StoreView → Id → Content → Type 0
+WritesContent old new id content =
+    AtPath old id
+    (λ path. new.tree ≡ record old.tree
+    { nodes = with_change_at old.tree.nodes path (node_with_content content) })
+
+-- the Id names a node that the session owns
+abbrev pub IsOwned : StoreView → ℕ → Id → Type 0
+IsOwned h session id =
+    (path : Path) × (path_of h id ≡ Some path) × (n : Node) × (get h.tree.nodes path ≡ Some
+    n) × (n.owner ≡ session)

@@ -1,64 +1,134 @@
--- What undoes a change of the rows, and what a store keeps while a mark stands.
-use Rattle.std.specs.Prelude.{◌≡◌, ℕ, zero, suc, ◌-◌, ◌<◌, ◌≤◌, List, [], ◌∷◌, ◌++◌, length, Option, None, Some, if◌then◌else◌, nat_le}
-use Rattle.std.specs.List.{insert, remove}
+-- What undoes a change of the nodes, and what is noted while a mark stands.
+use Rattle.std.specs.Prelude.{◌≡◌, ◌≢◌, ◌⊎◌, ℕ, ◌+◌, ◌-◌, ◌≤◌, true, false, List, [], ◌∷◌, ◌++◌, Option, None, Some, IsSome, if◌then◌else◌, nat_le}
+use Rattle.std.specs.Option.{option_map_or}
 use Rattle.std.specs.Vec.{vec_len, vec_capacity}
+use Rattle.std.specs.Ordering.{nat_cmp}
+use Rattle.std.specs.FinMap.{FinMap, get, insert, remove}
+use Rattle.zslots.specs.declared.id.Id.{Id}
+use Rattle.zslots.specs.Ids.{id_cmp}
 use Rattle.ztree.specs.declared.node.Node.{Node}
-use Rattle.zstore.specs.declared.row.Row.{Row}
+use Rattle.ztree.specs.Tree.{Path, Nodes, parent_of, has_node, children, with_change_at}
+use Rattle.znodes.specs.NodesView.{NodesView, Taken, node_with_marks, node_with_content}
 use Rattle.zstore.specs.declared.undo.Undo.{Undo}
 use Rattle.zstore.specs.declared.undo.Undo.TheVariants as undo
-use Rattle.zstore.specs.declared.undo.Marks.{Marks}
-use Rattle.zstore.specs.declared.undo.Content.{Content}
 use Rattle.zstore.specs.declared.log.Log.{Log}
 
--- what the children left in a node
-abbrev pub marks_of : Node → Marks
-marks_of n = record { pzxid = n.pzxid; cversion = n.cversion; seq = n.seq }
+-- the paths by their Ids, what was taken away by its Id, and who may own nodes
+abbrev pub Places : Type 0
+Places = FinMap id_cmp Path
 
--- what the writes of its data left in a node
-abbrev pub content_of : Node → Content
-content_of n = record { bytes = n.bytes; mzxid = n.mzxid; mtime = n.mtime; version = n.version }
+abbrev pub Held : Type 0
+Held = FinMap id_cmp Taken
 
--- a node with these marks
-abbrev pub node_with_marks : Marks → Node → Node
-node_with_marks m n = record n { pzxid = m.pzxid; cversion = m.cversion; seq = m.seq }
+abbrev pub Owners : Type 0
+Owners = FinMap nat_cmp (Unit {0})
 
--- a node with this data
-abbrev pub node_with_content : Content → Node → Node
-node_with_content w n = record n { bytes = w.bytes; mzxid = w.mzxid; mtime = w.mtime; version = w.version }
+-- what a change changes: the nodes, the paths of the live Ids, and what was taken away and can come back
+pub record Parts : Type 0 where
+  pub nodes : Nodes
+  pub places : Places
+  pub held : Held
 
--- the row of the node so changed
-abbrev pub with_node : (Node → Node) → Row → Row
-with_node f r = record r { node = f r.node }
+abbrev pub parts_of : NodesView → Parts
+parts_of v = record { nodes = v.nodes; places = v.places; held = v.held }
 
--- the row at a place, changed
-abbrev pub changed_at : (Row → Row) → List Row → ℕ → List Row
-changed_at f [] at = []
-changed_at f (r ∷ rows) zero = f r ∷ rows
-changed_at f (r ∷ rows) (suc at) = r ∷ changed_at f rows at
+-- the node that an Id names gone
+abbrev pub without_added : Id → Parts → Parts
+without_added id p =
+    option_map_or
+    (λ path. record { nodes = remove p.nodes path; places = remove p.places id; held = p.held })
+    (get p.places id) p
 
--- the rows before a change
-abbrev pub undone : Undo → List Row → List Row
-undone (undo.Added at) rows = remove rows at
-undone (undo.Removed at row) rows = insert rows at row
-undone (undo.Marked at marks) rows = changed_at (with_node (node_with_marks marks)) rows at
-undone (undo.Written at content) rows = changed_at (with_node (node_with_content content)) rows at
+-- the node that was taken away under an Id back
+abbrev pub with_taken : Id → Parts → Parts
+with_taken id p =
+    option_map_or
+    (λ t. record
+    { nodes = insert p.nodes t.0 t.1; places = insert p.places id t.0; held = remove p.held id })
+    (get p.held id) p
 
--- the change can be undone within so much room
-abbrev pub Fits : Undo → List Row → ℕ → Type 0
-Fits (undo.Added at) rows room = at < length rows
-Fits (undo.Removed at row) rows room = (at ≤ length rows) × (length rows < room)
-Fits (undo.Marked at marks) rows room = at < length rows
-Fits (undo.Written at content) rows room = at < length rows
+-- the node that an Id names changed
+abbrev pub with_change_of : Id → (Node → Node) → Parts → Parts
+with_change_of id f p =
+    option_map_or (λ path. record p { nodes = with_change_at p.nodes path f }) (get p.places id) p
 
--- the rows before all changes: the last is undone first
-abbrev pub all_undone : List Undo → List Row → List Row
-all_undone [] rows = rows
-all_undone (u ∷ us) rows = undone u (all_undone us rows)
+-- the parts before a change
+abbrev pub undone : Undo → Parts → Parts
+undone (undo.Added id) p = without_added id p
+undone (undo.Taken id) p = with_taken id p
+undone (undo.Marked id marks) p = with_change_of id (node_with_marks marks) p
+undone (undo.Written id content) p = with_change_of id (node_with_content content) p
+
+-- an added node can go: its Id names a leaf below the root, and nothing was taken away under it
+pub record CanGo (p : Parts) (id : Id) : Type 0 where
+  pub path : Path
+  pub node : Node
+  pub named : get p.places id ≡ Some path
+  pub found : get p.nodes path ≡ Some node
+  pub below_root : path ≢ []
+  pub leaf : children p.nodes path ≡ []
+  pub unheld : get p.held id ≡ None
+
+-- a node that was taken away can come back: its path is free, the node above is there, and its owner is known
+pub record CanComeBack (owners : Owners) (p : Parts) (id : Id) : Type 0 where
+  pub taken : Taken
+  pub held : get p.held id ≡ Some taken
+  pub below_root : taken.0 ≢ []
+  pub free : has_node p.nodes taken.0 ≡ false
+  pub parent : has_node p.nodes (parent_of taken.0) ≡ true
+  pub owner : (taken.1.owner ≡ 0) ⊎ IsSome (get owners taken.1.owner)
+
+-- the change can be undone
+abbrev pub Fits : Owners → Undo → Parts → Type 0
+Fits owners (undo.Added id) p = CanGo p id
+Fits owners (undo.Taken id) p = CanComeBack owners p id
+Fits owners (undo.Marked id marks) p = IsSome (get p.places id)
+Fits owners (undo.Written id content) p = IsSome (get p.places id)
+
+-- the parts before all changes: the last is undone first
+abbrev pub all_undone : List Undo → Parts → Parts
+all_undone [] p = p
+all_undone (u ∷ us) p = undone u (all_undone us p)
 
 -- all changes can be undone
-abbrev pub FitAll : List Undo → List Row → ℕ → Type 0
-FitAll [] rows room = Unit {0}
-FitAll (u ∷ us) rows room = Fits u (all_undone us rows) room × FitAll us rows room
+abbrev pub FitAll : Owners → List Undo → Parts → Type 0
+FitAll owners [] p = Unit {0}
+FitAll owners (u ∷ us) p = Fits owners u (all_undone us p) × FitAll owners us p
+
+-- how many nodes come back where a change is undone, and where all are
+abbrev pub returning : Undo → ℕ
+returning (undo.Added id) = 0
+returning (undo.Taken id) = 1
+returning (undo.Marked id marks) = 0
+returning (undo.Written id content) = 0
+
+abbrev pub all_returning : List Undo → ℕ
+all_returning [] = 0
+all_returning (u ∷ us) = returning u + all_returning us
+
+-- what is held once a change needn't be undone any more
+abbrev pub freed : Undo → Held → Held
+freed (undo.Added id) held = held
+freed (undo.Taken id) held = remove held id
+freed (undo.Marked id marks) held = held
+freed (undo.Written id content) held = held
+
+-- and once none needs to be
+abbrev pub all_freed : List Undo → Held → Held
+all_freed [] held = held
+all_freed (u ∷ us) held = freed u (all_freed us held)
+
+-- what a change took away is held
+abbrev pub IsHeld : Undo → Held → Type 0
+IsHeld (undo.Added id) held = Unit {0}
+IsHeld (undo.Taken id) held = IsSome (get held id)
+IsHeld (undo.Marked id marks) held = Unit {0}
+IsHeld (undo.Written id content) held = Unit {0}
+
+-- what all changes took away is held, each once
+abbrev pub AllHeld : List Undo → Held → Type 0
+AllHeld [] held = Unit {0}
+AllHeld (u ∷ us) held = IsHeld u (all_freed us held) × AllHeld us held
 
 -- what was noted since a mark, and the room for more
 pub record Notes : Type 0 where
@@ -67,13 +137,38 @@ pub record Notes : Type 0 where
 
 -- the notes of a log, while a mark stands
 abbrev pub notes_of : Log → Option Notes
-notes_of l = if l.is_on then Some (record { undos = l.undos.items; room = vec_capacity l.undos - vec_len l.undos }) else None
+notes_of l =
+    if l.is_on then Some
+    (record { undos = l.undos.items; room = vec_capacity l.undos - vec_len l.undos }) else None
+
+-- what undoes all that was noted: nothing, where no mark stands
+abbrev pub undos_of : Option Notes → List Undo
+undos_of None = []
+undos_of (Some n) = n.undos
+
+-- how much more can be noted
+abbrev pub room_of : Option Notes → ℕ
+room_of None = 0
+room_of (Some n) = n.room
 
 -- one note more, where there is room for it
 abbrev pub noted : Undo → Option Notes → Option Notes
 noted u None = None
-noted u (Some n) = if nat_le 1 n.room then Some (record { undos = n.undos ++ u ∷ []; room = n.room - 1 }) else None
+noted u (Some n) =
+    if nat_le 1 n.room then Some (record { undos = n.undos ++ u ∷ []; room = n.room - 1 }) else None
 
--- a mark was set, with room for so many notes
-abbrev pub StartsWith : ℕ → Option Notes → Type 0
-StartsWith steps notes = (room : ℕ) × (notes ≡ Some (record { undos = []; room = room })) × (steps ≤ room)
+-- what is held then: where there is no room for the note, none of the changes needs to be undone
+abbrev pub held_after : Undo → Option Notes → Held → Held
+held_after u None held = freed u held
+held_after u (Some n) held = if nat_le 1 n.room then held else all_freed (n.undos ++ u ∷ []) held
+
+-- a mark was set, with room for so many notes, and for as many nodes
+pub record StartsWith (steps : ℕ) (notes : Option Notes) (room : ℕ) : Type 0 where
+  pub notes_room : ℕ
+  pub on : notes ≡ Some (record { undos = []; room = notes_room })
+  pub enough : steps ≤ notes_room
+  pub within : notes_room ≤ room
+
+-- nothing has changed in the nodes but what is held, and the room
+abbrev pub GivesUp : List Undo → NodesView → NodesView → Type 0
+GivesUp us old new = new ≡ record old { held = all_freed us old.held; room = new.room }

@@ -25,7 +25,7 @@ returns-clause-done c =
     let fresh = sym (c.has_other_version.ensures set.path c.in-Some.ensures.found) ∙ c.if-has_other_version.false in
     let there = node_there (finite.get t.nodes set.path) (sym c.in-Some.ensures.node) in
     let tree = c.in_ok-put_data.ensures.tree set.path c.in-Some.ensures.found in
-    let still = ap (λ places. finite.get places c.in-Some.id.number) c.in_ok-put_data.ensures.same.0 ∙ c.in-Some.ensures.found in
+    let still = ap (λ places. finite.get places c.in-Some.id) c.in_ok-put_data.ensures.same.0 ∙ c.in-Some.ensures.found in
     let told = sym (ap (λ u. stat_at u.nodes set.path) tree) ∙ c.in-Some-stat.ensures.stat set.path still in
     record {
       step_is = set_step-done t set there.0 c.in-Some-stat.stat there.1 fresh told ∙ (λ i. Ok (sym tree i, Set c.in-Some-stat.stat));

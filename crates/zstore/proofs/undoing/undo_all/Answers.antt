@@ -1,28 +1,44 @@
 use Rattle.std.proofs.Common.{ap, sym, subst, ◌∙◌, arith}
-use Rattle.std.specs.Vec.{vec_capacity}
-use Rattle.zstore.specs.support.Undoing.{all_undone, FitAll}
-use Rattle.zstore.proofs.rows.Undone.{all_undone-push, fit_all_last, fit_all_more}
+use Rattle.zstore.specs.support.Undoing.{Owners, parts_of, all_undone, FitAll, all_returning}
+use Rattle.zstore.proofs.parts.Undone.{all_undone-push, fit_all_last, all_returning-push}
 use Rattle.zstore.proofs.undoing.undo_all.Goals as goal
 
 pub undo_one-requires : goal.undo_one-requires
 undo_one-requires c =
-    let room = vec_capacity c.loop-undo.rows in
-    let fit = subst (λ us. FitAll us c.loop-undo.rows.items room) c.in-Some.ensures.items c.loop-undo.invariant.fit in
-    (fit_all_last c.pop.new.self.items c.in-Some.undo c.loop-undo.rows.items room fit).0
+    let v = c.loop-undo.nodes in
+    let fit =
+    subst (λ us. FitAll v.owners us (parts_of v)) c.in-Some.ensures.items
+    c.loop-undo.invariant.fit in
+    let room = c.loop-undo.invariant.room in
+    let count = ap all_returning c.in-Some.ensures.items
+    ∙ all_returning-push c.pop.new.self.items c.in-Some.undo in
+    record {
+      fits = (fit_all_last v.owners c.pop.new.self.items c.in-Some.undo (parts_of v) fit).0;
+      room = omega (arith, room, count);
+    }
 
 pub loop-undo-preserved : goal.loop-undo-preserved
 loop-undo-preserved c =
-    let before = vec_capacity c.loop-undo.rows in
-    let fit = subst (λ us. FitAll us c.loop-undo.rows.items before) c.in-Some.ensures.items c.loop-undo.invariant.fit in
-    let left = (fit_all_last c.pop.new.self.items c.in-Some.undo c.loop-undo.rows.items before fit).1 in
-    let rows = c.undo_one.ensures.rows in
-    let room = c.undo_one.ensures.room in
-    let so_far = c.loop-undo.invariant.room in
+    let v = c.loop-undo.nodes in
+    let w = c.undo_one.new.nodes in
+    let left = c.pop.new.self.items in
+    let fit =
+    subst (λ us. FitAll v.owners us (parts_of v)) c.in-Some.ensures.items
+    c.loop-undo.invariant.fit in
+    let last = fit_all_last v.owners left c.in-Some.undo (parts_of v) fit in
+    let room = c.loop-undo.invariant.room in
+    let count = ap all_returning c.in-Some.ensures.items ∙ all_returning-push left c.in-Some.undo in
+    let parts = c.undo_one.ensures.parts in
+    let owners = c.undo_one.ensures.owners in
+    let after = c.undo_one.ensures.room in
     record {
-      rows = ap (all_undone c.pop.new.self.items) rows
-          ∙ sym (all_undone-push c.pop.new.self.items c.in-Some.undo c.loop-undo.rows.items)
-          ∙ ap (λ us. all_undone us c.loop-undo.rows.items) (sym c.in-Some.ensures.items)
-          ∙ c.loop-undo.invariant.rows;
-      fit = fit_all_more c.pop.new.self.items c.undo_one.new.rows.items before (vec_capacity c.undo_one.new.rows) room (subst (λ r. FitAll c.pop.new.self.items r before) (sym rows) left);
-      room = omega (arith, room, so_far);
+      parts = ap (all_undone left) parts
+          ∙ sym (all_undone-push left c.in-Some.undo (parts_of v))
+          ∙ ap (λ us. all_undone us (parts_of v)) (sym c.in-Some.ensures.items)
+          ∙ c.loop-undo.invariant.parts;
+      fit = subst (λ (o : Owners). FitAll o left (parts_of w)) (sym owners)
+          (subst (FitAll v.owners left) (sym parts) last.1);
+      room = omega (arith, room, count, after);
+      owners = owners ∙ c.loop-undo.invariant.owners;
+      given = c.undo_one.ensures.given ∙ c.loop-undo.invariant.given;
     }

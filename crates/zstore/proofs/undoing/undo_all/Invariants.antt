@@ -1,13 +1,16 @@
 use Rattle.std.proofs.Common.{◌≡◌, ◌≤◌}
-use Rattle.std.specs.Vec.{vec_capacity, vec_len}
-use Rattle.zstore.specs.support.Undoing.{all_undone, FitAll}
+use Rattle.std.specs.Vec.{vec_len}
+use Rattle.zstore.specs.support.Undoing.{parts_of, all_undone, FitAll, all_returning}
 use Rattle.zstore.proofs.undoing.undo_all.Given as goal
 
 abbrev pub invariant-loop-undo : goal.invariant-loop-undo
 invariant-loop-undo l = record {
-  rows : all_undone l.undos.items l.rows.items ≡ all_undone l.initial.undos.items l.initial.rows.items;
-  fit : FitAll l.undos.items l.rows.items (vec_capacity l.rows);
-  room : vec_capacity l.initial.rows ≤ vec_capacity l.rows;
+  parts : all_undone l.undos.items (parts_of l.nodes) ≡ all_undone l.initial.undos.items
+      (parts_of l.initial.nodes);
+  fit : FitAll l.nodes.owners l.undos.items (parts_of l.nodes);
+  room : all_returning l.undos.items ≤ l.nodes.room;
+  owners : l.nodes.owners ≡ l.initial.nodes.owners;
+  given : l.nodes.given ≡ l.initial.nodes.given;
 }
 
 abbrev pub decreases-loop-undo : goal.decreases-loop-undo

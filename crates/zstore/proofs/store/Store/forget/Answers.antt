@@ -1,51 +1,36 @@
-use Rattle.std.proofs.Common.{sym, ap, subst, ◌∙◌, refl}
+use Rattle.std.proofs.Common.{sym, ap, subst, ◌∙◌}
 use Rattle.std.specs.FinMap as finite
+use Rattle.znodes.specs.NodesView.{NodesView}
+use Rattle.ztree.specs.Tree.{ephemerals}
 use Rattle.zstore.specs.StoreView.{StoreView}
-use Rattle.ztree.specs.Tree.{Sessions, ephemerals}
-use Rattle.ztree.specs.Lawful.{IsLawful}
-use Rattle.zstore.specs.support.Rows.{tree_of}
-use Rattle.zstore.proofs.rows.Shown.{nodes_of}
-use Rattle.zstore.proofs.rows.Alive.{alive_remove, alive_nowhere}
-use Rattle.ztree.proofs.Maps.{not_none}
-use Rattle.ztree.proofs.LawfulEnd.{lawful_forgotten}
+use Rattle.zstore.specs.support.Undoing.{notes_of, undos_of, all_freed, AllHeld}
+use Rattle.zstore.proofs.parts.Alive.{owners_ended, kept_ended}
+use Rattle.zstore.proofs.parts.Noted.{stored_plain, notes_held, none_held}
 use Rattle.zstore.proofs.store.Store.forget.Goals as goal
+
+pub stop-requires : goal.stop-requires
+stop-requires c =
+    let s = c.self.inside in
+    subst (λ (w : NodesView). AllHeld (undos_of (notes_of s.log)) w.held)
+    (sym c.close_owner.ensures)
+    (notes_held s.nodes s.sessions s.time s.zxid (notes_of s.log) c.self.invariant)
 
 pub invariant_of-self : goal.invariant_of-self
 invariant_of-self c =
     let s = c.self.inside in
-    let here = rw c.deref.ensures.value at c.in-Ok.ensures.found in
-    let gone = alive_remove s.sessions.items c.args.session c.in-Ok.at c.self.invariant.kept.laid.sessions here in
-    let none = ap (λ (h : StoreView). ephemerals h.tree.nodes c.args.session) c.self.view_is ∙ c.requires.owns_none in
-    let laid = c.self.invariant.kept.laid in
-    rw (c.remove.ensures.items, c.stop.ensures.off) (record {
-      kept = record {
-        laid = record { sorted = laid.sorted; apart = laid.apart; numbers = laid.numbers; sessions = gone.0 };
-        lawful = subst (λ (m : Sessions). IsLawful (record { nodes = nodes_of s.rows.items; sessions = m; time = s.time; zxid = s.zxid })) (sym gone.1) (lawful_forgotten (tree_of s.rows.items s.sessions.items s.time s.zxid) c.args.session c.self.invariant.kept.lawful none);
-        paths = c.self.invariant.kept.paths;
-      };
-      back = tt;
-    })
-
-pub returns-in-Ok-clause-tree : goal.returns-in-Ok-clause-tree
-returns-in-Ok-clause-tree c =
-    let s = c.self.inside in
-    let here = rw c.deref.ensures.value at c.in-Ok.ensures.found in
-    let gone = alive_remove s.sessions.items c.args.session c.in-Ok.at c.self.invariant.kept.laid.sessions here in
-    rw (c.remove.ensures.items, ← c.self.view_is, gone.1) refl
-
-pub returns-in-Ok-clause-same : goal.returns-in-Ok-clause-same
-returns-in-Ok-clause-same c = (ap (λ (h : StoreView). h.places) c.self.view_is, ap (λ (h : StoreView). h.given) c.self.view_is)
-
-pub returns-in_default-clause-tree : goal.returns-in_default-clause-tree
-returns-in_default-clause-tree c =
-    let s = c.self.inside in
-    let gap = rw c.deref.ensures.value at c.in_default.ensures.absent in
-    let none = ap (λ (h : StoreView). finite.get h.tree.sessions c.args.session) (sym c.self.view_is) ∙ alive_nowhere s.sessions.items c.args.session c.in_default.field-0 c.self.invariant.kept.laid.sessions gap in
-    absurd (not_none _ c.requires.live none)
-
-pub returns-in_default-clause-unmarked : goal.returns-in_default-clause-unmarked
-returns-in_default-clause-unmarked c =
-    let s = c.self.inside in
-    let gap = rw c.deref.ensures.value at c.in_default.ensures.absent in
-    let none = ap (λ (h : StoreView). finite.get h.tree.sessions c.args.session) (sym c.self.view_is) ∙ alive_nowhere s.sessions.items c.args.session c.in_default.field-0 c.self.invariant.kept.laid.sessions gap in
-    absurd (not_none _ c.requires.live none)
+    let id = c.args.session in
+    let us = undos_of (notes_of s.log) in
+    let none = ap (λ (h : StoreView). ephemerals h.tree.nodes id) c.self.view_is
+    ∙ c.requires.owns_none in
+    rw (
+      c.stop.ensures.off,
+      c.stop.ensures.nodes,
+      c.close_owner.ensures,
+      c.number.ensures,
+      c.end.ensures,
+    ) (
+    stored_plain (record s.nodes { owners = finite.remove s.nodes.owners id })
+    (finite.remove s.sessions id) s.time s.zxid (all_freed us s.nodes.held)
+    (none_held s.nodes s.sessions s.time s.zxid (notes_of s.log) c.self.invariant)
+    (kept_ended s.nodes.nodes s.nodes.places s.sessions s.time s.zxid c.self.invariant.kept id none)
+    (owners_ended s.nodes.owners s.sessions id c.self.invariant.owners))

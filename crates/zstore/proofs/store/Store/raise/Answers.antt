@@ -1,15 +1,23 @@
-use Rattle.std.proofs.Common.{rules}
-use Rattle.zstore.specs.support.Rows.{tree_of}
+use Rattle.std.proofs.Common.{◌+◌}
 use Rattle.ztree.proofs.Lawful.{lawful_raised}
+use Rattle.zstore.specs.support.Undoing.{notes_of}
+use Rattle.zstore.specs.support.Stored.{tree_of}
+use Rattle.zstore.proofs.parts.Noted.{notes_held, stored_changed}
 use Rattle.zstore.proofs.store.Store.raise.Goals as goal
+
+pub stop-requires : goal.stop-requires
+stop-requires c = let s =
+    c.self.inside in notes_held s.nodes s.sessions s.time s.zxid (notes_of s.log) c.self.invariant
 
 pub invariant_of-self : goal.invariant_of-self
 invariant_of-self c =
     let s = c.self.inside in
-    rw (c.next-self-inside.ensures, c.stop.ensures.off) (record {
-      kept = record { laid = c.self.invariant.kept.laid; lawful = lawful_raised (tree_of s.rows.items s.sessions.items s.time s.zxid) c.self.invariant.kept.lawful; paths = c.self.invariant.kept.paths };
-      back = tt;
-    })
-
-pub returns-clause-same : goal.returns-clause-same
-returns-clause-same c = search rules
+    let kept = c.self.invariant.kept in
+    rw (c.stop.ensures.off, c.stop.ensures.nodes, c.next-self-inside.ensures)
+    (stored_changed s.nodes s.sessions s.time s.zxid (notes_of s.log) c.self.invariant
+    s.sessions s.time (s.zxid + 1)
+    (record {
+      lawful = lawful_raised (tree_of s.nodes.nodes s.sessions s.time s.zxid) kept.lawful;
+      paths = kept.paths;
+      named = kept.named;
+    }) c.self.invariant.owners)

@@ -1,80 +1,106 @@
-use Rattle.std.proofs.Common.{◌≡◌, arith, get_or, sym, ap, ◌∙◌, refl, rules}
-use Rattle.std.specs.Ordering.{nat_cmp}
-use Rattle.std.specs.FinMap as finite
-use Rattle.std.specs.Cmp.{nat_cmp_total}
-use Rattle.std.specs.List.{remove}
+use Rattle.std.proofs.Common.{◌≡◌, ◌≢◌, [], sym, ap, subst, ◌∙◌}
+use Rattle.std.specs.Prelude.{IsSome}
 use Rattle.std.specs.Option.{option_and_then}
-use Rattle.std.specs.FinMap.{from_entries, get-from_entries}
-use Rattle.zstore.specs.StoreView.{StoreView, while_there}
+use Rattle.std.specs.FinMap as finite
 use Rattle.ztree.specs.Tree.{children}
-use Rattle.zstore.specs.support.Rows.{place_rows}
-use Rattle.zstore.proofs.rows.Shown.{nodes_of, path_of-held, path_of-gone, nodes_of-remove, places_of-remove}
-use Rattle.std.specs.Vec.{vec_capacity}
-use Rattle.std.proofs.lemmas.List.Edits.{length-remove}
-use Rattle.ztree.proofs.Maps.{not_none, same_some}
-use Rattle.zstore.specs.declared.undo.Undo.TheVariants.{Removed}
+use Rattle.znodes.specs.NodesView.{NodesView}
+use Rattle.zstore.specs.declared.undo.Undo.TheVariants.{Taken}
+use Rattle.zstore.specs.StoreView.{StoreView, path_of, AtPath, while_there}
 use Rattle.zstore.specs.support.Undoing.{notes_of}
-use Rattle.zstore.proofs.rows.Undone.{insert-remove, noted_marked, noted_back}
-use Rattle.zstore.proofs.rows.Kept.{kept_remove, forgets_removed}
+use Rattle.zstore.specs.support.Stored.{tree_of}
+use Rattle.zstore.proofs.parts.Noted.{noted_marked}
+use Rattle.zstore.proofs.parts.Noting.{take_back, take_held, take_stored, take_places, take_given, take_nodes, take_gone}
 use Rattle.zstore.proofs.store.Store.take.Goals as goal
 
-pub unreachable-requires : goal.unreachable-requires
-unreachable-requires c =
-    let absent = rw c.deref.ensures.value at c.in_default.ensures.absent in
-    not_none _ c.requires.live (path_of-gone c.self.inside c.self.invariant.kept.laid _ c.self.view_is c.args.id absent)
+pub note-requires : goal.note-requires
+note-requires c =
+    let s = c.self.inside in
+    let live =
+    subst (λ (h : StoreView). IsSome (path_of h c.args.id)) (sym c.self.view_is) c.requires.live
+    in
+    let below =
+    subst (λ (h : StoreView). AtPath h c.args.id (λ path. path ≢ [])) (sym c.self.view_is)
+    c.requires.below_root in
+    take_held s.nodes c.take.new.self s.sessions s.time s.zxid (notes_of s.log) c.self.invariant
+    c.args.id live c.take.ensures below
 
 pub invariant_of-self : goal.invariant_of-self
 invariant_of-self c =
     let s = c.self.inside in
-    let rows = s.rows.items in
-    let at = c.in-Some.at in
-    let found = rw c.deref.ensures.value at c.in-Some.ensures.found in
-    let row = c.remove-row.result in
-    let named = path_of-held s c.self.invariant.kept.laid _ c.self.view_is c.args.id at row found.0 (found.1 row) in
-    let path = (get_or rows at row).path in
-    let leaf = ap (λ (h : StoreView). children h.tree.nodes path) c.self.view_is ∙ c.requires.leaf path named in
-    rw (c.remove-row.ensures.items, c.note.ensures) (record {
-      kept = kept_remove rows s.sessions.items s.time s.zxid s.given c.self.invariant.kept at row found.0 (c.requires.below_root path named) leaf;
-      back = noted_back (Removed at row) rows (remove rows at) (insert-remove s.rows.items c.in-Some.at c.remove-row.result found.0 c.remove-row.ensures.value) s.sessions.items s.time s.zxid (vec_capacity s.rows) (vec_capacity c.remove-row.new.self) s.given
-          (let same = c.remove-row.ensures.capacity in omega (arith, same))
-          (let shorter = length-remove rows at found.0 in let within = found.0 in let len = s.rows.ok.0 in let room = s.rows.ok.1 in let same = c.remove-row.ensures.capacity in (omega (arith, shorter, within), omega (arith, shorter, len, room, same)))
-          (notes_of s.log) c.self.invariant.back;
-    })
+    let live =
+    subst (λ (h : StoreView). IsSome (path_of h c.args.id)) (sym c.self.view_is) c.requires.live
+    in
+    let below =
+    subst (λ (h : StoreView). AtPath h c.args.id (λ path. path ≢ [])) (sym c.self.view_is)
+    c.requires.below_root in
+    let leaf =
+    subst (λ (h : StoreView). AtPath h c.args.id (λ path. children h.tree.nodes path ≡ []))
+    (sym c.self.view_is) c.requires.leaf in
+    rw (c.note.ensures.notes, c.note.ensures.nodes)
+    (take_stored s.nodes c.take.new.self s.sessions s.time s.zxid (notes_of s.log)
+    c.self.invariant c.args.id live c.take.ensures below leaf)
 
 pub returns-clause-marked : goal.returns-clause-marked
 returns-clause-marked c =
     let s = c.self.inside in
-    let found = rw c.deref.ensures.value at c.in-Some.ensures.found in
-    rw (c.remove-row.ensures.items, c.note.ensures, ← c.self.view_is) (noted_marked (Removed c.in-Some.at c.remove-row.result) s.rows.items (remove s.rows.items c.in-Some.at) (insert-remove s.rows.items c.in-Some.at c.remove-row.result found.0 c.remove-row.ensures.value) s.sessions.items s.time s.zxid (notes_of s.log))
+    let live =
+    subst (λ (h : StoreView). IsSome (path_of h c.args.id)) (sym c.self.view_is) c.requires.live
+    in
+    let below =
+    subst (λ (h : StoreView). AtPath h c.args.id (λ path. path ≢ [])) (sym c.self.view_is)
+    c.requires.below_root in
+    rw (c.note.ensures.notes, c.note.ensures.nodes, ← c.self.view_is) (
+    noted_marked (Taken c.args.id) s.nodes c.take.new.self s.sessions s.time s.zxid
+    (take_back s.nodes c.take.new.self s.sessions s.time s.zxid (notes_of s.log) c.self.invariant
+    c.args.id live c.take.ensures below)
+    (notes_of s.log))
 
 pub returns-clause-tree : goal.returns-clause-tree
 returns-clause-tree c = λ path named.
     let s = c.self.inside in
-    let row = c.remove-row.result in
-    let found = rw c.deref.ensures.value at c.in-Some.ensures.found in
-    let held = path_of-held s c.self.invariant.kept.laid _ c.self.view_is c.args.id c.in-Some.at row found.0 (found.1 row) in
-    let same : path ≡ (get_or s.rows.items c.in-Some.at row).path = same_some path (get_or s.rows.items c.in-Some.at row).path (sym named ∙ held) in
-    let gone = nodes_of-remove s.rows.items s.sessions.items s.given c.self.invariant.kept.laid c.in-Some.at row found.0 ∙ ap (finite.remove (nodes_of s.rows.items)) (sym same) in
-    rw (c.remove-row.ensures.items, ← c.self.view_is, gone) refl
+    let live =
+    subst (λ (h : StoreView). IsSome (path_of h c.args.id)) (sym c.self.view_is) c.requires.live
+    in
+    let is = ap (λ (h : StoreView). path_of h c.args.id) c.self.view_is ∙ named in
+    ap (λ (v : NodesView). tree_of v.nodes s.sessions s.time s.zxid) c.note.ensures.nodes
+    ∙ ap (λ m. tree_of m s.sessions s.time s.zxid)
+    (take_nodes s.nodes c.take.new.self s.sessions s.time s.zxid (notes_of s.log)
+    c.self.invariant c.args.id live c.take.ensures path is)
+    ∙ ap (λ (h : StoreView). record h.tree { nodes = finite.remove h.tree.nodes path })
+    c.self.view_is
 
 pub returns-clause-forgotten : goal.returns-clause-forgotten
 returns-clause-forgotten c =
     let s = c.self.inside in
-    let row = c.remove-row.result in
-    let found = rw c.deref.ensures.value at c.in-Some.ensures.found in
-    let gone = places_of-remove s.rows.items s.sessions.items s.given c.self.invariant.kept.laid c.in-Some.at row found.0 in
-    rw (c.remove-row.ensures.items, ← c.self.view_is) (gone ∙ ap (finite.remove (from_entries {R = nat_cmp} (place_rows s.rows.items))) (found.1 row))
+    let live =
+    subst (λ (h : StoreView). IsSome (path_of h c.args.id)) (sym c.self.view_is) c.requires.live
+    in
+    ap (λ (v : NodesView). v.places) c.note.ensures.nodes
+    ∙ take_places s.nodes c.take.new.self s.sessions s.time s.zxid (notes_of s.log) c.self.invariant
+    c.args.id live c.take.ensures
+    ∙ ap (λ (h : StoreView). finite.remove h.places c.args.id) c.self.view_is
 
 pub returns-clause-gone : goal.returns-clause-gone
-returns-clause-gone c =
+returns-clause-gone c = λ a.
     let s = c.self.inside in
-    let rows = s.rows.items in
-    let left = remove rows c.in-Some.at in
-    let found = rw c.deref.ensures.value at c.in-Some.ensures.found in
-    rw (c.remove-row.ensures.items, ← c.self.view_is) (λ id.
-    get-from_entries nat_cmp_total (place_rows left) id.number
-    ∙ forgets_removed rows s.sessions.items s.time s.zxid s.given c.self.invariant.kept c.in-Some.at c.remove-row.result found.0 id.number
-    ∙ ap (option_and_then (while_there (nodes_of left))) (sym (get-from_entries nat_cmp_total (place_rows rows) id.number)))
+    let live =
+    subst (λ (h : StoreView). IsSome (path_of h c.args.id)) (sym c.self.view_is) c.requires.live
+    in
+    ap (λ (v : NodesView). finite.get v.places a) c.note.ensures.nodes
+    ∙ take_gone s.nodes c.take.new.self s.sessions s.time s.zxid (notes_of s.log) c.self.invariant
+    c.args.id live c.take.ensures a
+    ∙ ap (λ (v : NodesView). option_and_then (while_there v.nodes) (finite.get s.nodes.places a))
+    (sym c.note.ensures.nodes)
+    ∙ ap (λ (h : StoreView). option_and_then (while_there c.note.new.nodes.nodes) (path_of h a))
+    c.self.view_is
 
 pub returns-clause-given : goal.returns-clause-given
-returns-clause-given c = search rules
+returns-clause-given c =
+    let s = c.self.inside in
+    let live =
+    subst (λ (h : StoreView). IsSome (path_of h c.args.id)) (sym c.self.view_is) c.requires.live
+    in
+    ap (λ (v : NodesView). v.given) c.note.ensures.nodes
+    ∙ take_given s.nodes c.take.new.self s.sessions s.time s.zxid (notes_of s.log) c.self.invariant
+    c.args.id live c.take.ensures
+    ∙ ap (λ (h : StoreView). h.given) c.self.view_is

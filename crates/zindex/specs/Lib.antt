@@ -1,0 +1,2 @@
+pub mod IndexView
+pub mod Fields

@@ -1,0 +1,43 @@
+use Rattle.std.proofs.Common.{◌≡◌, ◌≢◌, Some, sym, ap, ◌∙◌}
+use mathlib.Core.Path.{subst}
+use Rattle.std.specs.FinMap.{get, remove}
+use Rattle.zslots.specs.declared.id.Id.{Id}
+use Rattle.zslots.proofs.Maps.{get-remove-here, get-remove-elsewhere}
+use Rattle.znodes.specs.declared.row.Row.{Row}
+use Rattle.znodes.specs.NodesView.{NodesView}
+use Rattle.znodes.specs.support.Rows.{IsLinked, nodes_of, places_of, held_of}
+use Rattle.znodes.proofs.Aside.{linked-aside, nodes-aside, places-aside, held-gone}
+use Rattle.znodes.proofs.nodes.Nodes.free.Goals as goal
+use Rattle.znodes.proofs.OneRow.{held-out, gone-none}
+
+pub invariant_of-self : goal.invariant_of-self
+invariant_of-self c =
+    let s = c.self.inside in
+    let m = s.slots.items in
+    let id = c.args.id in
+    let out = held-out s c.args.self.now c.self.view_is id c.requires.held in
+    subst (λ a. IsLinked a s.index.ids s.owners) (sym c.remove.ensures.items)
+    (linked-aside m (remove m id) s.index.ids s.owners id c.self.invariant (λ q other. get-remove-elsewhere m id q other) out (λ x e. gone-none m id x e) (λ x e. gone-none m id x e))
+
+pub returns : goal.returns
+returns c =
+    let s = c.self.inside in
+    let m = s.slots.items in
+    let id = c.args.id in
+    let view = c.self.view_is in
+    let out = held-out s c.args.self.now view id c.requires.held in
+    let elsewhere = λ (q : Id) (other : q ≢ id). get-remove-elsewhere m id q other in
+    let still = λ (x : Row) (e : get (remove m id) id ≡ Some x). gone-none m id x e in
+    let rows = c.remove.ensures.items in
+    let nodes = ap (λ w. nodes_of w s.index.ids) rows ∙ nodes-aside m (remove m id) s.index.ids s.owners id c.self.invariant elsewhere out still ∙ ap (λ (v : NodesView). v.nodes) view in
+    let places = ap places_of rows ∙ places-aside m (remove m id) s.index.ids s.owners id c.self.invariant elsewhere out still ∙ ap (λ (v : NodesView). v.places) view in
+    let held = ap held_of rows ∙ held-gone m (remove m id) s.index.ids s.owners id c.self.invariant elsewhere out still (get-remove-here m id) ∙ ap (λ (v : NodesView). remove v.held id) view in
+    let given = c.remove.ensures.given ∙ ap (λ (v : NodesView). v.given) view in
+    λ i. record {
+      nodes = nodes i;
+      places = places i;
+      held = held i;
+      owners = (view i).owners;
+      given = given i;
+      room = (view i).room;
+    }

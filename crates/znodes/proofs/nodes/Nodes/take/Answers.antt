@@ -1,0 +1,140 @@
+use Rattle.std.proofs.Common.{◌≡◌, ◌≢◌, ◌≤◌, [], Option, Some, None, IfSome, is_some, sym, ap, ◌∙◌}
+use mathlib.Core.Path.{subst}
+use Rattle.std.specs.Option.{option_copied, option_and_then}
+use Rattle.std.specs.FinMap.{get, insert, remove}
+use Rattle.zslots.specs.SlotsView.{SlotsView, Items}
+use Rattle.zindex.specs.IndexView.{IdsByPath}
+use Rattle.std.specs.Prelude.{Vec}
+use Rattle.std.specs.Global.{Global}
+use Rattle.znodes.specs.support.KeyNames.{names_of}
+use Rattle.ztree.specs.Tree.{Name, parent_of, children}
+use Rattle.ztree.proofs.Maps.{same_some, none_some, has_some}
+use Rattle.zslots.proofs.Items.{some_there}
+use Rattle.znodes.specs.declared.row.Row.{Row}
+use Rattle.znodes.specs.NodesView.{NodesView, path_of}
+use Rattle.znodes.specs.support.OwnerLists.{OwnerLists, list_of}
+use Rattle.znodes.specs.support.Rows.{Key, IsLinked, nodes_of, places_of, held_of, known_of}
+use Rattle.znodes.specs.support.Linking.{with_key, without_child, without_owned, owners_without}
+use Rattle.znodes.proofs.Linked.{live-row, shown-row, node-shown}
+use Rattle.znodes.proofs.Heads.{known-without}
+use Rattle.znodes.proofs.Away.{cut, away, fewer, owners_after}
+use Rattle.znodes.proofs.Taken.{child-counted, owned-counted, linked-away, nodes-away, places-away, held-away}
+use Rattle.znodes.proofs.nodes.Nodes.take.Goals as goal
+
+pub unreachable-requires : goal.unreachable-requires
+unreachable-requires c =
+    let path = some_there (path_of c.args.self.now c.args.id) c.requires.live in
+    let row = live-row c.self.inside.slots.items c.args.id path.0 (ap (λ w. path_of w c.args.id) c.self.view_is ∙ path.1) in
+    none_some row.0 (ap option_copied (sym c.in_default.is) ∙ c.get.ensures ∙ row.1)
+
+-- the row, in the tree
+pub cut_child-requires : goal.cut_child-requires
+cut_child-requires c =
+    let s = c.self.inside in
+    let r = c.in-Some.row.now in
+    let there = sym c.in-Some.ensures in
+    let shown = shown-row s c.args.self.now c.self.view_is c.args.id r c.requires.live there in
+    child-counted s.slots.items s.index.ids s.owners c.args.id r c.self.invariant there shown.0 (c.requires.below_root r.path shown.1)
+    c.id_above-parent.result (c.id_above-parent.ensures ∙ ap (λ names. get s.index.ids (parent_of names)) c.names-names.ensures.names)
+
+pub cut_owned-requires : goal.cut_owned-requires
+cut_owned-requires c =
+    let s = c.self.inside in
+    let r = c.in-Some.row.now in
+    let there = sym c.in-Some.ensures in
+    let shown = shown-row s c.args.self.now c.self.view_is c.args.id r c.requires.live there in
+    owned-counted s.slots.items s.index.ids s.owners c.args.id r c.self.invariant there shown.0
+
+-- what is known at the end
+module _ (c : goal.After-set_key) where
+  abbrev m : Items Row
+  m = c.self.inside.slots.items
+
+  abbrev ids : IdsByPath
+  ids = c.self.inside.index.ids
+
+  abbrev owners : OwnerLists
+  owners = c.self.inside.owners
+
+  abbrev r : Row
+  r = c.in-Some.row.now
+
+  there : get m c.args.id ≡ Some r
+  there = sym c.in-Some.ensures
+
+  shown : (r.key ≡ None) × (path_of c.args.self.now c.args.id ≡ Some r.path)
+  shown = shown-row c.self.inside c.args.self.now c.self.view_is c.args.id r c.requires.live there
+
+  below : r.path ≢ []
+  below = c.requires.below_root r.path shown.1
+
+  leaf : children (nodes_of m ids) r.path ≡ []
+  leaf = ap (λ (v : NodesView). children v.nodes r.path) c.self.view_is ∙ c.requires.leaf r.path shown.1
+
+  names : c.names-names.result.now ≡ r.path
+  names = c.names-names.ensures.names
+
+  raw : (names : Vec Name Global) × (c.remove-key.result ≡ Some names)
+  raw =
+      has_some c.remove-key.result
+      (c.remove-key.ensures.there ∙ ap (λ q. is_some (get ids q)) names ∙ ap is_some (c.self.invariant.found c.args.id r there shown.0))
+
+  key : (k : Key) × (names_of c.remove-key.result ≡ Some k)
+  key = (raw.0.items, ap names_of raw.1)
+
+  named : key.0 ≡ r.path
+  unfolding key raw
+  named = subst (λ (o : Option (Vec Name Global)). IfSome o (λ k. k.items ≡ c.names-names.result.now)) raw.1 c.remove-key.ensures.key ∙ names
+
+  cut-is : c.cut_child.new.slots.items ≡ cut m ids owners c.args.id r key.0
+  cut-is =
+      ap (λ (h : SlotsView Row). h.items) c.cut_child.ensures
+      ∙ ap (λ o. without_child m o c.args.id) (c.id_above-parent.ensures ∙ ap (λ q. get ids (parent_of q)) names)
+
+  rows : c.set_key.new.slots.items ≡ away m ids owners c.args.id r key.0
+  rows =
+      let list = list_of owners r.node.owner in
+      let owned = ap (λ (h : SlotsView Row). h.items) c.cut_owned.ensures.rows ∙ ap (λ w. without_owned w list c.args.id) cut-is in
+      ap (λ (h : SlotsView Row). h.items) c.set_key.ensures ∙ (λ i. with_key (owned i) c.args.id (key.1 i))
+
+  index : c.remove-key.new.self.ids ≡ fewer m ids owners c.args.id r key.0
+  index = c.remove-key.ensures.ids ∙ ap (remove ids) names
+
+  lists : c.cut_owned.new.owners ≡ owners_after m ids owners c.args.id r key.0
+  lists = c.cut_owned.ensures.owners ∙ ap (λ w. owners_without w owners r.node.owner (list_of owners r.node.owner) c.args.id) cut-is
+
+pub invariant_of-self : goal.invariant_of-self
+invariant_of-self c =
+    let linked = linked-away (m c) (ids c) (owners c) c.args.id (r c) (key c).0 c.self.invariant (there c) (shown c).0 (below c) (leaf c) (named c) in
+    subst (λ a. IsLinked a c.remove-key.new.self.ids c.cut_owned.new.owners) (sym (rows c))
+    (subst (λ b. IsLinked (away (m c) (ids c) (owners c) c.args.id (r c) (key c).0) b c.cut_owned.new.owners) (sym (index c))
+    (subst (IsLinked (away (m c) (ids c) (owners c) c.args.id (r c) (key c).0) (fewer (m c) (ids c) (owners c) c.args.id (r c) (key c).0)) (sym (lists c)) linked))
+
+pub returns : goal.returns
+returns c = λ path at n node.
+    let id = c.args.id in
+    let view = c.self.view_is in
+    let is_path = same_some (r c).path path (sym (shown c).1 ∙ at) in
+    let is_node = same_some (r c).node n
+    (sym (node-shown (m c) (ids c) (owners c) c.self.invariant id (r c) (there c) (shown c).0) ∙ ap (λ (v : NodesView). get v.nodes (r c).path) view ∙ ap (option_and_then (get c.args.self.now.nodes)) (sym (shown c).1) ∙ node) in
+    record {
+      nodes =
+          (λ i. nodes_of (rows c i) (index c i))
+          ∙ nodes-away (m c) (ids c) (owners c) id (r c) (key c).0 c.self.invariant (there c) (shown c).0 (below c) (leaf c) (named c)
+          ∙ (λ i. remove (view i).nodes (is_path i));
+      places =
+          ap places_of (rows c)
+          ∙ places-away (m c) (ids c) (owners c) id (r c) (key c).0 c.self.invariant (there c) (shown c).0 (below c) (leaf c) (named c)
+          ∙ ap (λ (v : NodesView). remove v.places id) view;
+      held =
+          ap held_of (rows c)
+          ∙ held-away (m c) (ids c) (owners c) id (r c) (key c).0 c.self.invariant (there c) (shown c).0 (below c) (leaf c) (named c)
+          ∙ (λ i. insert (view i).held id (is_path i, is_node i));
+      owners =
+          ap known_of (lists c) ∙ known-without (cut (m c) (ids c) (owners c) id (r c) (key c).0) (owners c) (r c).node.owner id
+          ∙ ap (λ (v : NodesView). v.owners) view;
+      given =
+          ap (λ (h : SlotsView Row). h.given) c.set_key.ensures ∙ ap (λ (h : SlotsView Row). h.given) c.cut_owned.ensures.rows
+          ∙ ap (λ (h : SlotsView Row). h.given) c.cut_child.ensures ∙ ap (λ (v : NodesView). v.given) view;
+      room = subst (λ room. room ≤ c.remove-key.new.self.room) (ap (λ (v : NodesView). v.room) view) c.remove-key.ensures.room;
+    }

@@ -1,0 +1,2 @@
+pub mod NodesView
+pub mod support

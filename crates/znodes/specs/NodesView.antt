@@ -1,0 +1,148 @@
+-- What a `Nodes` shows: the znodes by their paths, and what its Ids name.
+use Rattle.std.specs.Prelude.{◌≡◌, ◌≢◌, ◌⊎◌, ℕ, ◌+◌, ◌≤◌, true, false, [], Option, None, Some, IsSome, refl}
+use Rattle.std.specs.Coded.{Coded, code_by, coded×, coded_ℕ, prop_coded, Unit-prop}
+use Rattle.std.specs.Option.{option_and_then}
+use Rattle.std.specs.Ordering.{nat_cmp}
+use Rattle.std.specs.FinMap as finite
+use Rattle.std.specs.FinMap.{FinMap, get, insert, remove}
+use Rattle.zslots.specs.declared.id.Id.{Id}
+use Rattle.zslots.specs.Ids.{id_cmp, coded_id}
+use Rattle.ztree.specs.declared.node.Node.{Node}
+use Rattle.ztree.specs.Tree.{Path, Nodes, parent_of, has_node, with_change_at}
+use Rattle.ztree.specs.support.Codes.{coded_path, coded_node}
+use Rattle.znodes.specs.declared.parts.Marks.{Marks}
+use Rattle.znodes.specs.declared.parts.Content.{Content}
+
+-- a node that was taken away, and where it was
+abbrev pub Taken : Type 0
+Taken = Path × Node
+
+-- the znodes by their paths, the paths of the live Ids, what was taken away and can come back under
+-- its Id, the sessions that may own nodes, how many Ids were given so far, and how many nodes more
+-- can come with no memory for the index
+pub record NodesView : Type 0 where
+  pub nodes : Nodes
+  pub places : FinMap id_cmp Path
+  pub held : FinMap id_cmp Taken
+  pub owners : FinMap nat_cmp (Unit {0})
+  pub given : ℕ
+  pub room : ℕ
+
+-- the path of the node that an Id names
+abbrev pub path_of : NodesView → Id → Option Path
+path_of v id = get v.places id
+
+-- the node that an Id names
+abbrev pub node_of : NodesView → Id → Option Node
+node_of v id = option_and_then (get v.nodes) (path_of v id)
+
+-- a fact on the path that an Id names
+abbrev pub AtPath : NodesView → Id → (Path → Type 0) → Type 0
+AtPath v id P = (path : Path) → path_of v id ≡ Some path → P path
+
+-- a fact on the node that an Id names
+abbrev pub AtNode : NodesView → Id → (Node → Type 0) → Type 0
+AtNode v id P = (n : Node) → node_of v id ≡ Some n → P n
+
+-- a fact on what was taken away under an Id
+abbrev pub AtTaken : NodesView → Id → (Taken → Type 0) → Type 0
+AtTaken v id P = (t : Taken) → get v.held id ≡ Some t → P t
+
+-- an owner is nobody, or one that is known
+abbrev pub IsKnownOwner : NodesView → ℕ → Type 0
+IsKnownOwner v owner = (owner ≡ 0) ⊎ IsSome (get v.owners owner)
+
+-- the root alone, under the first Id
+pub record IsOpening (root : Node) (v : NodesView) : Type 0 where
+  pub nodes : v.nodes ≡ insert finite.empty [] root
+  pub id : Id
+  pub places : v.places ≡ insert finite.empty id []
+  pub held : v.held ≡ finite.empty
+  pub owners : v.owners ≡ finite.empty
+  pub given : v.given ≡ 1
+
+-- nothing has changed but the room
+abbrev pub SameButRoom : NodesView → NodesView → Type 0
+SameButRoom old new = new ≡ record old { room = new.room }
+
+-- a node came at a free path, under a new Id
+pub record Adds (old new : NodesView) (id : Id) (path : Path) (n : Node) : Type 0 where
+  pub free : path_of old id ≡ None
+  pub unheld : get old.held id ≡ None
+  pub next : id.generation ≡ old.given
+  pub nodes : new.nodes ≡ insert old.nodes path n
+  pub places : new.places ≡ insert old.places id path
+  pub held : new.held ≡ old.held
+  pub owners : new.owners ≡ old.owners
+  pub given : new.given ≡ old.given + 1
+  pub room : old.room ≤ new.room + 1
+
+-- the node that an Id names was taken away, and can come back
+pub record Takes (old new : NodesView) (id : Id) (path : Path) (n : Node) : Type 0 where
+  pub nodes : new.nodes ≡ remove old.nodes path
+  pub places : new.places ≡ remove old.places id
+  pub held : new.held ≡ insert old.held id (path, n)
+  pub owners : new.owners ≡ old.owners
+  pub given : new.given ≡ old.given
+  pub room : old.room ≤ new.room
+
+-- what was taken away under an Id can come back: its path is free, the node above is there, and its
+-- owner is known
+pub record CanReturn (v : NodesView) (t : Taken) : Type 0 where
+  pub below_root : t.0 ≢ []
+  pub free : has_node v.nodes t.0 ≡ false
+  pub parent : has_node v.nodes (parent_of t.0) ≡ true
+  pub owner : IsKnownOwner v t.1.owner
+
+-- what was taken away under an Id came back
+pub record Returns (old new : NodesView) (id : Id) (t : Taken) : Type 0 where
+  pub nodes : new.nodes ≡ insert old.nodes t.0 t.1
+  pub places : new.places ≡ insert old.places id t.0
+  pub held : new.held ≡ remove old.held id
+  pub owners : new.owners ≡ old.owners
+  pub given : new.given ≡ old.given
+  pub room : old.room ≤ new.room + 1
+
+-- the node that an Id names was written, and nothing else has changed
+abbrev pub Writes : NodesView → NodesView → Id → (Node → Node) → Type 0
+Writes old new id f =
+    AtPath old id (λ path. new ≡ record old { nodes = with_change_at old.nodes path f })
+
+-- what the children left in a node
+abbrev pub marks_of : Node → Marks
+marks_of n = record { pzxid = n.pzxid; cversion = n.cversion; seq = n.seq }
+
+-- what the writes of its data left in a node
+abbrev pub content_of : Node → Content
+content_of n = record { bytes = n.bytes; mzxid = n.mzxid; mtime = n.mtime; version = n.version }
+
+-- a node with these marks
+abbrev pub node_with_marks : Marks → Node → Node
+node_with_marks m n = record n { pzxid = m.pzxid; cversion = m.cversion; seq = m.seq }
+
+-- a node with this data
+abbrev pub node_with_content : Content → Node → Node
+node_with_content w n =
+    record n { bytes = w.bytes; mzxid = w.mzxid; mtime = w.mtime; version = w.version }
+
+-- how what was taken away is stored
+abbrev pub coded_taken : Coded Taken
+coded_taken = coded× coded_path coded_node
+
+-- how it is stored
+abbrev pub coded_nodes_view : Coded NodesView
+coded_nodes_view =
+    code_by
+    (Nodes × (FinMap id_cmp Path × (FinMap id_cmp Taken × (FinMap nat_cmp (Unit {0}) × (ℕ × ℕ)))))
+    (coded× (finite.code coded_path coded_node) (coded× (finite.code coded_id coded_path)
+    (coded× (finite.code coded_id coded_taken)
+    (coded× (finite.code coded_ℕ (prop_coded Unit-prop)) (coded× coded_ℕ coded_ℕ)))))
+    (λ v. (v.nodes, (v.places, (v.held, (v.owners, (v.given, v.room))))))
+    (λ p. record {
+      nodes = p.0;
+      places = p.1.0;
+      held = p.1.1.0;
+      owners = p.1.1.1.0;
+      given = p.1.1.1.1.0;
+      room = p.1.1.1.1.1;
+    }) (λ _. refl)

@@ -1,0 +1,115 @@
+-- The rows of the nodes, the lists in which they stand, and what they stand for.
+use Rattle.std.specs.Prelude.{◌≡◌, ℕ, Bool, true, false, [], ◌∷◌, List, Option, None, Some, if◌then◌else◌}
+use Rattle.std.specs.Global.{Global}
+use Rattle.std.specs.Option.{option_map, option_map_or}
+use Rattle.std.specs.Ordering.{nat_cmp}
+use Rattle.std.specs.FinMap.{FinMap, get}
+use Rattle.zslots.specs.declared.id.Id.{Id}
+use Rattle.zslots.specs.declared.linked.Links.{Links}
+use Rattle.zslots.specs.declared.list.List.{List as IdList}
+use Rattle.zslots.specs.Ids.{id_cmp}
+use Rattle.zslots.specs.SlotsView.{Items}
+use Rattle.zslots.specs.Links.{no_links}
+use Rattle.zslots.specs.Lists.{empty_list}
+use Rattle.zslots.specs.Families.{HasFamilies}
+use Rattle.zslots.specs.Mapped.{mapped}
+use Rattle.zindex.specs.IndexView.{IdsByPath}
+use Rattle.ztree.specs.declared.node.Node.{Node}
+use Rattle.ztree.specs.Tree.{Name, Path, Nodes, parent_of}
+use Rattle.znodes.specs.declared.row.Row.{Row}
+use Rattle.znodes.specs.NodesView.{Taken}
+use Rattle.znodes.specs.support.OwnerLists.{OwnerLists, somebody}
+
+-- the index's key of a node
+abbrev pub Key : Type 0
+Key = List Name
+
+-- a row in no list
+abbrev pub lone_row : Global → Path → Node → Option Key → Row
+lone_row alloc path node key =
+    record {
+      path = path;
+      node = node;
+      children = empty_list;
+      siblings = no_links;
+      fellows = no_links;
+      key = key;
+      alloc = alloc;
+    }
+
+-- the node is in the tree: the index has its key
+abbrev pub is_live : Row → Bool
+is_live r = option_map_or (λ _. false) r.key true
+
+-- the path above, but above the root there is none
+abbrev pub above : Path → Option Path
+above [] = None
+above (n ∷ path) = Some (parent_of (n ∷ path))
+
+-- the path above a live node: whose list of children it stands in
+abbrev pub parent_key : Row → Option Path
+parent_key r = if is_live r then above r.path else None
+
+-- the owner of a live node: whose list it stands in
+abbrev pub owner_key : Row → Option ℕ
+owner_key r = if is_live r then somebody r.node.owner else None
+
+-- the links among the children of one parent
+abbrev pub sibling_links : Row → Links
+sibling_links r = r.siblings
+
+-- the links among the nodes of one owner
+abbrev pub fellow_links : Row → Links
+fellow_links r = r.fellows
+
+-- the list of the children of a row, and of no row
+abbrev pub children_at : Items Row → Id → IdList 0
+children_at m id = option_map_or (λ (r : Row). r.children) (get m id) empty_list
+
+-- the list of the children of the node at a path
+abbrev pub children_of : Items Row → IdsByPath → Path → IdList 0
+children_of m ids path = option_map_or (children_at m) (get ids path) empty_list
+
+-- the list of the nodes of an owner
+abbrev pub owned_by : OwnerLists → ℕ → IdList 1
+owned_by owners owner = option_map_or (λ (list : IdList 1). list) (get owners owner) empty_list
+
+-- a row that was taken away keeps the index's key, and has no children
+abbrev pub KeepsKey : Row → Type 0
+KeepsKey r = (key : Key) → r.key ≡ Some key → (key ≡ r.path) × (r.children ≡ empty_list)
+
+-- what is kept: the index names each live row by its path and nothing else; a row that was taken
+-- away keeps its key, and has no children; and the lists hold exactly the children of each path, and
+-- the nodes of each owner
+pub record IsLinked (m : Items Row) (ids : IdsByPath) (owners : OwnerLists) : Type 0 where
+  pub named : (path : Path) (id : Id) → get ids path ≡ Some id →
+      (r : Row) × (get m id ≡ Some r) × (r.path ≡ path) × (r.key ≡ None)
+  pub found : (id : Id) (r : Row) → get m id ≡ Some r → r.key ≡ None → get ids r.path ≡ Some id
+  pub keyed : (id : Id) (r : Row) → get m id ≡ Some r → KeepsKey r
+  pub children : HasFamilies sibling_links parent_key m (children_of m ids)
+  pub owned : HasFamilies fellow_links owner_key m (owned_by owners)
+
+-- where a live row is
+abbrev pub live_path : Row → Option Path
+live_path r = if is_live r then Some r.path else None
+
+-- what a row is that was taken away
+abbrev pub taken_row : Row → Option Taken
+taken_row r = if is_live r then None else Some (r.path, r.node)
+
+-- the node under an Id
+abbrev pub node_at : Items Row → Id → Option Node
+node_at m id = option_map (λ (r : Row). r.node) (get m id)
+
+-- what the rows, the index and the owners show
+abbrev pub nodes_of : Items Row → IdsByPath → Nodes
+nodes_of m ids = mapped (node_at m) ids
+
+abbrev pub places_of : Items Row → FinMap id_cmp Path
+places_of m = mapped live_path m
+
+abbrev pub held_of : Items Row → FinMap id_cmp Taken
+held_of m = mapped taken_row m
+
+abbrev pub known_of : OwnerLists → FinMap nat_cmp (Unit {0})
+known_of owners = mapped (λ _. Some tt) owners

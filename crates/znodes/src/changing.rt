@@ -1,0 +1,119 @@
+//! What comes into the nodes, and goes out of them.
+
+ghost use Rattle.std.specs.Prelude.{◌≡◌, ◌≢◌, ◌<◌, ◌≤◌, [], Some, false, IsSome, IfOk, OnErr};
+ghost use Rattle.std.specs.FinMap.{get, remove};
+ghost use Rattle.zslots.specs.declared.limits.TheConstants.{GIVEN_BOUND};
+ghost use Rattle.ztree.specs.Tree.{parent_of, has_node, children};
+ghost use Rattle.znodes.specs.NodesView.{path_of, AtPath, AtNode, AtTaken, IsKnownOwner, SameButRoom};
+ghost use Rattle.znodes.specs.NodesView.{Adds, Takes, CanReturn, Returns};
+ghost use Rattle.znodes.specs.support.Linking.{Holds};
+
+use crate::key::Key;
+use crate::linking::{cut_child, cut_owned, id_above, put_child, put_owned, set_key, take_key};
+use crate::nodes::Nodes;
+use crate::row::Row;
+use zindex::key;
+use zpath::{Memory, Name, Path};
+use zslots::Id;
+use ztree::Node;
+
+impl Nodes {
+    /// Adds a node beneath a live parent, at a free path. After `Memory` nothing has changed but the room.
+    pub fn add(&mut self, parent: Id, path: Path, node: Node) -> Result<Id, Memory>
+        requires below_root { path ≢ [] }
+        requires parent { path_of self.old parent ≡ Some (parent_of path) }
+        requires free { has_node self.old.nodes path ≡ false }
+        requires owner { IsKnownOwner self.old node.owner }
+        requires given { self.old.given < GIVEN_BOUND }
+        ensures added { IfOk result (λ id. Adds self.old self.new id path node) }
+        ensures err { OnErr result (SameButRoom self.old self.new) }
+        ensures kept { OnErr result (self.old.room ≤ self.new.room) }
+    {
+        let key = key(self.alloc, path.names())?;
+        self.index.reserve(1)?;
+        let id = self.insert_taken(path, node, key)?;
+        self.put_under(parent, id);
+        Ok(id)
+    }
+
+    // Puts a row in as if its node had been taken away.
+    fn insert_taken(&mut self, path: Path, node: Node, key: Vec<Name>) -> Result<Id, Memory>
+        requires key { key.items ≡ path }
+        requires given { self.old.given < GIVEN_BOUND }
+        ensures held { IfOk result (λ id. Holds self.old self.new id (path, node)) }
+        ensures err { OnErr result (self.new ≡ self.old) }
+    {
+        let row = Row::alone(self.alloc, path, node, Some(Key::of(key)));
+        let Ok(id) = self.slots.insert(row) else {
+            return Err(Memory);
+        };
+        Ok(id)
+    }
+
+    /// Takes a leaf away, so that it can come back. It takes no memory.
+    pub fn take(&mut self, id: Id)
+        requires live { IsSome (path_of self.old id) }
+        requires below_root { AtPath self.old id (λ path. path ≢ []) }
+        requires leaf { AtPath self.old id (λ path. children self.old.nodes path ≡ []) }
+        ensures { AtPath self.old id (λ path.
+            AtNode self.old id (Takes self.old self.new id path)) }
+    {
+        let Some(row) = self.slots.get(id) else {
+            unreachable!()
+        };
+        let owner = row.node.owner;
+        let names = row.path.names();
+        let parent = id_above(&self.index, names);
+        let key = self.index.remove(names);
+        cut_child(&mut self.slots, parent, id);
+        cut_owned(&mut self.slots, &mut self.owners, owner, id);
+        set_key(&mut self.slots, id, key);
+    }
+
+    /// Brings back what was taken away under an Id. It takes no memory.
+    pub fn put_back(&mut self, id: Id)
+        requires held { IsSome (get self.old.held id) }
+        requires fits { AtTaken self.old id (CanReturn self.old) }
+        requires room { 0 < self.old.room }
+        ensures { AtTaken self.old id (Returns self.old self.new id) }
+    {
+        let Some(row) = self.slots.get(id) else {
+            unreachable!()
+        };
+        match id_above(&self.index, row.path.names()) {
+            Some(parent) => self.put_under(parent, id),
+            None => unreachable!(),
+        }
+    }
+
+    // Puts what isn't in the tree beneath a live node: into the lists first, and then into the index.
+    fn put_under(&mut self, parent: Id, id: Id)
+        requires held { IsSome (get self.old.held id) }
+        requires fits { AtTaken self.old id (CanReturn self.old) }
+        requires room { 0 < self.old.room }
+        requires under { AtTaken self.old id (λ t.
+            path_of self.old parent ≡ Some (parent_of t.0)) }
+        ensures { AtTaken self.old id (Returns self.old self.new id) }
+    {
+        let Some(row) = self.slots.get(id) else {
+            unreachable!()
+        };
+        let owner = row.node.owner;
+        // What it answers is bounded, so the lists have room: none of them has all rows.
+        let _ = self.slots.len();
+        put_child(&mut self.slots, Some(parent), id);
+        put_owned(&mut self.slots, &mut self.owners, owner, id);
+        match take_key(&mut self.slots, id) {
+            Some(key) => self.index.insert(key.into_names(), id),
+            None => unreachable!(),
+        }
+    }
+
+    /// Gives up what was taken away under an Id.
+    pub fn free(&mut self, id: Id)
+        requires held { IsSome (get self.old.held id) }
+        ensures { self.new ≡ record self.old { held = remove self.old.held id } }
+    {
+        self.slots.remove(id);
+    }
+}

@@ -1,0 +1,66 @@
+//! The names of a node's children.
+
+ghost use Rattle.std.specs.Prelude.{◌≡◌, [], ◌∷◌, ◌++◌, IfOk, OnOk, IsSome};
+ghost use Rattle.std.specs.Option.{option_copied};
+ghost use Rattle.zslots.specs.Ids.{Ids};
+ghost use Rattle.zslots.specs.Lists.{IsList};
+ghost use Rattle.ztree.specs.Tree.{children};
+ghost use Rattle.znodes.specs.NodesView.{path_of, AtPath};
+ghost use Rattle.znodes.specs.support.Rows.{sibling_links};
+ghost use Rattle.znodes.specs.support.Reading.{name_at, names_at};
+
+use crate::nodes::Nodes;
+use crate::reading::live;
+use crate::row::Row;
+use std::alloc::Global;
+use zpath::{Memory, Name};
+use zslots::{Id, List, Slots};
+
+impl Nodes {
+    /// The names of the children of the node that an Id names, in the order of their bytes.
+    pub fn children(&self, id: Id) -> Result<Vec<Name>, Memory>
+        requires live { IsSome (path_of self.now id) }
+        ensures { IfOk result (λ names. AtPath self.now id (λ path.
+            names.items ≡ children self.now.nodes path)) }
+    {
+        let Some(row) = live(&self.slots, id) else {
+            unreachable!()
+        };
+        let mut names = last_names(self.alloc, &self.slots, row.children)?;
+        names.sort_unstable();
+        Ok(names)
+    }
+}
+
+// The last names of the paths of a list's rows, in the list's order.
+fn last_names(alloc: Global, slots: &Slots<Row>, list: List<0>) -> Result<Vec<Name>, Memory>
+    requires { (ids : Ids) × IsList sibling_links slots.now.items list ids }
+    ensures { IfOk result (λ names. (ids : Ids) → IsList sibling_links slots.now.items list ids →
+        names.items ≡ names_at slots.now.items ids) }
+{
+    let mut names = Vec::with_capacity(alloc, list.len())?;
+    let mut at = list.first();
+    while let Some(id) = at {
+        push_name(alloc, slots, id, &mut names)?;
+        at = list.next(slots, id);
+    }
+    Ok(names)
+}
+
+// Adds the last name of a row's path.
+fn push_name(alloc: Global, slots: &Slots<Row>, id: Id, names: &mut Vec<Name>) -> Result<(), Memory>
+    ensures { OnOk result
+        (names.new.items ≡ names.old.items ++ names_at slots.now.items (id ∷ [])) }
+{
+    if let Some(name) = last_name(slots, id) {
+        names.push(name.copied(alloc)?)?;
+    }
+    Ok(())
+}
+
+// The last name of a row's path.
+fn last_name(slots: &Slots<Row>, id: Id) -> Option<&Name>
+    ensures { option_copied result ≡ name_at slots.now.items id }
+{
+    slots.get(id)?.path.name()
+}

@@ -1,0 +1,98 @@
+//! The nodes, as one value.
+
+ghost use Rattle.std.specs.Prelude.{◌≡◌, ◌≤◌, IfOk, OnOk};
+ghost use Rattle.std.specs.FinMap as finite;
+
+use crate::owners::Owners;
+use crate::row::Row;
+use std::alloc::Global;
+use std::marker::Model;
+use zindex::Index;
+use zpath::{Memory, Path};
+use zslots::{Links, List, Slots};
+use ztree::Node;
+
+/// The znodes of one machine.
+#[derive(Drop)]
+pub struct Nodes {
+    pub(crate) slots: Slots<Row>,
+    pub(crate) index: Index,
+    pub(crate) owners: Owners,
+    pub(crate) alloc: Global,
+}
+
+impl Model for Nodes {
+    ghost use Rattle.znodes.specs.NodesView.{NodesView, coded_nodes_view};
+
+    ghost Value = { NodesView };
+
+    ghost coded = { coded_nodes_view };
+
+    ghost use Rattle.znodes.specs.support.Rows.{IsLinked};
+    ghost use Rattle.znodes.specs.support.Fields.{view_of};
+
+    ghost view = { view_of };
+
+    ghost invariant = { λ s. IsLinked s.slots.items s.index.ids s.owners };
+}
+
+impl Nodes {
+    ghost use Rattle.znodes.specs.NodesView.{IsOpening, SameButRoom};
+
+    /// A root that nobody owns, alone.
+    pub fn new(alloc: Global, root: Node) -> Result<Nodes, Memory>
+        requires nobodys { root.owner ≡ 0 }
+        ensures { IfOk result (IsOpening root) }
+    {
+        let mut index = Index::new(alloc);
+        index.reserve(1)?;
+        let mut slots = Slots::new(alloc);
+        let row = Row::alone(alloc, Path::root(alloc), root, None);
+        let Ok(id) = slots.insert(row) else {
+            return Err(Memory);
+        };
+        index.insert(Vec::new(alloc), id);
+        Ok(Nodes {
+            slots,
+            index,
+            owners: Owners::new(alloc),
+            alloc,
+        })
+    }
+
+    /// How many Ids were given so far.
+    pub fn given(&self) -> u128
+        ensures { result ≡ self.now.given }
+    {
+        self.slots.given()
+    }
+
+    /// How many nodes there are, the root among them.
+    pub fn len(&self) -> usize
+        ensures { result ≡ finite.len self.now.nodes }
+    {
+        self.index.len()
+    }
+
+    /// Makes room in the index, so that so many nodes can come back without memory.
+    pub fn reserve(&mut self, more: usize) -> Result<(), Memory>
+        ensures room { OnOk result (more ≤ self.new.room) }
+        ensures same { SameButRoom self.old self.new }
+        ensures kept { self.old.room ≤ self.new.room }
+    {
+        self.index.reserve(more)?;
+        Ok(())
+    }
+
+    /// Nodes of their own with the same Ids, what was taken away among them.
+    pub fn copy(&self) -> Result<Nodes, Memory>
+        ensures { IfOk result (SameButRoom self.now) }
+    {
+        Ok(Nodes {
+            slots: self.slots.copy()?,
+            index: self.index.copy()?,
+            owners: self.owners.copy()?,
+            alloc: self.alloc,
+        })
+    }
+}

@@ -1,0 +1,74 @@
+//! What is read of the nodes.
+
+ghost use Rattle.std.specs.Prelude.{◌≡◌, ◌≢◌, ◌<◌, ℕ, [], Some, is_some, length, IfSome, IfNone, OnSome, IsSome};
+ghost use Rattle.std.specs.Option.{option_copied, option_map};
+ghost use Rattle.ztree.specs.Tree.{parent_of, has_node, children, ephemerals};
+ghost use Rattle.znodes.specs.support.Reading.{live_at};
+ghost use Rattle.znodes.specs.NodesView.{path_of, node_of, AtPath, AtNode};
+
+use crate::nodes::Nodes;
+use crate::row::Row;
+use zpath::Name;
+use zslots::{Id, Slots};
+use ztree::Node;
+
+impl Nodes {
+    /// The node whose path has these names; none where there is none. One look into the index.
+    pub fn find(&self, names: &[Name]) -> Option<Id>
+        ensures found { IfSome result (λ id. path_of self.now id ≡ Some names.now) }
+        ensures node { is_some result ≡ has_node self.now.nodes names.now }
+    {
+        self.index.get(names)
+    }
+
+    /// The node that an Id names; none where it names none.
+    pub fn node(&self, id: Id) -> Option<&Node>
+        ensures value { option_copied result ≡ node_of self.now id }
+        ensures live { is_some result ≡ is_some (path_of self.now id) }
+    {
+        let row = live(&self.slots, id)?;
+        Some(&row.node)
+    }
+
+    /// The node right above the one that an Id names; none above the root, and where it names none.
+    pub fn above(&self, id: Id) -> Option<Id>
+        ensures above { IfSome result (λ parent. AtPath self.now id (λ path.
+            path_of self.now parent ≡ Some (parent_of path))) }
+        ensures live { OnSome result (IsSome (path_of self.now id)) }
+        ensures below_root { OnSome result (AtPath self.now id (λ path. path ≢ [])) }
+        ensures none { IfNone result (AtPath self.now id (λ path. path ≡ [])) }
+    {
+        let row = live(&self.slots, id)?;
+        let (_, front) = row.path.names().split_last()?;
+        self.index.get(front)
+    }
+
+    /// How many children the node has that an Id names; none where it names none.
+    pub fn child_count(&self, id: Id) -> Option<usize>
+        ensures { result
+            ≡ option_map (λ path. length (children self.now.nodes path)) (path_of self.now id) }
+    {
+        let row = live(&self.slots, id)?;
+        Some(row.children.len())
+    }
+
+    /// A node that the session owns, if it owns one.
+    pub fn first_owned(&self, owner: u64) -> Option<Id>
+        requires somebody { 0 < owner }
+        ensures live { IfSome result (λ id. IsSome (path_of self.now id)) }
+        ensures owned { IfSome result (λ id. AtNode self.now id (λ n. n.owner ≡ owner)) }
+        ensures none { IfNone result (ephemerals self.now.nodes owner ≡ []) }
+    {
+        self.owners.list(owner)?.first()
+    }
+}
+
+// The row that an Id names, where its node is in the tree.
+pub(crate) fn live(slots: &Slots<Row>, id: Id) -> Option<&Row>
+    ensures { option_copied result ≡ live_at slots.now.items id }
+{
+    match slots.get(id) {
+        Some(row) if row.key.is_none() => Some(row),
+        _ => None,
+    }
+}

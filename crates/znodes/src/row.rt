@@ -1,0 +1,115 @@
+//! A node in its slot.
+
+ghost use Rattle.std.specs.Prelude.{◌≡◌, IfOk};
+
+use crate::key::Key;
+use std::alloc::Global;
+use zpath::{Memory, Path};
+use zslots::{Copied, Linked, Links, List};
+use ztree::Node;
+
+/// A node, where it is, its children, and its neighbours among its siblings and among the nodes of its owner.
+#[derive(Drop)]
+pub(crate) struct Row {
+    pub(crate) path: Path,
+    pub(crate) node: Node,
+    pub(crate) children: List<0>,
+    pub(crate) siblings: Links,
+    pub(crate) fellows: Links,
+    // The index's key, while the node is taken away: with it the node comes back without memory.
+    pub(crate) key: Option<Key>,
+    // Where its copies are allocated.
+    pub(crate) alloc: Global,
+}
+
+impl Row {
+    ghost use Rattle.znodes.specs.support.Rows.{lone_row};
+
+    // A row in no list.
+    pub(crate) fn alone(alloc: Global, path: Path, node: Node, key: Option<Key>) -> Row
+        ensures { result ≡ lone_row alloc path node key }
+    {
+        Row {
+            path,
+            node,
+            children: List::new(),
+            siblings: Links {
+                next: None,
+                prev: None,
+            },
+            fellows: Links {
+                next: None,
+                prev: None,
+            },
+            key,
+            alloc,
+        }
+    }
+}
+
+impl Copied for Row {
+    fn copied(&self) -> Result<Row, Memory> {
+        Ok(Row {
+            path: self.path.copied(self.alloc)?,
+            node: self.node.copied(self.alloc)?,
+            children: self.children,
+            siblings: self.siblings,
+            fellows: self.fellows,
+            key: copied_key(self.alloc, &self.key)?,
+            alloc: self.alloc,
+        })
+    }
+}
+
+fn copied_key(alloc: Global, key: &Option<Key>) -> Result<Option<Key>, Memory>
+    ensures { IfOk result (λ copy. copy ≡ key.now) }
+{
+    match key {
+        Some(key) => Ok(Some(key.copied(alloc)?)),
+        None => Ok(None),
+    }
+}
+
+impl Linked<0> for Row {
+    ghost use Rattle.std.specs.Prelude.{refl};
+
+    ghost links = { λ r. r.siblings };
+
+    ghost with_links = { λ r to. record r { siblings = to } };
+
+    ghost reads = { λ _ _. refl };
+
+    ghost same = { λ _. refl };
+
+    ghost twice = { λ _ _ _. refl };
+
+    fn links(&self) -> Links {
+        self.siblings
+    }
+
+    fn set_links(&mut self, to: Links) {
+        self.siblings = to;
+    }
+}
+
+impl Linked<1> for Row {
+    ghost use Rattle.std.specs.Prelude.{refl};
+
+    ghost links = { λ r. r.fellows };
+
+    ghost with_links = { λ r to. record r { fellows = to } };
+
+    ghost reads = { λ _ _. refl };
+
+    ghost same = { λ _. refl };
+
+    ghost twice = { λ _ _ _. refl };
+
+    fn links(&self) -> Links {
+        self.fellows
+    }
+
+    fn set_links(&mut self, to: Links) {
+        self.fellows = to;
+    }
+}

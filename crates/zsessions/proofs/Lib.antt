@@ -1,0 +1,9 @@
+pub mod Read
+pub mod Empty
+pub mod Opened
+pub mod Ended
+pub mod Renewed
+pub mod Length
+pub mod Rising
+pub mod Due
+pub mod Reopened

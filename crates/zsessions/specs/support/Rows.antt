@@ -1,0 +1,103 @@
+-- What rows, ids and buckets mean together, and what the steps of the calls make of them.
+use Rattle.std.specs.Prelude.{◌≡◌, ℕ, ◌%◌, List, [], ◌++◌, Option, Some, None, if◌then◌else◌, nat_le, slice_index_or, slice_set}
+use Rattle.std.specs.Option.{option_map, option_map_or, option_and_then}
+use Rattle.std.specs.Ordering.{nat_cmp}
+use Rattle.std.specs.FinMap.{get, insert, from_entries}
+use Rattle.std.specs.List.{cons_option}
+use Rattle.std.specs.Map.{lookup}
+use Rattle.std.specs.BTreeMap.{is_at}
+use Rattle.ztree.specs.Tree.{Sessions}
+use Rattle.ztree.specs.declared.session.Session.{Session}
+use Rattle.zslots.specs.declared.id.Id.{Id}
+use Rattle.zslots.specs.declared.linked.Links.{Links}
+use Rattle.zslots.specs.declared.list.List.{List as IdList}
+use Rattle.zslots.specs.SlotsView.{Items}
+use Rattle.zslots.specs.Links.{with_front, without}
+use Rattle.zslots.specs.Lists.{empty_list, list_with_front, list_without}
+use Rattle.zslots.specs.Families.{HasFamilies}
+use Rattle.zslots.specs.Mapped.{mapped}
+use Rattle.zsessions.specs.declared.row.SessionRow.{SessionRow}
+
+abbrev pub Rows : Type 0
+Rows = Items SessionRow
+
+-- the lists by deadlines
+abbrev pub Buckets : Type 0
+Buckets = List (IdList 0)
+
+-- the Ids by the sessions' ids
+abbrev pub IdEntries : Type 0
+IdEntries = List (ℕ × Id)
+
+abbrev pub row_links : SessionRow → Links
+row_links row = row.links
+
+abbrev pub with_row_links : SessionRow → Links → SessionRow
+with_row_links row to = record row { links = to }
+
+-- the session of the row that an Id names, and its id
+abbrev pub session_at : Rows → Id → Option Session
+session_at rows id = option_map (λ row. row.session) (get rows id)
+
+abbrev pub number_at : Rows → Id → Option ℕ
+number_at rows id = option_map (λ row. row.id) (get rows id)
+
+-- the Id under a session's id
+abbrev pub id_at : IdEntries → ℕ → Option Id
+id_at ids number = lookup (is_at (nat_cmp number)) ids
+
+-- the sessions by their ids
+abbrev pub sessions_of : IdEntries → Rows → Sessions
+sessions_of ids rows = mapped (session_at rows) (from_entries ids)
+
+-- the number of the bucket of a deadline
+abbrev pub bucket_number : ℕ → ℕ
+bucket_number deadline = deadline % 32
+
+-- the list with a number
+abbrev pub bucket : Buckets → ℕ → IdList 0
+bucket buckets k = slice_index_or buckets k empty_list
+
+-- the number of the bucket that a row stands in
+abbrev pub number_of : SessionRow → Option ℕ
+number_of row = Some (bucket_number row.session.deadline)
+
+-- each row is found by its session's id alone, and stands in the bucket of its deadline
+pub record IsTable (ids : IdEntries) (rows : Rows) (buckets : Buckets) : Type 0 where
+  pub found : (id : Id) (number : ℕ) → number_at rows id ≡ Some number → id_at ids number ≡ Some id
+  pub named : (number : ℕ) (id : Id) → id_at ids number ≡ Some id → number_at rows id ≡ Some number
+  pub listed : HasFamilies row_links number_of rows (bucket buckets)
+
+-- a row put into a bucket
+abbrev pub filed_items : Rows → Buckets → ℕ → Id → Rows
+filed_items rows buckets k id = with_front row_links with_row_links rows (bucket buckets k).first id
+
+abbrev pub filed_buckets : Buckets → ℕ → Id → Buckets
+filed_buckets buckets k id = slice_set buckets k (list_with_front (bucket buckets k) id)
+
+-- a row taken out of a bucket
+abbrev pub unfiled_items : Rows → Id → Rows
+unfiled_items rows id = without row_links with_row_links rows id
+
+abbrev pub unfiled_buckets : Rows → Buckets → ℕ → Id → Buckets
+unfiled_buckets rows buckets k id =
+    slice_set buckets k (list_without row_links rows (bucket buckets k) id)
+
+-- a row with another deadline
+abbrev pub with_row_deadline : SessionRow → ℕ → SessionRow
+with_row_deadline row deadline = record row { session = record row.session { deadline = deadline } }
+
+-- the rows with one's deadline written, where it is there
+abbrev pub with_deadline_at : Rows → Id → ℕ → Rows
+with_deadline_at rows id deadline =
+    option_map_or (λ row. insert rows id (with_row_deadline row deadline)) (get rows id) rows
+
+-- the id of the session of a row, if a tick reaches its deadline
+abbrev pub due_at : Rows → ℕ → Id → Option ℕ
+due_at rows tick id =
+    option_and_then (λ row. if nat_le row.session.deadline tick then Some row.id else None)
+    (get rows id)
+
+-- the new list is the old one with the value behind it, if there is one
+abbrev pub AppendsOption : {A : Type 0} → List A → List A → Option A → Type 0
+AppendsOption old new value = new ≡ old ++ cons_option value []

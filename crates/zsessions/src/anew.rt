@@ -1,0 +1,36 @@
+//! The rows of a table under Ids that are given anew.
+
+ghost use Rattle.std.specs.Prelude.{◌≡◌, ◌<◌, IfOk};
+ghost use Rattle.zslots.specs.declared.limits.TheConstants.{GIVEN_BOUND};
+ghost use Rattle.zsessions.specs.support.Rows.{sessions_of};
+
+use crate::buckets::session_of;
+use crate::row::SessionRow;
+use crate::table::Table;
+use std::alloc::Global;
+use std::collections::BTreeMap;
+use zpath::Memory;
+use zslots::{Id, Slots};
+use ztree::SessionId;
+
+/// The same sessions, whose rows have Ids that were given for them alone.
+pub(crate) fn opened_anew(
+    alloc: Global,
+    rows: &Slots<SessionRow>,
+    ids: &BTreeMap<u64, Id>,
+) -> Result<Table, Memory>
+    ensures sessions { IfOk result (λ copy.
+        copy.sessions ≡ sessions_of ids.now.entries rows.now.items) }
+    ensures given { IfOk result (λ copy. copy.given < GIVEN_BOUND) }
+{
+    let mut copy = Table::new(alloc);
+    // There are far fewer sessions than Ids that can be given.
+    let _ = ids.len();
+    for (number, at) in ids {
+        let Some(session) = session_of(rows, *at) else {
+            continue;
+        };
+        copy.open(SessionId::new(*number), session)?;
+    }
+    Ok(copy)
+}

@@ -1,0 +1,77 @@
+//! The buckets: each row stands in the list of its deadline modulo 32.
+
+ghost use Rattle.std.specs.Prelude.{◌≡◌, ◌<◌, IsSome, option_map};
+ghost use Rattle.std.specs.FinMap as finite;
+ghost use Rattle.zslots.specs.SlotsView.{with_items};
+ghost use Rattle.zslots.specs.Lists.{length_of};
+ghost use Rattle.zsessions.specs.support.Rows.{bucket, bucket_number, session_at, filed_items, filed_buckets, unfiled_items, unfiled_buckets, with_deadline_at};
+
+use crate::limits::BUCKETS;
+use crate::row::SessionRow;
+use zslots::{Id, List, Slots};
+use ztree::Session;
+
+/// Puts a row, which is in no bucket, into that of a deadline.
+pub(crate) fn file(
+    rows: &mut Slots<SessionRow>,
+    buckets: &mut [List<0>; BUCKETS],
+    deadline: u64,
+    id: Id,
+)
+    requires { length_of (bucket buckets.old (bucket_number deadline)) < finite.len rows.old.items }
+    ensures items { rows.new ≡ with_items rows.old
+        (filed_items rows.old.items buckets.old (bucket_number deadline) id) }
+    ensures buckets { buckets.new ≡ filed_buckets buckets.old (bucket_number deadline) id }
+{
+    // The bucket is shorter than there are rows, and these can be counted: so its length has room.
+    let _ = rows.len();
+    let at = place(deadline);
+    let mut list = buckets[at];
+    list.push_front(rows, id);
+    buckets[at] = list;
+}
+
+/// Takes a row out of the bucket of its deadline.
+pub(crate) fn unfile(
+    rows: &mut Slots<SessionRow>,
+    buckets: &mut [List<0>; BUCKETS],
+    deadline: u64,
+    id: Id,
+)
+    requires { 0 < length_of (bucket buckets.old (bucket_number deadline)) }
+    ensures items { rows.new ≡ with_items rows.old (unfiled_items rows.old.items id) }
+    ensures buckets { buckets.new ≡ unfiled_buckets rows.old.items buckets.old
+        (bucket_number deadline) id }
+{
+    let at = place(deadline);
+    let mut list = buckets[at];
+    list.unlink(rows, id);
+    buckets[at] = list;
+}
+
+/// Writes a row's deadline, and leaves it where it stands.
+pub(crate) fn set_deadline(rows: &mut Slots<SessionRow>, id: Id, deadline: u64)
+    ensures { rows.new ≡ with_items rows.old (with_deadline_at rows.old.items id deadline) }
+{
+    if let Some(row) = rows.get_mut(id) {
+        row.session.deadline = deadline;
+    }
+}
+
+/// The session of a row.
+pub(crate) fn session_of(rows: &Slots<SessionRow>, id: Id) -> Option<Session>
+    ensures { result ≡ session_at rows.now.items id }
+{
+    match rows.get(id) {
+        Some(row) => Some(row.session),
+        None => None,
+    }
+}
+
+/// The place of the bucket of a deadline.
+pub(crate) fn place(deadline: u64) -> usize
+    ensures same { result ≡ bucket_number deadline }
+    ensures within { result < 32 }
+{
+    (deadline % 32) as usize
+}

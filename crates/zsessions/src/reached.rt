@@ -1,0 +1,51 @@
+//! The sessions of a bucket that a tick reaches.
+
+ghost use Rattle.std.specs.Prelude.{◌≡◌, IfOk, OnOk};
+ghost use Rattle.std.specs.List.{filter_map, cons_option};
+ghost use Rattle.zslots.specs.Ids.{Ids};
+ghost use Rattle.zslots.specs.Lists.{IsList};
+ghost use Rattle.zsessions.specs.support.Rows.{row_links, due_at, AppendsOption};
+
+use crate::row::SessionRow;
+use std::alloc::Global;
+use zpath::Memory;
+use zslots::{Id, List, Slots};
+use ztree::SessionId;
+
+/// The ids of the sessions of a bucket whose deadline a tick reaches, in the bucket's order.
+pub(crate) fn reached(
+    alloc: Global,
+    rows: &Slots<SessionRow>,
+    bucket: &List<0>,
+    tick: u64,
+) -> Result<Vec<SessionId>, Memory>
+    requires { (ids : Ids) × IsList row_links rows.now.items bucket.now ids }
+    ensures { IfOk result (λ found. (ids : Ids) → IsList row_links rows.now.items bucket.now ids →
+        found.items ≡ filter_map (due_at rows.now.items tick) ids) }
+{
+    let mut found = Vec::new(alloc);
+    let mut at = bucket.first();
+    while let Some(id) = at {
+        push_if_due(rows, id, tick, &mut found)?;
+        at = bucket.next(rows, id);
+    }
+    Ok(found)
+}
+
+/// Adds the id of a row's session, if the tick reaches its deadline.
+fn push_if_due(
+    rows: &Slots<SessionRow>,
+    id: Id,
+    tick: u64,
+    found: &mut Vec<SessionId>,
+) -> Result<(), Memory>
+    ensures { OnOk result
+        (AppendsOption found.old.items found.new.items (due_at rows.now.items tick id)) }
+{
+    if let Some(row) = rows.get(id) {
+        if row.session.deadline <= tick {
+            found.push(row.id)?;
+        }
+    }
+    Ok(())
+}

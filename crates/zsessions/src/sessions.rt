@@ -1,0 +1,102 @@
+//! The sessions.
+
+ghost use Rattle.std.specs.Prelude.{◌≡◌, None, IfOk, OnOk, OnErr, IsSome};
+ghost use Rattle.std.specs.FinMap as finite;
+ghost use Rattle.std.specs.FinMap.{get};
+ghost use Rattle.ztree.specs.Sessions.{due_sessions};
+ghost use Rattle.zsessions.specs.Deadlines.{with_deadline, NoneLate};
+
+use crate::table::Table;
+use std::alloc::Global;
+use std::marker::Model;
+use zpath::Memory;
+use zslots::limits::GIVEN_BOUND;
+use ztree::{Session, SessionId};
+
+/// Sessions by their ids.
+#[derive(Drop)]
+pub struct Sessions {
+    table: Table,
+}
+
+impl Model for Sessions {
+    ghost use Rattle.ztree.specs.Tree.{Sessions as SessionMap};
+    ghost use Rattle.zsessions.specs.support.TableView.{coded_sessions};
+
+    ghost Value = { SessionMap };
+
+    ghost coded = { coded_sessions };
+
+    ghost view = { λ s. s.table.sessions };
+}
+
+impl Sessions {
+    /// No session. It takes no memory.
+    pub fn new(alloc: Global) -> Sessions
+        ensures { result ≡ finite.empty }
+    {
+        Sessions {
+            table: Table::new(alloc),
+        }
+    }
+
+    /// How many sessions there are.
+    pub fn len(&self) -> usize
+        ensures { result ≡ finite.len self.now }
+    {
+        self.table.len()
+    }
+
+    /// The session of an id.
+    pub fn get(&self, id: SessionId) -> Option<Session>
+        ensures { result ≡ get self.now id }
+    {
+        self.table.get(id)
+    }
+
+    /// The ids of the sessions whose deadline a tick reaches, in their order, where none is past.
+    /// Only sessions whose deadlines are equal to the tick modulo 32 are looked at.
+    pub fn due(&self, tick: u64) -> Result<Vec<SessionId>, Memory>
+        requires none_late { NoneLate self.now tick }
+        ensures { IfOk result (λ ids. ids.items ≡ due_sessions self.now tick) }
+    {
+        self.table.due(tick)
+    }
+
+    /// One more session, whose id is free.
+    pub fn open(&mut self, id: SessionId, session: Session) -> Result<(), Memory>
+        requires free { get self.old id ≡ None }
+        ensures ok { OnOk result (self.new ≡ finite.insert self.old id session) }
+        ensures err { OnErr result (self.new ≡ self.old) }
+    {
+        // Where all Ids are given, the rows get new ones.
+        if self.table.given() >= GIVEN_BOUND {
+            self.table = self.table.copy()?;
+        }
+        self.table.open(id, session)
+    }
+
+    /// Writes the deadline of a session. It takes no memory.
+    pub fn renew(&mut self, id: SessionId, deadline: u64)
+        requires live { IsSome (get self.old id) }
+        ensures { self.new ≡ with_deadline self.old id deadline }
+    {
+        self.table.renew(id, deadline);
+    }
+
+    /// One session fewer. It takes no memory.
+    pub fn end(&mut self, id: SessionId)
+        requires live { IsSome (get self.old id) }
+        ensures { self.new ≡ finite.remove self.old id }
+    {
+        self.table.end(id);
+    }
+
+    /// The same sessions once more.
+    pub fn copy(&self) -> Result<Sessions, Memory>
+        ensures { IfOk result (λ copy. copy ≡ self.now) }
+    {
+        let table = self.table.copy()?;
+        Ok(Sessions { table })
+    }
+}

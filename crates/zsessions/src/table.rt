@@ -1,0 +1,158 @@
+//! The rows of sessions, by their ids and in their buckets.
+
+ghost use Rattle.std.specs.Prelude.{◌≡◌, ◌+◌, ◌<◌, ◌≤◌, None, IfOk, OnOk, OnErr, IsSome};
+ghost use Rattle.std.specs.FinMap as finite;
+ghost use Rattle.std.specs.FinMap.{get};
+ghost use Rattle.ztree.specs.Sessions.{due_sessions};
+ghost use Rattle.ztree.specs.declared.session.Session.{Session};
+ghost use Rattle.zslots.specs.declared.limits.TheConstants.{GIVEN_BOUND};
+ghost use Rattle.zsessions.specs.Deadlines.{with_deadline, NoneLate};
+
+use crate::anew::opened_anew;
+use crate::buckets::{file, place, session_of, set_deadline, unfile};
+use crate::limits::BUCKETS;
+use crate::reached::reached;
+use crate::row::SessionRow;
+use std::alloc::Global;
+use std::collections::BTreeMap;
+use std::marker::Model;
+use zpath::Memory;
+use zslots::{Id, Links, List, Slots};
+use ztree::{Session, SessionId};
+
+/// Rows of sessions, and how many Ids were given to them.
+#[derive(Drop)]
+pub(crate) struct Table {
+    rows: Slots<SessionRow>,
+    ids: BTreeMap<u64, Id>,
+    buckets: [List<0>; BUCKETS],
+    alloc: Global,
+}
+
+impl Model for Table {
+    ghost use Rattle.zsessions.specs.support.TableView.{TableView, coded_table};
+
+    ghost Value = { TableView };
+
+    ghost coded = { coded_table };
+
+    ghost use Rattle.zsessions.specs.support.Fields.{view_of};
+    ghost use Rattle.zsessions.specs.support.Rows.{IsTable};
+
+    ghost view = { view_of };
+
+    ghost invariant = { λ t. IsTable t.ids.entries t.rows.items t.buckets };
+}
+
+impl Table {
+    /// No session.
+    pub(crate) fn new(alloc: Global) -> Table
+        ensures sessions { result.sessions ≡ finite.empty }
+        ensures given { result.given ≡ 0 }
+    {
+        Table {
+            rows: Slots::new(alloc),
+            ids: BTreeMap::new(alloc),
+            buckets: [List::new(); BUCKETS],
+            alloc,
+        }
+    }
+
+    /// How many Ids were given to rows.
+    pub(crate) fn given(&self) -> u128
+        ensures { result ≡ self.now.given }
+    {
+        self.rows.given()
+    }
+
+    /// How many sessions there are.
+    pub(crate) fn len(&self) -> usize
+        ensures { result ≡ finite.len self.now.sessions }
+    {
+        self.ids.len()
+    }
+
+    /// The session of an id.
+    pub(crate) fn get(&self, id: SessionId) -> Option<Session>
+        ensures { result ≡ get self.now.sessions id }
+    {
+        let at = self.ids.get(&id.number()).copied()?;
+        session_of(&self.rows, at)
+    }
+
+    /// The ids of the sessions whose deadline a tick reaches, in their order.
+    pub(crate) fn due(&self, tick: u64) -> Result<Vec<SessionId>, Memory>
+        requires none_late { NoneLate self.now.sessions tick }
+        ensures { IfOk result (λ ids. ids.items ≡ due_sessions self.now.sessions tick) }
+    {
+        let mut ids = reached(self.alloc, &self.rows, &self.buckets[place(tick)], tick)?;
+        ids.sort_unstable();
+        Ok(ids)
+    }
+
+    /// The same sessions, whose rows have Ids that were given for them alone.
+    pub(crate) fn copy(&self) -> Result<Table, Memory>
+        ensures sessions { IfOk result (λ copy. copy.sessions ≡ self.now.sessions) }
+        ensures given { IfOk result (λ copy. copy.given < GIVEN_BOUND) }
+    {
+        opened_anew(self.alloc, &self.rows, &self.ids)
+    }
+
+    /// One more session.
+    pub(crate) fn open(&mut self, id: SessionId, session: Session) -> Result<(), Memory>
+        requires free { get self.old.sessions id ≡ None }
+        requires given { self.old.given < GIVEN_BOUND }
+        ensures sessions { OnOk result
+            (self.new.sessions ≡ finite.insert self.old.sessions id session) }
+        ensures err { OnErr result (self.new.sessions ≡ self.old.sessions) }
+        ensures given { self.new.given ≤ self.old.given + 1 }
+    {
+        let due = session.deadline;
+        let links = Links {
+            next: None,
+            prev: None,
+        };
+        let Ok(at) = self.rows.insert(SessionRow { id, session, links }) else {
+            return Err(Memory);
+        };
+        let Ok(_) = self.ids.insert(id.number(), at) else {
+            self.rows.remove(at);
+            return Err(Memory);
+        };
+        file(&mut self.rows, &mut self.buckets, due, at);
+        Ok(())
+    }
+
+    /// Writes a session's deadline.
+    pub(crate) fn renew(&mut self, id: SessionId, deadline: u64)
+        requires { IsSome (get self.old.sessions id) }
+        ensures sessions { self.new.sessions ≡ with_deadline self.old.sessions id deadline }
+        ensures given { self.new.given ≡ self.old.given }
+    {
+        let Some(at) = self.ids.get(&id.number()).copied() else {
+            return;
+        };
+        let Some(session) = session_of(&self.rows, at) else {
+            return;
+        };
+        unfile(&mut self.rows, &mut self.buckets, session.deadline, at);
+        set_deadline(&mut self.rows, at, deadline);
+        file(&mut self.rows, &mut self.buckets, deadline, at);
+    }
+
+    /// One session fewer.
+    pub(crate) fn end(&mut self, id: SessionId)
+        requires { IsSome (get self.old.sessions id) }
+        ensures sessions { self.new.sessions ≡ finite.remove self.old.sessions id }
+        ensures given { self.new.given ≡ self.old.given }
+    {
+        let Some(at) = self.ids.remove(&id.number()) else {
+            return;
+        };
+        let Some(last) = session_of(&self.rows, at) else {
+            return;
+        };
+        unfile(&mut self.rows, &mut self.buckets, last.deadline, at);
+        self.rows.remove(at);
+    }
+}

@@ -1,0 +1,34 @@
+use Rattle.std.proofs.Common.{◌≡◌, sym, ap, subst, ◌∙◌, arith}
+use Rattle.znodes.specs.NodesView.{NodesView}
+use Rattle.zstore.specs.support.Undoing.{Held, notes_of, undos_of, held_after, freed, all_freed, AllHeld}
+use Rattle.zstore.proofs.parts.Undone.{all_held_last}
+use Rattle.zstore.proofs.parts.Noted.{freed_full, freed_off}
+use Rattle.zstore.proofs.log.Log.note.Goals.{else-self-via-then-self+else-len-capacity, else-self-via-else-self}
+use Rattle.zstore.proofs.log.Log.note.Goals as goal
+
+pub free_one-requires : goal.free_one-requires
+free_one-requires c =
+    (all_held_last (undos_of (notes_of c.args.self.now)) c.args.undo c.args.nodes.now.held
+    c.requires).0
+
+pub stop-requires : goal.stop-requires
+stop-requires c =
+    let us = undos_of (notes_of c.args.self.now) in
+    subst (λ (w : NodesView). AllHeld us w.held) (sym c.free_one.ensures)
+    (all_held_last us c.args.undo c.args.nodes.now.held c.requires).1
+
+pub returns-clause-nodes : goal.returns-clause-nodes
+returns-clause-nodes c =
+    let l = c.args.self.now in
+    let v = c.args.nodes.now in
+    let full : held_after c.args.undo (notes_of l) v.held ≡ all_freed (undos_of (notes_of l))
+    (freed c.args.undo v.held) =
+    elim c.else-self.branch [
+      | else-self-via-then-self+else-len-capacity w ↦ freed_full c.args.undo l v.held w.if-self.true
+          (let full = w.if-len-capacity.false in let len = w.len.ensures in let capacity =
+          w.capacity.ensures in omega (arith, full, len, capacity))
+      | else-self-via-else-self w ↦ freed_off c.args.undo l v.held w.if-self.false
+    ] in
+    c.stop.ensures.nodes
+    ∙ ap (λ (x : NodesView). record x { held = all_freed (undos_of (notes_of l)) x.held })
+    c.free_one.ensures ∙ ap (λ (h : Held). record v { held = h }) (sym full)

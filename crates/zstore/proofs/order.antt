@@ -1,0 +1,2 @@
+-- In which order the nodes of a session go.
+pub mod Any

@@ -1,0 +1,218 @@
+-- What a store keeps after a change that is noted, and after a mark that is given up.
+use Rattle.std.proofs.Common.{◌≡◌, ℕ, ◌+◌, ◌-◌, ◌≤◌, Bool, true, false, cond, List, [], ◌∷◌, ◌++◌, Option, Some, None, refl, sym, ap, subst, ◌∙◌, arith}
+use Rattle.std.specs.Prelude.{nat_le}
+use Rattle.std.specs.Vec.{vec_len, vec_capacity}
+use Rattle.std.specs.Option.{option_map}
+use Rattle.std.specs.FinMap as finite
+use Rattle.std.specs.FinMap.{get-empty}
+use Rattle.std.proofs.lemmas.Bool.Decides.{nat_tests}
+use Rattle.zslots.specs.declared.id.Id.{Id}
+use Rattle.zslots.specs.Ids.{id_cmp}
+use Rattle.ztree.specs.Tree.{Path, Sessions}
+use Rattle.znodes.specs.NodesView.{NodesView, SameButRoom}
+use Rattle.zstore.specs.declared.undo.Undo.{Undo}
+use Rattle.zstore.specs.declared.log.Log.{Log}
+use Rattle.zstore.specs.StoreView.{stepped}
+use Rattle.zstore.specs.support.Undoing.{Held, Owners, Parts, parts_of, undone, all_undone, Fits, FitAll, returning, all_freed, freed, AllHeld, Notes, notes_of, undos_of, noted, held_after, GivesUp}
+use Rattle.zstore.specs.support.Stored.{tree_of, mark_of, IsKept, AreOwners, IsStored}
+use Rattle.zstore.proofs.parts.Undone.{all_undone-push, all_freed-push, fit_all_push, all_returning-push, held-all_undone, all_held}
+
+-- where no note more is taken, nothing needs to be undone
+pub freed_full : (u : Undo) (l : Log) (held : Held) → l.is_on ≡ true →
+    vec_capacity l.undos ≤ vec_len l.undos →
+    held_after u (notes_of l) held ≡ all_freed (undos_of (notes_of l)) (freed u held)
+freed_full u l held on full =
+    let none : nat_le 1 (vec_capacity l.undos - vec_len l.undos) ≡ false =
+    grind (arith, nat_tests, full) in
+    rw (on, none) (all_freed-push l.undos.items u held)
+
+pub freed_off : (u : Undo) (l : Log) (held : Held) → l.is_on ≡ false →
+    held_after u (notes_of l) held ≡ all_freed (undos_of (notes_of l)) (freed u held)
+freed_off u l held off = rw off refl
+
+-- the same nodes where other nodes are held
+abbrev pub with_held : NodesView → Held → NodesView
+with_held v held = record v { held = held }
+
+-- with no mark and nothing held, all is stored
+pub stored_plain : (v : NodesView) (sessions : Sessions) (time zxid : ℕ) (held : Held) →
+    held ≡ finite.empty → IsKept v.nodes v.places sessions time zxid → AreOwners v.owners sessions →
+    IsStored None (with_held v held) sessions time zxid
+stored_plain v sessions time zxid held none kept owners = record {
+  kept = kept;
+  owners = owners;
+  apart = λ id path is. ap (λ (h : Held). finite.get h id) none ∙ get-empty id_cmp id;
+  fit = tt;
+  before = kept;
+  held = none;
+  room = omega arith;
+}
+
+module _ (v : NodesView) (sessions : Sessions) (time zxid : ℕ) where
+  module _ (notes : Option Notes) (stored : IsStored notes v sessions time zxid) where
+    -- what was taken away since the mark is held
+    pub notes_held : AllHeld (undos_of notes) v.held
+    notes_held = all_held v.owners (undos_of notes) (parts_of v) stored.fit
+
+    -- and nothing else
+    pub none_held : all_freed (undos_of notes) v.held ≡ finite.empty
+    none_held = sym (held-all_undone v.owners (undos_of notes) (parts_of v) stored.fit)
+        ∙ stored.held
+
+    -- the mark given up
+    pub stored_kept : IsStored None (with_held v (all_freed (undos_of notes) v.held)) sessions time
+        zxid
+    stored_kept =
+        stored_plain v sessions time zxid (all_freed (undos_of notes) v.held) none_held stored.kept
+        stored.owners
+
+    -- and something else than the nodes changed
+    pub stored_changed : (sessions' : Sessions) (time' zxid' : ℕ) →
+        IsKept v.nodes v.places sessions' time' zxid' → AreOwners v.owners sessions' →
+        IsStored None (with_held v (all_freed (undos_of notes) v.held)) sessions' time' zxid'
+    stored_changed sessions' time' zxid' kept owners =
+        stored_plain v sessions' time' zxid' (all_freed (undos_of notes) v.held) none_held kept
+        owners
+
+    -- and with other room
+    pub stored_freed : (w : NodesView) → GivesUp (undos_of notes) v w →
+        IsStored None w sessions time zxid
+    stored_freed w gives =
+        subst (λ (x : NodesView). IsStored None x sessions time zxid) (sym gives)
+        (stored_plain (record v { room = w.room }) sessions time zxid
+        (all_freed (undos_of notes) v.held) none_held stored.kept stored.owners)
+
+    -- and so in a copy of the nodes
+    pub stored_copied : (w : NodesView) → SameButRoom v w →
+        IsStored None (with_held w (all_freed (undos_of notes) w.held)) sessions time zxid
+    stored_copied w same =
+        subst (λ (x : NodesView).
+        IsStored None (with_held x (all_freed (undos_of notes) x.held)) sessions time zxid)
+        (sym same)
+        (stored_plain (record v { room = w.room }) sessions time zxid
+        (all_freed (undos_of notes) v.held) none_held stored.kept stored.owners)
+
+    pub copy_held : (w : NodesView) → SameButRoom v w → AllHeld (undos_of notes) w.held
+    copy_held w same =
+        subst (λ (x : NodesView). AllHeld (undos_of notes) x.held) (sym same) notes_held
+
+    -- and a new mark set
+    pub stored_started : (w : NodesView) → GivesUp (undos_of notes) v w → (room : ℕ) →
+        room ≤ w.room → IsStored (Some (record { undos = []; room = room })) w sessions time zxid
+    stored_started w gives room within =
+        let plain = stored_freed w gives in
+        record {
+          kept = plain.kept;
+          owners = plain.owners;
+          apart = plain.apart;
+          fit = tt;
+          before = plain.before;
+          held = plain.held;
+          room = omega (arith, within);
+        }
+
+    -- what was done since the mark undone
+    pub stored_back : (w : NodesView) → parts_of w ≡ all_undone (undos_of notes) (parts_of v) →
+        w.owners ≡ v.owners → IsStored None w sessions time zxid
+    stored_back w parts owners =
+        let kept =
+        subst (λ (p : Parts). IsKept p.nodes p.places sessions time zxid) (sym parts)
+        stored.before in
+        let held = ap (λ (p : Parts). p.held) parts ∙ stored.held in
+        record {
+          kept = kept;
+          owners = subst (λ (o : Owners). AreOwners o sessions) (sym owners) stored.owners;
+          apart = λ id path is. ap (λ (h : Held). finite.get h id) held ∙ get-empty id_cmp id;
+          fit = tt;
+          before = kept;
+          held = held;
+          room = omega arith;
+        }
+
+-- a change that is undone by a note
+module _ (u : Undo) (old new : NodesView) (sessions : Sessions) (time zxid : ℕ)
+    (back : undone u (parts_of new) ≡ parts_of old) where
+  all_back : (us : List Undo) →
+      all_undone (us ++ u ∷ []) (parts_of new) ≡ all_undone us (parts_of old)
+  all_back us = all_undone-push us u (parts_of new) ∙ ap (all_undone us) back
+
+  -- the mark that stands then
+  pub noted_marked : (notes : Option Notes) →
+      option_map (mark_of (with_held new (held_after u notes new.held)) sessions time zxid)
+      (noted u notes) ≡ stepped 1 (option_map (mark_of old sessions time zxid) notes)
+  noted_marked None = refl
+  noted_marked (Some n) = by (nat_le 1 n.room)
+    where
+      by : (b : Bool) →
+          option_map
+          (mark_of (with_held new (cond b new.held (all_freed (n.undos ++ u ∷ []) new.held)))
+          sessions time zxid)
+          (cond b (Some (record { undos = n.undos ++ u ∷ []; room = n.room - 1 })) None)
+          ≡ cond b (Some (record (mark_of old sessions time zxid n) { steps = n.room - 1 })) None
+      by true =
+          ap (λ (p : Parts). Some
+          (record {
+            tree = tree_of p.nodes sessions time zxid;
+            places = p.places;
+            steps = n.room - 1;
+          })) (all_back n.undos)
+      by false = refl
+
+  module _ (notes : Option Notes) (stored : IsStored notes old sessions time zxid)
+      (owners : new.owners ≡ old.owners) (fits : Fits new.owners u (parts_of new)) where
+    -- all can be undone still
+    fit : FitAll new.owners (undos_of notes ++ u ∷ []) (parts_of new)
+    fit = fit_all_push new.owners (undos_of notes) u (parts_of new) fits
+        (subst (FitAll new.owners (undos_of notes)) (sym back)
+        (subst (λ (o : Owners). FitAll o (undos_of notes) (parts_of old)) (sym owners) stored.fit))
+
+    -- so what was taken away is held
+    pub noted_held : AllHeld (undos_of notes ++ u ∷ []) new.held
+    noted_held = all_held new.owners (undos_of notes ++ u ∷ []) (parts_of new) fit
+
+    none_left : all_freed (undos_of notes ++ u ∷ []) new.held ≡ finite.empty
+    none_left = sym (held-all_undone new.owners (undos_of notes ++ u ∷ []) (parts_of new) fit)
+        ∙ ap (λ (p : Parts). p.held) (all_back (undos_of notes)) ∙ stored.held
+
+    -- and all is stored
+    pub stored_noted : IsKept new.nodes new.places sessions time zxid →
+        ((id : Id) (path : Path) → finite.get new.places id ≡ Some path →
+        finite.get new.held id ≡ None) → old.room + returning u ≤ new.room + 1 →
+        IsStored (noted u notes) (with_held new (held_after u notes new.held)) sessions time zxid
+    stored_noted kept apart more = by notes stored fit none_left
+      where
+        again : AreOwners new.owners sessions
+        again = subst (λ (o : Owners). AreOwners o sessions) (sym owners) stored.owners
+
+        within : (n : Notes) → IsStored (Some n) old sessions time zxid →
+            FitAll new.owners (n.undos ++ u ∷ []) (parts_of new) →
+            all_freed (n.undos ++ u ∷ []) new.held ≡ finite.empty → (b : Bool) → nat_le 1 n.room ≡ b
+            → IsStored
+            (cond b (Some (record { undos = n.undos ++ u ∷ []; room = n.room - 1 })) None)
+            (with_held new (cond b new.held (all_freed (n.undos ++ u ∷ []) new.held))) sessions
+            time zxid
+        within n was fit none false full =
+            stored_plain new sessions time zxid (all_freed (n.undos ++ u ∷ []) new.held) none kept
+            again
+        within n was fit none true enough =
+            let had = was.room in
+            let count = all_returning-push n.undos u in
+            record {
+              kept = kept;
+              owners = again;
+              apart = apart;
+              fit = fit;
+              before = subst (λ (p : Parts). IsKept p.nodes p.places sessions time zxid)
+                  (sym (all_back n.undos)) was.before;
+              held = ap (λ (p : Parts). p.held) (all_back n.undos) ∙ was.held;
+              room = grind (arith, nat_tests, had, count, more, enough);
+            }
+
+        by : (notes : Option Notes) → IsStored notes old sessions time zxid →
+            FitAll new.owners (undos_of notes ++ u ∷ []) (parts_of new) →
+            all_freed (undos_of notes ++ u ∷ []) new.held ≡ finite.empty →
+            IsStored (noted u notes) (with_held new (held_after u notes new.held)) sessions time
+            zxid
+        by None was fit none =
+            stored_plain new sessions time zxid (freed u new.held) none kept again
+        by (Some n) was fit none = within n was fit none (nat_le 1 n.room) refl

@@ -1,0 +1,43 @@
+use Rattle.std.proofs.Common.{sym, subst}
+use Rattle.std.specs.Prelude.{IsSome}
+use Rattle.zstore.specs.declared.undo.Undo.TheVariants.{Written}
+use Rattle.zstore.specs.StoreView.{StoreView, path_of}
+use Rattle.zstore.specs.support.Undoing.{notes_of}
+use Rattle.zstore.proofs.parts.Noted.{noted_marked}
+use Rattle.zstore.proofs.parts.Noting.{content_back, content_held, content_stored}
+use Rattle.zstore.proofs.store.Store.put_content.Goals as goal
+
+pub note-requires : goal.note-requires
+note-requires c =
+    let s = c.self.inside in
+    let put = c.put_content-before in
+    let live =
+    subst (λ (h : StoreView). IsSome (path_of h c.args.id)) (sym c.self.view_is) c.requires.live
+    in
+    content_held s.nodes put.new.self s.sessions s.time s.zxid (notes_of s.log) c.self.invariant
+    c.args.id live c.args.content put.result put.ensures.written put.ensures.before
+
+pub invariant_of-self : goal.invariant_of-self
+invariant_of-self c =
+    let s = c.self.inside in
+    let put = c.put_content-before in
+    let live =
+    subst (λ (h : StoreView). IsSome (path_of h c.args.id)) (sym c.self.view_is) c.requires.live
+    in
+    rw (c.note.ensures.notes, c.note.ensures.nodes)
+    (content_stored s.nodes put.new.self s.sessions s.time s.zxid (notes_of s.log)
+    c.self.invariant c.args.id live c.args.content put.result put.ensures.written
+    put.ensures.before)
+
+pub returns-clause-marked : goal.returns-clause-marked
+returns-clause-marked c =
+    let s = c.self.inside in
+    let put = c.put_content-before in
+    let live =
+    subst (λ (h : StoreView). IsSome (path_of h c.args.id)) (sym c.self.view_is) c.requires.live
+    in
+    rw (c.note.ensures.notes, c.note.ensures.nodes, ← c.self.view_is) (
+    noted_marked (Written c.args.id put.result) s.nodes put.new.self s.sessions s.time s.zxid
+    (content_back s.nodes put.new.self s.sessions s.time s.zxid (notes_of s.log) c.self.invariant
+    c.args.id live c.args.content put.result put.ensures.written put.ensures.before)
+    (notes_of s.log))

@@ -1,0 +1,65 @@
+-- What a store keeps, and what its fields stand for.
+use Rattle.std.specs.Prelude.{◌≡◌, ℕ, ◌+◌, ◌≤◌, true, Option, None, Some, is_some}
+use Rattle.std.specs.Option.{option_map}
+use Rattle.std.specs.FinMap as finite
+use Rattle.std.specs.FinMap.{get}
+use Rattle.zslots.specs.declared.id.Id.{Id}
+use Rattle.ztree.specs.Tree.{Tree, Path, Nodes, Sessions, has_node}
+use Rattle.ztree.specs.Lawful.{IsLawful, HasPaths}
+use Rattle.znodes.specs.NodesView.{NodesView}
+use Rattle.zstore.specs.declared.store.Store.TheInside.{Inside}
+use Rattle.zstore.specs.StoreView.{StoreView, Mark}
+use Rattle.zstore.specs.support.Undoing.{Places, Owners, parts_of, all_undone, FitAll, all_returning, Notes, notes_of, undos_of, room_of}
+
+-- the tree of these nodes
+abbrev pub tree_of : Nodes → Sessions → ℕ → ℕ → Tree
+tree_of nodes sessions time zxid =
+    record { nodes = nodes; sessions = sessions; time = time; zxid = zxid }
+
+-- what stood at a mark, by what was noted since
+abbrev pub mark_of : NodesView → Sessions → ℕ → ℕ → Notes → Mark
+mark_of v sessions time zxid n =
+    record {
+      tree = tree_of (all_undone n.undos (parts_of v)).nodes sessions time zxid;
+      places = (all_undone n.undos (parts_of v)).places;
+      steps = n.room;
+    }
+
+-- what the fields of a store stand for
+abbrev pub held_by : Inside → StoreView
+held_by s =
+    record {
+      tree = tree_of s.nodes.nodes s.sessions s.time s.zxid;
+      places = s.nodes.places;
+      given = s.nodes.given;
+      marked = option_map (mark_of s.nodes s.sessions s.time s.zxid) (notes_of s.log);
+    }
+
+-- an Id that names a path names a node that is there, and no other Id names it
+pub record NamesNodes (nodes : Nodes) (places : Places) : Type 0 where
+  pub there : (id : Id) (path : Path) → get places id ≡ Some path → has_node nodes path ≡ true
+  pub alone : (a b : Id) (path : Path) → get places a ≡ Some path → get places b ≡ Some path → a ≡ b
+
+-- the tree is lawful, its keys are paths, and the Ids name its nodes
+pub record IsKept (nodes : Nodes) (places : Places) (sessions : Sessions) (time zxid : ℕ) : Type 0
+  where
+    pub lawful : IsLawful (tree_of nodes sessions time zxid)
+    pub paths : HasPaths nodes
+    pub named : NamesNodes nodes places
+
+-- those may own nodes who have a session
+abbrev pub AreOwners : Owners → Sessions → Type 0
+AreOwners owners sessions = (id : ℕ) → is_some (get owners id) ≡ is_some (get sessions id)
+
+-- what every store keeps: where a mark stands, what was done since can be undone, and leads to a tree that was kept;
+-- and nothing is held but what was taken away since
+pub record IsStored (notes : Option Notes) (v : NodesView) (sessions : Sessions)
+    (time zxid : ℕ) : Type 0 where
+  pub kept : IsKept v.nodes v.places sessions time zxid
+  pub owners : AreOwners v.owners sessions
+  pub apart : (id : Id) (path : Path) → get v.places id ≡ Some path → get v.held id ≡ None
+  pub fit : FitAll v.owners (undos_of notes) (parts_of v)
+  pub before : IsKept (all_undone (undos_of notes) (parts_of v)).nodes
+      (all_undone (undos_of notes) (parts_of v)).places sessions time zxid
+  pub held : (all_undone (undos_of notes) (parts_of v)).held ≡ finite.empty
+  pub room : room_of notes + all_returning (undos_of notes) ≤ v.room
