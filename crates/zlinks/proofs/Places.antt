@@ -1,9 +1,10 @@
 -- The links that rows keep, and one that is written.
-use Rattle.std.proofs.Common.{◌≡◌, ℕ, ◌+◌, ◌<◌, ◌≤◌, zero, suc, Bool, true, false, if◌then◌else◌, List, [], ◌∷◌, length, get_or, set, refl, sym, ap, ◌∙◌, arith, inl, inr, get_or-set_same, get_or-set_other, eqb-true, eq-eqb}
+use Rattle.std.proofs.Common.{◌≡◌, ℕ, ◌+◌, ◌<◌, ◌≤◌, zero, suc, Bool, true, false, if◌then◌else◌, List, [], ◌∷◌, length, get_or, set, refl, sym, ap, subst, ◌∙◌, arith, inl, inr, get_or-set_same, get_or-set_other, eqb-true, eq-eqb}
 use mathlib.Core.Bool.{true≢false}
 use Rattle.std.proofs.lemmas.List.{get_or_default, get_or_past, set-get_or}
 use Rattle.std.proofs.lemmas.Bool.Decides.{nat_tests}
-use Rattle.std.specs.Prelude.{not, nat_lt}
+use Rattle.std.specs.Prelude.{not, nat_lt, ◌==◌}
+use Rattle.std.proofs.Math.Nat.{eq-or-lt_of_le}
 use Rattle.zworld_model.proofs.Visited.{at_least_one, at_most}
 use Rattle.zcalls.proofs.Among.{test}
 use Rattle.ztree.specs.declared.limits.TheConstants.{MAX_CLIENTS}
@@ -156,6 +157,39 @@ module _ {T : Type 0} where
       same_choice : (b : Bool) → ◌≡◌ {A = List (Message T)} [] (if b then [] else [])
       same_choice true = refl
       same_choice false = refl
+
+  -- one more row in which the queue to a place is dropped
+  pub cleared_more : (old rows : List (List (List (Message T)))) (from at : ℕ) (row new : List (List (Message T))) → from < length rows
+      → row ≡ get_or rows from row → new ≡ set row at [] → ((r : ℕ) → ClearedTo from at r old rows) → (r : ℕ) → ClearedTo (from + 1) at r old (set rows from new)
+  cleared_more old rows from at row new inside is dropped_here each r = elim (test (r == from)) [
+    | inl here ↦ subst (λ n. ClearedTo (from + 1) at n old (set rows from new)) (sym (eqb-true r from here)) this_one
+    | inr other ↦
+        let differ : r ≡ from → ⊥ = λ e. true≢false (sym (eq-eqb r from e) ∙ other) in
+        get_or-set_other rows from r new [] differ ∙ each r
+        ∙ ap (λ b. if b then set (get_or old r []) at [] else get_or old r []) (sym (earlier differ))
+  ]
+    where
+      this_one : ClearedTo (from + 1) at from old (set rows from new)
+      this_one =
+          let now : nat_lt from (from + 1) ≡ true = grind (arith, nat_tests) in
+          let not_yet : nat_lt from from ≡ false = grind (arith, nat_tests) in
+          let row_is : row ≡ get_or old from [] =
+          is ∙ sym (get_or_default rows from [] row inside) ∙ each from ∙ ap (λ b. if b then set (get_or old from []) at [] else get_or old from []) not_yet in
+          get_or-set_same rows from new [] inside ∙ dropped_here ∙ ap (λ q. set q at []) row_is
+          ∙ ap (λ b. if b then set (get_or old from []) at [] else get_or old from []) (sym now)
+
+      earlier : (r ≡ from → ⊥) → nat_lt r (from + 1) ≡ nat_lt r from
+      earlier differ = elim (test (nat_lt r from)) [
+        | inl less ↦
+            let small : r < from = grind (arith, nat_tests, less) in
+            let so : nat_lt r (from + 1) ≡ true = grind (arith, nat_tests, small) in so ∙ sym less
+        | inr not_less ↦
+            let large : from ≤ r = grind (arith, nat_tests, not_less) in
+            elim (eq-or-lt_of_le {n = from} {m = r} large) [
+              | inl same ↦ absurd (differ (sym same))
+              | inr more ↦ let so : nat_lt r (from + 1) ≡ false = grind (arith, nat_tests, more) in so ∙ sym not_less
+            ]
+      ]
 
   -- a row that stays
   pub row_same : (view rows : List (List (List (Message T)))) (i : ℕ) (row new : List (List (Message T)))

@@ -14,22 +14,25 @@ use std::marker::Model;
 use zpath::Memory;
 use zserver_table::{Message, Process};
 
-/// The links between all processes.
+/// The links between all processes, and how many processes have put something that is still on one.
 #[derive(Drop)]
 pub struct Links<T> {
     rows: Vec<Row<T>>,
+    held: usize,
 }
 
 impl<T> Model for Links<T> {
-    ghost use Rattle.std.specs.Prelude.{◌≡◌, List, length};
+    ghost use Rattle.std.specs.Prelude.{List};
+    ghost use Rattle.std.specs.List.{list_any};
     ghost use Rattle.zserver_table.specs.declared.message.Message.{Message};
-    ghost use Rattle.zlinks.specs.declared.limits.TheConstants.{PROCESSES};
+    ghost use Rattle.zlinks.specs.Places.{holds};
+    ghost use Rattle.zlinks.specs.support.Rows.{Counts};
 
     ghost Value = { List (List (List (Message T))) };
 
     ghost view = { λ links. links.rows.items };
 
-    ghost invariant = { λ links. length links.rows.items ≡ PROCESSES };
+    ghost invariant = { λ links. Counts (list_any holds) links.rows.items links.held };
 }
 
 impl<T: Drop> Links<T> {
@@ -41,18 +44,11 @@ impl<T: Drop> Links<T> {
         for place in 0..PROCESSES {
             rows.push(Row::new(alloc)?)?;
         }
-        Ok(Links { rows })
+        Ok(Links { rows, held: 0 })
     }
 
-    /// Whether nothing that a process put is still on a link. It costs the same however many links there are.
-    pub fn is_silent(&self, from: &Process) -> bool
-        ensures { result ≡ is_silent self.now from.now }
-    {
-        self.rows[place(from)].is_silent()
-    }
-
-    /// The first place, from this one on, of a process of which something is under way; or `PROCESSES`. The master has
-    /// place 0, then come the servers and the clients, each by number.
+    /// The first place, from this one on, of a process of which something is under way; or `PROCESSES`, at once where
+    /// nothing is. The master has place 0, then come the servers and the clients, each by number.
     pub fn next_sender(&self, at: usize) -> usize
         ensures few { result ≤ PROCESSES }
         ensures ahead { at ≤ PROCESSES → at ≤ result }
@@ -61,6 +57,9 @@ impl<T: Drop> Links<T> {
         ensures sends { (from : Process) → place_of from ≡ result → result < PROCESSES
             → is_silent self.now from ≡ false }
     {
+        if self.held == 0 {
+            return PROCESSES;
+        }
         for place in at..PROCESSES {
             if !self.rows[place].is_silent() {
                 return place;
@@ -90,7 +89,12 @@ impl<T: Drop> Links<T> {
             ≡ links_of self.old p q) }
     {
         let row = &mut self.rows[place(from)];
-        row.put(place(to), message)
+        let was_silent = row.is_silent();
+        row.put(place(to), message)?;
+        if was_silent {
+            self.held += 1;
+        }
+        Ok(())
     }
 
     /// The front of a link, which stays.
@@ -113,7 +117,11 @@ impl<T: Drop> Links<T> {
         ensures same { IfNone result (self.new ≡ self.old) }
     {
         let row = &mut self.rows[place(from)];
-        row.next(place(to))
+        let front = row.next(place(to))?;
+        if row.is_silent() {
+            self.held -= 1;
+        }
+        Some(front)
     }
 
     /// Drops all that is on links to a process.
@@ -124,7 +132,9 @@ impl<T: Drop> Links<T> {
         let at = place(to);
         for from in 0..PROCESSES {
             let row = &mut self.rows[from];
-            row.clear(at);
+            if row.clear(at) {
+                self.held -= 1;
+            }
         }
     }
 }

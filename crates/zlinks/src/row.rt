@@ -1,11 +1,11 @@
 //! The links from one process.
 
-ghost use Rattle.std.specs.Prelude.{◌≡◌, ◌<◌, ◌≤◌, ℕ, true, [], ◌∷◌, ◌++◌, List, MatchOption, IfNone, IfOk, OnErr, OnOk, length, get_or, set, drop, not};
+ghost use Rattle.std.specs.Prelude.{◌≡◌, ◌+◌, ◌<◌, ◌≤◌, ℕ, true, [], ◌∷◌, ◌++◌, List, MatchOption, IfNone, IfOk, OnErr, OnOk, length, get_or, set, drop, not};
 ghost use Rattle.std.specs.List.{list_any};
 ghost use Rattle.zserver_table.specs.declared.message.Message.{Message};
 ghost use Rattle.zlinks.specs.declared.limits.TheConstants.{PROCESSES};
 ghost use Rattle.zlinks.specs.Places.{holds};
-ghost use Rattle.zlinks.specs.support.Rows.{IsBlank};
+ghost use Rattle.zlinks.specs.support.Rows.{IsBlank, share};
 
 use crate::limits::PROCESSES;
 use crate::link::Link;
@@ -24,13 +24,14 @@ pub(crate) struct Row<T> {
 impl<T> Model for Row<T> {
     ghost use Rattle.std.specs.Prelude.{List};
     ghost use Rattle.zserver_table.specs.declared.message.Message.{Message};
-    ghost use Rattle.zlinks.specs.support.Rows.{IsRow};
+    ghost use Rattle.zlinks.specs.Places.{holds};
+    ghost use Rattle.zlinks.specs.support.Rows.{Counts};
 
     ghost Value = { List (List (Message T)) };
 
     ghost view = { λ row. row.links.items };
 
-    ghost invariant = { λ row. IsRow row.links.items row.held };
+    ghost invariant = { λ row. Counts holds row.links.items row.held };
 }
 
 impl<T: Drop> Row<T> {
@@ -59,6 +60,9 @@ impl<T: Drop> Row<T> {
         ensures ahead { at ≤ PROCESSES → at ≤ result }
         ensures held { result < PROCESSES → holds (get_or self.now result []) ≡ true }
     {
+        if self.held == 0 {
+            return PROCESSES;
+        }
         for place in at..PROCESSES {
             if !self.links[place].is_empty() {
                 return place;
@@ -110,16 +114,20 @@ impl<T: Drop> Row<T> {
         Some(front)
     }
 
-    /// Drops all that is on the link to this place.
-    pub(crate) fn clear(&mut self, at: usize)
+    /// Drops all that is on the link to this place. Answers whether nothing else was in the row, but something was on it.
+    pub(crate) fn clear(&mut self, at: usize) -> bool
         requires { at < PROCESSES }
         ensures wide { length self.old ≡ PROCESSES }
         ensures cleared { self.new ≡ set self.old at [] }
+        ensures silenced { share (list_any holds self.old)
+            ≡ share (list_any holds self.new) + share result }
     {
         let link = &mut self.links[at];
-        if !link.is_empty() {
-            link.clear();
-            self.held -= 1;
+        if link.is_empty() {
+            return false;
         }
+        link.clear();
+        self.held -= 1;
+        self.held == 0
     }
 }

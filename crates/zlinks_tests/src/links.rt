@@ -2,7 +2,7 @@
 
 use std::test::Fail;
 use zcalls::{CallNumber, Update};
-use zlinks::Links;
+use zlinks::{Links, PROCESSES};
 use zserver_table::{Message, Process, ServerId};
 
 #[test]
@@ -17,13 +17,13 @@ fn takes_what_was_put(rt: HostRuntime) -> Result<(), Fail> {
             Message::Submit(number, Update::Tick),
         )?;
     }
-    assert!(rt; !links.is_silent(&Process::Master));
+    assert!(rt; links.next_sender(0) == 0);
     for wanted in [1, 2] {
         let front = links.next(&Process::Master, &server);
         assert!(rt;
             matches!(&front, Some(Message::Submit(number, _)) if number.number() == wanted)
         );
     }
-    assert!(rt; links.is_silent(&Process::Master));
+    assert!(rt; links.next_sender(0) == PROCESSES);
     Ok(())
 }

@@ -1,6 +1,8 @@
 -- A client's new view, what it puts, and the calls that it begins or sends once more.
-use Rattle.std.proofs.Common.{◌≡◌, ℕ, ◌<◌, Bool, true, false, None, Some, List, [], ◌∷◌, ◌++◌, length, get_or, set, refl, sym, ap, subst, ◌∙◌, append-nil, lt-ltb}
-use Rattle.std.specs.Prelude.{◌&&◌, nat_lt, is_some}
+use Rattle.std.proofs.Common.{◌≡◌, ℕ, ◌<◌, Bool, true, false, Option, None, Some, List, [], ◌∷◌, ◌++◌, length, get_or, set, refl, sym, ap, subst, ◌∙◌, append-nil, lt-ltb}
+use Rattle.std.specs.Prelude.{◌&&◌, nat_lt, is_some, is_none}
+use Rattle.std.specs.Option.{option_map}
+use mathlib.Core.Bool.{true≢false}
 use Rattle.std.proofs.lemmas.List.{set-get_or, get_or_default}
 use Rattle.ztree.specs.Tree.{Tree}
 use Rattle.zcalls.specs.Kept.{KeptState}
@@ -110,16 +112,37 @@ begin_done old held c place call number was view before after now rows same at i
     (puts ∙ ap (λ ps. ps ++ (step was).1) silent ∙ ap (λ v. (step v).1) (sym here))
     (subst (λ (ms : List MemberView). IsPosted ms held.links (Client c) after rows) value done))))
 
--- a call was sent once more
-pub retry_done : (old held : Held) (c place : ℕ) (was : ClientView) (before after : List (Post (KeptState Tree))) (now : List MemberView) (rows : Rows) (waits : Bool)
+-- a call is waited for where it has a number
+waits_by : (o : Option (ℕ × Call)) → is_none (option_map (λ waits. waits.0) o) ≡ false → is_some o ≡ true
+waits_by (Some waits) is = refl
+waits_by None is = absurd (true≢false is)
+
+waits_not_by : (o : Option (ℕ × Call)) → is_none (option_map (λ waits. waits.0) o) ≡ true → is_some o ≡ false
+waits_not_by None is = refl
+waits_not_by (Some waits) is = absurd (true≢false (sym is))
+
+-- a call was sent once more, or none was there, by what its client's core says
+pub retry_done : (old held : Held) (c place : ℕ) (was : ClientView) (before after : List (Post (KeptState Tree))) (now : List MemberView) (rows : Rows) (number : Option ℕ)
     → held ≡ old → place ≡ c → place < length held.clients → was ≡ get_or held.clients place was → before ≡ []
-    → waits ≡ is_some was.outstanding → waits ≡ true → after ≡ before ++ retry_posts was → now ≡ held.members → IsPosted now held.links (Client c) after rows
+    → number ≡ option_map (λ waits. waits.0) was.outstanding → is_none number ≡ false → after ≡ before ++ retry_posts was → now ≡ held.members
+    → IsPosted now held.links (Client c) after rows
     → HasStepped old (record held { links = rows }) (event.Retry c) became.Done []
-retry_done old held c place was before after now rows waits same at inside read silent asks so puts value done =
+retry_done old held c place was before after now rows number same at inside read silent asked some puts value done =
     let within : c < length held.clients = subst (λ (k : ℕ). k < length held.clients) at inside in
     let here : get_or held.clients c nobody ≡ was =
     get_or_default held.clients c nobody was within ∙ ap (λ k. get_or held.clients k was) (sym at) ∙ sym read in
     subst (λ (o : Held). HasStepped o (record held { links = rows }) (event.Retry c) became.Done []) same
-    (retried held c after rows (ap (λ (v : ClientView). is_some v.outstanding) here ∙ sym asks ∙ so) within
+    (retried held c after rows (ap (λ (v : ClientView). is_some v.outstanding) here ∙ waits_by was.outstanding (ap is_none (sym asked) ∙ some)) within
     (puts ∙ ap (λ ps. ps ++ retry_posts was) silent ∙ ap retry_posts (sym here))
     (subst (λ (ms : List MemberView). IsPosted ms held.links (Client c) after rows) value done))
+
+pub retry_idle : (old held : Held) (c place : ℕ) (was : ClientView) (number : Option ℕ)
+    → held ≡ old → place ≡ c → place < length held.clients → was ≡ get_or held.clients place was
+    → number ≡ option_map (λ waits. waits.0) was.outstanding → is_none number ≡ true
+    → HasStepped old old (event.Retry c) (became.Idle cause.Nothing) []
+retry_idle old held c place was number same at inside read asked none =
+    let within : c < length held.clients = subst (λ (k : ℕ). k < length held.clients) at inside in
+    let here : get_or held.clients c nobody ≡ was =
+    get_or_default held.clients c nobody was within ∙ ap (λ k. get_or held.clients k was) (sym at) ∙ sym read in
+    subst (λ (o : Held). HasStepped o o (event.Retry c) (became.Idle cause.Nothing) []) same
+    (not_retried held c (ap (λ (v : ClientView). is_some v.outstanding) here ∙ waits_not_by was.outstanding (ap is_none (sym asked) ∙ none)))

@@ -14,11 +14,13 @@ use zcalls::{CallNumber, ClientId};
 use zclient::ClientCore;
 use zlinks::Links;
 use zmaster::Master;
+use zout::Out;
 use zpath::Memory;
 use zserver::Snapshot;
 use zserver_table::ServerId;
 
-/// The servers from 1 on, the clients from 0 on, the master, and the messages under way but for `Gone`.
+/// The servers from 1 on, the clients from 0 on, the master, and the messages under way but for `Gone`. The list for what
+/// an event puts is kept from one event to the next, and empty between them.
 #[derive(Drop)]
 pub(crate) struct Assembly {
     pub(crate) alloc: Global,
@@ -26,6 +28,7 @@ pub(crate) struct Assembly {
     pub(crate) clients: Vec<ClientCore>,
     pub(crate) master: Master,
     pub(crate) links: Links<Snapshot>,
+    pub(crate) out: Out<Snapshot>,
 }
 
 impl Model for Assembly {
@@ -44,7 +47,7 @@ impl Model for Assembly {
       links = a.links;
     } };
 
-    ghost invariant = { λ a. IsFull a.members.items a.clients.items };
+    ghost invariant = { λ a. IsFull a.members.items a.clients.items a.out.posts };
 }
 
 impl Assembly {

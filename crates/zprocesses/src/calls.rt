@@ -9,7 +9,6 @@ use crate::did::{Begun, Did, IdleCause};
 use crate::post::post;
 use zcalls::{Call, ClientId};
 use zclient::BeginFault;
-use zout::Out;
 use zpath::Memory;
 use zserver_table::Process;
 
@@ -21,15 +20,15 @@ impl Assembly {
         if client.number() >= self.master.clients() {
             return Ok(Begun::Idle(IdleCause::Nothing));
         }
-        let mut out = Out::new(self.alloc);
         let core = &mut self.clients[client.number() as usize];
-        match core.begin(call, &mut out) {
+        match core.begin(call, &mut self.out) {
             Ok(number) => {
                 post(
+                    self.alloc,
                     &mut self.links,
                     &self.members,
                     &Process::Client(client),
-                    out,
+                    &mut self.out,
                 )?;
                 Ok(Begun::Number(number))
             }
@@ -43,15 +42,17 @@ impl Assembly {
     pub(crate) fn retry(&mut self, client: ClientId) -> Result<Did, Memory>
         ensures { IfOk result (λ did. HasStepped self.old self.new (Retry client) did []) }
     {
-        let mut out = Out::new(self.alloc);
-        if !self.clients[client.number() as usize].retry(&mut out)? {
+        let core = &self.clients[client.number() as usize];
+        if core.outstanding().is_none() {
             return Ok(Did::Idle(IdleCause::Nothing));
         }
+        core.retry(&mut self.out)?;
         post(
+            self.alloc,
             &mut self.links,
             &self.members,
             &Process::Client(client),
-            out,
+            &mut self.out,
         )?;
         Ok(Did::Done)
     }

@@ -17,7 +17,6 @@ use crate::did::{Did, IdleCause};
 use crate::post::{is_lost, post};
 use zcalls::{CallNumber, ClientId, Reply};
 use zmaster::MAX_POSTS;
-use zout::Out;
 use zpath::Memory;
 use zserver::Snapshot;
 use zserver_table::{Message, Process, ServerId};
@@ -71,10 +70,18 @@ impl Assembly {
         ensures done { IfOk result (λ did. did ≡ Done) }
         ensures given { OnOk result (IsGiven self.old from Master message [] self.new) }
     {
-        let mut out = Out::new(self.alloc);
-        out.reserve(MAX_POSTS)?;
-        self.master.take(from, message, &mut out);
-        post(&mut self.links, &self.members, &Process::Master, out)?;
+        let Ok(()) = self.out.reserve(MAX_POSTS) else {
+            drop(message);
+            return Err(Memory);
+        };
+        self.master.take(from, message, &mut self.out);
+        post(
+            self.alloc,
+            &mut self.links,
+            &self.members,
+            &Process::Master,
+            &mut self.out,
+        )?;
         Ok(Did::Done)
     }
 
@@ -88,15 +95,15 @@ impl Assembly {
         requires { is_lost self.old.members (Server server) ≡ false }
         ensures { IfOk result (IsGivenToServer self.old from server message self.new) }
     {
-        let mut out = Out::new(self.alloc);
         let member = &mut self.members[server.number() as usize - 1];
-        match member.take(from, message, &mut out) {
+        match member.take(from, message, &mut self.out) {
             Outcome::Acted => {
                 post(
+                    self.alloc,
                     &mut self.links,
                     &self.members,
                     &Process::Server(server),
-                    out,
+                    &mut self.out,
                 )?;
                 Ok(Did::Done)
             }
@@ -123,16 +130,20 @@ impl Assembly {
         ensures silent { OnErr result (answers.new.items ≡ answers.old.items) }
     {
         let number = answered_number(&message);
-        let mut out = Out::new(self.alloc);
         let core = &mut self.clients[client.number() as usize];
-        let Ok(reply) = core.take(from, message, &mut out) else {
-            return Err(Memory);
+        let reply = match core.take(from, message, &mut self.out) {
+            Ok(reply) => reply,
+            Err(message) => {
+                drop(message);
+                return Err(Memory);
+            }
         };
         post(
+            self.alloc,
             &mut self.links,
             &self.members,
             &Process::Client(client),
-            out,
+            &mut self.out,
         )?;
         tell(answers, client, number, reply)?;
         Ok(Did::Done)
@@ -145,7 +156,7 @@ impl Assembly {
         if is_lost(&self.members, &to) || !self.has_request(&from, &to) {
             return Did::Idle(IdleCause::Nothing);
         }
-        let _ = self.links.next(&from, &to);
+        drop(self.links.next(&from, &to));
         Did::Done
     }
 

@@ -8,7 +8,6 @@ use crate::assembly::Assembly;
 use crate::did::{Did, IdleCause};
 use crate::post::post;
 use zmaster::MAX_POSTS;
-use zout::Out;
 use zpath::Memory;
 use zserver_table::{Process, ServerId};
 
@@ -30,11 +29,16 @@ impl Assembly {
     pub(crate) fn join(&mut self, server: ServerId) -> Result<Did, Memory>
         ensures { IfOk result (λ did. HasStepped self.old self.new (Join server) did []) }
     {
-        let mut out = Out::new(self.alloc);
-        out.reserve(MAX_POSTS)?;
-        match self.master.join(server, &mut out) {
+        self.out.reserve(MAX_POSTS)?;
+        match self.master.join(server, &mut self.out) {
             Ok(()) => {
-                post(&mut self.links, &self.members, &Process::Master, out)?;
+                post(
+                    self.alloc,
+                    &mut self.links,
+                    &self.members,
+                    &Process::Master,
+                    &mut self.out,
+                )?;
                 Ok(Did::Done)
             }
             Err(fault) => Ok(Did::Idle(IdleCause::Join(fault))),

@@ -117,6 +117,7 @@ impl Member {
             → HasTaken self.old view from message result self.new out.old.posts out.new.posts }
     {
         let Some(server) = &mut self.server else {
+            drop(message);
             return Outcome::Acted;
         };
         match server.take(from, message, out) {

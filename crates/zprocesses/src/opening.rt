@@ -16,6 +16,7 @@ use std::alloc::Global;
 use zclient::ClientCore;
 use zlinks::Links;
 use zmaster::Master;
+use zout::Out;
 use zpath::Memory;
 use zserver_table::{MAX_SERVERS, ServerId};
 use ztree::limits::MAX_CLIENTS;
@@ -35,6 +36,7 @@ impl Assembly {
             clients: cores,
             master: Master::new(last, clients),
             links,
+            out: Out::new(alloc),
         })
     }
 }

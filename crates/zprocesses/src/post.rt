@@ -1,10 +1,11 @@
 //! Putting messages on links.
 
-ghost use Rattle.std.specs.Prelude.{◌≡◌, OnOk, length};
+ghost use Rattle.std.specs.Prelude.{◌≡◌, [], OnOk, length};
 ghost use Rattle.zserver_table.specs.declared.limits.TheConstants.{MAX_SERVERS};
 ghost use Rattle.zprocesses.specs.support.Posting.{is_lost, IsPosted};
 
 use crate::member::Member;
+use std::alloc::Global;
 use zlinks::Links;
 use zout::Out;
 use zpath::Memory;
@@ -22,19 +23,28 @@ pub(crate) fn is_lost(members: &[Member], process: &Process) -> bool
     }
 }
 
-/// Puts messages on the links from a process, in order; what is for one that has failed is dropped.
+/// Puts what is in the list on the links from a process, in order; what is for one that has failed is dropped. Nothing
+/// is left in the list, even where there is no memory.
 pub(crate) fn post(
+    alloc: Global,
     links: &mut Links<Snapshot>,
     members: &[Member],
     from: &Process,
-    mut out: Out<Snapshot>,
+    out: &mut Out<Snapshot>,
 ) -> Result<(), Memory>
     requires { length members.now ≡ MAX_SERVERS }
-    ensures { OnOk result (IsPosted members.now links.old from.now out.posts links.new) }
+    ensures posted { OnOk result
+        (IsPosted members.now links.old from.now out.old.posts links.new) }
+    ensures emptied { out.new.posts ≡ [] }
 {
     while let Some((to, message)) = out.next() {
-        if !is_lost(members, &to) {
-            links.put(from, &to, message)?;
+        if is_lost(members, &to) {
+            drop(message);
+        } else {
+            let Ok(()) = links.put(from, &to, message) else {
+                *out = Out::new(alloc);
+                return Err(Memory);
+            };
         }
     }
     Ok(())

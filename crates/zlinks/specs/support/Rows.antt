@@ -1,21 +1,21 @@
--- What a row knows of itself.
-use Rattle.std.specs.Prelude.{◌≡◌, ℕ, ◌+◌, List, [], ◌∷◌, length, get_or, set, nat_lt, if◌then◌else◌}
+-- What rows know of themselves.
+use Rattle.std.specs.Prelude.{◌≡◌, ℕ, ◌+◌, Bool, true, false, List, [], ◌∷◌, length, get_or, set, nat_lt, if◌then◌else◌}
 use Rattle.zlinks.specs.declared.limits.TheConstants.{PROCESSES}
 
--- 1 for a queue that holds something
-abbrev pub share : {X : Type 0} → List X → ℕ
-share [] = 0
-share (x ∷ xs) = 1
+-- 1 for what passes a test
+abbrev pub share : Bool → ℕ
+share false = 0
+share true = 1
 
--- how many of the queues hold something
-abbrev pub holding : {X : Type 0} → List (List X) → ℕ
-holding [] = 0
-holding (queue ∷ queues) = share queue + holding queues
+-- how many of a list pass a test
+abbrev pub passing : {X : Type 0} → (X → Bool) → List X → ℕ
+passing test [] = 0
+passing test (x ∷ xs) = share (test x) + passing test xs
 
--- a row has a queue for each process, and knows how many of them hold something
-pub record IsRow {X : Type 0} (queues : List (List X)) (held : ℕ) : Type 0 where
-  pub wide : length queues ≡ PROCESSES
-  pub counted : held ≡ holding queues
+-- there is one for each process, and so many pass the test: queues that hold something, or rows with such a queue
+pub record Counts {X : Type 0} (test : X → Bool) (xs : List X) (held : ℕ) : Type 0 where
+  pub wide : length xs ≡ PROCESSES
+  pub counted : held ≡ passing test xs
 
 -- no queue of a row holds anything
 abbrev pub IsBlank : {X : Type 0} → List (List X) → Type 0

@@ -1,5 +1,5 @@
 -- What a member says of a message.
-use Rattle.std.specs.Prelude.{◌≡◌, true, false, Some, List, ◌++◌, length}
+use Rattle.std.specs.Prelude.{◌≡◌, true, false, Some, List, [], ◌++◌, length}
 use Rattle.ztree.specs.declared.limits.TheConstants.{MAX_CLIENTS}
 use Rattle.zserver_table.specs.declared.limits.TheConstants.{MAX_SERVERS}
 use Rattle.zclient_table.specs.View.{ClientView}
@@ -19,9 +19,9 @@ abbrev pub HasTaken : MemberView → ServerView (KeptState Tree) → Process →
     → List (Post (KeptState Tree)) → List (Post (KeptState Tree)) → Type 0
 HasTaken old view from message Acted new before after =
     (new.view ≡ Some (server_step kept_tree view from message).0) × (after ≡ before ++ (server_step kept_tree view from message).1)
-HasTaken old view from message Stopped new before after = (new ≡ gone_member) × (is_query message ≡ false)
-HasTaken old view from message Unheard new before after = (new ≡ old) × (is_query message ≡ true)
+HasTaken old view from message Stopped new before after = (new ≡ gone_member) × (is_query message ≡ false) × (after ≡ before)
+HasTaken old view from message Unheard new before after = (new ≡ old) × (is_query message ≡ true) × (after ≡ before)
 
--- there are all members and all clients
-abbrev pub IsFull : List MemberView → List ClientView → Type 0
-IsFull members clients = (length members ≡ MAX_SERVERS) × (length clients ≡ MAX_CLIENTS)
+-- there are all members and all clients, and nothing waits to be put on links
+abbrev pub IsFull : List MemberView → List ClientView → List (Post (KeptState Tree)) → Type 0
+IsFull members clients posts = (length members ≡ MAX_SERVERS) × (length clients ≡ MAX_CLIENTS) × (posts ≡ [])

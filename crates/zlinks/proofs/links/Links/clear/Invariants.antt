@@ -1,7 +1,9 @@
-use Rattle.std.proofs.Common.{◌≡◌, length, ℕ}
-use Rattle.zlinks.specs.declared.limits.TheConstants.{PROCESSES}
-use Rattle.zlinks.specs.support.Rows.{ClearedTo}
+use Rattle.std.proofs.Common.{ℕ}
+use Rattle.std.specs.List.{list_any}
+use Rattle.zlinks.specs.Places.{holds}
+use Rattle.zlinks.specs.support.Rows.{ClearedTo, Counts}
 use Rattle.zlinks.proofs.links.Links.clear.Given as goal
 
 abbrev pub invariant-loop-from : goal.invariant-loop-from
-invariant-loop-from g l = (length l.self-inside.rows.items ≡ PROCESSES) × ((row : ℕ) → ClearedTo l.from l.at row l.fn.self l.self-inside.rows.items)
+invariant-loop-from g l =
+    Counts (list_any holds) l.self-inside.rows.items l.self-inside.held × ((row : ℕ) → ClearedTo l.from l.at row l.fn.self l.self-inside.rows.items)

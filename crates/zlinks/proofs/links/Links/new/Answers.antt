@@ -1,6 +1,6 @@
-use Rattle.std.proofs.Common.{◌∷◌, [], arith, length-append}
+use Rattle.std.proofs.Common.{◌∷◌, [], sym, arith, length-append}
 use Rattle.zlinks.specs.Places.{links_of, place_of}
-use Rattle.zlinks.proofs.Rows.{are_blank_more, are_blank_at}
+use Rattle.zlinks.proofs.Rows.{are_blank_more, are_blank_at, blank_rows_hold_nothing}
 use Rattle.zlinks.proofs.links.Links.new.Goals as goal
 
 pub loop-place-preserved : goal.loop-place-preserved
@@ -15,4 +15,7 @@ unfolding links_of
 returns g c from to = are_blank_at c.loop-place.rows.items (place_of from) (place_of to) c.loop-place.invariant.1
 
 pub invariant_of-result : goal.invariant_of-result
-invariant_of-result g c = omega (arith, c.loop-place.invariant.0, c.loop-place-test.false, c.loop-place.auto.place-end)
+invariant_of-result g c = record {
+  wide = omega (arith, c.loop-place.invariant.0, c.loop-place-test.false, c.loop-place.auto.place-end);
+  counted = sym (blank_rows_hold_nothing c.loop-place.rows.items c.loop-place.invariant.1);
+}

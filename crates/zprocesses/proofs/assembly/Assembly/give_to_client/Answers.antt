@@ -13,9 +13,9 @@ returns-clause-given c =
     let inside : c.args.client < length cores = omega (arith, c.number.ensures.small, at, c.self.invariant.1) in (
       answers_of c.args.client c.answered_number-number.result c.in-Ok.reply,
       c.in_ok-tell.ensures.told,
-      rw at (client_given _ _ c.args.from c.args.client c.args.message was c.take.new.self c.new-out.result.posts c.take.new.out.posts
+      rw at (client_given _ _ c.args.from c.args.client c.args.message was c.take.new.self c.self.inside.out.posts c.take.new.out.posts
           c.answered_number-number.result c.in-Ok.reply c.post.new.links
-          c.self.view_is inside (c.index_mut-core.ensures.value ∙ ap (λ i. get_or cores i was) at) c.new-out.ensures
+          c.self.view_is inside (c.index_mut-core.ensures.value ∙ ap (λ i. get_or cores i was) at) c.self.invariant.2
           c.in-Ok.ensures.next c.in-Ok.ensures.puts c.in-Ok.ensures.reply c.answered_number-number.ensures
-          (subst (λ (ms : List MemberView). IsPosted ms c.self.inside.links (Client c.args.client) c.take.new.out.posts c.post.new.links) c.deref.ensures.value c.in_ok-post.ensures)),
+          (subst (λ (ms : List MemberView). IsPosted ms c.self.inside.links (Client c.args.client) c.take.new.out.posts c.post.new.links) c.deref.ensures.value c.in_ok-post.ensures.posted)),
     )

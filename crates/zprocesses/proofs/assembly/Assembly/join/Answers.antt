@@ -5,4 +5,4 @@ use Rattle.zprocesses.proofs.assembly.Assembly.join.Goals as goal
 pub returns-in_ok-post-in-Ok : goal.returns-in_ok-post-in-Ok
 returns-in_ok-post-in-Ok c =
     join_done _ _ c.args.server c.join.new.self c.reserve.new.self.posts c.join.new.out.posts c.deref.result.now c.post.new.links c.self.view_is (search rules)
-    c.in-Ok.ensures.allowed c.in-Ok.ensures.next (c.reserve.ensures.posts ∙ c.new-out.ensures) c.in-Ok.ensures.puts.puts c.deref.ensures.value c.in_ok-post-in-Ok.ensures
+    c.in-Ok.ensures.allowed c.in-Ok.ensures.next (c.reserve.ensures.posts ∙ c.self.invariant.2) c.in-Ok.ensures.puts.puts c.deref.ensures.value c.in_ok-post-in-Ok.ensures.posted
