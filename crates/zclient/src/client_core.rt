@@ -129,7 +129,10 @@ impl ClientCore {
                 Ok(()) => Ok(None),
                 Err(Memory) => Err(Message::Config(epoch, head, tail)),
             },
-            _ => Ok(None),
+            (_, message) => {
+                drop(message);
+                Ok(None)
+            }
         }
     }
 

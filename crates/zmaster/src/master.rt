@@ -61,6 +61,7 @@ impl Master {
             (master_step self.old from message).1 }
     {
         self.known.take(&from, &message, out);
+        drop(message);
         let _ = self.known.count();
     }
 

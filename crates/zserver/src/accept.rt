@@ -13,6 +13,7 @@ use crate::replica::{Replica, put_ack};
 use crate::snapshot::{Snapshot, log_number};
 use std::alloc::Global;
 use zcalls::{CallNumber, ClientId, Entry, Reply};
+use zops::Machine;
 use zout::Out;
 use zpath::Memory;
 use zserver_table::{Epoch, LogNumber, MAX_LOG_NUMBER, Message, Process, ServerId};
@@ -90,7 +91,9 @@ impl Replica {
         LogNumber::new(self.last()?.number() + 1)
     }
 
-    // accept: the machine applies its next entry.
+    // accept: the machine applies its next entry. Inlined, as are those below it, so that the entry is
+    // not moved from one to the next.
+    #[inline(always)]
     fn accept(&mut self, n: LogNumber, entry: Entry, out: &mut Out<Snapshot>) -> Result<(), Memory>
         requires { next_number self.old ≡ Some n }
         ensures next { OnOk result (self.new ≡ (accept_row self.old n entry).0) }
@@ -105,6 +108,7 @@ impl Replica {
     }
 
     // A server with a successor keeps the entry, and forwards it.
+    #[inline(always)]
     fn forward(&mut self, n: LogNumber, entry: Entry, out: &mut Out<Snapshot>) -> Result<(), Memory>
         requires number { next_number self.old ≡ Some n }
         requires succ { is_some self.old.succ ≡ true }
@@ -121,6 +125,7 @@ impl Replica {
     }
 
     // Keeps a copy of the entry in Sent, and applies another one; there is room for one message then.
+    #[inline(always)]
     fn keep(&mut self, n: LogNumber, entry: &Entry, out: &mut Out<Snapshot>) -> Result<(), Memory>
         requires number { next_number self.old ≡ Some n }
         requires succ { is_some self.old.succ ≡ true }
@@ -145,6 +150,7 @@ impl Replica {
     }
 
     // A server without one answers the client, and acknowledges.
+    #[inline(always)]
     fn process(&mut self, n: LogNumber, entry: Entry, out: &mut Out<Snapshot>) -> Result<(), Memory>
         requires number { next_number self.old ≡ Some n }
         requires succ { self.old.succ ≡ None }
@@ -165,6 +171,7 @@ impl Replica {
     }
 
     // The machine applies an entry. Where it met want of memory it is let go, and never seen again.
+    #[inline(always)]
     #[tactic(auto, unfolding(crate::specs::support::Replicas::applied_result, zops::specs::Machine::entry_result))]
     fn apply(&mut self, entry: Entry) -> Result<Option<Reply>, Memory>
         requires { self.old.last < MAX_LOG_NUMBER }
@@ -175,10 +182,19 @@ impl Replica {
         };
         let reply = machine.apply(entry);
         if reply.is_err() {
-            self.machine = None;
+            lose(&mut self.machine);
         }
         reply
     }
+}
+
+// Lets a machine go. It happens once, so it stays out of the way of the other calls.
+#[cold]
+#[inline(never)]
+fn lose(machine: &mut Option<Machine>)
+    ensures { machine.new ≡ None }
+{
+    *machine = None;
 }
 
 // Answers the client, where there is a reply.
@@ -194,6 +210,7 @@ fn put_answer(client: ClientId, number: CallNumber, reply: Option<Reply>, out: &
 }
 
 // Puts an entry to the successor.
+#[inline(always)]
 fn put_update(succ: &Option<Neighbour>, n: LogNumber, entry: Entry, out: &mut Out<Snapshot>)
     requires { 0 < out.old.room }
     ensures { (neighbour : Neighbour) → succ.now ≡ Some neighbour

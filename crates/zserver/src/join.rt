@@ -9,6 +9,7 @@ ghost use Rattle.zserver_table.specs.Table.{snapshot_row};
 use crate::neighbour::{Neighbour, is_neighbour};
 use crate::replica::Replica;
 use crate::snapshot::Snapshot;
+use std::alloc::Global;
 use zops::Machine;
 use zout::Out;
 use zpath::Memory;
@@ -47,6 +48,7 @@ impl Replica {
 
 /// Puts the whole state to the successor, which has none.
 pub(crate) fn hand_over(
+    alloc: Global,
     machine: &Machine,
     succ: &Neighbour,
     out: &mut Out<Snapshot>,
@@ -60,7 +62,7 @@ pub(crate) fn hand_over(
     ) ∷ [])) }
     ensures silent { OnErr result (out.new.posts ≡ out.old.posts) }
 {
-    let snapshot = Snapshot::of(machine)?;
+    let snapshot = Snapshot::of(alloc, machine)?;
     out.reserve(1)?;
     out.put_reserved(
         Process::Server(succ.id()),

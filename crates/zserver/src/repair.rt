@@ -78,7 +78,7 @@ impl Replica {
         let succ = Neighbour::new(succ, epoch);
         match last {
             Some(n) => send_above(self.alloc, &self.sent, n, &succ, out)?,
-            None => hand_over(machine, &succ, out)?,
+            None => hand_over(self.alloc, machine, &succ, out)?,
         }
         self.succ = Some(succ);
         Ok(())

@@ -3,16 +3,18 @@
 ghost use Rattle.std.specs.Prelude.{◌≡◌, false, IfOk};
 ghost use Rattle.zserver.specs.support.Replicas.{state_of, last_of, IsWhole};
 
+use std::alloc::Global;
 use std::marker::Model;
 use zops::Machine;
 use zpath::Memory;
 use zserver_table::LogNumber;
 
 /// The whole state of a server, as it is handed to one that has none. Its machine has never met want of
-/// memory, and the number of its last entry is how many entries the machine applied.
+/// memory, and the number of its last entry is how many entries the machine applied. The machine is
+/// boxed, as every message has room for a snapshot.
 #[derive(Drop)]
 pub struct Snapshot {
-    machine: Machine,
+    machine: Box<Machine>,
 }
 
 impl Model for Snapshot {
@@ -27,23 +29,23 @@ impl Model for Snapshot {
     ghost coded = { coded_transfer };
 
     ghost view = { λ s. record {
-      last = s.machine.state.applied;
-      machine = s.machine.state.service;
+      last = s.machine.value.state.applied;
+      machine = s.machine.value.state.service;
     } };
 
-    ghost invariant = { λ s. s.machine.is_broken ≡ false };
+    ghost invariant = { λ s. s.machine.value.is_broken ≡ false };
 }
 
 impl Snapshot {
     /// The state of a machine.
-    pub(crate) fn of(machine: &Machine) -> Result<Snapshot, Memory>
+    pub(crate) fn of(alloc: Global, machine: &Machine) -> Result<Snapshot, Memory>
         ensures { IfOk result (λ s. s ≡ record {
           last = machine.now.state.applied;
           machine = machine.now.state.service;
         }) }
     {
         Ok(Snapshot {
-            machine: machine.copy()?,
+            machine: Box::new(alloc, machine.copy()?)?,
         })
     }
 
@@ -51,7 +53,7 @@ impl Snapshot {
     pub(crate) fn last(&self) -> LogNumber
         ensures { result ≡ self.now.last }
     {
-        log_number(&self.machine)
+        log_number(self.machine.as_ref())
     }
 
     /// Its machine.
@@ -60,7 +62,7 @@ impl Snapshot {
         ensures machine { result.state.service ≡ self.machine }
         ensures whole { result.is_broken ≡ false }
     {
-        self.machine
+        Box::into_inner(self.machine)
     }
 }
 
