@@ -4,4 +4,5 @@ pub mod LeftOver
 pub mod Spacing
 pub mod PartsShape
 pub mod PartsCount
+pub mod PartsRead
 pub mod Prefixes
