@@ -9,9 +9,17 @@ use zout::Out;
 use zserver::{Server, Snapshot};
 use zserver_table::{Message, Process, ServerId};
 
-/// The servers from the head to the tail, with places from 0 on, and what one of them put.
+/// Gives a new chain of so many servers the calls of an order; how many it answered.
+pub fn answered(alloc: Global, count: u8, calls: &Calls, order: &Order) -> Result<u64, Trouble> {
+    let mut chain = Chain::new(alloc, count)?;
+    let answered = chain.plays(calls, order);
+    drop(chain);
+    answered
+}
+
+// The servers from the head to the tail, with places from 0 on, and what one of them put.
 #[derive(Drop)]
-pub struct Chain {
+struct Chain {
     servers: Vec<Server>,
     count: u8,
     out: Out<Snapshot>,
@@ -19,22 +27,22 @@ pub struct Chain {
 }
 
 impl Chain {
-    /// A chain of so many servers that have the calls' node.
-    pub fn new(alloc: Global, count: u8, calls: &Calls) -> Result<Chain, Trouble> {
-        let mut chain = Chain {
+    // A chain of so many servers, which have no node but the root.
+    fn new(alloc: Global, count: u8) -> Result<Chain, Trouble> {
+        Ok(Chain {
             servers: opened(alloc, count)?,
             count,
             out: Out::new(alloc),
             answered: 0,
-        };
-        let entry = calls.first()?;
-        chain.submits(entry)?;
-        chain.answered = 0;
-        Ok(chain)
+        })
     }
 
-    /// Gives it the calls of an order, each when the one before it is done; how many it answered.
-    pub fn plays(&mut self, calls: &Calls, order: &Order) -> Result<u64, Trouble> {
+    // Makes the node, and then gives it the calls of an order, each when the one before it is done; how many of these
+    // it answered.
+    fn plays(&mut self, calls: &Calls, order: &Order) -> Result<u64, Trouble> {
+        let entry = calls.first()?;
+        self.submits(entry)?;
+        self.answered = 0;
         for number in 0..order.count {
             match order.kind {
                 Kind::Update => self.updates(calls, number.saturating_add(1))?,
@@ -104,7 +112,8 @@ impl Chain {
 
     // The tail's answer is counted, and let go.
     fn tells(&mut self) {
-        if self.out.next().is_some() {
+        if let Some((_, message)) = self.out.next() {
+            drop(message);
             self.answered = self.answered.saturating_add(1);
         }
     }

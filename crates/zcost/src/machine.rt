@@ -4,58 +4,67 @@ use crate::calls::Calls;
 use crate::order::{Kind, Order};
 use crate::trouble::Trouble;
 use std::alloc::Global;
-use zcalls::{Entry, Reply};
+use zcalls::{Entry, Query, Reply};
 use zops::{MAX_APPLIED, Machine};
 
-/// A machine that has the calls' node.
-#[derive(Drop)]
-pub struct Alone {
-    machine: Machine,
+/// Gives a new machine that has the calls' node the calls of an order; how many it answered.
+pub fn answered(alloc: Global, calls: &Calls, order: &Order) -> Result<u64, Trouble> {
+    let mut machine = Machine::new(alloc)?;
+    let answered = plays(&mut machine, calls, order);
+    drop(machine);
+    answered
 }
 
-impl Alone {
-    /// Makes it.
-    pub fn new(alloc: Global, calls: &Calls) -> Result<Alone, Trouble> {
-        let machine = Machine::new(alloc)?;
-        let mut alone = Alone { machine };
-        let entry = calls.first()?;
-        let _ = alone.applies(entry)?;
-        Ok(alone)
+// Gives a machine the call that makes the node, and then those of the order.
+fn plays(machine: &mut Machine, calls: &Calls, order: &Order) -> Result<u64, Trouble> {
+    let entry = calls.first()?;
+    let _ = applies(machine, entry)?;
+    let mut answered = 0u64;
+    for number in 0..order.count {
+        let is_answered = match order.kind {
+            Kind::Update => updates(machine, calls, number.saturating_add(1))?,
+            Kind::Query => asks(machine, calls)?,
+        };
+        answered = answered.saturating_add(u64::from(is_answered));
     }
+    Ok(answered)
+}
 
-    /// Gives it the calls of an order; how many it answered.
-    pub fn plays(&mut self, calls: &Calls, order: &Order) -> Result<u64, Trouble> {
-        let mut answered = 0u64;
-        for number in 0..order.count {
-            let is_answered = match order.kind {
-                Kind::Update => self.updates(calls, number.saturating_add(1))?,
-                Kind::Query => self.asks(calls)?,
-            };
-            answered = answered.saturating_add(u64::from(is_answered));
+// Whether the update with this number is done.
+fn updates(machine: &mut Machine, calls: &Calls, number: u64) -> Result<bool, Trouble> {
+    let entry = calls.update(number)?;
+    applies(machine, entry)
+}
+
+// Whether the entry has a reply.
+fn applies(machine: &mut Machine, entry: Entry) -> Result<bool, Trouble> {
+    if machine.applied() >= MAX_APPLIED {
+        drop(entry);
+        return Err(Trouble::BadOrder);
+    }
+    match machine.apply(entry)? {
+        Some(reply) => {
+            drop(reply);
+            Ok(true)
         }
-        Ok(answered)
+        None => Ok(false),
     }
+}
 
-    // Whether the update with this number is done.
-    fn updates(&mut self, calls: &Calls, number: u64) -> Result<bool, Trouble> {
-        let entry = calls.update(number)?;
-        self.applies(entry)
+// Whether the node's data is told.
+fn asks(machine: &Machine, calls: &Calls) -> Result<bool, Trouble> {
+    let query = calls.query()?;
+    let reply = machine.ask(&query);
+    drop(query);
+    match reply {
+        Ok(reply) => Ok(is_data(reply)),
+        Err(_) => Err(Trouble::Memory),
     }
+}
 
-    // Whether the entry has a reply.
-    fn applies(&mut self, entry: Entry) -> Result<bool, Trouble> {
-        if self.machine.applied() >= MAX_APPLIED {
-            drop(entry);
-            return Err(Trouble::BadOrder);
-        }
-        let reply = self.machine.apply(entry)?;
-        Ok(reply.is_some())
-    }
-
-    // Whether the node's data is told.
-    fn asks(&self, calls: &Calls) -> Result<bool, Trouble> {
-        let query = calls.query()?;
-        let reply = self.machine.ask(&query)?;
-        Ok(matches!(&reply, Reply::Data(_, _)))
-    }
+// Whether a reply tells data; it is let go.
+fn is_data(reply: Reply) -> bool {
+    let is_data = matches!(&reply, Reply::Data(_, _));
+    drop(reply);
+    is_data
 }

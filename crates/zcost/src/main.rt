@@ -12,8 +12,6 @@ mod order;
 mod trouble;
 
 use calls::Calls;
-use chain::Chain;
-use machine::Alone;
 use order::{Order, Place};
 use std::alloc::Global;
 use std::io;
@@ -21,21 +19,31 @@ use trouble::Trouble;
 
 fn main(rt: HostRuntime) -> io::Result<()> {
     for line in rt.lines(rt.alloc()) {
-        match obeyed(rt.alloc(), line?.as_str()) {
-            Ok(answered) => println!(rt; "{answered} answered")?,
-            Err(trouble) => println!(rt; "{trouble}")?,
-        }
+        let line = line?;
+        let answered = obeyed(rt.alloc(), &line);
+        drop(line);
+        tell(&rt, answered)?;
     }
     Ok(())
+}
+
+// Tells how many calls were answered.
+fn tell(rt: &HostRuntime, answered: Result<u64, Trouble>) -> io::Result<()> {
+    match answered {
+        Ok(answered) => println!(rt; "{answered} answered"),
+        Err(trouble) => println!(rt; "{trouble}"),
+    }
 }
 
 // How many calls of the line's order are answered.
 fn obeyed(alloc: Global, line: &str) -> Result<u64, Trouble> {
     let order = Order::read(line)?;
     let calls = Calls::new(alloc)?;
-    match order.place {
+    let answered = match order.place {
         Place::Nowhere => calls.let_go(&order),
-        Place::Machine => Alone::new(alloc, &calls)?.plays(&calls, &order),
-        Place::Chain(servers) => Chain::new(alloc, servers, &calls)?.plays(&calls, &order),
-    }
+        Place::Machine => machine::answered(alloc, &calls, &order),
+        Place::Chain(servers) => chain::answered(alloc, servers, &calls, &order),
+    };
+    drop(calls);
+    answered
 }
