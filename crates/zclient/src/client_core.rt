@@ -91,8 +91,15 @@ impl ClientCore {
         ensures same { OnErr result (self.new ≡ self.old) }
         ensures silent { OnErr result (out.new.posts ≡ out.old.posts) }
     {
-        let number = self.next_number()?;
+        let number = match self.next_number() {
+            Ok(number) => number,
+            Err(fault) => {
+                drop(call);
+                return Err(fault);
+            }
+        };
         let Ok(()) = send_call(self.alloc, &self.head, &self.tail, number, &call, out) else {
+            drop(call);
             return Err(BeginFault::Memory);
         };
         self.wait_for(number, call);
@@ -169,7 +176,7 @@ impl ClientCore {
         ensures { self.new ≡ record self.old { number = number; outstanding = Some (number, call) } }
     {
         self.number = number;
-        self.outstanding = Some((number, call));
+        drop(self.outstanding.replace((number, call)));
     }
 
     // Sends the call that it waits for, where there is one, to these ends of the chain.
@@ -201,9 +208,10 @@ impl ClientCore {
         if let Some((waited, _)) = &self.outstanding
             && waited.number() == number.number()
         {
-            self.outstanding = None;
+            drop(self.outstanding.take());
             return Some(reply);
         }
+        drop(reply);
         None
     }
 

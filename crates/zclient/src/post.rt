@@ -64,7 +64,10 @@ pub(crate) fn send_call<T: Drop>(
     ensures silent { OnErr result (out.new.posts ≡ out.old.posts) }
 {
     let post = call_post(alloc, head, tail, number, call)?;
-    out.reserve(1)?;
+    let Ok(()) = out.reserve(1) else {
+        drop(post);
+        return Err(Memory);
+    };
     put_post(out, post);
     Ok(())
 }

@@ -49,7 +49,10 @@ impl<T: Drop> Link<T> {
     {
         match self.queue.push_back(message) {
             Ok(()) => Ok(()),
-            Err(_) => Err(Memory),
+            Err(refused) => {
+                drop(refused);
+                Err(Memory)
+            }
         }
     }
 
