@@ -178,6 +178,7 @@ impl Replica {
         ensures { IfOk result (λ reply. (self.new, reply) ≡ applied_result self.old entry) }
     {
         let Some(machine) = &mut self.machine else {
+            drop(entry);
             return Ok(None);
         };
         let reply = machine.apply(entry);
@@ -194,7 +195,7 @@ impl Replica {
 fn lose(machine: &mut Option<Machine>)
     ensures { machine.new ≡ None }
 {
-    *machine = None;
+    drop(machine.take());
 }
 
 // Answers the client, where there is a reply.
@@ -216,10 +217,12 @@ fn put_update(succ: &Option<Neighbour>, n: LogNumber, entry: Entry, out: &mut Ou
     ensures { (neighbour : Neighbour) → succ.now ≡ Some neighbour
         → Puts out.old out.new (forward_post neighbour (n, entry) ∷ []) }
 {
-    if let Some(succ) = succ {
-        out.put_reserved(
-            Process::Server(succ.id()),
-            Message::Update(succ.epoch(), n, entry),
-        );
-    }
+    let Some(succ) = succ else {
+        drop(entry);
+        return;
+    };
+    out.put_reserved(
+        Process::Server(succ.id()),
+        Message::Update(succ.epoch(), n, entry),
+    );
 }

@@ -40,7 +40,7 @@ impl Replica {
         };
         out.put_reserved(Process::Server(from), Message::Ack(epoch, snapshot.last()));
         out.put_reserved(Process::Master, Message::Joined(epoch));
-        self.machine = Some(snapshot.into_machine());
+        drop(self.machine.replace(snapshot.into_machine()));
         self.sent.clear();
         Ok(())
     }
@@ -63,7 +63,10 @@ pub(crate) fn hand_over(
     ensures silent { OnErr result (out.new.posts ≡ out.old.posts) }
 {
     let snapshot = Snapshot::of(alloc, machine)?;
-    out.reserve(1)?;
+    let Ok(()) = out.reserve(1) else {
+        drop(snapshot);
+        return Err(Memory);
+    };
     out.put_reserved(
         Process::Server(succ.id()),
         Message::Snapshot(succ.epoch(), snapshot),

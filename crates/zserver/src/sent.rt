@@ -67,7 +67,10 @@ pub(crate) fn send_above(
     ensures silent { OnErr result (out.new.posts ≡ out.old.posts) }
 {
     let entries = copies_above(alloc, sent, n)?;
-    out.reserve(entries.len())?;
+    let Ok(()) = out.reserve(entries.len()) else {
+        drop(entries);
+        return Err(Memory);
+    };
     put_all(entries, succ, out);
     Ok(())
 }

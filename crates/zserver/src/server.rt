@@ -13,6 +13,7 @@ use crate::stopped::Stopped;
 use crate::taken::Taken;
 use std::alloc::Global;
 use std::marker::Model;
+use std::mem;
 use zout::Out;
 use zpath::Memory;
 use zserver_table::{Message, Process, ServerId};
@@ -108,7 +109,7 @@ impl Server {
         ensures { self.new.is_stopped ≡ true }
     {
         self.is_stopped = true;
-        self.replica = Replica::spare(self.alloc);
+        drop(mem::replace(&mut self.replica, Replica::spare(self.alloc)));
         Stopped
     }
 }

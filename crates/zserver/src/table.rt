@@ -76,7 +76,11 @@ impl Replica {
                     Err(memory) => Err(memory),
                 }
             }
-            Message::Query(number, query) => Ok(self.query(client, number, &query, out)),
+            Message::Query(number, query) => {
+                let taken = self.query(client, number, &query, out);
+                drop(query);
+                Ok(taken)
+            }
             other => {
                 drop(other);
                 Ok(Taken::Acted)
