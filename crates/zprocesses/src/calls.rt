@@ -18,6 +18,7 @@ impl Assembly {
         ensures { IfOk result (HasBegun self.old self.new client call) }
     {
         if client.number() >= self.master.clients() {
+            drop(call);
             return Ok(Begun::Idle(IdleCause::Nothing));
         }
         let core = &mut self.clients[client.number() as usize];

@@ -138,13 +138,16 @@ impl Assembly {
                 return Err(Memory);
             }
         };
-        post(
+        let Ok(()) = post(
             self.alloc,
             &mut self.links,
             &self.members,
             &Process::Client(client),
             &mut self.out,
-        )?;
+        ) else {
+            drop(reply);
+            return Err(Memory);
+        };
         tell(answers, client, number, reply)?;
         Ok(Did::Done)
     }
@@ -184,6 +187,7 @@ fn tell(
     ensures same { OnErr result (answers.new.items ≡ answers.old.items) }
 {
     let Some(number) = number else {
+        drop(reply);
         return Ok(());
     };
     let Some(reply) = reply else {

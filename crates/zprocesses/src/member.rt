@@ -89,7 +89,7 @@ impl Member {
     pub(crate) fn fail(&mut self)
         ensures { self.new ≡ gone_member }
     {
-        self.server = None;
+        drop(self.server.take());
         self.owes_gone = true;
     }
 
@@ -124,7 +124,7 @@ impl Member {
             Ok(Taken::Acted) => Outcome::Acted,
             Ok(Taken::Unheard) => Outcome::Unheard,
             Err(Stopped) => {
-                self.server = None;
+                drop(self.server.take());
                 self.owes_gone = true;
                 Outcome::Stopped
             }

@@ -80,6 +80,7 @@ impl Processes {
         ensures stays { self.old.is_broken ≡ true → IsErr result }
     {
         if self.is_broken {
+            drop(call);
             return Err(Memory);
         }
         let begun = self.assembly.begin(client, call);

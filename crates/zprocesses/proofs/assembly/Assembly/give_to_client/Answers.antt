@@ -17,5 +17,5 @@ returns-clause-given c =
           c.answered_number-number.result c.in-Ok.reply c.post.new.links
           c.self.view_is inside (c.index_mut-core.ensures.value ∙ ap (λ i. get_or cores i was) at) c.self.invariant.2
           c.in-Ok.ensures.next c.in-Ok.ensures.puts c.in-Ok.ensures.reply c.answered_number-number.ensures
-          (subst (λ (ms : List MemberView). IsPosted ms c.self.inside.links (Client c.args.client) c.take.new.out.posts c.post.new.links) c.deref.ensures.value c.in_ok-post.ensures.posted)),
+          (subst (λ (ms : List MemberView). IsPosted ms c.self.inside.links (Client c.args.client) c.take.new.out.posts c.post.new.links) c.deref.ensures.value c.in-Ok-post.ensures.posted)),
     )
