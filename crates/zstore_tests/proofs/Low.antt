@@ -6,13 +6,13 @@ use Rattle.std.specs.FinMap as finite
 use Rattle.std.specs.FinMap.{get-empty}
 use Rattle.zpath.specs.Grammar.{path_cmp}
 use Rattle.ztree.specs.declared.node.Node.{Node}
-use Rattle.ztree.specs.Tree.{Tree, Path, Nodes, opening_tree, new_node, parent_of, ephemerals, with_change_at, with_child, with_node, with_next_zxid, without_node}
+use Rattle.ztree.specs.Tree.{Tree, Path, Nodes, opening_tree, new_node, parent_of, ephemerals, with_change_at, with_child, with_data, with_data_at, with_node, with_next_zxid, without_child, without_node}
 use Rattle.ztree.specs.Sessions.{with_session, without_nodes, without_session}
 use Rattle.ztree.specs.Lawful.{AllNodes}
 use Rattle.ztree.specs.Room.{HasRoomForEnd}
-use Rattle.zstore_tests.specs.Low.{IsLow}
+use Rattle.zstore_tests.specs.Small.{IsLow}
 use Rattle.ztree.proofs.Sorted.{paths_total, same_path}
-use Rattle.ztree.proofs.Maps.{none_some, get-inserted}
+use Rattle.ztree.proofs.Maps.{none_some, get-inserted, get-removed}
 use Rattle.ztree.proofs.Ephemerals.{path_if_owned}
 
 module _ (P : Node → Type 0) (nodes : Nodes) (all : AllNodes P nodes) where
@@ -46,6 +46,23 @@ low_added t path bytes owner sequential low = all_marked
 
     all_marked : IsLow (with_next_zxid (with_node t path bytes owner sequential))
     all_marked = all_changed (λ n. n.cversion ≤ t.zxid + 1) (finite.insert t.nodes path (new_node bytes owner (t.zxid + 1) t.time)) more (parent_of path) (with_child (t.zxid + 1) sequential) (λ n e. let before = few (parent_of path) n e in omega (arith, before))
+
+-- one node fewer, by the next change
+pub low_removed : (t : Tree) (path : Path) → IsLow t → IsLow (with_next_zxid (without_node t path))
+low_removed t path low = all_changed (λ n. n.cversion ≤ t.zxid + 1) (finite.remove t.nodes path) more (parent_of path) (without_child (t.zxid + 1)) (λ n e. let before = few (parent_of path) n e in omega (arith, before))
+  where
+    few : AllNodes (λ n. n.cversion ≤ t.zxid) (finite.remove t.nodes path)
+    few q n e = low q n (get-removed paths_total same_path t.nodes path q n e).1
+
+    more : AllNodes (λ n. n.cversion ≤ t.zxid + 1) (finite.remove t.nodes path)
+    more q n e = let before = few q n e in omega (arith, before)
+
+-- data written, by the next change
+pub low_written : (t : Tree) (path : Path) (bytes : List ℕ) → IsLow t → IsLow (with_next_zxid (with_data_at t path bytes))
+low_written t path bytes low = all_changed (λ n. n.cversion ≤ t.zxid + 1) t.nodes more path (with_data bytes (t.zxid + 1) t.time) (λ n e. let before = low path n e in omega (arith, before))
+  where
+    more : AllNodes (λ n. n.cversion ≤ t.zxid + 1) t.nodes
+    more q n e = let before = low q n e in omega (arith, before)
 
 few_given : {X Y : Type 0} (h : X → Option Y) (xs : List X) → length (filter_map h xs) ≤ length xs
 few_given h [] = omega arith

@@ -1,1 +1,1 @@
-pub mod Low
+pub mod Small

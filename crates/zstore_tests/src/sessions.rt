@@ -1,80 +1,74 @@
 //! Sessions: opening, keeping alive, ending, and what they own.
 
-use crate::steps::{add, end, has, open, tick, touch};
-use std::test::Fail;
-use zstore::{ClientId, Session, SessionId, Store, Zxid};
+use crate::changes::{end, is_small};
+use crate::facts::Fact::{At, Due, Lives, NoSession, Numbers, Sizes};
+use crate::facts::{Fact, show_all};
+use crate::steps::Step::{Add, Is, Open, Tick, Touch};
+use crate::steps::{Step, played, plays_row};
+
+const OPENED: &[Step] = &[
+    Open(1),
+    Open(5),
+    Is(Lives(2, 5, 5)),
+    Is(NoSession(3)),
+    Is(Sizes(1, 2)),
+];
 
 #[test]
-fn opens_sessions(rt: HostRuntime) -> Result<(), Fail> {
-    let alloc = rt.alloc();
-    let client = ClientId::new(3).ok_or("there is such a client")?;
-    let mut store = Store::new(alloc)?;
-    for timeout in [1, 5] {
-        open(&rt, &mut store, client, timeout)?;
-    }
-    let opened = Session {
-        client,
-        timeout: 5,
-        deadline: 5,
-    };
-    assert_eq!(rt; store.session(SessionId::new(2)), Some(opened));
-    assert!(rt; store.session(SessionId::new(3)).is_none());
-    assert_eq!(rt; store.sessions(), 2);
-    Ok(())
+fn opens_sessions(rt: HostRuntime) {
+    plays_row(&rt, rt.alloc(), OPENED);
 }
 
-#[test]
-fn tells_the_sessions_that_are_due(rt: HostRuntime) -> Result<(), Fail> {
-    let client = ClientId::new(3).ok_or("there is such a client")?;
-    let mut store = Store::new(rt.alloc())?;
-    for timeout in [1, 5, 1] {
-        open(&rt, &mut store, client, timeout)?;
-    }
-    assert!(rt; store.now() == 0);
-    let due = store.due(1)?;
-    assert_eq!(rt;
-        due.as_slice(),
-        [SessionId::new(1), SessionId::new(3)].as_slice()
-    );
-    Ok(())
-}
+const DUE: &[Step] = &[Open(1), Open(5), Open(1), Is(Due(1, 3))];
 
 #[test]
-fn keeps_a_session_alive(rt: HostRuntime) -> Result<(), Fail> {
-    let client = ClientId::new(3).ok_or("there is such a client")?;
-    let mut store = Store::new(rt.alloc())?;
-    open(&rt, &mut store, client, 3)?;
-    for want in [4, 5, 6, 7] {
-        tick(&rt, &mut store)?;
-        touch(&rt, &mut store, 1)?;
-        let deadline = store
-            .session(SessionId::new(1))
-            .map(|session| session.deadline);
-        assert_eq!(rt; deadline, Some(want));
-    }
-    assert_eq!(rt; (store.now(), store.zxid()), (4, Zxid::new(1)));
-    Ok(())
+fn tells_the_sessions_that_are_due(rt: HostRuntime) {
+    plays_row(&rt, rt.alloc(), DUE);
 }
 
+const KEPT_ALIVE: &[Step] = &[
+    Open(3),
+    Tick,
+    Touch(1),
+    Is(Lives(1, 3, 4)),
+    Tick,
+    Touch(1),
+    Is(Lives(1, 3, 5)),
+    Tick,
+    Touch(1),
+    Is(Lives(1, 3, 6)),
+    Tick,
+    Touch(1),
+    Is(Lives(1, 3, 7)),
+    Is(Numbers(1, 4)),
+];
+
 #[test]
-fn ends_sessions(rt: HostRuntime) -> Result<(), Fail> {
-    let alloc = rt.alloc();
-    let client = ClientId::new(3).ok_or("there is such a client")?;
-    let mut store = Store::new(alloc)?;
-    for timeout in [1, 5] {
-        open(&rt, &mut store, client, timeout)?;
-    }
-    for (text, owner) in [("/e", 2), ("/p", 0), ("/p/e", 2), ("/p/f", 1)] {
-        add(&rt, alloc, &mut store, text, "", owner)?;
-    }
+fn keeps_a_session_alive(rt: HostRuntime) {
+    plays_row(&rt, rt.alloc(), KEPT_ALIVE);
+}
+
+const OWNED: &[Step] = &[
+    Open(1),
+    Open(5),
+    Add("/e", "", 2),
+    Add("/p", "", 0),
+    Add("/p/e", "", 2),
+    Add("/p/f", "", 1),
+];
+
+const LEFT: &[Fact] = &[
+    At("/", "", [0, 0, 7, 0, 0, 0, 3, 0, 0, 1]),
+    At("/p", "", [4, 4, 7, 0, 0, 0, 3, 0, 0, 1]),
+    At("/p/f", "", [6, 6, 6, 0, 0, 0, 0, 1, 0, 0]),
+    Sizes(3, 1),
+];
+
+#[test]
+fn ends_sessions(rt: HostRuntime) {
+    let mut store = played(&rt, rt.alloc(), OWNED);
+    assert!(rt; is_small(&store));
     end(&rt, &mut store, 2);
-    for (text, numbers) in [
-        ("/", [0, 0, 7, 0, 0, 0, 3, 0, 0, 1]),
-        ("/p", [4, 4, 7, 0, 0, 0, 3, 0, 0, 1]),
-        ("/p/f", [6, 6, 6, 0, 0, 0, 0, 1, 0, 0]),
-    ] {
-        has(&rt, alloc, &store, text, "", numbers)?;
-    }
-    assert_eq!(rt; (store.nodes(), store.sessions()), (3, 1));
-    Ok(())
+    show_all(&rt, rt.alloc(), &store, LEFT);
+    drop(store);
 }

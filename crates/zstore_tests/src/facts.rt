@@ -1,0 +1,133 @@
+//! What a store shows, by words and numbers.
+
+ghost use Rattle.zstore_tests.specs.Small.{IsSmall};
+
+use crate::changes::is_small;
+use crate::parts::{client, id_at, path};
+use Fact::{At, Due, Free, Given, Lists, Lives, NoSession, Numbers, Sizes};
+use std::alloc::Global;
+use std::process::Abort;
+use zstore::{Session, SessionId, Stat, Store, Zxid};
+
+/// What is to be so.
+pub(crate) enum Fact {
+    /// The node at this path has this data and this stat.
+    At(&'static str, &'static str, [u64; 10]),
+    /// There is no node at this path.
+    Free(&'static str),
+    /// The names of the children of the node at this path, each with a space behind it.
+    Lists(&'static str, &'static str),
+    /// This session of client 3 has this timeout and this deadline.
+    Lives(u64, u64, u64),
+    /// There is no such session.
+    NoSession(u64),
+    /// The next tick ends these two sessions, and no other.
+    Due(u64, u64),
+    /// There are so many nodes, and so many sessions.
+    Sizes(usize, usize),
+    /// The number of the last change, and the ticks so far.
+    Numbers(u64, u64),
+    /// So many Ids were given.
+    Given(u128),
+}
+
+/// Asserts that it is so.
+pub(crate) fn shows(rt: &impl Abort, alloc: Global, store: &Store, fact: &Fact)
+    requires small { IsSmall store.now }
+{
+    match fact {
+        At(text, data, numbers) => has(rt, alloc, store, text, data, *numbers),
+        Free(text) => is_free(rt, alloc, store, text),
+        Lists(text, names) => lists(rt, alloc, store, text, names),
+        Lives(id, timeout, deadline) => lives(rt, store, *id, *timeout, *deadline),
+        Due(first, second) => are_due(rt, store, *first, *second),
+        counted => assert!(rt; counts(store, counted)),
+    }
+}
+
+/// Asserts each fact.
+pub(crate) fn show_all(rt: &impl Abort, alloc: Global, store: &Store, facts: &[Fact]) {
+    for fact in facts {
+        assert!(rt; is_small(store));
+        shows(rt, alloc, store, fact);
+    }
+}
+
+fn has(rt: &impl Abort, alloc: Global, store: &Store, text: &str, data: &str, numbers: [u64; 10]) {
+    let id = id_at(rt, alloc, store, text);
+    let is_so = store.data(id) == Some(data.as_bytes()) && store.stat(id) == Some(stat(numbers));
+    assert!(rt; is_so, "at {text}");
+}
+
+fn is_free(rt: &impl Abort, alloc: Global, store: &Store, text: &str) {
+    assert!(rt; store.find(&path(rt, alloc, text)).is_none());
+}
+
+fn lists(rt: &impl Abort, alloc: Global, store: &Store, text: &str, want: &str) {
+    let is_so = names(rt, alloc, store, text).as_str() == want;
+    assert!(rt; is_so, "at {text}");
+}
+
+fn names(rt: &impl Abort, alloc: Global, store: &Store, text: &str) -> String {
+    let mut line = String::new(alloc);
+    let id = id_at(rt, alloc, store, text);
+    for name in store.children(id).expect(rt, "there is memory") {
+        line.push_str(name.as_str()).expect(rt, "there is memory");
+        line.push(' ').expect(rt, "there is memory");
+    }
+    line
+}
+
+fn lives(rt: &impl Abort, store: &Store, id: u64, timeout: u64, deadline: u64) {
+    let session = Session {
+        client: client(rt),
+        timeout,
+        deadline,
+    };
+    assert!(rt; store.session(SessionId::new(id)) == Some(session));
+}
+
+fn are_due(rt: &impl Abort, store: &Store, first: u64, second: u64)
+    requires small { IsSmall store.now }
+{
+    let due = store.due(store.now() + 1).expect(rt, "there is memory");
+    assert!(rt; due.as_slice() == [SessionId::new(first), SessionId::new(second)].as_slice());
+}
+
+fn counts(store: &Store, fact: &Fact) -> bool {
+    match fact {
+        NoSession(id) => store.session(SessionId::new(*id)).is_none(),
+        Sizes(nodes, sessions) => store.nodes() == *nodes && store.sessions() == *sessions,
+        Numbers(zxid, ticks) => store.zxid().number() == *zxid && store.now() == *ticks,
+        Given(ids) => store.given() == *ids,
+        _ => false,
+    }
+}
+
+// A stat by its numbers, in the order of the text.
+fn stat(numbers: [u64; 10]) -> Stat {
+    let [
+        czxid,
+        mzxid,
+        pzxid,
+        ctime,
+        mtime,
+        version,
+        cversion,
+        owner,
+        length,
+        children,
+    ] = numbers;
+    Stat {
+        czxid: Zxid::new(czxid),
+        mzxid: Zxid::new(mzxid),
+        pzxid: Zxid::new(pzxid),
+        ctime,
+        mtime,
+        version,
+        cversion,
+        owner,
+        length,
+        children,
+    }
+}
