@@ -37,7 +37,11 @@ pub(crate) fn change(
 {
     match change {
         Change::Create(wanted) => create(alloc, store, client, wanted),
-        Change::Delete(wanted) => delete(store, &wanted),
+        Change::Delete(wanted) => {
+            let did = delete(store, &wanted);
+            drop(wanted);
+            did
+        }
         Change::SetData(wanted) => set(store, wanted),
     }
 }
@@ -81,6 +85,7 @@ fn made_path(alloc: Global, store: &Store, parent: Id, kind: Kind, path: Path) -
         unreachable!();
     };
     if counter > MAX_COUNTER {
+        drop(path);
         return Err(Stop::Refused(Refusal::SequenceFull));
     }
     match path.numbered(alloc, counter) {
@@ -104,25 +109,39 @@ fn create(
         (IsStopped (create_step store.old.tree client create) store.old store.new) }
 {
     if has_no_owner(store, client, create.kind) {
+        drop(create);
         return Err(Stop::Refused(Refusal::SessionGone));
     }
     let Some(above) = create.path.parent(alloc)? else {
+        drop(create);
         return Err(Stop::Refused(Refusal::NodeExists));
     };
     let Some(parent) = store.find(&above) else {
+        drop(above);
+        drop(create);
         return Err(Stop::Refused(Refusal::NoNode));
     };
+    drop(above);
     if is_ephemeral(store, parent) {
+        drop(create);
         return Err(Stop::Refused(Refusal::NoChildrenForEphemerals));
     }
     let made = made_path(alloc, store, parent, create.kind, create.path)?;
     if store.find(&made).is_some() {
+        drop(made);
+        drop(create.bytes);
         return Err(Stop::Refused(Refusal::NodeExists));
     }
     if store.nodes() >= MAX_NODES {
+        drop(made);
+        drop(create.bytes);
         return Err(Stop::Refused(Refusal::Full));
     }
-    let path = made.copied(alloc)?;
+    let Ok(path) = made.copied(alloc) else {
+        drop(made);
+        drop(create.bytes);
+        return Err(Stop::Memory);
+    };
     let owner = create.kind.owner();
     let is_sequential = create.kind.is_sequential();
     store.add(parent, made, create.bytes, owner, is_sequential)?;
@@ -160,11 +179,14 @@ fn set(store: &mut Store, set: SetData) -> Result<ChangeReply, Stop>
     ensures stopped { IfErr result (IsStopped (set_step store.old.tree set) store.old store.new) }
 {
     let Some(id) = store.find(&set.path) else {
+        drop(set);
         return Err(Stop::Refused(Refusal::NoNode));
     };
     if has_other_version(store, id, set.version) {
+        drop(set);
         return Err(Stop::Refused(Refusal::BadVersion));
     }
+    drop(set.path);
     store.put_data(id, set.bytes)?;
     match store.stat(id) {
         Some(stat) => Ok(ChangeReply::Set(stat)),

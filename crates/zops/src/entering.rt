@@ -51,7 +51,13 @@ fn act(
     ensures left { StaysBounded store.old store.new }
 {
     let reply = update(alloc, store, entry.client, entry.update)?;
-    let copy = reply.copied(alloc)?;
-    kept.keep(entry.client, entry.number, copy)?;
+    let Ok(copy) = reply.copied(alloc) else {
+        drop(reply);
+        return Err(Memory);
+    };
+    let Ok(()) = kept.keep(entry.client, entry.number, copy) else {
+        drop(reply);
+        return Err(Memory);
+    };
     Ok(reply)
 }

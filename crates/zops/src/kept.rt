@@ -125,7 +125,14 @@ impl KeptReplies {
     {
         let mut copy = KeptReplies::new(alloc);
         for (client, kept) in self.replies.iter().rev() {
-            copy.put(*client, kept.copied(alloc)?)?;
+            let Ok(kept) = kept.copied(alloc) else {
+                drop(copy);
+                return Err(Memory);
+            };
+            let Ok(()) = copy.put(*client, kept) else {
+                drop(copy);
+                return Err(Memory);
+            };
         }
         Ok(copy)
     }

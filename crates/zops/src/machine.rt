@@ -96,6 +96,7 @@ impl Machine {
         ensures bounded { OnOk result (IsBounded self.new.state.service.plain) }
     {
         if self.is_broken {
+            drop(entry);
             return Err(Memory);
         }
         self.applied += 1;
@@ -143,10 +144,15 @@ impl Machine {
         }
         self.store.keeps_lawful();
         self.store.keeps_paths();
+        let kept = self.kept.copied(self.alloc)?;
+        let Ok(store) = self.store.copy() else {
+            drop(kept);
+            return Err(Memory);
+        };
         Ok(Machine {
             alloc: self.alloc,
-            store: self.store.copy()?,
-            kept: self.kept.copied(self.alloc)?,
+            store,
+            kept,
             applied: self.applied,
             is_broken: self.is_broken,
         })

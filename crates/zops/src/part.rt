@@ -29,7 +29,11 @@ pub(crate) fn part(
         Part::Create(wanted) => change_part(alloc, store, client, Change::Create(wanted)),
         Part::Delete(wanted) => change_part(alloc, store, client, Change::Delete(wanted)),
         Part::SetData(wanted) => change_part(alloc, store, client, Change::SetData(wanted)),
-        Part::Check(wanted) => check(store, &wanted),
+        Part::Check(wanted) => {
+            let did = check(store, &wanted);
+            drop(wanted);
+            did
+        }
     }
 }
 

@@ -34,6 +34,7 @@ pub(crate) fn update(
     ensures err { OnErr result (IsAsItWas store.old store.new) }
 {
     if is_exhausted(store, &update) {
+        drop(update);
         return Ok(Reply::Refused(Refusal::Exhausted));
     }
     match update {

@@ -13,7 +13,7 @@ loop-client-preserved c =
     let one : ℕ × Kept = (c.in-Some.client.now, c.in-Some.kept.now) in (
       one ∷ so_far.0,
       sym (append_assoc c.next.new.self.iter (one ∷ []) so_far.0) ∙ ap (λ left. left ++ so_far.0) (sym c.in-Some.ensures.steps) ∙ so_far.1,
-      c.in_ok-put.ensures ∙ (λ i. insert (so_far.2 i) one.0 (c.in_ok-copied.ensures i)),
+      c.in-Ok-put.ensures ∙ (λ i. insert (so_far.2 i) one.0 (c.in-Ok.ensures i)),
     )
 
 pub returns : goal.returns
