@@ -1,75 +1,86 @@
 //! The index: keys, room for them, copies.
 
+use crate::node_steps::path;
 use std::alloc::Global;
 use std::process::Abort;
-use std::test::Fail;
 use zindex::{Index, key};
-use zpath::Path;
+use zpath::Name;
 use zslots::{Id, Slots};
 
 #[test]
-fn keeps_ids_by_their_paths(rt: HostRuntime) -> Result<(), Fail> {
-    let alloc = rt.alloc();
-    let index = index_of(&rt, alloc, &["/", "/a", "/a/b"])?;
-    for (text, is_there) in [("/", true), ("/a", true), ("/a/b", true), ("/b", false)] {
-        let path = Path::parse(alloc, text)?;
-        assert_eq!(rt; index.get(path.names()).is_some(), is_there, "at {text}");
+fn keeps_ids_by_their_paths(rt: HostRuntime) {
+    let index = index_of(&rt, rt.alloc(), &["/", "/a", "/a/b"]);
+    for text in ["/", "/a", "/a/b"] {
+        assert!(rt; has(&rt, rt.alloc(), &index, text));
     }
-    assert_eq!(rt; index.len(), 3);
-    Ok(())
+    assert!(rt; index.len() == 3 && !has(&rt, rt.alloc(), &index, "/b"));
+    drop(index);
+}
+
+// Whether there is an Id under the path that a text spells.
+fn has(rt: &impl Abort, alloc: Global, index: &Index, text: &str) -> bool {
+    index.get(path(rt, alloc, text).names()).is_some()
 }
 
 #[test]
-fn takes_a_key_that_it_gave_back(rt: HostRuntime) -> Result<(), Fail> {
-    let alloc = rt.alloc();
-    let mut index = index_of(&rt, alloc, &["/a", "/b"])?;
-    let path = Path::parse(alloc, "/a")?;
-    let id = index.get(path.names()).ok_or("the path is there")?;
-    let key = index.remove(path.names()).ok_or("the path is there")?;
-    assert_eq!(rt; (index.get(path.names()), index.len()), (None, 1));
-    index.reserve(1)?;
+fn takes_a_key_that_it_gave_back(rt: HostRuntime) {
+    let mut index = index_of(&rt, rt.alloc(), &["/a", "/b"]);
+    let path = path(&rt, rt.alloc(), "/a");
+    takes_back(&rt, &mut index, path.names());
+    drop(path);
+    drop(index);
+}
+
+// The key of a path goes, and comes back with its Id.
+fn takes_back(rt: &impl Abort, index: &mut Index, names: &[Name]) {
+    let id = index.get(names).expect(rt, "the path is there");
+    let key = index.remove(names).expect(rt, "the path is there");
+    assert!(rt; index.get(names).is_none() && index.len() == 1);
+    index.reserve(1).expect(rt, "there is memory");
     index.insert(key, id);
-    assert_eq!(rt; (index.get(path.names()), index.len()), (Some(id), 2));
-    Ok(())
+    assert!(rt; index.get(names) == Some(id) && index.len() == 2);
 }
 
 #[test]
-fn copies_stand_apart(rt: HostRuntime) -> Result<(), Fail> {
-    let alloc = rt.alloc();
-    let mut index = index_of(&rt, alloc, &["/a", "/b"])?;
-    let path = Path::parse(alloc, "/a")?;
-    let id = index.get(path.names());
-    let copy = index.copy()?;
-    assert!(rt; index.remove(path.names()).is_some());
-    assert_eq!(rt; (index.len(), copy.len()), (1, 2));
-    assert_eq!(rt; copy.get(path.names()), id);
-    Ok(())
+fn copies_stand_apart(rt: HostRuntime) {
+    let mut index = index_of(&rt, rt.alloc(), &["/a", "/b"]);
+    let copy = index.copy().expect(&rt, "there is memory");
+    let path = path(&rt, rt.alloc(), "/a");
+    goes_from_one(&rt, &mut index, &copy, path.names());
+    drop(path);
+    drop(index);
+    drop(copy);
+}
+
+// The path goes from one index, and stays in its copy.
+fn goes_from_one(rt: &impl Abort, index: &mut Index, copy: &Index, names: &[Name]) {
+    let id = index.get(names);
+    drop(index.remove(names).expect(rt, "the path is there"));
+    assert!(rt; index.len() == 1 && copy.len() == 2 && copy.get(names) == id);
 }
 
 // An index of new Ids under these paths.
-fn index_of(rt: &impl Abort, alloc: Global, texts: &[&str]) -> Result<Index, Fail> {
+fn index_of(rt: &impl Abort, alloc: Global, texts: &[&str]) -> Index {
     let mut index = Index::new(alloc);
     let mut slots = Slots::new(alloc);
     for text in texts {
-        let id = new_id(rt, &mut slots)?;
-        put(rt, alloc, &mut index, text, id)?;
+        let id = new_id(rt, &mut slots);
+        put(rt, alloc, &mut index, path(rt, alloc, text).names(), id);
     }
-    Ok(index)
+    drop(slots);
+    index
 }
 
-// Puts an Id under the path that a text spells.
-fn put(rt: &impl Abort, alloc: Global, index: &mut Index, text: &str, id: Id) -> Result<(), Fail> {
-    let path = Path::parse(alloc, text)?;
-    let key = key(alloc, path.names())?;
-    index.reserve(1)?;
+// Puts an Id under a path.
+fn put(rt: &impl Abort, alloc: Global, index: &mut Index, names: &[Name], id: Id) {
+    let key = key(alloc, names).expect(rt, "there is memory");
+    index.reserve(1).expect(rt, "there is memory");
     index.insert(key, id);
-    assert_eq!(rt; index.get(path.names()), Some(id), "at {text}");
-    Ok(())
+    assert!(rt; index.get(names) == Some(id));
 }
 
 // An Id that was not given before.
-fn new_id(rt: &impl Abort, slots: &mut Slots<u64>) -> Result<Id, Fail> {
+fn new_id(rt: &impl Abort, slots: &mut Slots<u64>) -> Id {
     assert!(rt; slots.given() < 9);
-    let id = slots.insert(0).ok().ok_or("there is memory")?;
-    Ok(id)
+    slots.insert(0).ok().expect(rt, "there is memory")
 }

@@ -1,68 +1,76 @@
 //! Nodes: adding, listing, taking away, copying.
 
-use crate::node_steps::{add, id_at, names, opened, put_back, take};
-use std::test::Fail;
+ghost use Rattle.std.specs.Prelude.{IsSome};
+ghost use Rattle.std.specs.FinMap.{get};
+
+use crate::node_steps::{id_at, lists, opened, opened_with, path, put_back, take};
+use std::alloc::Global;
+use std::process::Abort;
+use znodes::{Id, Nodes};
 use zpath::Path;
 
 #[test]
-fn opens_with_the_root_alone(rt: HostRuntime) -> Result<(), Fail> {
-    let alloc = rt.alloc();
-    let nodes = opened(alloc)?;
-    let root = id_at(alloc, &nodes, "/")?;
+fn opens_with_the_root_alone(rt: HostRuntime) {
+    let nodes = opened(&rt, rt.alloc());
+    let root = id_at(&rt, rt.alloc(), &nodes, "/");
     assert!(rt; nodes.node(root).is_some() && nodes.above(root).is_none());
-    assert_eq!(rt; nodes.child_count(root), Some(0));
-    assert_eq!(rt; nodes.given(), 1);
-    Ok(())
+    assert!(rt; nodes.child_count(root) == Some(0) && nodes.given() == 1);
+    drop(nodes);
+}
+
+const UNSORTED: &[(&str, u64)] = &[("/b", 0), ("/a-b", 7), ("/a", 0), ("/B", 7), ("/a/z", 0)];
+
+#[test]
+fn lists_children_by_their_bytes(rt: HostRuntime) {
+    let nodes = opened_with(&rt, rt.alloc(), UNSORTED);
+    lists(&rt, rt.alloc(), &nodes, "/", "B a a-b b ", 4);
+    lists(&rt, rt.alloc(), &nodes, "/a", "z ", 1);
+    lists(&rt, rt.alloc(), &nodes, "/a/z", "", 0);
+    drop(nodes);
 }
 
 #[test]
-fn lists_children_by_their_bytes(rt: HostRuntime) -> Result<(), Fail> {
-    let alloc = rt.alloc();
-    let mut nodes = opened(alloc)?;
-    for (text, owner) in [("/b", 0), ("/a-b", 7), ("/a", 0), ("/B", 7), ("/a/z", 0)] {
-        add(&rt, alloc, &mut nodes, text, owner)?;
-    }
-    for (text, want, count) in [("/", "B a a-b b ", 4), ("/a", "z ", 1), ("/a/z", "", 0)] {
-        assert_eq!(rt; names(alloc, &nodes, text)?.as_str(), want, "at {text}");
-        let id = id_at(alloc, &nodes, text)?;
-        assert_eq!(rt; nodes.child_count(id), Some(count), "at {text}");
-    }
-    Ok(())
+fn puts_a_node_back(rt: HostRuntime) {
+    let mut nodes = opened_with(&rt, rt.alloc(), &[("/a", 0), ("/a/b", 7)]);
+    let path = path(&rt, rt.alloc(), "/a/b");
+    goes_and_comes(&rt, rt.alloc(), &mut nodes, &path);
+    drop(path);
+    drop(nodes);
 }
 
-#[test]
-fn puts_a_node_back(rt: HostRuntime) -> Result<(), Fail> {
-    let alloc = rt.alloc();
-    let mut nodes = opened(alloc)?;
-    for (text, owner) in [("/a", 0), ("/a/b", 7)] {
-        add(&rt, alloc, &mut nodes, text, owner)?;
-    }
-    let path = Path::parse(alloc, "/a/b")?;
-    let id = take(&rt, &mut nodes, &path)?;
+// The only node of session 7 is taken away and put back.
+fn goes_and_comes(rt: &impl Abort, alloc: Global, nodes: &mut Nodes, path: &Path)
+    requires { IsSome (get nodes.old.owners 7) }
+{
+    let id = take(rt, nodes, path);
+    is_away(rt, nodes, path, id);
+    put_back(rt, alloc, nodes, path, id);
+    assert!(rt; nodes.find(path.names()) == Some(id) && nodes.first_owned(7) == Some(id));
+    assert!(rt; nodes.above(id) == Some(id_at(rt, alloc, nodes, "/a")));
+}
+
+fn is_away(rt: &impl Abort, nodes: &Nodes, path: &Path, id: Id) {
     assert!(rt; nodes.find(path.names()).is_none() && nodes.node(id).is_none());
-    assert_eq!(rt; (nodes.first_owned(7), nodes.given()), (None, 3));
-    put_back(&rt, alloc, &mut nodes, &path, id)?;
-    assert_eq!(rt;
-        (nodes.find(path.names()), nodes.first_owned(7)),
-        (Some(id), Some(id))
-    );
-    assert_eq!(rt; nodes.above(id), Some(id_at(alloc, &nodes, "/a")?));
-    Ok(())
+    assert!(rt; nodes.first_owned(7).is_none() && nodes.given() == 3);
 }
 
 #[test]
-fn copies_stand_apart(rt: HostRuntime) -> Result<(), Fail> {
-    let alloc = rt.alloc();
-    let mut nodes = opened(alloc)?;
-    add(&rt, alloc, &mut nodes, "/a", 0)?;
-    let copy = nodes.copy()?;
-    let path = Path::parse(alloc, "/a")?;
-    let id = take(&rt, &mut nodes, &path)?;
+fn copies_stand_apart(rt: HostRuntime) {
+    let mut nodes = opened_with(&rt, rt.alloc(), &[("/a", 0)]);
+    let copy = nodes.copy().expect(&rt, "there is memory");
+    let path = path(&rt, rt.alloc(), "/a");
+    goes_from_one(&rt, &mut nodes, &copy, &path);
+    drop(path);
+    drop(nodes);
+    drop(copy);
+}
+
+// The node goes from these nodes, and stays in their copy.
+fn goes_from_one(rt: &impl Abort, nodes: &mut Nodes, copy: &Nodes, path: &Path)
+    requires { IsSome (get nodes.old.owners 7) }
+{
+    let id = take(rt, nodes, path);
     nodes.free(id);
-    assert_eq!(rt;
-        (nodes.find(path.names()), copy.find(path.names())),
-        (None, Some(id))
-    );
-    assert_eq!(rt; (nodes.given(), copy.given()), (2, 2));
-    Ok(())
+    assert!(rt; nodes.find(path.names()).is_none() && copy.find(path.names()) == Some(id));
+    assert!(rt; nodes.given() == 2 && copy.given() == 2);
 }

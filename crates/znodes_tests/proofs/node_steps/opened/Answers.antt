@@ -7,9 +7,12 @@ use Rattle.znodes.specs.NodesView.{NodesView}
 use Rattle.znodes_tests.proofs.node_steps.opened.Goals as goal
 
 pub open_owner-requires : goal.open_owner-requires
-open_owner-requires c = record { free = ap (λ m. get m 7) c.in_ok-nodes.ensures.owners ∙ get-empty nat_cmp 7 }
+open_owner-requires g c =
+    let opening = rw c.expect-nodes.ensures at c.new.ensures in
+    record { free = ap (λ m. get m 7) opening.owners ∙ get-empty nat_cmp 7 }
 
 pub returns : goal.returns
-returns c =
-    subst (λ (v : NodesView). IsSome (get v.owners 7)) (sym c.in_ok-open_owner.ensures.ok)
-    (subst IsSome (sym (get-insert-here nat_cmp_total nat_cmp-IsAntisymmetric c.in_ok-nodes.nodes.owners 7 tt)) refl)
+returns g c =
+    let opened = rw c.expect.ensures at c.open_owner.ensures.ok in
+    subst (λ (v : NodesView). IsSome (get v.owners 7)) (sym opened)
+    (subst IsSome (sym (get-insert-here nat_cmp_total nat_cmp-IsAntisymmetric c.expect-nodes.result.owners 7 tt)) refl)

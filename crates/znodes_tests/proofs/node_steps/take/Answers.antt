@@ -6,13 +6,13 @@ use Rattle.znodes_tests.proofs.node_steps.take.Goals as goal
 
 pub returns-clause-taken : goal.returns-clause-taken
 returns-clause-taken g c =
-    let at = c.in-Some.ensures.found ∙ ap Some c.names.ensures.names in
-    let there = sym (c.in-Some.ensures.node ∙ ap (has_node c.args.nodes.now.nodes) c.names.ensures.names) in
-    (taken_from c.args.nodes.now c.take.new.self c.in-Some.id c.args.path.now at c.has_known_owner.ensures c.take.ensures there).0
+    let at = rw c.expect-id.ensures at c.find.ensures.found ∙ ap Some c.names.ensures.names in
+    let there = sym (rw c.expect-id.ensures at c.find.ensures.node ∙ ap (has_node c.args.nodes.now.nodes) c.names.ensures.names) in
+    (taken_from c.args.nodes.now c.take.new.self c.expect-id.result c.args.path.now at c.has_known_owner.ensures c.take.ensures there).0
 
 pub returns-clause-owners : goal.returns-clause-owners
 returns-clause-owners g c =
-    let at = c.in-Some.ensures.found ∙ ap Some c.names.ensures.names in
-    let there = sym (c.in-Some.ensures.node ∙ ap (has_node c.args.nodes.now.nodes) c.names.ensures.names) in
-    let same = (taken_from c.args.nodes.now c.take.new.self c.in-Some.id c.args.path.now at c.has_known_owner.ensures c.take.ensures there).1 in
+    let at = rw c.expect-id.ensures at c.find.ensures.found ∙ ap Some c.names.ensures.names in
+    let there = sym (rw c.expect-id.ensures at c.find.ensures.node ∙ ap (has_node c.args.nodes.now.nodes) c.names.ensures.names) in
+    let same = (taken_from c.args.nodes.now c.take.new.self c.expect-id.result c.args.path.now at c.has_known_owner.ensures c.take.ensures there).1 in
     subst (λ m. IsSome (get m 7)) (sym same) c.requires

@@ -1,9 +1,11 @@
-use Rattle.std.proofs.Common.{sym, subst, arith}
+use Rattle.std.proofs.Common.{◌≤◌, sym, subst, arith}
 use Rattle.zsessions.specs.Deadlines.{NoneLate}
 use Rattle.znodes_tests.proofs.Late.{none_late-opened}
 use Rattle.znodes_tests.proofs.session_steps.open.Goals as goal
 
 pub returns : goal.returns
 returns g c =
-    subst (λ m. NoneLate m c.args.tick) (sym c.in_ok-open.ensures.ok)
-    (none_late-opened c.args.sessions.now c.args.tick c.requires c.args.id c.args.session (omega arith))
+    let opened = rw c.expect.ensures at c.open.ensures.ok in
+    let high : c.args.tick ≤ c.session.result.deadline = rw c.session.ensures (omega arith) in
+    subst (λ m. NoneLate m c.args.tick) (sym opened)
+    (none_late-opened c.args.sessions.now c.args.tick c.requires c.new-id.result c.session.result high)
