@@ -1,51 +1,107 @@
 //! The texts of replies.
 
-ghost use Rattle.std.specs.Prelude.{OnOk};
+ghost use Rattle.std.specs.Prelude.{◌++◌, OnOk, codes};
 ghost use Rattle.zlines.specs.Texts.{Writes};
 ghost use Rattle.std.specs.Fmt.{decimal};
 ghost use Rattle.std.specs.List.{flat_map};
+ghost use Rattle.zcalls.specs.Step.{refusal_name};
+ghost use Rattle.zpath.specs.Grammar.{text_of};
+ghost use Rattle.zlines.specs.LineWords.{data_text};
 ghost use Rattle.zlines.specs.Reply.{reply_text, stat_text, parts_text, part_text, next_part_text, spaced_number, spaced_name};
 
 use crate::node_bytes::write_data;
 use itoa::Buffer;
-use zcalls::{PartReply, Reply, Stat};
-use zpath::{Memory, Name};
+use zcalls::{PartReply, Refusal, Reply, Stat};
+use zpath::{Memory, Name, Path};
 
 /// Writes a reply, without the end of its line.
 pub fn write_reply(reply: &Reply, out: &mut String) -> Result<(), Memory>
     ensures { OnOk result (Writes out.old out.new (reply_text reply.now)) }
 {
     match reply {
-        Reply::Created(path) => write!(out, "ok {path}")?,
-        Reply::Deleted => out.push_str("ok deleted")?,
-        Reply::Set(stat) | Reply::Exists(stat) => {
-            out.push_str("ok stat")?;
-            write_stat(stat, out)?;
-        }
+        Reply::Created(path) => write_path("ok ", path, out),
+        Reply::Deleted => write_text("ok deleted", out),
+        Reply::Set(stat) | Reply::Exists(stat) => write_stat_behind("ok stat", stat, out),
         Reply::Multi(replies) => {
-            out.push_str("ok multi ")?;
-            write_parts(replies.as_slice(), out)?;
+            write_text("ok multi ", out)?;
+            write_parts(replies.as_slice(), out)
         }
         Reply::Opened(session, timeout) => {
-            write!(out, "ok session {} timeout {timeout}", session.number())?
+            write_counts("ok session ", session.number(), " timeout ", *timeout, out)
         }
-        Reply::Pinged => out.push_str("ok pinged")?,
-        Reply::Closed => out.push_str("ok closed")?,
-        Reply::Ticked(time, ended) => write!(out, "ok tick {time} ended {ended}")?,
-        Reply::Data(bytes, stat) => {
-            out.push_str("ok data ")?;
-            write_data(bytes.as_slice(), out)?;
-            out.push_str(" stat")?;
-            write_stat(stat, out)?;
+        Reply::Pinged => write_text("ok pinged", out),
+        Reply::Closed => write_text("ok closed", out),
+        Reply::Ticked(time, ended) => {
+            write_counts("ok tick ", *time, " ended ", *ended as u64, out)
         }
+        Reply::Data(bytes, stat) => write_node(bytes.as_slice(), stat, out),
         Reply::Children(names) => {
             let names = names.as_slice();
-            write!(out, "ok {}", names.len())?;
-            write_names(names, out)?;
+            write_count("ok ", names.len() as u64, out)?;
+            write_names(names, out)
         }
-        Reply::Refused(refusal) => write!(out, "no {refusal}")?,
-        Reply::MultiRefused(number, refusal) => write!(out, "no multi {number} {refusal}")?,
+        Reply::Refused(refusal) => write_refusal("no ", refusal, out),
+        Reply::MultiRefused(number, refusal) => {
+            write_count("no multi ", *number as u64, out)?;
+            write_refusal(" ", refusal, out)
+        }
     }
+}
+
+// Plain text. Each reply begins with it.
+fn write_text(text: &str, out: &mut String) -> Result<(), Memory>
+    ensures { OnOk result (Writes out.old out.new text.now) }
+{
+    out.push_str(text)?;
+    Ok(())
+}
+
+// A path, behind a text.
+fn write_path(front: &str, path: &Path, out: &mut String) -> Result<(), Memory>
+    ensures { OnOk result (Writes out.old out.new (front.now ++ text_of path.now)) }
+{
+    write!(out, "{front}{path}")?;
+    Ok(())
+}
+
+// A number, behind a text.
+fn write_count(front: &str, number: u64, out: &mut String) -> Result<(), Memory>
+    ensures { OnOk result (Writes out.old out.new (front.now ++ decimal number)) }
+{
+    out.push_str(front)?;
+    write_number(number, &mut Buffer::new(), out)
+}
+
+// Two numbers, each behind a text.
+fn write_counts(
+    front: &str,
+    first: u64,
+    middle: &str,
+    second: u64,
+    out: &mut String,
+) -> Result<(), Memory>
+    ensures { OnOk result (Writes out.old out.new
+        (front.now ++ decimal first ++ middle.now ++ decimal second)) }
+{
+    write_count(front, first, out)?;
+    write_count(middle, second, out)
+}
+
+// The data of a node, and its stat.
+fn write_node(bytes: &[u8], stat: &Stat, out: &mut String) -> Result<(), Memory>
+    ensures { OnOk result (Writes out.old out.new
+        (codes "ok data " ++ data_text bytes.now ++ codes " stat" ++ stat_text stat.now)) }
+{
+    write_text("ok data ", out)?;
+    write_data(bytes, out)?;
+    write_stat_behind(" stat", stat, out)
+}
+
+// The name of a refusal, behind a text.
+fn write_refusal(front: &str, refusal: &Refusal, out: &mut String) -> Result<(), Memory>
+    ensures { OnOk result (Writes out.old out.new (front.now ++ refusal_name refusal.now)) }
+{
+    write!(out, "{front}{refusal}")?;
     Ok(())
 }
 
@@ -76,15 +132,11 @@ fn write_part(reply: &PartReply, out: &mut String) -> Result<(), Memory>
     ensures { OnOk result (Writes out.old out.new (part_text reply.now)) }
 {
     match reply {
-        PartReply::Created(path) => write!(out, "{path}")?,
-        PartReply::Deleted => out.push_str("deleted")?,
-        PartReply::Set(stat) => {
-            out.push_str("stat")?;
-            write_stat(stat, out)?;
-        }
-        PartReply::Checked => out.push_str("checked")?,
+        PartReply::Created(path) => write_path("", path, out),
+        PartReply::Deleted => write_text("deleted", out),
+        PartReply::Set(stat) => write_stat_behind("stat", stat, out),
+        PartReply::Checked => write_text("checked", out),
     }
-    Ok(())
 }
 
 // Each name, after a space.
@@ -96,6 +148,14 @@ fn write_names(names: &[Name], out: &mut String) -> Result<(), Memory>
         out.push_str(name.as_str())?;
     }
     Ok(())
+}
+
+// The numbers of a stat, behind a text.
+fn write_stat_behind(front: &str, stat: &Stat, out: &mut String) -> Result<(), Memory>
+    ensures { OnOk result (Writes out.old out.new (front.now ++ stat_text stat.now)) }
+{
+    out.push_str(front)?;
+    write_stat(stat, out)
 }
 
 // The ten numbers of a stat, with a space before each.
