@@ -29,8 +29,17 @@ impl Nodes {
         ensures err { OnErr result (SameButRoom self.old self.new) }
         ensures kept { OnErr result (self.old.room ≤ self.new.room) }
     {
-        let key = key(self.alloc, path.names())?;
-        self.index.reserve(1)?;
+        let Ok(key) = key(self.alloc, path.names()) else {
+            drop(path);
+            drop(node);
+            return Err(Memory);
+        };
+        let Ok(()) = self.index.reserve(1) else {
+            drop(key);
+            drop(path);
+            drop(node);
+            return Err(Memory);
+        };
         let id = self.insert_taken(path, node, key)?;
         self.put_under(parent, id);
         Ok(id)
@@ -44,8 +53,12 @@ impl Nodes {
         ensures err { OnErr result (self.new ≡ self.old) }
     {
         let row = Row::alone(self.alloc, path, node, Some(Key::of(key)));
-        let Ok(id) = self.slots.insert(row) else {
-            return Err(Memory);
+        let id = match self.slots.insert(row) {
+            Ok(id) => id,
+            Err(row) => {
+                drop(row);
+                return Err(Memory);
+            }
         };
         Ok(id)
     }

@@ -48,8 +48,14 @@ impl Nodes {
         index.reserve(1)?;
         let mut slots = Slots::new(alloc);
         let row = Row::alone(alloc, Path::root(alloc), root, None);
-        let Ok(id) = slots.insert(row) else {
-            return Err(Memory);
+        let id = match slots.insert(row) {
+            Ok(id) => id,
+            Err(row) => {
+                drop(row);
+                drop(slots);
+                drop(index);
+                return Err(Memory);
+            }
         };
         index.insert(Vec::new(alloc), id);
         Ok(Nodes {
@@ -88,10 +94,20 @@ impl Nodes {
     pub fn copy(&self) -> Result<Nodes, Memory>
         ensures { IfOk result (SameButRoom self.now) }
     {
+        let owners = self.owners.copy()?;
+        let Ok(index) = self.index.copy() else {
+            drop(owners);
+            return Err(Memory);
+        };
+        let Ok(slots) = self.slots.copy() else {
+            drop(index);
+            drop(owners);
+            return Err(Memory);
+        };
         Ok(Nodes {
-            slots: self.slots.copy()?,
-            index: self.index.copy()?,
-            owners: self.owners.copy()?,
+            slots,
+            index,
+            owners,
             alloc: self.alloc,
         })
     }

@@ -49,13 +49,23 @@ impl Row {
 
 impl Copied for Row {
     fn copied(&self) -> Result<Row, Memory> {
+        let path = self.path.copied(self.alloc)?;
+        let Ok(node) = self.node.copied(self.alloc) else {
+            drop(path);
+            return Err(Memory);
+        };
+        let Ok(key) = copied_key(self.alloc, &self.key) else {
+            drop(path);
+            drop(node);
+            return Err(Memory);
+        };
         Ok(Row {
-            path: self.path.copied(self.alloc)?,
-            node: self.node.copied(self.alloc)?,
+            path,
+            node,
             children: self.children,
             siblings: self.siblings,
             fellows: self.fellows,
-            key: copied_key(self.alloc, &self.key)?,
+            key,
             alloc: self.alloc,
         })
     }

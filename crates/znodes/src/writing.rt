@@ -53,6 +53,9 @@ fn content_put(slots: &mut Slots<Row>, id: Id, content: Content) -> Option<Conte
         (with_node_at slots.old.items id (node_with_content content)) }
     ensures before { result ≡ option_map content_of (node_at slots.old.items id) }
 {
-    let row = slots.get_mut(id)?;
+    let Some(row) = slots.get_mut(id) else {
+        drop(content);
+        return None;
+    };
     Some(content.put_into(&mut row.node))
 }

@@ -14,7 +14,7 @@ module _ (c : goal.After-put_under-arg-1) where
 
   same : SameButRoom c.args.self.now roomy
   same =
-      let nodes = ap (nodes_of c.self.inside.slots.items) c.in_ok-reserve.ensures.same ∙ ap (λ (v : NodesView). v.nodes) c.self.view_is in
+      let nodes = ap (nodes_of c.self.inside.slots.items) c.in-Ok-reserve.ensures.same ∙ ap (λ (v : NodesView). v.nodes) c.self.view_is in
       λ i. record {
         nodes = nodes i;
         places = (c.self.view_is i).places;
@@ -41,7 +41,7 @@ pub returns-clause-added : goal.returns-clause-added
 returns-clause-added c =
     let view = c.self.view_is in
     let roomy_end = view_of (record { slots = c.self.inside.slots; index = c.reserve.new.self; owners = c.self.inside.owners; alloc = c.self.inside.alloc }) in
-    let nodes = ap (nodes_of c.self.inside.slots.items) c.in_ok-reserve.ensures.same ∙ ap (λ (v : NodesView). v.nodes) view in
+    let nodes = ap (nodes_of c.self.inside.slots.items) c.in-Ok-reserve.ensures.same ∙ ap (λ (v : NodesView). v.nodes) view in
     let alike : SameButRoom c.args.self.now roomy_end =
     λ i. record {
       nodes = nodes i;
@@ -51,5 +51,5 @@ returns-clause-added c =
       given = (view i).given;
       room = c.reserve.new.self.room;
     } in
-    let grows = subst (λ room. room ≤ c.reserve.new.self.room) (ap (λ (v : NodesView). v.room) view) c.in_ok-reserve.ensures.grows in
+    let grows = subst (λ room. room ≤ c.reserve.new.self.room) (ap (λ (v : NodesView). v.room) view) c.in-Ok-reserve.ensures.grows in
     added c.args.self.now roomy_end c.insert_taken.new.self c.in_ok-id.id c.args.parent c.args.path c.args.node alike c.in_ok-id.ensures.held c.put_under.new.self grows c.put_under.ensures
