@@ -1,7 +1,6 @@
 //! Worked calls of one node.
 
-use crate::play::{Row, plays_row};
-use std::test::Fail;
+use crate::play::{Row, plays_rows};
 
 const ROWS: [Row; 3] = [
     // Nodes are made; a refused call takes no zxid.
@@ -43,9 +42,6 @@ const ROWS: [Row; 3] = [
 ];
 
 #[test]
-fn plays_calls(rt: HostRuntime) -> Result<(), Fail> {
-    for row in ROWS {
-        plays_row(rt.alloc(), row)?;
-    }
-    Ok(())
+fn plays_calls(rt: HostRuntime) {
+    plays_rows(&rt, rt.alloc(), &ROWS);
 }

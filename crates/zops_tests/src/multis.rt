@@ -1,8 +1,8 @@
 //! Worked multis.
 
-use crate::play::{Row, plays_row};
+use crate::play::{Row, plays_rows};
 use std::alloc::Global;
-use std::test::Fail;
+use std::process::Abort;
 use zops::{Check, Expected, MAX_PARTS, Multi, Part};
 use zpath::Path;
 
@@ -44,34 +44,34 @@ const ROWS: [Row; 3] = [
 ];
 
 #[test]
-fn plays_multis(rt: HostRuntime) -> Result<(), Fail> {
-    for row in ROWS {
-        plays_row(rt.alloc(), row)?;
-    }
-    Ok(())
+fn plays_multis(rt: HostRuntime) {
+    plays_rows(&rt, rt.alloc(), &ROWS);
 }
 
 #[test]
-fn takes_1_to_64_parts(rt: HostRuntime) -> Result<(), Fail> {
+fn takes_1_to_64_parts(rt: HostRuntime) {
     for (count, is_taken) in [(0, false), (1, true), (MAX_PARTS, true), (65, false)] {
-        let made = checks(rt.alloc(), count)?;
-        assert_eq!(rt; made, (is_taken, count));
+        assert!(rt; taken(&rt, rt.alloc(), count) == (is_taken, count));
     }
-    Ok(())
 }
 
 // Whether so many checks are taken as a multi, and how many of them are there then.
-fn checks(alloc: Global, count: usize) -> Result<(bool, usize), Fail> {
+fn taken(rt: &impl Abort, alloc: Global, count: usize) -> (bool, usize) {
+    match Multi::new(checks(rt, alloc, count)) {
+        Ok(multi) => (true, multi.as_slice().len()),
+        Err(back) => (false, back.len()),
+    }
+}
+
+// So many checks of the root.
+fn checks(rt: &impl Abort, alloc: Global, count: usize) -> Vec<Part> {
     let mut parts = Vec::new(alloc);
     for _ in 0..count {
-        let path = Path::root(alloc);
-        parts.push(Part::Check(Check {
-            path,
+        let check = Check {
+            path: Path::root(alloc),
             version: Expected::Any,
-        }))?;
+        };
+        parts.push(Part::Check(check)).expect(rt, "there is memory");
     }
-    match Multi::new(parts) {
-        Ok(multi) => Ok((true, multi.as_slice().len())),
-        Err(back) => Ok((false, back.len())),
-    }
+    parts
 }

@@ -1,10 +1,9 @@
 //! What the tests share: lines are played on a machine, and each answer is compared.
 
 use std::alloc::Global;
-use std::test::Fail;
+use std::process::Abort;
 use zlines::{Line, Request, read_line, write_reply};
 use zops::{Call, CallNumber, ClientId, Entry, MAX_APPLIED, Machine, Query, Reply, Update};
-use zpath::Memory;
 
 /// Lines of calls, and beside each its answer.
 pub type Row = &'static [(&'static str, &'static str)];
@@ -13,106 +12,116 @@ pub type Row = &'static [(&'static str, &'static str)];
 /// reply.
 pub type Entries = &'static [(u64, &'static str, &'static str)];
 
-/// Plays the lines of a row on a machine of their own.
-pub fn plays_row(alloc: Global, row: Row) -> Result<(), Fail> {
-    let mut machine = Machine::new(alloc)?;
-    plays_more(alloc, &mut machine, row)
+/// Plays rows, each on a machine of its own.
+pub(crate) fn plays_rows(rt: &impl Abort, alloc: Global, rows: &[Row]) {
+    for row in rows {
+        let mut machine = machine(rt, alloc);
+        plays_more(rt, alloc, &mut machine, row);
+        drop(machine);
+    }
+}
+
+/// A new machine.
+pub(crate) fn machine(rt: &impl Abort, alloc: Global) -> Machine {
+    Machine::new(alloc).expect(rt, "there is memory")
 }
 
 /// Plays the lines of a row on a machine.
-pub fn plays_more(alloc: Global, machine: &mut Machine, row: Row) -> Result<(), Fail> {
+pub(crate) fn plays_more(rt: &impl Abort, alloc: Global, machine: &mut Machine, row: Row) {
     for (line, want) in row {
-        plays(alloc, machine, line, want)?;
+        plays(rt, alloc, machine, line, want);
     }
-    Ok(())
 }
 
 /// Plays a line, as the next entry of the machine where it is an update, and compares the answer.
-pub fn plays(alloc: Global, machine: &mut Machine, line: &str, want: &str) -> Result<(), Fail> {
+pub(crate) fn plays(rt: &impl Abort, alloc: Global, machine: &mut Machine, line: &str, want: &str) {
     let next = machine.applied() + 1;
-    enters(alloc, machine, next, line, want)
+    enters(rt, alloc, machine, next, line, want);
 }
 
 /// Plays entries, each of the client that its line names.
-pub fn plays_entries(alloc: Global, machine: &mut Machine, entries: Entries) -> Result<(), Fail> {
+pub(crate) fn plays_entries(
+    rt: &impl Abort,
+    alloc: Global,
+    machine: &mut Machine,
+    entries: Entries,
+) {
     for (number, line, want) in entries {
-        enters(alloc, machine, *number, line, want)?;
+        enters(rt, alloc, machine, *number, line, want);
     }
-    Ok(())
 }
 
 // Plays a line, an update as the entry of this number, and compares the answer.
 fn enters(
+    rt: &impl Abort,
     alloc: Global,
     machine: &mut Machine,
     number: u64,
     line: &str,
     want: &str,
-) -> Result<(), Fail> {
-    let request = request(alloc, line)?;
-    let text = answer(alloc, machine, number, request)?;
-    same(alloc, line, &text, want)
+) {
+    let text = answer(rt, alloc, machine, number, request(rt, alloc, line));
+    same(rt, line, &text, want);
+    drop(text);
 }
 
 /// Compares the text that stands at a place.
-pub fn same(alloc: Global, place: &str, text: &str, want: &str) -> Result<(), Fail> {
-    if text == want {
-        return Ok(());
-    }
-    Err(Fail::new(format!(in alloc; "{place}: {text}, not {want}")?))
+pub(crate) fn same(rt: &impl Abort, place: &str, text: &str, want: &str) {
+    assert!(rt; text == want, "{place}: {text}, not {want}");
 }
 
 // The call that a line asks for.
-fn request(alloc: Global, line: &str) -> Result<Request, Fail> {
+fn request(rt: &impl Abort, alloc: Global, line: &str) -> Request {
     match read_line(alloc, line.as_bytes()) {
-        Ok(Line::Call(request)) => Ok(request),
-        _ => Err("a line asks for a call".into()),
+        Ok(Line::Call(request)) => request,
+        _ => panic!(rt; "a line asks for a call"),
     }
 }
 
 // The text of what a call is answered with.
 fn answer(
+    rt: &impl Abort,
     alloc: Global,
     machine: &mut Machine,
     number: u64,
     request: Request,
-) -> Result<String, Fail> {
+) -> String {
     let Request { client, call } = request;
     match call {
-        Call::Update(update) => apply(alloc, machine, client, number, update),
-        Call::Query(query) => ask(alloc, machine, &query),
+        Call::Update(update) => apply(rt, alloc, machine, client, number, update),
+        Call::Query(query) => ask(rt, alloc, machine, query),
     }
 }
 
 fn apply(
+    rt: &impl Abort,
     alloc: Global,
     machine: &mut Machine,
     client: ClientId,
     number: u64,
     update: Update,
-) -> Result<String, Fail> {
-    let number = CallNumber::new(number).ok_or("there is such a number")?;
-    if machine.applied() >= MAX_APPLIED {
-        return Err("few entries were applied".into());
-    }
+) -> String {
+    assert!(rt; machine.applied() < MAX_APPLIED);
     let entry = Entry {
         client,
-        number,
+        number: CallNumber::new(number).expect(rt, "there is such a number"),
         update,
     };
-    match machine.apply(entry)? {
-        Some(reply) => Ok(text_of(alloc, &reply)?),
-        None => Ok(String::new(alloc)),
+    match machine.apply(entry).expect(rt, "there is memory") {
+        Some(reply) => text_of(rt, alloc, reply),
+        None => String::new(alloc),
     }
 }
 
-fn ask(alloc: Global, machine: &Machine, query: &Query) -> Result<String, Fail> {
-    let reply = machine.ask(query)?;
-    Ok(text_of(alloc, &reply)?)
+fn ask(rt: &impl Abort, alloc: Global, machine: &Machine, query: Query) -> String {
+    let reply = machine.ask(&query).expect(rt, "there is memory");
+    drop(query);
+    text_of(rt, alloc, reply)
 }
 
-fn text_of(alloc: Global, reply: &Reply) -> Result<String, Memory> {
+fn text_of(rt: &impl Abort, alloc: Global, reply: Reply) -> String {
     let mut text = String::new(alloc);
-    write_reply(reply, &mut text)?;
-    Ok(text)
+    write_reply(&reply, &mut text).expect(rt, "there is memory");
+    drop(reply);
+    text
 }

@@ -1,8 +1,8 @@
 //! Which of two refusals is the answer, and the words of the refusals.
 
-use crate::play::{Row, plays_row, same};
+use crate::play::{Row, plays_rows, same};
 use std::alloc::Global;
-use std::test::Fail;
+use std::process::Abort;
 use zops::Refusal;
 
 const EARLIER: Row = &[
@@ -34,19 +34,22 @@ const WORDS: [(Refusal, &str); 12] = [
 ];
 
 #[test]
-fn earlier_refusals_are_the_answer(rt: HostRuntime) -> Result<(), Fail> {
-    plays_row(rt.alloc(), EARLIER)
+fn earlier_refusals_are_the_answer(rt: HostRuntime) {
+    plays_rows(&rt, rt.alloc(), &[EARLIER]);
 }
 
 #[test]
-fn names_each_refusal(rt: HostRuntime) -> Result<(), Fail> {
-    for (refusal, want) in WORDS {
-        is_named(rt.alloc(), refusal, want)?;
-    }
-    Ok(())
+fn names_each_refusal(rt: HostRuntime) {
+    are_named(&rt, rt.alloc(), &WORDS);
 }
 
-fn is_named(alloc: Global, refusal: Refusal, want: &str) -> Result<(), Fail> {
-    let word = format!(in alloc; "{refusal}")?;
-    same(alloc, "a refusal", &word, want)
+fn are_named(rt: &impl Abort, alloc: Global, words: &[(Refusal, &str)]) {
+    for (refusal, want) in words {
+        is_named(rt, alloc, *refusal, want);
+    }
+}
+
+fn is_named(rt: &impl Abort, alloc: Global, refusal: Refusal, want: &str) {
+    let word = format!(in alloc; "{refusal}").expect(rt, "there is memory");
+    same(rt, "a refusal", &word, want);
 }

@@ -1,8 +1,8 @@
 //! Entries that come again, and copies of a machine.
 
-use crate::play::{Entries, plays_entries};
+use crate::play::{Entries, machine, plays_entries};
 use std::alloc::Global;
-use std::test::Fail;
+use std::process::Abort;
 use zops::Machine;
 
 const ROWS: [(Entries, u64); 3] = [
@@ -68,33 +68,32 @@ const LATER: Entries = &[
 ];
 
 #[test]
-fn acts_once(rt: HostRuntime) -> Result<(), Fail> {
-    for (entries, want) in ROWS {
-        let applied = played(rt.alloc(), entries)?.applied();
-        assert_eq!(rt; applied, want);
+fn acts_once(rt: HostRuntime) {
+    act_once(&rt, rt.alloc(), &ROWS);
+}
+
+fn act_once(rt: &impl Abort, alloc: Global, rows: &[(Entries, u64)]) {
+    for (entries, want) in rows {
+        let machine = played(rt, alloc, entries);
+        assert!(rt; machine.applied() == *want);
+        drop(machine);
     }
-    Ok(())
 }
 
 #[test]
-fn copies_answer_alike_and_go_their_own_way(rt: HostRuntime) -> Result<(), Fail> {
-    let mut machine = played(rt.alloc(), BEFORE)?;
-    let applied = applied_on_a_copy(rt.alloc(), &machine)?;
-    plays_entries(rt.alloc(), &mut machine, LATER)?;
-    assert_eq!(rt; (applied, machine.applied()), (7, 7));
-    Ok(())
+fn copies_answer_alike_and_go_their_own_way(rt: HostRuntime) {
+    let mut machine = played(&rt, rt.alloc(), BEFORE);
+    let mut copy = machine.copy().expect(&rt, "there is memory");
+    plays_entries(&rt, rt.alloc(), &mut copy, LATER);
+    plays_entries(&rt, rt.alloc(), &mut machine, LATER);
+    assert!(rt; copy.applied() == 7 && machine.applied() == 7);
+    drop(copy);
+    drop(machine);
 }
 
 // A machine on which these entries were played.
-fn played(alloc: Global, entries: Entries) -> Result<Machine, Fail> {
-    let mut machine = Machine::new(alloc)?;
-    plays_entries(alloc, &mut machine, entries)?;
-    Ok(machine)
-}
-
-// How many entries a copy of the machine applied, once the later ones were played on it.
-fn applied_on_a_copy(alloc: Global, machine: &Machine) -> Result<u64, Fail> {
-    let mut copy = machine.copy()?;
-    plays_entries(alloc, &mut copy, LATER)?;
-    Ok(copy.applied())
+fn played(rt: &impl Abort, alloc: Global, entries: Entries) -> Machine {
+    let mut machine = machine(rt, alloc);
+    plays_entries(rt, alloc, &mut machine, entries);
+    machine
 }

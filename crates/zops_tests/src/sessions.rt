@@ -1,7 +1,6 @@
 //! Worked calls of sessions.
 
-use crate::play::{Row, plays_row};
-use std::test::Fail;
+use crate::play::{Row, plays_rows};
 
 const ROWS: [Row; 3] = [
     // A session ends at its deadline, and its nodes with it, by one change.
@@ -40,9 +39,6 @@ const ROWS: [Row; 3] = [
 ];
 
 #[test]
-fn plays_sessions(rt: HostRuntime) -> Result<(), Fail> {
-    for row in ROWS {
-        plays_row(rt.alloc(), row)?;
-    }
-    Ok(())
+fn plays_sessions(rt: HostRuntime) {
+    plays_rows(&rt, rt.alloc(), &ROWS);
 }
