@@ -1,8 +1,8 @@
 //! A client asks, asks again, and is answered.
 
-use crate::posts::{Outbox, next_server};
+use crate::posts::{Outbox, next_server, server};
 use std::alloc::Global;
-use std::test::Fail;
+use std::process::Abort;
 use zcalls::{Call, CallNumber, Query, Reply, Update};
 use zclient::ClientCore;
 use zout::Out;
@@ -10,85 +10,80 @@ use zpath::Path;
 use zserver_table::{Epoch, Message, Process, ServerId};
 
 #[test]
-fn begins_and_retries_an_update(rt: HostRuntime) -> Result<(), Fail> {
-    assert!(rt; asks_the_head_twice(rt.alloc())?);
-    Ok(())
+fn begins_and_retries_an_update(rt: HostRuntime) {
+    let mut client = ClientCore::new(rt.alloc(), server(&rt, 3));
+    let mut out: Outbox = Out::new(rt.alloc());
+    begins_tick(&rt, &mut client, &mut out);
+    assert!(rt; retries(&rt, &mut client, &mut out));
+    drop(client);
+    goes_to(&rt, &mut out, 1);
+    goes_to(&rt, &mut out, 1);
+    drop(out);
 }
 
 #[test]
-fn asks_the_new_tail(rt: HostRuntime) -> Result<(), Fail> {
-    assert!(rt; asks_both_tails(rt.alloc())?);
-    Ok(())
+fn asks_the_new_tail(rt: HostRuntime) {
+    let mut client = ClientCore::new(rt.alloc(), server(&rt, 3));
+    let mut out: Outbox = Out::new(rt.alloc());
+    begins_query(&rt, rt.alloc(), &mut client, &mut out);
+    hears_of_tail(&rt, &mut client, 1, &mut out);
+    drop(client);
+    goes_to(&rt, &mut out, 3);
+    goes_to(&rt, &mut out, 1);
+    drop(out);
 }
 
 #[test]
-fn hands_out_the_reply(rt: HostRuntime) -> Result<(), Fail> {
-    assert!(rt; hands_out_a_tick(rt.alloc())?);
-    Ok(())
-}
-
-// Whether a client of three servers begins a tick and sends it again, both times to the head.
-fn asks_the_head_twice(alloc: Global) -> Result<bool, Fail> {
-    let mut client = client_of(alloc, 3)?;
-    let mut out: Outbox = Out::new(alloc);
-    let has_asked = begins_tick(&mut client, &mut out) && client.retry(&mut out)?;
+fn hands_out_the_reply(rt: HostRuntime) {
+    let mut client = ClientCore::new(rt.alloc(), server(&rt, 1));
+    let mut out: Outbox = Out::new(rt.alloc());
+    begins_tick(&rt, &mut client, &mut out);
+    assert!(rt; tick_told(&rt, &mut client, &mut out) == Some(1));
+    assert!(rt; !retries(&rt, &mut client, &mut out));
     drop(client);
-    Ok(has_asked && next_server(&mut out) == Some(1) && next_server(&mut out) == Some(1))
+    drop(out);
 }
 
-// Whether a client of three servers asks the last one, and the first one once it hears that it is the tail.
-fn asks_both_tails(alloc: Global) -> Result<bool, Fail> {
-    let mut client = client_of(alloc, 3)?;
-    let mut out: Outbox = Out::new(alloc);
-    let has_asked = begins_query(alloc, &mut client, &mut out)
-        && hears_of_tail(&mut client, 1, &mut out)?;
-    drop(client);
-    Ok(has_asked && next_server(&mut out) == Some(3) && next_server(&mut out) == Some(1))
+// A tick begins.
+fn begins_tick(rt: &impl Abort, client: &mut ClientCore, out: &mut Outbox) {
+    assert!(rt; client.begin(Call::Update(Update::Tick), out).is_ok());
 }
 
-// Whether a client hands out the reply to its tick, and then has nothing to send again.
-fn hands_out_a_tick(alloc: Global) -> Result<bool, Fail> {
-    let mut client = client_of(alloc, 1)?;
-    let mut out: Outbox = Out::new(alloc);
-    let has_begun = begins_tick(&mut client, &mut out);
-    let told = tick_told(&mut client, &mut out)?;
-    let is_silent = matches!(client.retry(&mut out), Ok(false));
-    Ok(has_begun && told == Some(1) && is_silent)
+// A query begins.
+fn begins_query(rt: &impl Abort, alloc: Global, client: &mut ClientCore, out: &mut Outbox) {
+    let query = Call::Query(Query::Exists(Path::root(alloc)));
+    assert!(rt; client.begin(query, out).is_ok());
 }
 
-// A client of the opening chain of so many servers.
-fn client_of(alloc: Global, servers: u8) -> Result<ClientCore, Fail> {
-    let last = ServerId::new(servers).ok_or("there is such a server")?;
-    Ok(ClientCore::new(alloc, last))
+// Whether there was something to send again.
+fn retries(rt: &impl Abort, client: &mut ClientCore, out: &mut Outbox) -> bool {
+    client.retry(out).expect(rt, "there is memory")
 }
 
-// Whether a tick begins.
-fn begins_tick(client: &mut ClientCore, out: &mut Outbox) -> bool {
-    client.begin(Call::Update(Update::Tick), out).is_ok()
-}
-
-// Whether a query begins.
-fn begins_query(alloc: Global, client: &mut ClientCore, out: &mut Outbox) -> bool {
-    let root = Path::root(alloc);
-    client.begin(Call::Query(Query::Exists(root)), out).is_ok()
-}
-
-// Whether the client takes, without an answer, that this server is the tail now.
-fn hears_of_tail(client: &mut ClientCore, tail: u8, out: &mut Outbox) -> Result<bool, Fail> {
-    let epoch = Epoch::new(1).ok_or("there is such an epoch")?;
+// The client takes, without an answer, that this server is the tail now.
+fn hears_of_tail(rt: &impl Abort, client: &mut ClientCore, tail: u8, out: &mut Outbox) {
+    let epoch = Epoch::new(1).expect(rt, "there is such an epoch");
     let config = Message::Config(epoch, ServerId::new(2), ServerId::new(tail));
-    let taken = client.take(Process::Master, config, out);
-    Ok(matches!(&taken, Ok(None)))
+    let told = client.take(Process::Master, config, out);
+    let is_taken = matches!(&told, Ok(None));
+    drop(told);
+    assert!(rt; is_taken);
 }
 
 // The time that the client is told, where its first call was a tick.
-fn tick_told(client: &mut ClientCore, out: &mut Outbox) -> Result<Option<u64>, Fail> {
-    let server = ServerId::new(1).ok_or("there is such a server")?;
-    let first = CallNumber::new(1).ok_or("there is such a number")?;
+fn tick_told(rt: &impl Abort, client: &mut ClientCore, out: &mut Outbox) -> Option<u64> {
+    let first = CallNumber::new(1).expect(rt, "there is such a number");
     let answer = Message::Answer(first, Reply::Ticked(1, 0));
-    let told = client.take(Process::Server(server), answer, out);
-    Ok(match &told {
+    let told = client.take(Process::Server(server(rt, 1)), answer, out);
+    let time = match &told {
         Ok(Some(Reply::Ticked(now, _))) => Some(*now),
         _ => None,
-    })
+    };
+    drop(told);
+    time
+}
+
+// The first message goes to this server.
+fn goes_to(rt: &impl Abort, out: &mut Outbox, number: u8) {
+    assert!(rt; next_server(out) == Some(number));
 }

@@ -1,94 +1,126 @@
 //! Copies have what they were copied from.
 
 use std::alloc::Global;
-use std::test::Fail;
+use std::process::Abort;
 use zcalls::{
     Check, Create, Data, Delete, Expected, Kind, Multi, Names, Part, PartReply, Query, Replies,
     Reply, SetData, Update,
 };
-use zpath::Path;
+use zpath::{Name, Path};
 
 #[test]
-fn copies_calls(rt: HostRuntime) -> Result<(), Fail> {
-    assert!(rt; copies_an_update(rt.alloc())?);
-    assert!(rt; copies_a_query(rt.alloc())?);
-    assert!(rt; copies_a_multi(rt.alloc())?);
-    assert!(rt; copies_a_delete(rt.alloc())?);
-    assert!(rt; copies_a_set(rt.alloc())?);
-    Ok(())
+fn copies_calls(rt: HostRuntime) {
+    assert!(rt; copies_an_update(&rt, rt.alloc()));
+    assert!(rt; copies_a_query(&rt, rt.alloc()));
+    assert!(rt; copies_a_multi(&rt, rt.alloc()));
+    assert!(rt; copies_a_delete(&rt, rt.alloc()));
+    assert!(rt; copies_a_set(&rt, rt.alloc()));
 }
 
 #[test]
-fn copies_replies(rt: HostRuntime) -> Result<(), Fail> {
-    assert!(rt; copies_parts(rt.alloc())?);
-    assert!(rt; copies_names(rt.alloc())?);
-    Ok(())
+fn copies_replies(rt: HostRuntime) {
+    assert!(rt; copies_parts(&rt, rt.alloc()));
+    assert!(rt; copies_names(&rt, rt.alloc()));
 }
 
-fn copies_an_update(alloc: Global) -> Result<bool, Fail> {
+fn path(rt: &impl Abort, alloc: Global, text: &str) -> Path {
+    Path::parse(alloc, text).expect(rt, "the text spells a path")
+}
+
+fn copies_an_update(rt: &impl Abort, alloc: Global) -> bool {
     let update = Update::Create(Create {
-        path: Path::parse(alloc, "/a/b")?,
+        path: path(rt, alloc, "/a/b"),
         kind: Kind::PersistentSequential,
         bytes: Data::empty(alloc),
     });
-    let copy = update.copied(alloc)?;
-    Ok(matches!(&copy, Update::Create(wanted)
-        if wanted.path.names().len() == 2 && wanted.kind == Kind::PersistentSequential))
+    let copy = update.copied(alloc).expect(rt, "there is memory");
+    drop(update);
+    let is_so = matches!(&copy, Update::Create(wanted)
+        if wanted.path.names().len() == 2 && wanted.kind == Kind::PersistentSequential);
+    drop(copy);
+    is_so
 }
 
-fn copies_a_query(alloc: Global) -> Result<bool, Fail> {
-    let query = Query::GetChildren(Path::parse(alloc, "/a")?);
-    let copy = query.copied(alloc)?;
-    Ok(matches!(&copy, Query::GetChildren(path) if path.names().len() == 1))
+fn copies_a_query(rt: &impl Abort, alloc: Global) -> bool {
+    let query = Query::GetChildren(path(rt, alloc, "/a"));
+    let copy = query.copied(alloc).expect(rt, "there is memory");
+    drop(query);
+    let is_so = matches!(&copy, Query::GetChildren(path) if path.names().len() == 1);
+    drop(copy);
+    is_so
 }
 
-fn copies_a_multi(alloc: Global) -> Result<bool, Fail> {
+fn copies_a_multi(rt: &impl Abort, alloc: Global) -> bool {
+    match Multi::new(checks(rt, alloc, &["/a", "/b"])) {
+        Ok(multi) => {
+            let copy = multi.copied(alloc).expect(rt, "there is memory");
+            copy.as_slice().len() == 2
+        }
+        Err(_) => false,
+    }
+}
+
+fn checks(rt: &impl Abort, alloc: Global, texts: &[&str]) -> Vec<Part> {
     let mut parts = Vec::new(alloc);
-    for text in ["/a", "/b"] {
-        let path = Path::parse(alloc, text)?;
-        parts.push(Part::Check(Check {
-            path,
+    for text in texts {
+        let check = Check {
+            path: path(rt, alloc, text),
             version: Expected::Any,
-        }))?;
+        };
+        parts.push(Part::Check(check)).expect(rt, "there is memory");
     }
-    match Multi::new(parts) {
-        Ok(multi) => Ok(multi.copied(alloc)?.as_slice().len() == 2),
-        Err(_) => Ok(false),
-    }
+    parts
 }
 
-fn copies_a_delete(alloc: Global) -> Result<bool, Fail> {
+fn copies_a_delete(rt: &impl Abort, alloc: Global) -> bool {
     let delete = Part::Delete(Delete {
         path: Path::root(alloc),
         version: Expected::Exactly(7),
     });
-    let copy = delete.copied(alloc)?;
-    Ok(matches!(&copy, Part::Delete(wanted) if wanted.version == Expected::Exactly(7)))
+    let copy = delete.copied(alloc).expect(rt, "there is memory");
+    drop(delete);
+    let is_so = matches!(&copy, Part::Delete(wanted) if wanted.version == Expected::Exactly(7));
+    drop(copy);
+    is_so
 }
 
-fn copies_a_set(alloc: Global) -> Result<bool, Fail> {
+fn copies_a_set(rt: &impl Abort, alloc: Global) -> bool {
     let set = Part::SetData(SetData {
         path: Path::root(alloc),
         bytes: Data::empty(alloc),
         version: Expected::Any,
     });
-    let copy = set.copied(alloc)?;
-    Ok(matches!(&copy, Part::SetData(wanted) if wanted.version == Expected::Any))
+    let copy = set.copied(alloc).expect(rt, "there is memory");
+    drop(set);
+    let is_so = matches!(&copy, Part::SetData(wanted) if wanted.version == Expected::Any);
+    drop(copy);
+    is_so
 }
 
-fn copies_parts(alloc: Global) -> Result<bool, Fail> {
+fn copies_parts(rt: &impl Abort, alloc: Global) -> bool {
     let mut replies = Vec::new(alloc);
-    replies.push(PartReply::Deleted)?;
-    let copy = Reply::Multi(Replies::new(replies)).copied(alloc)?;
-    Ok(matches!(&copy, Reply::Multi(replies) if replies.as_slice().len() == 1))
+    replies
+        .push(PartReply::Deleted)
+        .expect(rt, "there is memory");
+    let multi = Reply::Multi(Replies::new(replies));
+    let copy = multi.copied(alloc).expect(rt, "there is memory");
+    drop(multi);
+    let is_so = matches!(&copy, Reply::Multi(replies) if replies.as_slice().len() == 1);
+    drop(copy);
+    is_so
 }
 
-fn copies_names(alloc: Global) -> Result<bool, Fail> {
-    let path = Path::parse(alloc, "/a/b/c")?;
-    let mut names = Vec::new(alloc);
-    for name in path.names() {
-        names.push(name.copied(alloc)?)?;
-    }
-    let copy = Reply::Children(Names::new(names)).copied(alloc)?;
-    Ok(matches!(&copy, Reply::Children(names) if names.as_slice().len() == 3))
+fn copies_names(rt: &impl Abort, alloc: Global) -> bool {
+    let path = path(rt, alloc, "/a/b/c");
+    let children = Reply::Children(names(rt, alloc, path.names()));
+    drop(path);
+    let copy = children.copied(alloc).expect(rt, "there is memory");
+    drop(children);
+    let is_so = matches!(&copy, Reply::Children(names) if names.as_slice().len() == 3);
+    drop(copy);
+    is_so
+}
+
+fn names(rt: &impl Abort, alloc: Global, names: &[Name]) -> Names {
+    Names::new(Vec::from_clones(alloc, names).expect(rt, "there is memory"))
 }

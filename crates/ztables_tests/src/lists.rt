@@ -1,33 +1,29 @@
 //! What was put is taken in its order.
 
-use crate::posts::{Outbox, next_config, next_server};
+use crate::posts::{Outbox, next_config, next_server, server};
 use std::alloc::Global;
-use std::test::Fail;
+use std::process::Abort;
 use zout::Out;
-use zserver_table::{Epoch, Message, Process, ServerId};
+use zserver_table::{Epoch, Message, Process};
 
 #[test]
-fn takes_in_the_order_of_puts(rt: HostRuntime) -> Result<(), Fail> {
-    assert!(rt; comes_in_order(rt.alloc())?);
-    Ok(())
-}
-
-// Whether what was put first is taken first.
-fn comes_in_order(alloc: Global) -> Result<bool, Fail> {
-    let mut out = two_posts(alloc)?;
-    Ok(next_config(&mut out) == Some((1, 2)) && next_server(&mut out) == Some(2))
+fn takes_in_the_order_of_puts(rt: HostRuntime) {
+    let mut out = two_posts(&rt, rt.alloc());
+    assert!(rt; next_config(&mut out) == Some((1, 2)));
+    assert!(rt; next_server(&mut out) == Some(2));
+    drop(out);
 }
 
 // A configuration, in reserved room, and behind it a message to server 2.
-fn two_posts(alloc: Global) -> Result<Outbox, Fail> {
-    let server = ServerId::new(2).ok_or("there is such a server")?;
-    let epoch = Epoch::new(1).ok_or("there is such an epoch")?;
+fn two_posts(rt: &impl Abort, alloc: Global) -> Outbox {
+    let server = server(rt, 2);
+    let epoch = Epoch::new(1).expect(rt, "there is such an epoch");
     let mut out: Outbox = Out::new(alloc);
-    out.reserve(1)?;
+    out.reserve(1).expect(rt, "there is memory");
     out.put_reserved(Process::Master, Message::Config(epoch, None, Some(server)));
-    if out.put(Process::Server(server), Message::Gone).is_ok() {
-        Ok(out)
-    } else {
-        Err("there is memory".into())
-    }
+    let put = out.put(Process::Server(server), Message::Gone);
+    let is_put = put.is_ok();
+    drop(put);
+    assert!(rt; is_put);
+    out
 }

@@ -1,12 +1,12 @@
 //! The master mends a chain, and lets servers join it or says why not.
 
-use crate::posts::{Outbox, next_config, next_server};
+use crate::posts::{Outbox, next_config, next_server, server};
 use Act::{Gone, Join};
 use std::alloc::Global;
-use std::test::Fail;
+use std::process::Abort;
 use zmaster::{JoinFault, MAX_POSTS, Master};
 use zout::Out;
-use zserver_table::{Epoch, Message, Process, ServerId};
+use zserver_table::{Epoch, Message, Process};
 
 // The server that is told, and the epoch and the tail of which a client hears.
 type Posts = (Option<u8>, Option<(u64, u8)>);
@@ -21,28 +21,25 @@ const REFUSED: [(u8, [Act; 3], JoinFault); 5] = [
 ];
 
 #[test]
-fn mends_a_chain(rt: HostRuntime) -> Result<(), Fail> {
+fn mends_a_chain(rt: HostRuntime) {
     for (gone, told, tail) in [(1, 2, 3), (2, 3, 3), (3, 2, 2)] {
-        let posts = posts_of_repair(rt.alloc(), gone)?;
+        let posts = posts_of_repair(&rt, rt.alloc(), gone);
         assert!(rt; posts == (Some(told), Some((1, tail))));
     }
-    Ok(())
 }
 
 #[test]
-fn lets_a_server_join(rt: HostRuntime) -> Result<(), Fail> {
-    let posts = posts_of_join(rt.alloc())?;
+fn lets_a_server_join(rt: HostRuntime) {
+    let posts = posts_of_join(&rt, rt.alloc());
     assert!(rt; posts == (Some(3), Some((2, 3))));
-    Ok(())
 }
 
 #[test]
-fn refuses_by_the_first_fault(rt: HostRuntime) -> Result<(), Fail> {
+fn refuses_by_the_first_fault(rt: HostRuntime) {
     for (servers, acts, fault) in &REFUSED {
-        let refused = last_fault(rt.alloc(), *servers, acts)?;
+        let refused = last_fault(&rt, rt.alloc(), *servers, acts);
         assert!(rt; refused == Some(*fault));
     }
-    Ok(())
 }
 
 // What happens to a chain: a server fails, or is to join.
@@ -53,47 +50,57 @@ enum Act {
 }
 
 // Why the last of these acts was refused, on a chain of so many servers.
-fn last_fault(alloc: Global, servers: u8, acts: &[Act]) -> Result<Option<JoinFault>, Fail> {
-    let mut master = Master::new(server(servers)?, 1);
+fn last_fault(rt: &impl Abort, alloc: Global, servers: u8, acts: &[Act]) -> Option<JoinFault> {
+    let mut master = Master::new(server(rt, servers), 1);
     let mut out: Outbox = Out::new(alloc);
     let mut fault = None;
     for act in acts {
-        out.reserve(MAX_POSTS)?;
-        fault = match act {
-            Gone(number) => {
-                master.take(Process::Server(server(*number)?), Message::Gone, &mut out);
-                None
-            }
-            Join(number) => master.join(server(*number)?, &mut out).err(),
-        };
+        fault = act_on(rt, &mut master, *act, &mut out);
     }
-    Ok(fault)
+    drop(out);
+    fault
+}
+
+fn act_on(rt: &impl Abort, master: &mut Master, act: Act, out: &mut Outbox) -> Option<JoinFault> {
+    out.reserve(MAX_POSTS).expect(rt, "there is memory");
+    match act {
+        Gone(number) => {
+            master.take(Process::Server(server(rt, number)), Message::Gone, out);
+            None
+        }
+        Join(number) => master.join(server(rt, number), out).err(),
+    }
 }
 
 // What the master puts where this one of three servers fails.
-fn posts_of_repair(alloc: Global, gone: u8) -> Result<Posts, Fail> {
-    let mut master = Master::new(server(3)?, 1);
+fn posts_of_repair(rt: &impl Abort, alloc: Global, gone: u8) -> Posts {
+    let mut master = Master::new(server(rt, 3), 1);
     let mut out: Outbox = Out::new(alloc);
-    out.reserve(MAX_POSTS)?;
-    master.take(Process::Server(server(gone)?), Message::Gone, &mut out);
-    Ok((next_server(&mut out), next_config(&mut out)))
+    act_on(rt, &mut master, Gone(gone), &mut out);
+    let posts = (next_server(&mut out), next_config(&mut out));
+    drop(out);
+    posts
 }
 
 // What it puts where a third server joins.
-fn posts_of_join(alloc: Global) -> Result<Posts, Fail> {
-    let third = server(3)?;
-    let mut master = Master::new(server(2)?, 1);
+fn posts_of_join(rt: &impl Abort, alloc: Global) -> Posts {
+    let mut master = Master::new(server(rt, 2), 1);
     let mut out: Outbox = Out::new(alloc);
-    out.reserve(MAX_POSTS)?;
-    let _ = master.join(third, &mut out);
+    act_on(rt, &mut master, Join(3), &mut out);
     let told = next_server(&mut out);
-    let epoch = Epoch::new(1).ok_or("there is such an epoch")?;
-    out.reserve(MAX_POSTS)?;
-    master.take(Process::Server(third), Message::Joined(epoch), &mut out);
-    Ok((told, next_config(&mut out)))
+    has_joined(rt, &mut master, 3, &mut out);
+    let tail = next_config(&mut out);
+    drop(out);
+    (told, tail)
 }
 
-// The server of this number.
-fn server(number: u8) -> Result<ServerId, Fail> {
-    Ok(ServerId::new(number).ok_or("there is such a server")?)
+// The master hears that a server has joined in epoch 1.
+fn has_joined(rt: &impl Abort, master: &mut Master, number: u8, out: &mut Outbox) {
+    let epoch = Epoch::new(1).expect(rt, "there is such an epoch");
+    out.reserve(MAX_POSTS).expect(rt, "there is memory");
+    master.take(
+        Process::Server(server(rt, number)),
+        Message::Joined(epoch),
+        out,
+    );
 }

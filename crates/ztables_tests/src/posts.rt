@@ -1,5 +1,6 @@
 //! What was put, as these tests look at it.
 
+use std::process::Abort;
 use zout::Out;
 use zserver_table::{Message, Process, ServerId};
 
@@ -8,18 +9,24 @@ pub(crate) type Outbox = Out<()>;
 
 /// The server to which the first message goes.
 pub(crate) fn next_server(out: &mut Outbox) -> Option<u8> {
-    match out.next() {
+    let post = out.next();
+    let told = match &post {
         Some(post) => server_of(&post.0),
         None => None,
-    }
+    };
+    drop(post);
+    told
 }
 
 /// The epoch and the tail that the first message tells.
 pub(crate) fn next_config(out: &mut Outbox) -> Option<(u64, u8)> {
-    match out.next() {
+    let post = out.next();
+    let told = match &post {
         Some(post) => config_of(&post.1),
         None => None,
-    }
+    };
+    drop(post);
+    told
 }
 
 fn server_of(receiver: &Process) -> Option<u8> {
@@ -34,4 +41,9 @@ fn config_of(message: &Message<()>) -> Option<(u64, u8)> {
         Message::Config(epoch, _, Some(tail)) => Some((epoch.number(), tail.number())),
         _ => None,
     }
+}
+
+/// The server of this number.
+pub(crate) fn server(rt: &impl Abort, number: u8) -> ServerId {
+    ServerId::new(number).expect(rt, "there is such a server")
 }
