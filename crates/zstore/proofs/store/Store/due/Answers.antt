@@ -1,0 +1,5 @@
+use Rattle.std.proofs.Common.{rules}
+use Rattle.zstore.proofs.store.Store.due.Goals as goal
+
+pub returns : goal.returns
+returns c = search rules
