@@ -1,4 +1,4 @@
-use Rattle.std.proofs.Common.{ap, sym, subst, ◌∙◌, arith}
+use Rattle.std.proofs.Common.{ap, sym, subst, ◌∙◌, arith, rules}
 use Rattle.ztree.specs.Tree.{with_next_zxid}
 use Rattle.ztree.specs.Sessions.{with_session}
 use Rattle.zcalls.specs.Bounds.{IsBounded}
@@ -15,3 +15,6 @@ returns-clause-left c =
       bounded = subst IsBounded (sym now) (opened_bounded t c.args.client (granted_timeout ticks) c.requires.steady.bounded c.requires.zxid (granted-least ticks) (granted-most ticks));
       given = let same = c.raise.ensures.same.1 in let more = c.in_ok-open_session.ensures.same.1 in omega (arith, same, more);
     }
+
+pub returns-clause-done : goal.returns-clause-done
+returns-clause-done c = search rules
