@@ -1,4 +1,4 @@
-use Rattle.std.proofs.Common.{◌+◌, ◌*◌, ◌^◌, ◌<◌, subst, sym, ap, ◌∙◌, arith}
+use Rattle.std.proofs.Common.{◌+◌, ◌*◌, ◌^◌, ◌<◌, subst, sym, ap, ◌∙◌, arith, rules}
 use Rattle.zcalls.specs.Step.{change_result}
 use Rattle.zcalls.specs.Bounds.{IsBounded}
 use Rattle.zcalls.specs.support.Alone.{ChangesNodesAlone}
@@ -40,3 +40,9 @@ returns-in-Ok-clause-left c =
       bounded = subst IsBounded (sym c.raise.ensures.tree) (raised_bounded t _ _ c.requires.steady.bounded c.requires.zxid (omega arith) alone roomy);
       given = let same = c.raise.ensures.same.1 in let more = did.given in omega (arith, same, more);
     }
+
+pub returns-in-Err-Refused-clause-done : goal.returns-in-Err-Refused-clause-done
+returns-in-Err-Refused-clause-done c = search rules
+
+pub returns-in-Err-Refused-clause-left : goal.returns-in-Err-Refused-clause-left
+returns-in-Err-Refused-clause-left c = rw c.in-Err-Refused.ensures.stopped.same (record { bounded = c.requires.steady.bounded; given = omega arith })
