@@ -13,16 +13,18 @@ const LIMIT: usize = 1000;
 
 /// A create of a node without data begins.
 pub fn creates(alloc: Global, path: &str, kind: Kind) -> Result<Event, Trouble> {
+    let client = client()?;
     let path = Path::parse(alloc, path)?;
     let bytes = Data::empty(alloc);
     let call = Call::Update(Update::Create(Create { path, kind, bytes }));
-    Ok(Event::Begin(client()?, call))
+    Ok(Event::Begin(client, call))
 }
 
 /// A look at the children of the parent begins.
 pub fn lists(alloc: Global) -> Result<Event, Trouble> {
+    let client = client()?;
     let path = Path::parse(alloc, "/q")?;
-    Ok(Event::Begin(client()?, Call::Query(Query::GetChildren(path))))
+    Ok(Event::Begin(client, Call::Query(Query::GetChildren(path))))
 }
 
 /// The world settles, and is quiet then.

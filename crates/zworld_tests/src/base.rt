@@ -46,40 +46,40 @@ pub fn process(number: u8) -> Result<Process, Trouble> {
     }
 }
 
-// Deliveries on these links.
-fn take_all(moves: &mut Vec<Move>, links: &[(u8, u8)]) -> Result<(), Trouble> {
-    for &(from, to) in links {
-        moves.push(Move::Take(from, to))?;
-    }
-    Ok(())
-}
-
 /// A call begins while a server joins behind a chain of three.
 pub fn joining(alloc: Global) -> Result<Base, Trouble> {
-    let mut moves = Vec::new(alloc);
-    moves.push(Move::Begin)?;
-    moves.push(Move::Join(4))?;
-    take_all(&mut moves, &[(0, 4), (4, 0), (0, 3), (3, 4), (4, 0)])?;
+    let moves = [
+        Move::Begin,
+        Move::Join(4),
+        Move::Take(0, 4),
+        Move::Take(4, 0),
+        Move::Take(0, 3),
+        Move::Take(3, 4),
+        Move::Take(4, 0),
+    ];
     Ok(Base {
         last: 3,
         mortal: 4,
-        moves,
+        moves: moves.to_vec(alloc)?,
     })
 }
 
 /// A call is forwarded, the second server fails, and the chain is mended.
 pub fn repaired(alloc: Global, last: u8) -> Result<Base, Trouble> {
-    let mut moves = Vec::new(alloc);
-    moves.push(Move::Begin)?;
-    take_all(&mut moves, &[(CLIENT, 1)])?;
-    moves.push(Move::Fail(2))?;
-    take_all(
-        &mut moves,
-        &[(2, 0), (0, 3), (3, 0), (0, 1), (1, 3), (3, CLIENT)],
-    )?;
+    let moves = [
+        Move::Begin,
+        Move::Take(CLIENT, 1),
+        Move::Fail(2),
+        Move::Take(2, 0),
+        Move::Take(0, 3),
+        Move::Take(3, 0),
+        Move::Take(0, 1),
+        Move::Take(1, 3),
+        Move::Take(3, CLIENT),
+    ];
     Ok(Base {
         last,
         mortal: last,
-        moves,
+        moves: moves.to_vec(alloc)?,
     })
 }

@@ -51,7 +51,9 @@ fn failures(alloc: Global, base: &Base) -> Result<Vec<Failure>, Trouble> {
 // One run with failures, in a world of its own: whether the state lived, and then all was answered.
 fn drill(alloc: Global, base: &Base, failures: &[Failure]) -> Result<bool, Trouble> {
     let mut world = World::new(alloc, server(base.last)?, 2)?;
-    drill_in(&mut world, alloc, base, failures)
+    let lives = drill_in(&mut world, alloc, base, failures);
+    drop(world);
+    lives
 }
 
 // The run in this world.
@@ -94,12 +96,27 @@ fn is_well(alloc: Global, world: &mut World) -> Result<(), Trouble> {
 // The base list, with the failures in their places.
 fn events(alloc: Global, base: &Base, failures: &[Failure]) -> Result<Vec<Event>, Trouble> {
     let mut events = Vec::new(alloc);
+    match add_events(&mut events, alloc, base, failures) {
+        Ok(()) => Ok(events),
+        Err(trouble) => {
+            drop(events);
+            Err(trouble)
+        }
+    }
+}
+
+// Adds them to what is there.
+fn add_events(
+    events: &mut Vec<Event>,
+    alloc: Global,
+    base: &Base,
+    failures: &[Failure],
+) -> Result<(), Trouble> {
     for (place, &each) in base.moves.iter().enumerate() {
-        fail_at(&mut events, failures, place)?;
+        fail_at(events, failures, place)?;
         events.push(event(alloc, each)?)?;
     }
-    fail_at(&mut events, failures, base.moves.len())?;
-    Ok(events)
+    fail_at(events, failures, base.moves.len())
 }
 
 // The failures at this place.

@@ -8,7 +8,7 @@ mod base;
 mod drill;
 mod trouble;
 
-use base::{joining, repaired};
+use base::{Base, joining, repaired};
 use drill::{Counts, drilled};
 use std::alloc::Global;
 use std::io;
@@ -24,8 +24,15 @@ fn main(rt: HostRuntime) -> io::Result<()> {
 // The three base lists.
 fn all(alloc: Global) -> Result<Counts, Trouble> {
     let mut counts = Counts::default();
-    drilled(alloc, &joining(alloc)?, &mut counts)?;
-    drilled(alloc, &repaired(alloc, 3)?, &mut counts)?;
-    drilled(alloc, &repaired(alloc, 4)?, &mut counts)?;
+    drills(alloc, joining(alloc)?, &mut counts)?;
+    drills(alloc, repaired(alloc, 3)?, &mut counts)?;
+    drills(alloc, repaired(alloc, 4)?, &mut counts)?;
     Ok(counts)
+}
+
+// One of them.
+fn drills(alloc: Global, base: Base, counts: &mut Counts) -> Result<(), Trouble> {
+    let done = drilled(alloc, &base, counts);
+    drop(base);
+    done
 }
