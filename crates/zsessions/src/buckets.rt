@@ -71,7 +71,7 @@ pub(crate) fn session_of(rows: &Slots<SessionRow>, id: Id) -> Option<Session>
 /// The place of the bucket of a deadline.
 pub(crate) fn place(deadline: u64) -> usize
     ensures same { result ≡ bucket_number deadline }
-    ensures within { result < 32 }
+    ensures within { result < BUCKETS }
 {
-    (deadline % 32) as usize
+    (deadline % BUCKETS as u64) as usize
 }
