@@ -1,7 +1,7 @@
 //! Worked rows of the client table: each clause is one, and the bodies do nothing. The clients are those
 //! of `specs/support/Rows.antt`, and the messages those between servers whose machine is a number.
 
-ghost use Rattle.std.specs.Prelude.{◌≡◌, ◌-◌, ℕ, None, Some, [], ◌∷◌};
+ghost use Rattle.std.specs.Prelude.{◌≡◌, ◌-◌, None, Some, [], ◌∷◌};
 ghost use Rattle.zcalls.specs.declared.call.Call.TheVariants as call;
 ghost use Rattle.zcalls.specs.declared.limits.TheConstants.{MAX_CALL_NUMBER};
 ghost use Rattle.zcalls.specs.declared.reply.Reply.TheVariants.{Deleted};

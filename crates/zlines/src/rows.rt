@@ -1,6 +1,6 @@
 //! Worked rows of the definitions: each clause is one, and the bodies do nothing.
 
-ghost use Rattle.std.specs.Prelude.{◌≡◌, [], ◌∷◌, ◌++◌, Some, None, Ok, Err, codes};
+ghost use Rattle.std.specs.Prelude.{◌≡◌, [], ◌∷◌, Some, None, Ok, Err, codes};
 ghost use Rattle.zpath.specs.declared.fault.PathFault.TheVariants.{NotAbsolute};
 ghost use Rattle.zcalls.specs.declared.call.Kind.TheVariants.{Persistent, Ephemeral, EphemeralSequential};
 ghost use Rattle.zcalls.specs.declared.call.Update.TheVariants.{Create, Open, Ping, Close, Tick};

@@ -1,6 +1,6 @@
 //! The chain of servers: where a member stands, and how the chain is mended.
 
-ghost use Rattle.std.specs.Prelude.{◌≡◌, ◌+◌, ◌<◌, ◌≤◌, ◌==◌, not, length, map, filter, slice_get};
+ghost use Rattle.std.specs.Prelude.{◌≡◌, ◌<◌, ◌≤◌, ◌==◌, not, length, map, filter};
 ghost use Rattle.std.specs.List.{last_or, position};
 ghost use Rattle.zmaster_table.specs.Table.{before};
 ghost use Rattle.zout.specs.Posts.{PutsInRoom};

@@ -1,6 +1,6 @@
 //! What the master knows, and the rows of its table.
 
-ghost use Rattle.std.specs.Prelude.{◌≡◌, ◌+◌, ◌<◌, ◌≤◌, ℕ, length};
+ghost use Rattle.std.specs.Prelude.{◌≡◌, ◌+◌, ◌<◌, ◌≤◌, length};
 ghost use Rattle.zserver_table.specs.declared.limits.TheConstants.{MAX_EPOCH, MAX_SERVERS};
 ghost use Rattle.zmaster_table.specs.View.{opening_master, head_of, tail_of, with_number};
 ghost use Rattle.zmaster_table.specs.Table.{config_posts, join_fault, join_step, master_step, have_row, joined_row, gone_row};

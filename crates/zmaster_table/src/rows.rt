@@ -1,7 +1,7 @@
 //! Worked rows of the master table: each clause is one, and the bodies do nothing. The chains are those
 //! of `specs/support/Rows.antt`, and the messages those between servers whose machine is a number.
 
-ghost use Rattle.std.specs.Prelude.{◌≡◌, ℕ, None, Some, [], ◌∷◌};
+ghost use Rattle.std.specs.Prelude.{◌≡◌, None, Some, [], ◌∷◌};
 ghost use Rattle.zserver_table.specs.declared.message.Message.TheVariants as message;
 ghost use Rattle.zserver_table.specs.declared.process.Process.TheVariants.{Server, Client};
 ghost use Rattle.zmaster_table.specs.declared.join_fault.JoinFault.TheVariants.{Used, Joining, NoChain};

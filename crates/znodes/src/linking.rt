@@ -2,7 +2,6 @@
 
 ghost use Rattle.std.specs.Prelude.{◌≡◌, ◌<◌, Some, None, IfSome};
 ghost use Rattle.std.specs.FinMap.{get};
-ghost use Rattle.zpath.specs.Grammar.{path_cmp};
 ghost use Rattle.zslots.specs.declared.limits.TheConstants.{MAX_LENGTH};
 ghost use Rattle.zslots.specs.SlotsView.{with_items};
 ghost use Rattle.zslots.specs.Lists.{length_of};

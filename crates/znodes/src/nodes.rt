@@ -9,7 +9,7 @@ use std::alloc::Global;
 use std::marker::Model;
 use zindex::Index;
 use zpath::{Memory, Path};
-use zslots::{Links, List, Slots};
+use zslots::Slots;
 use ztree::Node;
 
 /// The znodes of one machine.

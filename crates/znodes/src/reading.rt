@@ -1,6 +1,6 @@
 //! What is read of the nodes.
 
-ghost use Rattle.std.specs.Prelude.{◌≡◌, ◌≢◌, ◌<◌, ℕ, [], Some, is_some, length, IfSome, IfNone, OnSome, IsSome};
+ghost use Rattle.std.specs.Prelude.{◌≡◌, ◌≢◌, ◌<◌, [], Some, is_some, length, IfSome, IfNone, OnSome, IsSome};
 ghost use Rattle.std.specs.Option.{option_copied, option_map};
 ghost use Rattle.ztree.specs.Tree.{parent_of, has_node, children, ephemerals};
 ghost use Rattle.znodes.specs.support.Reading.{live_at};

@@ -2,7 +2,6 @@
 
 ghost use Rattle.std.specs.Prelude.{◌≡◌, IsSome};
 ghost use Rattle.std.specs.Option.{option_map};
-ghost use Rattle.std.specs.FinMap.{get};
 ghost use Rattle.zslots.specs.SlotsView.{with_items};
 ghost use Rattle.znodes.specs.NodesView.{path_of, AtNode, Writes, marks_of, content_of, node_with_marks, node_with_content};
 ghost use Rattle.znodes.specs.support.Rows.{node_at};

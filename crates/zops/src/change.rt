@@ -1,7 +1,6 @@
 //! A change of one node, done to a store.
 
-ghost use Rattle.std.specs.Prelude.{◌≡◌, ◌≢◌, ◌<◌, ◌+◌, [], length, nat_lt, Some, None, Ok, Err, IfOk, IfErr, OnOk, IsSome, false};
-ghost use Rattle.std.specs.FinMap.{get};
+ghost use Rattle.std.specs.Prelude.{◌≡◌, ◌≢◌, ◌<◌, [], length, nat_lt, Some, None, Ok, Err, IfOk, IfErr, OnOk, false};
 ghost use Rattle.zpath.specs.First.{first_that_holds};
 ghost use Rattle.zpath.specs.Numbered.{is_over};
 ghost use Rattle.ztree.specs.Tree.{Path, parent_of, children};

@@ -1,8 +1,7 @@
 //! A query, answered from a store.
 
 ghost use Rattle.std.specs.Prelude.{◌≡◌, IfOk};
-ghost use Rattle.std.specs.FinMap.{get};
-ghost use Rattle.zcalls.specs.Step.{query_reply, on_node};
+ghost use Rattle.zcalls.specs.Step.{query_reply};
 ghost use Rattle.zcalls.specs.declared.call.Query.TheVariants.{GetData, Exists, GetChildren};
 
 use std::alloc::Global;

@@ -1,8 +1,7 @@
 //! The calls of sessions and the tick of the clock, done to a store.
 
-ghost use Rattle.std.specs.Prelude.{◌≡◌, ◌<◌, ◌+◌, ◌≤◌, ◌^◌, IfOk, OnOk, OnErr};
-ghost use Rattle.ztree.specs.Sessions.{with_renewed_session, without_session, without_sessions, due_sessions};
-ghost use Rattle.ztree.specs.Tree.{with_next_zxid};
+ghost use Rattle.std.specs.Prelude.{◌≡◌, ◌<◌, ◌+◌, IfOk, OnErr};
+ghost use Rattle.ztree.specs.Sessions.{without_sessions};
 ghost use Rattle.ztree.specs.declared.limits.TheConstants.{TICK_BOUND};
 ghost use Rattle.zops.specs.support.Ready.{IsSteady, IsReady, StaysBounded, IsAsItWas};
 ghost use Rattle.zcalls.specs.Step.{granted_timeout, due_next, tick_result, update_result};

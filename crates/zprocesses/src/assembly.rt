@@ -1,10 +1,8 @@
 //! All processes and their links.
 
-ghost use Rattle.std.specs.Prelude.{◌≡◌, ◌≤◌, [], ℕ, ◌+◌, IfOk};
+ghost use Rattle.std.specs.Prelude.{◌≡◌, ◌≤◌, []};
 ghost use Rattle.std.specs.Option.{option_map};
 ghost use Rattle.ztree.specs.declared.limits.TheConstants.{MAX_CLIENTS};
-ghost use Rattle.zserver_table.specs.Machine.{kept_tree};
-ghost use Rattle.zworld_model.specs.World.{opening_world};
 ghost use Rattle.zprocesses.specs.Held.{world_of};
 
 use crate::member::Member;
@@ -15,9 +13,7 @@ use zclient::ClientCore;
 use zlinks::Links;
 use zmaster::Master;
 use zout::Out;
-use zpath::Memory;
 use zserver::Snapshot;
-use zserver_table::ServerId;
 
 /// The servers from 1 on, the clients from 0 on, the master, and the messages under way but for `Gone`. The list for what
 /// an event puts is kept from one event to the next, and empty between them.

@@ -1,6 +1,6 @@
 //! Calls that begin, and calls that are sent once more.
 
-ghost use Rattle.std.specs.Prelude.{◌≡◌, [], IfOk};
+ghost use Rattle.std.specs.Prelude.{[], IfOk};
 ghost use Rattle.zworld_model.specs.declared.event.Event.TheVariants.{Retry};
 ghost use Rattle.zprocesses.specs.Steps.{HasBegun, HasStepped};
 

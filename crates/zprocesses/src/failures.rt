@@ -1,6 +1,6 @@
 //! Servers that fail, and servers that join.
 
-ghost use Rattle.std.specs.Prelude.{◌≡◌, [], IfOk};
+ghost use Rattle.std.specs.Prelude.{[], IfOk};
 ghost use Rattle.zworld_model.specs.declared.event.Event.TheVariants.{Fail, Join};
 ghost use Rattle.zprocesses.specs.Steps.{HasStepped};
 

@@ -2,7 +2,7 @@
 //!
 //! Both are exact: what was handed out is what is no longer left, and what was taken is what is held.
 
-ghost use Rattle.std.specs.Prelude.{◌≡◌, ◌<◌, ◌≤◌, ◌+◌, ℕ, List, [], ◌++◌, length, take, refl, ◌-◌, ◌↔◌, true, false, Some, None, IfSome};
+ghost use Rattle.std.specs.Prelude.{◌≡◌, ◌<◌, ◌+◌, List, [], ◌++◌, length, refl, ◌-◌, ◌↔◌, true, false, Some, None, IfSome};
 ghost use Rattle.zscript.specs.Device.{Raises};
 ghost use Rattle.zscript.specs.support.DeviceLaws.{never_raises, raises_both, left_after_both, held_after_both};
 ghost use Rattle.std.proofs.Common.{sym};

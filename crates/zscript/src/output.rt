@@ -1,6 +1,6 @@
 //! Replies on their way to the sink: held in a block, and written whole.
 
-ghost use Rattle.std.specs.Prelude.{◌≡◌, ◌<◌, List, ℕ, [], ◌++◌, OnOk, OnErr, IfErr, string_bytes, string_len};
+ghost use Rattle.std.specs.Prelude.{◌≡◌, ◌<◌, [], OnOk, OnErr, string_bytes, string_len};
 ghost use Rattle.zscript.specs.Device.{Between, TookBeginning, Failed};
 ghost use Rattle.zscript.specs.support.PlayerView.{Tells};
 

@@ -1,6 +1,6 @@
 //! What plays a script: fed with its bytes block by block, it answers each line as soon as its LF is there.
 
-ghost use Rattle.std.specs.Prelude.{◌≡◌, ◌<◌, ◌≤◌, List, ℕ, [], ◌++◌, length, IfOk, IfErr, IfSome, IfNone, OnOk, OnErr, string_bytes};
+ghost use Rattle.std.specs.Prelude.{◌≡◌, ◌<◌, ◌≤◌, [], ◌++◌, length, IfOk, IfErr, IfSome, IfNone, OnOk, OnErr, string_bytes};
 ghost use Rattle.zscript.specs.Device.{Between, sink_run, TookBeginning, Failed};
 ghost use Rattle.zscript.specs.Script.{opening_of};
 ghost use Rattle.zanswers.specs.Done.{IsLineDone};

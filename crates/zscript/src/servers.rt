@@ -1,6 +1,6 @@
 //! How many servers a script has.
 
-ghost use Rattle.std.specs.Prelude.{◌≡◌, ◌≤◌};
+ghost use Rattle.std.specs.Prelude.{◌≡◌};
 
 use std::marker::Model;
 use zserver_table::ServerId;

@@ -3,7 +3,7 @@
 //! What bytes such a reader has left, or such a writer holds, is std's `remaining` and `contents` where it is known,
 //! as of a slice or a vector. Of a terminal, a file or a pipe it is not, and the relations then hold for all bytes.
 
-ghost use Rattle.std.specs.Prelude.{◌≡◌, ◌<◌, ◌≤◌, ◌+◌, ℕ, List, [], ◌++◌, length, take, IsTrue, false, ◌^◌, ◌-◌};
+ghost use Rattle.std.specs.Prelude.{◌≡◌, ◌<◌, IsTrue, false, ◌^◌, ◌-◌};
 ghost use Rattle.std.specs.Io.KnownBytes.{Consumes, Appends};
 ghost use Rattle.zscript.specs.Device.{Raises};
 ghost use Rattle.zscript.specs.support.DeviceLaws.{never_raises, raises_both, consumes_nothing, consumes_both, appends_nothing, appends_both};

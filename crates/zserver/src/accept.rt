@@ -1,6 +1,6 @@
 //! The rows in which the machine applies an entry: `Submit` and `Update`.
 
-ghost use Rattle.std.specs.Prelude.{◌≡◌, ◌+◌, ◌<◌, ◌≤◌, ◌==◌, ◌&&◌, None, Some, ◌++◌, ◌∷◌, [], true, is_some, is_none, if◌then◌else◌, IfOk, IfSome, IfNone, OnErr, OnOk, IsSome};
+ghost use Rattle.std.specs.Prelude.{◌≡◌, ◌+◌, ◌<◌, ◌≤◌, ◌==◌, None, Some, ◌++◌, ◌∷◌, [], true, is_some, is_none, if◌then◌else◌, IfOk, OnErr, OnOk};
 ghost use Rattle.zserver_table.specs.declared.limits.TheConstants.{MAX_LOG_NUMBER};
 ghost use Rattle.zserver_table.specs.Machine.{kept_tree};
 ghost use Rattle.zserver_table.specs.View.{Neighbour};
@@ -10,8 +10,7 @@ ghost use Rattle.zserver.specs.support.Replicas.{accept_row, applied_result, nex
 
 use crate::neighbour::{Neighbour, is_neighbour};
 use crate::replica::{Replica, put_ack};
-use crate::snapshot::{Snapshot, log_number};
-use std::alloc::Global;
+use crate::snapshot::Snapshot;
 use zcalls::{CallNumber, ClientId, Entry, Reply};
 use zops::Machine;
 use zout::Out;

@@ -1,6 +1,6 @@
 //! The state of a server handed to one that has none.
 
-ghost use Rattle.std.specs.Prelude.{◌≡◌, ◌++◌, ◌∷◌, [], OnErr, OnOk};
+ghost use Rattle.std.specs.Prelude.{◌≡◌, ◌∷◌, [], OnErr, OnOk};
 ghost use Rattle.zserver_table.specs.declared.message.Message.TheVariants as message;
 ghost use Rattle.zserver_table.specs.declared.process.Process.TheVariants as process;
 ghost use Rattle.zout.specs.Posts.{Puts};

@@ -1,8 +1,6 @@
 //! The rows in which acknowledgements go up the chain, and in which a server hears of its neighbours.
 
-ghost use Rattle.std.specs.Prelude.{◌≡◌, ◌++◌, [], OnErr, OnOk};
-ghost use Rattle.ztree.specs.Tree.{Tree};
-ghost use Rattle.zcalls.specs.Kept.{KeptState};
+ghost use Rattle.std.specs.Prelude.{◌≡◌, [], OnErr, OnOk};
 ghost use Rattle.zout.specs.Posts.{Puts};
 ghost use Rattle.zserver_table.specs.Table.{ack_row, new_pred_row, new_succ_row, become_head_row, become_tail_row};
 

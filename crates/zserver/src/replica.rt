@@ -1,7 +1,6 @@
 //! What a server knows.
 
-ghost use Rattle.std.specs.Prelude.{◌≡◌, ◌+◌, ◌<◌, ◌≤◌, [], ◌++◌, IfErr, IfOk, IfSome, IsErr, OnErr, OnOk};
-ghost use Rattle.zserver_table.specs.declared.limits.TheConstants.{MAX_LOG_NUMBER};
+ghost use Rattle.std.specs.Prelude.{◌≡◌, ◌<◌, IfOk};
 ghost use Rattle.zserver_table.specs.Machine.{kept_tree};
 ghost use Rattle.zserver_table.specs.View.{member, spare};
 ghost use Rattle.zout.specs.Posts.{Puts};

@@ -1,6 +1,6 @@
 //! The row in which a client asks: `Query`.
 
-ghost use Rattle.std.specs.Prelude.{◌≡◌, ◌++◌, true};
+ghost use Rattle.std.specs.Prelude.{◌≡◌, true};
 ghost use Rattle.zserver_table.specs.Machine.{kept_tree};
 ghost use Rattle.zserver_table.specs.View.{is_tail};
 ghost use Rattle.zout.specs.Posts.{Puts};

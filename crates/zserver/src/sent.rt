@@ -1,6 +1,6 @@
 //! The entries that were forwarded, and that the tail may not have processed.
 
-ghost use Rattle.std.specs.Prelude.{◌≡◌, ◌≤◌, ◌++◌, length, map, IfOk, OnErr, OnOk};
+ghost use Rattle.std.specs.Prelude.{◌≡◌, ◌≤◌, length, map, IfOk, OnErr, OnOk};
 ghost use Rattle.zout.specs.Posts.{Puts};
 ghost use Rattle.zserver_table.specs.Table.{entries_above, forward_post};
 

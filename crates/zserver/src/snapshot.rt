@@ -1,7 +1,6 @@
 //! What a `Snapshot` hands over.
 
 ghost use Rattle.std.specs.Prelude.{◌≡◌, false, IfOk};
-ghost use Rattle.zserver.specs.support.Replicas.{state_of, last_of, IsWhole};
 
 use std::alloc::Global;
 use std::marker::Model;

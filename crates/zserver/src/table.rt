@@ -1,6 +1,6 @@
 //! The server table.
 
-ghost use Rattle.std.specs.Prelude.{◌≡◌, true, false, IfOk, OnErr, OnOk};
+ghost use Rattle.std.specs.Prelude.{◌≡◌, IfOk, OnErr, OnOk};
 ghost use Rattle.zserver_table.specs.declared.process.Process.TheVariants as process;
 ghost use Rattle.zserver_table.specs.Machine.{kept_tree};
 ghost use Rattle.zserver_table.specs.Table.{server_step};

@@ -1,6 +1,6 @@
 //! The buckets: each row stands in the list of its deadline modulo 32.
 
-ghost use Rattle.std.specs.Prelude.{◌≡◌, ◌<◌, IsSome, option_map};
+ghost use Rattle.std.specs.Prelude.{◌≡◌, ◌<◌};
 ghost use Rattle.std.specs.FinMap as finite;
 ghost use Rattle.zslots.specs.SlotsView.{with_items};
 ghost use Rattle.zslots.specs.Lists.{length_of};

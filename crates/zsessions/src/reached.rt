@@ -1,7 +1,7 @@
 //! The sessions of a bucket that a tick reaches.
 
 ghost use Rattle.std.specs.Prelude.{◌≡◌, IfOk, OnOk};
-ghost use Rattle.std.specs.List.{filter_map, cons_option};
+ghost use Rattle.std.specs.List.{filter_map};
 ghost use Rattle.zslots.specs.Ids.{Ids};
 ghost use Rattle.zslots.specs.Lists.{IsList};
 ghost use Rattle.zsessions.specs.support.Rows.{row_links, due_at, AppendsOption};

@@ -1,8 +1,6 @@
 //! How a node is taken away.
 
 ghost use Rattle.std.specs.Prelude.{◌≡◌, ◌≢◌, ◌<◌, ◌+◌, [], Some, IsSome};
-ghost use Rattle.std.specs.FinMap as finite;
-ghost use Rattle.std.specs.FinMap.{get};
 ghost use Rattle.ztree.specs.declared.limits.TheConstants.{ZXID_BOUND};
 ghost use Rattle.ztree.specs.Tree.{children, parent_of};
 ghost use Rattle.ztree.specs.Room.{HasRoomForLosses};

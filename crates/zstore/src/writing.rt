@@ -2,7 +2,6 @@
 
 ghost use Rattle.std.specs.Prelude.{◌≡◌, ◌≢◌, ◌<◌, ◌+◌, [], Some, IfOk, OnOk, OnErr, IsSome, None, false};
 ghost use Rattle.std.specs.FinMap as finite;
-ghost use Rattle.std.specs.FinMap.{get};
 ghost use Rattle.ztree.specs.declared.limits.TheConstants.{MAX_NODES, ZXID_BOUND};
 ghost use Rattle.zstore.specs.declared.limits.TheConstants.{ID_BOUND};
 ghost use Rattle.ztree.specs.Tree.{parent_of, has_node, with_node, with_next_zxid};

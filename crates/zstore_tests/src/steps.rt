@@ -1,6 +1,5 @@
 //! Rows of steps, each a change.
 
-ghost use Rattle.std.specs.Prelude.{[]};
 ghost use Rattle.zstore_tests.specs.Small.{IsSmall, IsLow};
 
 use crate::changes::{add, is_small, open, take_away, tick, touch, write};

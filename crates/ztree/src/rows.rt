@@ -1,6 +1,6 @@
 //! Worked rows of the definitions. The functions do nothing.
 
-ghost use Rattle.std.specs.Prelude.{◌≡◌, [], ◌∷◌, None, Some, true, false, codes};
+ghost use Rattle.std.specs.Prelude.{◌≡◌, [], ◌∷◌, None, Some, true, false};
 ghost use Rattle.std.specs.FinMap as finite;
 ghost use Rattle.ztree.specs.Tree.{parent_of, child_name, stat_with};
 ghost use Rattle.ztree.specs.Tree.{with_child, without_child, with_data};

@@ -1,6 +1,6 @@
 //! The world.
 
-ghost use Rattle.std.specs.Prelude.{◌≡◌, ◌≤◌, [], true, false, IfOk, IsErr, OnErr, OnOk};
+ghost use Rattle.std.specs.Prelude.{◌≡◌, ◌≤◌, true, false, IfOk, IsErr, OnErr, OnOk};
 ghost use Rattle.ztree.specs.declared.limits.TheConstants.{MAX_CLIENTS};
 ghost use Rattle.zserver_table.specs.Machine.{kept_tree};
 ghost use Rattle.zworld_model.specs.PlainTree.{IsExplained};

@@ -6,9 +6,8 @@ ghost use Rattle.zworld_model.specs.declared.event.Event.TheVariants.{Begin, Ret
 ghost use Rattle.zworld_model.specs.declared.event.Event.TheVariants.{Join};
 ghost use Rattle.zworld_model.specs.declared.history.CallEvent.TheVariants as saw;
 ghost use Rattle.zworld_model.specs.support.Counter.{create, create_update, exists, name_reply};
-ghost use Rattle.zworld_model.specs.support.Counter.{count_reply};
 ghost use Rattle.zworld_model.specs.Events.{is_enabled};
-ghost use Rattle.zworld_model.specs.support.RunRows.{after, seen, link, view, m, s1, s2, s3, c0, c1};
+ghost use Rattle.zworld_model.specs.support.RunRows.{after, seen, link, view, s1, s2, c1};
 ghost use Rattle.zworld_model.specs.support.RunRows.{first_entry, other_entry, update_in_turn};
 ghost use Rattle.zworld_model.specs.support.RunRows.{two_updates, retried_update};
 

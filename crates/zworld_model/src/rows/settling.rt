@@ -4,15 +4,13 @@ ghost use Rattle.std.specs.Prelude.{◌≡◌, true, false, [], ◌∷◌, Some,
 ghost use Rattle.zmaster_table.specs.declared.join_fault.JoinFault.TheVariants.{Lost};
 ghost use Rattle.zmaster_table.specs.Table.{join_fault};
 ghost use Rattle.zworld_model.specs.declared.event.Event.TheVariants.{Begin, Retry, Take, Ignore, Fail};
-ghost use Rattle.zworld_model.specs.declared.event.Event.TheVariants.{Join};
 ghost use Rattle.zworld_model.specs.declared.history.CallEvent.TheVariants as saw;
 ghost use Rattle.zworld_model.specs.declared.settled.Settled.TheVariants.{Quiet, Limit};
-ghost use Rattle.zworld_model.specs.support.Counter.{create, exists, name_reply, count_reply};
+ghost use Rattle.zworld_model.specs.support.Counter.{create, exists, name_reply};
 ghost use Rattle.zworld_model.specs.declared.outcome.Outcome.TheVariants.{Acted, Stopped, Unheard};
 ghost use Rattle.zworld_model.specs.Reading.{is_fitting};
 ghost use Rattle.zworld_model.specs.Settle.{settling_end};
-ghost use Rattle.zworld_model.specs.Laws.{SettlingIsARun, SettlingKeepsItsLimit, QuietHasNothingToTake};
-ghost use Rattle.zworld_model.specs.support.RunRows.{after, m, s1, s2, c0, c1};
+ghost use Rattle.zworld_model.specs.support.RunRows.{after, m, s1, c0, c1};
 ghost use Rattle.zworld_model.specs.support.SettleRows.{settled_after, read_after, two_begin, two_settle};
 ghost use Rattle.zworld_model.specs.support.SettleRows.{lost_request, lost_state};
 
