@@ -4,7 +4,6 @@ use crate::ended::{Ended, tell};
 use crate::taking::has_put;
 use crate::values::{create, path};
 use std::alloc::Global;
-use std::test::Fail;
 use zcalls::{Call, Query, Update};
 use zclient::{BeginFault, ClientCore};
 use zliterals::{epoch, server};
@@ -16,39 +15,46 @@ use zserver_table::{Message, Process};
 type Outbox = Out<()>;
 
 #[test]
-fn begins_an_update(rt: HostRuntime) -> Result<(), Fail> {
-    tell(&rt, update_begins(rt.alloc()))
+fn begins_an_update(rt: HostRuntime) {
+    tell(&rt, update_begins(rt.alloc()));
 }
 
 #[test]
-fn begins_a_query(rt: HostRuntime) -> Result<(), Fail> {
-    tell(&rt, query_begins(rt.alloc()))
+fn begins_a_query(rt: HostRuntime) {
+    tell(&rt, query_begins(rt.alloc()));
 }
 
 #[test]
-fn takes_a_config(rt: HostRuntime) -> Result<(), Fail> {
-    tell(&rt, config_is_taken(rt.alloc()))
+fn takes_a_config(rt: HostRuntime) {
+    tell(&rt, config_is_taken(rt.alloc()));
 }
 
 #[test]
-fn retries(rt: HostRuntime) -> Result<(), Fail> {
-    tell(&rt, call_is_retried(rt.alloc()))
+fn retries(rt: HostRuntime) {
+    tell(&rt, call_is_retried(rt.alloc()));
 }
 
-fn update_begins(alloc: Global) -> Result<Ended, Memory> {
-    let update = create(alloc, "/a")?;
-    Ok(begins(alloc, Call::Update(update)))
+fn update_begins(alloc: Global) -> Ended {
+    match create(alloc, "/a") {
+        Ok(update) => begins(alloc, Call::Update(update)),
+        Err(Memory) => Ended::NotBegun,
+    }
 }
 
-fn query_begins(alloc: Global) -> Result<Ended, Memory> {
-    let query = Query::GetData(path(alloc, "/a")?);
-    Ok(begins(alloc, Call::Query(query)))
+fn query_begins(alloc: Global) -> Ended {
+    match path(alloc, "/a") {
+        Ok(path) => begins(alloc, Call::Query(Query::GetData(path))),
+        Err(Memory) => Ended::NotBegun,
+    }
 }
 
 fn begins(alloc: Global, call: Call) -> Ended {
     let mut core = ClientCore::new(alloc, server(1));
     let mut out: Outbox = Out::new(alloc);
-    begins_at(&mut core, call, &mut out)
+    let ended = begins_at(&mut core, call, &mut out);
+    drop(core);
+    drop(out);
+    ended
 }
 
 // A refused call doesn't count: the next one has the first number.
@@ -73,10 +79,17 @@ fn begins_a_tick(core: &mut ClientCore, out: &mut Outbox) -> bool {
     }
 }
 
-fn config_is_taken(alloc: Global) -> Result<Ended, Memory> {
-    let mut core = waiting(alloc)?;
-    let mut out: Outbox = Out::new(alloc);
-    Ok(hears(&mut core, &mut out))
+fn config_is_taken(alloc: Global) -> Ended {
+    match waiting(alloc) {
+        Ok(mut core) => {
+            let mut out: Outbox = Out::new(alloc);
+            let ended = hears(&mut core, &mut out);
+            drop(core);
+            drop(out);
+            ended
+        }
+        Err(Memory) => Ended::NotBegun,
+    }
 }
 
 // From now on server 2 is the whole chain.
@@ -84,20 +97,25 @@ fn config() -> Message<()> {
     Message::Config(epoch(1), Some(server(2)), Some(server(2)))
 }
 
-// The message that is handed back is the one that was given, and nothing has changed.
+// Where it is refused, nothing has changed.
 fn hears(core: &mut ClientCore, out: &mut Outbox) -> Ended {
+    match is_heard(core, out) {
+        Ok(is_as_said) => Ended::done(is_as_said && has_put_to(2, out)),
+        Err(is_as_said) => {
+            Ended::refused(is_as_said && waits(core, out) && hears_again(core, out))
+        }
+    }
+}
+
+// Whether there is no reply, or else the message that is handed back is the one that was given.
+fn is_heard(core: &mut ClientCore, out: &mut Outbox) -> Result<bool, bool> {
     let taken = core.take(Process::Master, config(), out);
-    let is_refused = taken.is_err();
-    let is_as_said = match &taken {
-        Ok(reply) => reply.is_none(),
-        Err(back) => is_config(back),
+    let is_heard = match &taken {
+        Ok(reply) => Ok(reply.is_none()),
+        Err(back) => Err(is_config(back)),
     };
     drop(taken);
-    if is_refused {
-        Ended::refused(is_as_said && waits(core, out) && hears_again(core, out))
-    } else {
-        Ended::done(is_as_said && has_put_to(2, out))
-    }
+    is_heard
 }
 
 fn is_config(message: &Message<()>) -> bool {
@@ -110,16 +128,20 @@ fn is_config(message: &Message<()>) -> bool {
 }
 
 fn hears_again(core: &mut ClientCore, out: &mut Outbox) -> bool {
-    let taken = core.take(Process::Master, config(), out);
-    let is_taken = taken.is_ok();
-    drop(taken);
-    is_taken && has_put_to(2, out)
+    is_heard(core, out).is_ok() && has_put_to(2, out)
 }
 
-fn call_is_retried(alloc: Global) -> Result<Ended, Memory> {
-    let core = waiting(alloc)?;
-    let mut out: Outbox = Out::new(alloc);
-    Ok(sends(&core, &mut out))
+fn call_is_retried(alloc: Global) -> Ended {
+    match waiting(alloc) {
+        Ok(core) => {
+            let mut out: Outbox = Out::new(alloc);
+            let ended = sends(&core, &mut out);
+            drop(core);
+            drop(out);
+            ended
+        }
+        Err(Memory) => Ended::NotBegun,
+    }
 }
 
 fn sends(core: &ClientCore, out: &mut Outbox) -> Ended {
@@ -135,18 +157,22 @@ fn sends_again(core: &ClientCore, out: &mut Outbox) -> bool {
 
 // A client of a chain of one server that waits for its first call.
 fn waiting(alloc: Global) -> Result<ClientCore, Memory> {
-    let update = create(alloc, "/a")?;
+    let Ok(update) = create(alloc, "/a") else {
+        return Err(Memory);
+    };
     let mut core = ClientCore::new(alloc, server(1));
     if begins_first(alloc, &mut core, update) {
-        Ok(core)
-    } else {
-        Err(Memory)
+        return Ok(core);
     }
+    drop(core);
+    Err(Memory)
 }
 
 fn begins_first(alloc: Global, core: &mut ClientCore, update: Update) -> bool {
     let mut before: Outbox = Out::new(alloc);
-    core.begin(Call::Update(update), &mut before).is_ok()
+    let has_begun = core.begin(Call::Update(update), &mut before).is_ok();
+    drop(before);
+    has_begun
 }
 
 // Whether nothing was put, and the client still waits for its first call.

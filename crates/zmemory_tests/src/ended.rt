@@ -1,15 +1,18 @@
 //! How a story ends.
 
-use std::test::Fail;
-use zpath::Memory;
+use std::io::Print;
+use std::process::Abort;
 
-/// How a story ends, where there was memory to begin it.
+/// How a story ends.
+#[derive(Clone, Copy)]
 pub(crate) enum Ended {
+    /// There was no memory to begin it.
+    NotBegun,
     /// The call did what it was asked.
     Done,
     /// It was refused memory, and all stands as it should.
     Refused,
-    /// Neither.
+    /// None of these.
     Wrong,
 }
 
@@ -26,12 +29,12 @@ impl Ended {
 }
 
 /// Tells whether an allocation of the story was refused: one of the call, or one before it.
-pub(crate) fn tell(rt: &HostRuntime, story: Result<Ended, Memory>) -> Result<(), Fail> {
-    match story {
-        Ok(Ended::Done) => {}
-        Ok(Ended::Refused) => println!(rt; "refused")?,
-        Err(Memory) => println!(rt; "not begun")?,
-        Ok(Ended::Wrong) => return Err("what stands is not what should".into()),
-    }
-    Ok(())
+pub(crate) fn tell(rt: &(impl Abort + Print), ended: Ended) {
+    let told = match ended {
+        Ended::Done => Ok(()),
+        Ended::Refused => println!(rt; "refused"),
+        Ended::NotBegun => println!(rt; "not begun"),
+        Ended::Wrong => panic!(rt; "what stands is not what should"),
+    };
+    told.expect(rt, "there is an output");
 }

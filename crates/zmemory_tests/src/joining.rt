@@ -1,29 +1,27 @@
 //! A join: the whole state is handed over, and taken.
 
 use crate::ended::{Ended, tell};
-use crate::taking::{acts, hand, takes};
-use crate::values::create;
+use crate::serving::submit;
+use crate::taking::{acts, after, takes};
 use std::alloc::Global;
-use std::test::Fail;
-use zliterals::{call_number, client, epoch, server};
+use zliterals::{client, epoch, server};
 use zout::Out;
 use zpath::Memory;
 use zserver::{Server, Snapshot};
 use zserver_table::{Message, Process};
 
 #[test]
-fn hands_its_state_over(rt: HostRuntime) -> Result<(), Fail> {
-    tell(&rt, is_handed_over(rt.alloc()))
+fn hands_its_state_over(rt: HostRuntime) {
+    tell(&rt, is_handed_over(rt.alloc()));
 }
 
 #[test]
-fn takes_a_snapshot(rt: HostRuntime) -> Result<(), Fail> {
-    tell(&rt, is_taken_over(rt.alloc()))
+fn takes_a_snapshot(rt: HostRuntime) {
+    tell(&rt, is_taken_over(rt.alloc()));
 }
 
-fn is_handed_over(alloc: Global) -> Result<Ended, Memory> {
-    let mut only = only(alloc)?;
-    Ok(takes(alloc, &mut only, Process::Master, joined_by()))
+fn is_handed_over(alloc: Global) -> Ended {
+    takes(alloc, only(alloc), Process::Master, joined_by())
 }
 
 // The master's word to server 1 that server 2 joins behind it.
@@ -33,47 +31,42 @@ fn joined_by() -> Message<Snapshot> {
 
 // A server that is a chain alone, and has one entry.
 fn only(alloc: Global) -> Result<Server, Memory> {
-    let mut only = Server::first(alloc, None, None)?;
-    let message = Message::Submit(call_number(1), create(alloc, "/a")?);
-    if hand(alloc, &mut only, Process::Client(client(1)), message) {
-        Ok(only)
-    } else {
-        Err(Memory)
+    match submit(alloc) {
+        Ok(message) => after(
+            alloc,
+            Server::first(alloc, None, None),
+            Process::Client(client(1)),
+            message,
+        ),
+        Err(memory) => Err(memory),
     }
 }
 
-fn is_taken_over(alloc: Global) -> Result<Ended, Memory> {
-    let snapshot = handed_over(alloc)?;
-    match joining(alloc) {
-        Ok(mut spare) => Ok(takes(alloc, &mut spare, Process::Server(server(1)), snapshot)),
-        Err(memory) => {
-            drop(snapshot);
-            Err(memory)
-        }
+fn is_taken_over(alloc: Global) -> Ended {
+    match handed_over(alloc) {
+        Some(snapshot) => takes(alloc, joining(alloc), Process::Server(server(1)), snapshot),
+        None => Ended::NotBegun,
     }
 }
 
 // What server 1 hands over.
-fn handed_over(alloc: Global) -> Result<Message<Snapshot>, Memory> {
-    let mut only = only(alloc)?;
+fn handed_over(alloc: Global) -> Option<Message<Snapshot>> {
+    let Ok(mut only) = only(alloc) else {
+        return None;
+    };
     let mut out = Out::new(alloc);
     let _ = acts(&mut only, Process::Master, joined_by(), &mut out);
     drop(only);
     let post = out.next();
     drop(out);
     match post {
-        Some((_, message)) => Ok(message),
-        None => Err(Memory),
+        Some((_, message)) => Some(message),
+        None => None,
     }
 }
 
 // A spare server whose predecessor is server 1.
 fn joining(alloc: Global) -> Result<Server, Memory> {
-    let mut spare = Server::spare(alloc);
     let message = Message::NewPred(epoch(1), server(1));
-    if hand(alloc, &mut spare, Process::Master, message) {
-        Ok(spare)
-    } else {
-        Err(Memory)
-    }
+    after(alloc, Ok(Server::spare(alloc)), Process::Master, message)
 }

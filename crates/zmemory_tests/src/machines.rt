@@ -9,12 +9,19 @@ use zpath::Memory;
 
 /// A machine at which client 1's first call made `/a`.
 pub(crate) fn machine(alloc: Global) -> Result<Machine, Memory> {
-    let mut machine = Machine::new(alloc)?;
-    let update = create(alloc, "/a")?;
-    match apply(&mut machine, first_entry(update)) {
-        Ok(_) => Ok(machine),
-        Err(memory) => Err(memory),
+    let Ok(update) = create(alloc, "/a") else {
+        return Err(Memory);
+    };
+    let entry = first_entry(update);
+    let Ok(mut machine) = Machine::new(alloc) else {
+        drop(entry);
+        return Err(Memory);
+    };
+    if acts(&mut machine, entry).is_ok() {
+        return Ok(machine);
     }
+    drop(machine);
+    Err(Memory)
 }
 
 /// The update as client 1's first call.
@@ -35,17 +42,34 @@ pub(crate) fn second_entry(update: Update) -> Entry {
     }
 }
 
-/// Applies an entry.
-pub(crate) fn apply(machine: &mut Machine, entry: Entry) -> Result<Option<Reply>, Memory> {
-    if machine.applied() < MAX_APPLIED {
-        machine.apply(entry)
-    } else {
+/// Applies an entry; whether there is a reply, and no refusal.
+pub(crate) fn acts(machine: &mut Machine, entry: Entry) -> Result<bool, Memory> {
+    if machine.applied() >= MAX_APPLIED {
         drop(entry);
-        Ok(None)
+        return Ok(false);
     }
+    match machine.apply(entry) {
+        Ok(reply) => Ok(has_acted(reply)),
+        Err(memory) => Err(memory),
+    }
+}
+
+fn has_acted(reply: Option<Reply>) -> bool {
+    let has_acted = !matches!(
+        &reply,
+        None | Some(Reply::Refused(_)) | Some(Reply::MultiRefused(_, _))
+    );
+    drop(reply);
+    has_acted
 }
 
 /// Whether the machine can be copied.
 pub(crate) fn can_be_copied(machine: &Machine) -> bool {
-    machine.copy().is_ok()
+    match machine.copy() {
+        Ok(copy) => {
+            drop(copy);
+            true
+        }
+        Err(Memory) => false,
+    }
 }

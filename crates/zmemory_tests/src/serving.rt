@@ -5,10 +5,9 @@ ghost use Rattle.zcalls.specs.declared.limits.TheConstants.{MAX_CALL_NUMBER};
 
 use crate::ended::{Ended, tell};
 use crate::machines::first_entry;
-use crate::taking::{acts, hand, has_put, takes};
+use crate::taking::{acts, after, has_put, takes};
 use crate::values::create;
 use std::alloc::Global;
-use std::test::Fail;
 use zcalls::{Query, Update};
 use zliterals::{call_number, client, epoch, log_number, server};
 use zout::Out;
@@ -17,49 +16,49 @@ use zserver::{Server, Snapshot, Stopped, Taken};
 use zserver_table::{Message, Process, ServerId};
 
 #[test]
-fn takes_a_submit_at_the_head(rt: HostRuntime) -> Result<(), Fail> {
-    tell(&rt, submit_is_taken(rt.alloc(), ServerId::new(2)))
+fn takes_a_submit_at_the_head(rt: HostRuntime) {
+    tell(&rt, submit_is_taken(rt.alloc(), ServerId::new(2)));
 }
 
 #[test]
-fn takes_a_submit_at_the_only_one(rt: HostRuntime) -> Result<(), Fail> {
-    tell(&rt, submit_is_taken(rt.alloc(), None))
+fn takes_a_submit_at_the_only_one(rt: HostRuntime) {
+    tell(&rt, submit_is_taken(rt.alloc(), None));
 }
 
 #[test]
-fn takes_an_update_in_the_middle(rt: HostRuntime) -> Result<(), Fail> {
-    tell(&rt, update_is_taken(rt.alloc(), ServerId::new(3)))
+fn takes_an_update_in_the_middle(rt: HostRuntime) {
+    tell(&rt, update_is_taken(rt.alloc(), ServerId::new(3)));
 }
 
 #[test]
-fn takes_an_update_at_the_tail(rt: HostRuntime) -> Result<(), Fail> {
-    tell(&rt, update_is_taken(rt.alloc(), None))
+fn takes_an_update_at_the_tail(rt: HostRuntime) {
+    tell(&rt, update_is_taken(rt.alloc(), None));
 }
 
 #[test]
-fn takes_an_ack(rt: HostRuntime) -> Result<(), Fail> {
-    tell(&rt, ack_is_taken(rt.alloc()))
+fn takes_an_ack(rt: HostRuntime) {
+    tell(&rt, ack_is_taken(rt.alloc()));
 }
 
 #[test]
-fn takes_a_query(rt: HostRuntime) -> Result<(), Fail> {
-    tell(&rt, query_is_taken(rt.alloc()))
+fn takes_a_query(rt: HostRuntime) {
+    tell(&rt, query_is_taken(rt.alloc()));
 }
 
-fn submit_is_taken(alloc: Global, succ: Option<ServerId>) -> Result<Ended, Memory> {
-    let message = Message::Submit(call_number(1), create(alloc, "/a")?);
-    served(alloc, None, succ, Process::Client(client(1)), message)
+/// Client 1's first call, which makes `/a`.
+pub(crate) fn submit(alloc: Global) -> Result<Message<Snapshot>, Memory> {
+    match create(alloc, "/a") {
+        Ok(update) => Ok(Message::Submit(call_number(1), update)),
+        Err(memory) => Err(memory),
+    }
 }
 
-fn update_is_taken(alloc: Global, succ: Option<ServerId>) -> Result<Ended, Memory> {
-    let message = first_update(create(alloc, "/a")?);
-    served(
-        alloc,
-        ServerId::new(1),
-        succ,
-        Process::Server(server(1)),
-        message,
-    )
+/// The log's first entry, which makes `/a`.
+pub(crate) fn update(alloc: Global) -> Result<Message<Snapshot>, Memory> {
+    match create(alloc, "/a") {
+        Ok(update) => Ok(first_update(update)),
+        Err(memory) => Err(memory),
+    }
 }
 
 // The update as the first entry of the log.
@@ -67,37 +66,52 @@ fn first_update(update: Update) -> Message<Snapshot> {
     Message::Update(epoch(0), log_number(1), first_entry(update))
 }
 
-// A server with these neighbours takes the message.
-fn served(
-    alloc: Global,
-    pred: Option<ServerId>,
-    succ: Option<ServerId>,
-    from: Process,
-    message: Message<Snapshot>,
-) -> Result<Ended, Memory> {
-    match Server::first(alloc, pred, succ) {
-        Ok(mut server) => Ok(takes(alloc, &mut server, from, message)),
-        Err(memory) => {
-            drop(message);
-            Err(memory)
-        }
+fn submit_is_taken(alloc: Global, succ: Option<ServerId>) -> Ended {
+    match submit(alloc) {
+        Ok(message) => takes(
+            alloc,
+            Server::first(alloc, None, succ),
+            Process::Client(client(1)),
+            message,
+        ),
+        Err(Memory) => Ended::NotBegun,
     }
 }
 
-fn ack_is_taken(alloc: Global) -> Result<Ended, Memory> {
-    let mut middle = Server::first(alloc, ServerId::new(1), ServerId::new(3))?;
-    let message = first_update(Update::Tick);
-    if !hand(alloc, &mut middle, Process::Server(server(1)), message) {
-        return Err(Memory);
+fn update_is_taken(alloc: Global, succ: Option<ServerId>) -> Ended {
+    match update(alloc) {
+        Ok(message) => takes(
+            alloc,
+            Server::first(alloc, ServerId::new(1), succ),
+            Process::Server(server(1)),
+            message,
+        ),
+        Err(Memory) => Ended::NotBegun,
     }
+}
+
+fn ack_is_taken(alloc: Global) -> Ended {
+    let middle = after(
+        alloc,
+        Server::first(alloc, ServerId::new(1), ServerId::new(3)),
+        Process::Server(server(1)),
+        first_update(Update::Tick),
+    );
     let message = Message::Ack(epoch(0), log_number(1));
-    Ok(takes(alloc, &mut middle, Process::Server(server(3)), message))
+    takes(alloc, middle, Process::Server(server(3)), message)
 }
 
-fn query_is_taken(alloc: Global) -> Result<Ended, Memory> {
-    let mut tail = Server::first(alloc, None, None)?;
-    let mut out = Out::new(alloc);
-    Ok(answers(alloc, &mut tail, &mut out))
+fn query_is_taken(alloc: Global) -> Ended {
+    match Server::first(alloc, None, None) {
+        Ok(mut tail) => {
+            let mut out = Out::new(alloc);
+            let ended = answers(alloc, &mut tail, &mut out);
+            drop(tail);
+            drop(out);
+            ended
+        }
+        Err(Memory) => Ended::NotBegun,
+    }
 }
 
 // A query for which there is no memory is as if it had been lost: the next one is answered.

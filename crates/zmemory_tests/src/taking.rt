@@ -4,18 +4,29 @@ use crate::ended::Ended;
 use std::alloc::Global;
 use zliterals::epoch;
 use zout::Out;
+use zpath::Memory;
 use zserver::{Server, Snapshot, Stopped, Taken};
 use zserver_table::{Message, Process};
 
-/// Hands a server a message before that of the story; whether it acted. What it puts is let go.
-pub(crate) fn hand(
+/// A server that has taken a message, if there was memory for both. What it put is let go.
+pub(crate) fn after(
     alloc: Global,
-    server: &mut Server,
+    server: Result<Server, Memory>,
     from: Process,
     message: Message<Snapshot>,
-) -> bool {
+) -> Result<Server, Memory> {
+    let Ok(mut server) = server else {
+        drop(message);
+        return Err(Memory);
+    };
     let mut out = Out::new(alloc);
-    acts(server, from, message, &mut out)
+    let has_acted = acts(&mut server, from, message, &mut out);
+    drop(out);
+    if has_acted {
+        return Ok(server);
+    }
+    drop(server);
+    Err(Memory)
 }
 
 /// Hands a server a message, with nothing put before; whether it acted.
@@ -25,23 +36,28 @@ pub(crate) fn acts(
     message: Message<Snapshot>,
     out: &mut Out<Snapshot>,
 ) -> bool {
-    match server.take(from, message, out) {
-        Ok(Taken::Acted) => true,
-        Ok(Taken::Unheard) | Err(Stopped) => false,
-    }
+    matches!(server.take(from, message, out), Ok(Taken::Acted))
 }
 
-/// Hands a server the message of a story; it puts something where it acts.
+/// The story of a server that takes a message.
 pub(crate) fn takes(
     alloc: Global,
-    server: &mut Server,
+    server: Result<Server, Memory>,
     from: Process,
     message: Message<Snapshot>,
 ) -> Ended {
+    let Ok(mut server) = server else {
+        drop(message);
+        return Ended::NotBegun;
+    };
     let mut out = Out::new(alloc);
-    takes_at(server, from, message, &mut out)
+    let ended = takes_at(&mut server, from, message, &mut out);
+    drop(server);
+    drop(out);
+    ended
 }
 
+// It puts something where it acts.
 fn takes_at(
     server: &mut Server,
     from: Process,

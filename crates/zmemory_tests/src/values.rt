@@ -14,15 +14,24 @@ pub(crate) fn path(alloc: Global, text: &str) -> Result<Path, Memory> {
 
 /// An update that makes a node with two bytes.
 pub(crate) fn create(alloc: Global, text: &str) -> Result<Update, Memory> {
-    Ok(Update::Create(creation(alloc, text)?))
+    match creation(alloc, text) {
+        Ok(create) => Ok(Update::Create(create)),
+        Err(memory) => Err(memory),
+    }
 }
 
 fn creation(alloc: Global, text: &str) -> Result<Create, Memory> {
-    let path = path(alloc, text)?;
+    let Ok(path) = path(alloc, text) else {
+        return Err(Memory);
+    };
+    let Ok(bytes) = two_bytes(alloc) else {
+        drop(path);
+        return Err(Memory);
+    };
     Ok(Create {
         path,
         kind: Kind::Persistent,
-        bytes: two_bytes(alloc)?,
+        bytes,
     })
 }
 
@@ -32,16 +41,38 @@ fn two_bytes(alloc: Global) -> Result<Data, Memory> {
     };
     match Data::new(bytes) {
         Ok(data) => Ok(data),
-        Err(_) => Err(Memory),
+        Err(back) => {
+            drop(back);
+            Err(Memory)
+        }
     }
 }
 
 /// A multi that makes a node.
 pub(crate) fn multi(alloc: Global, text: &str) -> Result<Update, Memory> {
-    let mut parts = Vec::new(alloc);
-    parts.push(Part::Create(creation(alloc, text)?))?;
+    let Ok(create) = creation(alloc, text) else {
+        return Err(Memory);
+    };
+    let Ok(parts) = one_part(alloc, Part::Create(create)) else {
+        return Err(Memory);
+    };
     match Multi::new(parts) {
         Ok(multi) => Ok(Update::Multi(multi)),
-        Err(_) => Err(Memory),
+        Err(back) => {
+            drop(back);
+            Err(Memory)
+        }
+    }
+}
+
+fn one_part(alloc: Global, part: Part) -> Result<Vec<Part>, Memory> {
+    let mut parts = Vec::new(alloc);
+    match parts.push(part) {
+        Ok(()) => Ok(parts),
+        Err(refused) => {
+            drop(refused);
+            drop(parts);
+            Err(Memory)
+        }
     }
 }
