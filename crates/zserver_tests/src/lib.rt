@@ -9,6 +9,8 @@ mod joining;
 #[cfg(test)]
 mod mending;
 #[cfg(test)]
+mod play;
+#[cfg(test)]
 mod shown;
 #[cfg(test)]
 mod values;

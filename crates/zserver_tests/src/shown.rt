@@ -1,68 +1,65 @@
-//! What was put, in numbers.
+//! What was put, in words and numbers.
 
+use std::process::Abort;
 use zout::Out;
 use zserver::Snapshot;
-use zserver_table::{Message, Process};
+use zserver_table::{LogNumber, Message, Process};
 
-/// A message that was put, with its receiver's number first where that isn't the master.
-#[derive(Clone, Copy, PartialEq, Eq)]
-pub(crate) enum Shown {
-    Nothing,
-    /// To a server: its epoch and its log number.
-    Update(u8, u64, u64),
-    /// To a server: its epoch and its log number.
-    Ack(u8, u64, u64),
-    /// To a server: its epoch.
-    Snapshot(u8, u64),
-    /// Its epoch and its log number.
-    Have(u64, Option<u64>),
-    /// Its epoch.
-    Joined(u64),
-    /// To a client: the number of its call.
-    Answer(u8, u64),
-    Other,
+/// A message that was put: what its receiver is, and its number, 0 for the master; then what the message
+/// is, with its epoch or the number of its call, and its log number.
+pub(crate) type Shown = (&'static str, u8, &'static str, u64, Option<u64>);
+
+// What stands for no message.
+const NOTHING: Shown = ("nobody", 0, "nothing", 0, None);
+
+/// These messages were put, in this order, and no more.
+pub(crate) fn puts(rt: &impl Abort, out: &mut Out<Snapshot>, wanted: &[Shown]) {
+    for want in wanted {
+        assert!(rt; next(out) == *want);
+    }
+    assert!(rt; next(out) == NOTHING);
 }
 
-/// Takes the first message that was put.
-pub(crate) fn next(out: &mut Out<Snapshot>) -> Shown {
+// Takes the first message that was put.
+fn next(out: &mut Out<Snapshot>) -> Shown {
     let post = out.next();
     let shown = match &post {
         Some((to, message)) => show(to, message),
-        None => Shown::Nothing,
+        None => NOTHING,
     };
     drop(post);
     shown
 }
 
 fn show(to: &Process, message: &Message<Snapshot>) -> Shown {
+    let (what, number) = receiver(to);
+    let (word, first, last) = told(message);
+    (what, number, word, first, last)
+}
+
+fn receiver(to: &Process) -> (&'static str, u8) {
     match to {
-        Process::Server(to) => to_server(to.number(), message),
-        Process::Client(to) => to_client(to.number(), message),
-        Process::Master => to_master(message),
+        Process::Server(server) => ("server", server.number()),
+        Process::Client(client) => ("client", client.number()),
+        Process::Master => ("master", 0),
     }
 }
 
-fn to_client(to: u8, message: &Message<Snapshot>) -> Shown {
+fn told(message: &Message<Snapshot>) -> (&'static str, u64, Option<u64>) {
     match message {
-        Message::Answer(number, _) => Shown::Answer(to, number.number()),
-        _ => Shown::Other,
+        Message::Answer(number, _) => ("answer", number.number(), None),
+        Message::Update(epoch, n, _) => ("update", epoch.number(), Some(n.number())),
+        Message::Ack(epoch, n) => ("ack", epoch.number(), Some(n.number())),
+        Message::Snapshot(epoch, _) => ("snapshot", epoch.number(), None),
+        Message::Have(epoch, last) => ("have", epoch.number(), number_of(last)),
+        Message::Joined(epoch) => ("joined", epoch.number(), None),
+        _ => ("other", 0, None),
     }
 }
 
-fn to_server(to: u8, message: &Message<Snapshot>) -> Shown {
-    match message {
-        Message::Update(epoch, n, _) => Shown::Update(to, epoch.number(), n.number()),
-        Message::Ack(epoch, n) => Shown::Ack(to, epoch.number(), n.number()),
-        Message::Snapshot(epoch, _) => Shown::Snapshot(to, epoch.number()),
-        _ => Shown::Other,
-    }
-}
-
-fn to_master(message: &Message<Snapshot>) -> Shown {
-    match message {
-        Message::Have(epoch, Some(last)) => Shown::Have(epoch.number(), Some(last.number())),
-        Message::Have(epoch, None) => Shown::Have(epoch.number(), None),
-        Message::Joined(epoch) => Shown::Joined(epoch.number()),
-        _ => Shown::Other,
+fn number_of(last: &Option<LogNumber>) -> Option<u64> {
+    match last {
+        Some(last) => Some(last.number()),
+        None => None,
     }
 }
