@@ -1,18 +1,25 @@
 //! A join: the whole state is handed over, and taken.
 
 use crate::ended::{Ended, tell};
-use crate::serving::submit;
-use crate::taking::{acts, after, takes};
+use crate::story::{Story, Word, hears, hears_at, told};
+use crate::taking::{acts, takes};
 use std::alloc::Global;
-use zliterals::{client, epoch, server};
+use zliterals::{epoch, server};
 use zout::Out;
-use zpath::Memory;
 use zserver::{Server, Snapshot};
 use zserver_table::{Message, Process};
 
+// A server that is a chain alone, and has one entry, hears that server 2 joins behind it.
+const HANDS_OVER: Story = Story {
+    pred: 0,
+    succ: 0,
+    before: Some(Word::Submit),
+    word: Word::JoinedBy,
+};
+
 #[test]
 fn hands_its_state_over(rt: HostRuntime) {
-    tell(&rt, is_handed_over(rt.alloc()));
+    tell(&rt, told(rt.alloc(), &HANDS_OVER));
 }
 
 #[test]
@@ -20,42 +27,43 @@ fn takes_a_snapshot(rt: HostRuntime) {
     tell(&rt, is_taken_over(rt.alloc()));
 }
 
-fn is_handed_over(alloc: Global) -> Ended {
-    takes(alloc, only(alloc), Process::Master, joined_by())
-}
-
-// The master's word to server 1 that server 2 joins behind it.
-fn joined_by() -> Message<Snapshot> {
-    Message::NewSucc(epoch(1), server(2), None)
-}
-
-// A server that is a chain alone, and has one entry.
-fn only(alloc: Global) -> Result<Server, Memory> {
-    match submit(alloc) {
-        Ok(message) => after(
-            alloc,
-            Server::first(alloc, None, None),
-            Process::Client(client(1)),
-            message,
-        ),
-        Err(memory) => Err(memory),
-    }
-}
-
+// A spare server whose predecessor is server 1 takes what that one hands over.
 fn is_taken_over(alloc: Global) -> Ended {
-    match handed_over(alloc) {
-        Some(snapshot) => takes(alloc, joining(alloc), Process::Server(server(1)), snapshot),
-        None => Ended::NotBegun,
+    let Some(snapshot) = handed_over(alloc) else {
+        return Ended::NotBegun;
+    };
+    let mut spare = Server::spare(alloc);
+    let ended = joins(alloc, &mut spare, snapshot);
+    drop(spare);
+    ended
+}
+
+fn joins(alloc: Global, spare: &mut Server, snapshot: Message<Snapshot>) -> Ended {
+    if turns(alloc, spare) {
+        takes(alloc, spare, Process::Server(server(1)), snapshot)
+    } else {
+        drop(snapshot);
+        Ended::NotBegun
     }
+}
+
+// Whether server 1 is its predecessor from now on. What it puts is let go.
+fn turns(alloc: Global, spare: &mut Server) -> bool {
+    let mut out = Out::new(alloc);
+    let message = Message::NewPred(epoch(1), server(1));
+    let has_turned = acts(spare, Process::Master, message, &mut out);
+    drop(out);
+    has_turned
 }
 
 // What server 1 hands over.
 fn handed_over(alloc: Global) -> Option<Message<Snapshot>> {
-    let Ok(mut only) = only(alloc) else {
+    let Ok(mut only) = Server::first(alloc, None, None) else {
         return None;
     };
     let mut out = Out::new(alloc);
-    let _ = acts(&mut only, Process::Master, joined_by(), &mut out);
+    let _ = hears(alloc, &mut only, Word::Submit)
+        && hears_at(alloc, &mut only, Word::JoinedBy, &mut out);
     drop(only);
     let post = out.next();
     drop(out);
@@ -63,10 +71,4 @@ fn handed_over(alloc: Global) -> Option<Message<Snapshot>> {
         Some((_, message)) => Some(message),
         None => None,
     }
-}
-
-// A spare server whose predecessor is server 1.
-fn joining(alloc: Global) -> Result<Server, Memory> {
-    let message = Message::NewPred(epoch(1), server(1));
-    after(alloc, Ok(Server::spare(alloc)), Process::Master, message)
 }

@@ -21,6 +21,8 @@ mod mending;
 #[cfg(test)]
 mod serving;
 #[cfg(test)]
+mod story;
+#[cfg(test)]
 mod taking;
 #[cfg(test)]
 mod values;

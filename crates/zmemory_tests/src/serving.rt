@@ -4,101 +4,79 @@ ghost use Rattle.std.specs.Prelude.{◌≤◌};
 ghost use Rattle.zcalls.specs.declared.limits.TheConstants.{MAX_CALL_NUMBER};
 
 use crate::ended::{Ended, tell};
-use crate::machines::first_entry;
-use crate::taking::{acts, after, has_put, takes};
-use crate::values::create;
+use crate::story::{Story, Word, told};
+use crate::taking::{acts, has_put};
 use std::alloc::Global;
-use zcalls::{Query, Update};
-use zliterals::{call_number, client, epoch, log_number, server};
+use zcalls::Query;
+use zliterals::{call_number, client};
 use zout::Out;
 use zpath::{Memory, Path};
 use zserver::{Server, Snapshot, Stopped, Taken};
-use zserver_table::{Message, Process, ServerId};
+use zserver_table::{Message, Process};
+
+const SUBMIT_AT_THE_HEAD: Story = Story {
+    pred: 0,
+    succ: 2,
+    before: None,
+    word: Word::Submit,
+};
+
+const SUBMIT_AT_THE_ONLY_ONE: Story = Story {
+    pred: 0,
+    succ: 0,
+    before: None,
+    word: Word::Submit,
+};
+
+const UPDATE_IN_THE_MIDDLE: Story = Story {
+    pred: 1,
+    succ: 3,
+    before: None,
+    word: Word::Update,
+};
+
+const UPDATE_AT_THE_TAIL: Story = Story {
+    pred: 1,
+    succ: 0,
+    before: None,
+    word: Word::Update,
+};
+
+const ACK: Story = Story {
+    pred: 1,
+    succ: 3,
+    before: Some(Word::Tick),
+    word: Word::Ack,
+};
 
 #[test]
 fn takes_a_submit_at_the_head(rt: HostRuntime) {
-    tell(&rt, submit_is_taken(rt.alloc(), ServerId::new(2)));
+    tell(&rt, told(rt.alloc(), &SUBMIT_AT_THE_HEAD));
 }
 
 #[test]
 fn takes_a_submit_at_the_only_one(rt: HostRuntime) {
-    tell(&rt, submit_is_taken(rt.alloc(), None));
+    tell(&rt, told(rt.alloc(), &SUBMIT_AT_THE_ONLY_ONE));
 }
 
 #[test]
 fn takes_an_update_in_the_middle(rt: HostRuntime) {
-    tell(&rt, update_is_taken(rt.alloc(), ServerId::new(3)));
+    tell(&rt, told(rt.alloc(), &UPDATE_IN_THE_MIDDLE));
 }
 
 #[test]
 fn takes_an_update_at_the_tail(rt: HostRuntime) {
-    tell(&rt, update_is_taken(rt.alloc(), None));
+    tell(&rt, told(rt.alloc(), &UPDATE_AT_THE_TAIL));
 }
 
 #[test]
 fn takes_an_ack(rt: HostRuntime) {
-    tell(&rt, ack_is_taken(rt.alloc()));
+    tell(&rt, told(rt.alloc(), &ACK));
 }
 
 #[test]
 fn takes_a_query(rt: HostRuntime) {
     tell(&rt, query_is_taken(rt.alloc()));
-}
-
-/// Client 1's first call, which makes `/a`.
-pub(crate) fn submit(alloc: Global) -> Result<Message<Snapshot>, Memory> {
-    match create(alloc, "/a") {
-        Ok(update) => Ok(Message::Submit(call_number(1), update)),
-        Err(memory) => Err(memory),
-    }
-}
-
-/// The log's first entry, which makes `/a`.
-pub(crate) fn update(alloc: Global) -> Result<Message<Snapshot>, Memory> {
-    match create(alloc, "/a") {
-        Ok(update) => Ok(first_update(update)),
-        Err(memory) => Err(memory),
-    }
-}
-
-// The update as the first entry of the log.
-fn first_update(update: Update) -> Message<Snapshot> {
-    Message::Update(epoch(0), log_number(1), first_entry(update))
-}
-
-fn submit_is_taken(alloc: Global, succ: Option<ServerId>) -> Ended {
-    match submit(alloc) {
-        Ok(message) => takes(
-            alloc,
-            Server::first(alloc, None, succ),
-            Process::Client(client(1)),
-            message,
-        ),
-        Err(Memory) => Ended::NotBegun,
-    }
-}
-
-fn update_is_taken(alloc: Global, succ: Option<ServerId>) -> Ended {
-    match update(alloc) {
-        Ok(message) => takes(
-            alloc,
-            Server::first(alloc, ServerId::new(1), succ),
-            Process::Server(server(1)),
-            message,
-        ),
-        Err(Memory) => Ended::NotBegun,
-    }
-}
-
-fn ack_is_taken(alloc: Global) -> Ended {
-    let middle = after(
-        alloc,
-        Server::first(alloc, ServerId::new(1), ServerId::new(3)),
-        Process::Server(server(1)),
-        first_update(Update::Tick),
-    );
-    let message = Message::Ack(epoch(0), log_number(1));
-    takes(alloc, middle, Process::Server(server(3)), message)
 }
 
 fn query_is_taken(alloc: Global) -> Ended {

@@ -4,30 +4,8 @@ use crate::ended::Ended;
 use std::alloc::Global;
 use zliterals::epoch;
 use zout::Out;
-use zpath::Memory;
 use zserver::{Server, Snapshot, Stopped, Taken};
 use zserver_table::{Message, Process};
-
-/// A server that has taken a message, if there was memory for both. What it put is let go.
-pub(crate) fn after(
-    alloc: Global,
-    server: Result<Server, Memory>,
-    from: Process,
-    message: Message<Snapshot>,
-) -> Result<Server, Memory> {
-    let Ok(mut server) = server else {
-        drop(message);
-        return Err(Memory);
-    };
-    let mut out = Out::new(alloc);
-    let has_acted = acts(&mut server, from, message, &mut out);
-    drop(out);
-    if has_acted {
-        return Ok(server);
-    }
-    drop(server);
-    Err(Memory)
-}
 
 /// Hands a server a message, with nothing put before; whether it acted.
 pub(crate) fn acts(
@@ -39,25 +17,19 @@ pub(crate) fn acts(
     matches!(server.take(from, message, out), Ok(Taken::Acted))
 }
 
-/// The story of a server that takes a message.
+/// Hands a server the message of a story; it puts something where it acts.
 pub(crate) fn takes(
     alloc: Global,
-    server: Result<Server, Memory>,
+    server: &mut Server,
     from: Process,
     message: Message<Snapshot>,
 ) -> Ended {
-    let Ok(mut server) = server else {
-        drop(message);
-        return Ended::NotBegun;
-    };
     let mut out = Out::new(alloc);
-    let ended = takes_at(&mut server, from, message, &mut out);
-    drop(server);
+    let ended = takes_at(server, from, message, &mut out);
     drop(out);
     ended
 }
 
-// It puts something where it acts.
 fn takes_at(
     server: &mut Server,
     from: Process,

@@ -1,0 +1,131 @@
+//! Stories of a server of the opening chain: what it takes, and what it took before.
+
+use crate::ended::Ended;
+use crate::machines::first_entry;
+use crate::taking::{acts, takes};
+use crate::values::create;
+use std::alloc::Global;
+use zcalls::Update;
+use zliterals::{call_number, client, epoch, log_number, server};
+use zout::Out;
+use zpath::Memory;
+use zserver::{Server, Snapshot};
+use zserver_table::{Message, Process, ServerId};
+
+/// A server takes a message.
+pub(crate) struct Story {
+    /// Its predecessor in the opening chain, 0 for none.
+    pub(crate) pred: u8,
+    /// Its successor there, 0 for none.
+    pub(crate) succ: u8,
+    /// What it took before.
+    pub(crate) before: Option<Word>,
+    /// The message of the story.
+    pub(crate) word: Word,
+}
+
+/// A message.
+#[derive(Clone, Copy)]
+pub(crate) enum Word {
+    /// Client 1's first call, which makes `/a`.
+    Submit,
+    /// The log's first entry, which makes `/a`.
+    Update,
+    /// The log's first entry, a tick.
+    Tick,
+    /// The tail has processed the log's first entry.
+    Ack,
+    /// Server 2 is the predecessor now.
+    NewPred,
+    /// Server 4, which has no entry, is the successor now.
+    NewSucc,
+    /// There is no successor any more.
+    BecomeTail,
+    /// Server 2 joins behind.
+    JoinedBy,
+}
+
+/// How a story ends.
+pub(crate) fn told(alloc: Global, story: &Story) -> Ended {
+    let (pred, succ) = (ServerId::new(story.pred), ServerId::new(story.succ));
+    let Ok(mut server) = Server::first(alloc, pred, succ) else {
+        return Ended::NotBegun;
+    };
+    let ended = told_at(alloc, &mut server, story);
+    drop(server);
+    ended
+}
+
+fn told_at(alloc: Global, server: &mut Server, story: &Story) -> Ended {
+    if let Some(before) = story.before
+        && !hears(alloc, server, before)
+    {
+        return Ended::NotBegun;
+    }
+    match message(alloc, story.word) {
+        Ok(message) => takes(alloc, server, sender(story.word), message),
+        Err(Memory) => Ended::NotBegun,
+    }
+}
+
+/// Hands a server a message before that of the story; whether it acted. What it puts is let go.
+pub(crate) fn hears(alloc: Global, server: &mut Server, word: Word) -> bool {
+    let mut out = Out::new(alloc);
+    let has_acted = hears_at(alloc, server, word, &mut out);
+    drop(out);
+    has_acted
+}
+
+/// Hands a server a message; whether it acted.
+pub(crate) fn hears_at(
+    alloc: Global,
+    server: &mut Server,
+    word: Word,
+    out: &mut Out<Snapshot>,
+) -> bool {
+    match message(alloc, word) {
+        Ok(message) => acts(server, sender(word), message, out),
+        Err(Memory) => false,
+    }
+}
+
+fn sender(word: Word) -> Process {
+    match word {
+        Word::Submit => Process::Client(client(1)),
+        Word::Update | Word::Tick => Process::Server(server(1)),
+        Word::Ack => Process::Server(server(3)),
+        Word::NewPred | Word::NewSucc | Word::BecomeTail | Word::JoinedBy => Process::Master,
+    }
+}
+
+fn message(alloc: Global, word: Word) -> Result<Message<Snapshot>, Memory> {
+    match word {
+        Word::Submit => submit(alloc),
+        Word::Update => update(alloc),
+        Word::Tick => Ok(first_update(Update::Tick)),
+        Word::Ack => Ok(Message::Ack(epoch(0), log_number(1))),
+        Word::NewPred => Ok(Message::NewPred(epoch(1), server(2))),
+        Word::NewSucc => Ok(Message::NewSucc(epoch(1), server(4), Some(log_number(0)))),
+        Word::BecomeTail => Ok(Message::BecomeTail(epoch(1))),
+        Word::JoinedBy => Ok(Message::NewSucc(epoch(1), server(2), None)),
+    }
+}
+
+fn submit(alloc: Global) -> Result<Message<Snapshot>, Memory> {
+    match create(alloc, "/a") {
+        Ok(update) => Ok(Message::Submit(call_number(1), update)),
+        Err(memory) => Err(memory),
+    }
+}
+
+fn update(alloc: Global) -> Result<Message<Snapshot>, Memory> {
+    match create(alloc, "/a") {
+        Ok(update) => Ok(first_update(update)),
+        Err(memory) => Err(memory),
+    }
+}
+
+// The update as the first entry of the log.
+fn first_update(update: Update) -> Message<Snapshot> {
+    Message::Update(epoch(0), log_number(1), first_entry(update))
+}
