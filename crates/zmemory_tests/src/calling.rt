@@ -26,12 +26,12 @@ fn begins_a_query(rt: HostRuntime) {
 
 #[test]
 fn takes_a_config(rt: HostRuntime) {
-    tell(&rt, config_is_taken(rt.alloc()));
+    tell(&rt, waiting(rt.alloc(), Act::Hears));
 }
 
 #[test]
 fn retries(rt: HostRuntime) {
-    tell(&rt, call_is_retried(rt.alloc()));
+    tell(&rt, waiting(rt.alloc(), Act::Sends));
 }
 
 fn update_begins(alloc: Global) -> Ended {
@@ -79,17 +79,43 @@ fn begins_a_tick(core: &mut ClientCore, out: &mut Outbox) -> bool {
     }
 }
 
-fn config_is_taken(alloc: Global) -> Ended {
-    match waiting(alloc) {
-        Ok(mut core) => {
-            let mut out: Outbox = Out::new(alloc);
-            let ended = hears(&mut core, &mut out);
-            drop(core);
-            drop(out);
-            ended
-        }
-        Err(Memory) => Ended::NotBegun,
-    }
+// What a client does while it waits for its first call.
+#[derive(Clone, Copy)]
+enum Act {
+    Hears,
+    Sends,
+}
+
+// A client of a chain of one server does this while it waits for its first call.
+fn waiting(alloc: Global, act: Act) -> Ended {
+    let mut core = ClientCore::new(alloc, server(1));
+    let ended = if begins_first(alloc, &mut core) {
+        acts(alloc, &mut core, act)
+    } else {
+        Ended::NotBegun
+    };
+    drop(core);
+    ended
+}
+
+fn acts(alloc: Global, core: &mut ClientCore, act: Act) -> Ended {
+    let mut out: Outbox = Out::new(alloc);
+    let ended = match act {
+        Act::Hears => hears(core, &mut out),
+        Act::Sends => sends(core, &mut out),
+    };
+    drop(out);
+    ended
+}
+
+fn begins_first(alloc: Global, core: &mut ClientCore) -> bool {
+    let Ok(update) = create(alloc, "/a") else {
+        return false;
+    };
+    let mut before: Outbox = Out::new(alloc);
+    let has_begun = core.begin(Call::Update(update), &mut before).is_ok();
+    drop(before);
+    has_begun
 }
 
 // From now on server 2 is the whole chain.
@@ -131,19 +157,6 @@ fn hears_again(core: &mut ClientCore, out: &mut Outbox) -> bool {
     is_heard(core, out).is_ok() && has_put_to(2, out)
 }
 
-fn call_is_retried(alloc: Global) -> Ended {
-    match waiting(alloc) {
-        Ok(core) => {
-            let mut out: Outbox = Out::new(alloc);
-            let ended = sends(&core, &mut out);
-            drop(core);
-            drop(out);
-            ended
-        }
-        Err(Memory) => Ended::NotBegun,
-    }
-}
-
 fn sends(core: &ClientCore, out: &mut Outbox) -> Ended {
     match core.retry(out) {
         Ok(has_sent) => Ended::done(has_sent && has_put_to(1, out)),
@@ -153,26 +166,6 @@ fn sends(core: &ClientCore, out: &mut Outbox) -> Ended {
 
 fn sends_again(core: &ClientCore, out: &mut Outbox) -> bool {
     core.retry(out).is_ok() && has_put_to(1, out)
-}
-
-// A client of a chain of one server that waits for its first call.
-fn waiting(alloc: Global) -> Result<ClientCore, Memory> {
-    let Ok(update) = create(alloc, "/a") else {
-        return Err(Memory);
-    };
-    let mut core = ClientCore::new(alloc, server(1));
-    if begins_first(alloc, &mut core, update) {
-        return Ok(core);
-    }
-    drop(core);
-    Err(Memory)
-}
-
-fn begins_first(alloc: Global, core: &mut ClientCore, update: Update) -> bool {
-    let mut before: Outbox = Out::new(alloc);
-    let has_begun = core.begin(Call::Update(update), &mut before).is_ok();
-    drop(before);
-    has_begun
 }
 
 // Whether nothing was put, and the client still waits for its first call.

@@ -10,12 +10,7 @@ use zserver::{Server, Snapshot};
 use zserver_table::{Message, Process};
 
 // A server that is a chain alone, and has one entry, hears that server 2 joins behind it.
-const HANDS_OVER: Story = Story {
-    pred: 0,
-    succ: 0,
-    before: Some(Word::Submit),
-    word: Word::JoinedBy,
-};
+const HANDS_OVER: Story = (0, 0, Some(Word::Submit), Word::JoinedBy);
 
 #[test]
 fn hands_its_state_over(rt: HostRuntime) {

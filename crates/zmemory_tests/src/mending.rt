@@ -4,26 +4,11 @@
 use crate::ended::tell;
 use crate::story::{Story, Word, told};
 
-const NEW_PREDECESSOR: Story = Story {
-    pred: 1,
-    succ: 3,
-    before: Some(Word::Update),
-    word: Word::NewPred,
-};
+const NEW_PREDECESSOR: Story = (1, 3, Some(Word::Update), Word::NewPred);
 
-const NEW_SUCCESSOR: Story = Story {
-    pred: 1,
-    succ: 3,
-    before: Some(Word::Update),
-    word: Word::NewSucc,
-};
+const NEW_SUCCESSOR: Story = (1, 3, Some(Word::Update), Word::NewSucc);
 
-const TAIL: Story = Story {
-    pred: 1,
-    succ: 3,
-    before: Some(Word::Update),
-    word: Word::BecomeTail,
-};
+const TAIL: Story = (1, 3, Some(Word::Update), Word::BecomeTail);
 
 #[test]
 fn takes_a_new_predecessor(rt: HostRuntime) {

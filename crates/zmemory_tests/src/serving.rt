@@ -14,40 +14,15 @@ use zpath::{Memory, Path};
 use zserver::{Server, Snapshot, Stopped, Taken};
 use zserver_table::{Message, Process};
 
-const SUBMIT_AT_THE_HEAD: Story = Story {
-    pred: 0,
-    succ: 2,
-    before: None,
-    word: Word::Submit,
-};
+const SUBMIT_AT_THE_HEAD: Story = (0, 2, None, Word::Submit);
 
-const SUBMIT_AT_THE_ONLY_ONE: Story = Story {
-    pred: 0,
-    succ: 0,
-    before: None,
-    word: Word::Submit,
-};
+const SUBMIT_AT_THE_ONLY_ONE: Story = (0, 0, None, Word::Submit);
 
-const UPDATE_IN_THE_MIDDLE: Story = Story {
-    pred: 1,
-    succ: 3,
-    before: None,
-    word: Word::Update,
-};
+const UPDATE_IN_THE_MIDDLE: Story = (1, 3, None, Word::Update);
 
-const UPDATE_AT_THE_TAIL: Story = Story {
-    pred: 1,
-    succ: 0,
-    before: None,
-    word: Word::Update,
-};
+const UPDATE_AT_THE_TAIL: Story = (1, 0, None, Word::Update);
 
-const ACK: Story = Story {
-    pred: 1,
-    succ: 3,
-    before: Some(Word::Tick),
-    word: Word::Ack,
-};
+const ACK: Story = (1, 3, Some(Word::Tick), Word::Ack);
 
 #[test]
 fn takes_a_submit_at_the_head(rt: HostRuntime) {

@@ -12,17 +12,9 @@ use zpath::Memory;
 use zserver::{Server, Snapshot};
 use zserver_table::{Message, Process, ServerId};
 
-/// A server takes a message.
-pub(crate) struct Story {
-    /// Its predecessor in the opening chain, 0 for none.
-    pub(crate) pred: u8,
-    /// Its successor there, 0 for none.
-    pub(crate) succ: u8,
-    /// What it took before.
-    pub(crate) before: Option<Word>,
-    /// The message of the story.
-    pub(crate) word: Word,
-}
+/// A server takes a message: its predecessor and its successor in the opening chain, 0 for none, what it took
+/// before, and the message.
+pub(crate) type Story = (u8, u8, Option<Word>, Word);
 
 /// A message.
 #[derive(Clone, Copy)]
@@ -47,23 +39,24 @@ pub(crate) enum Word {
 
 /// How a story ends.
 pub(crate) fn told(alloc: Global, story: &Story) -> Ended {
-    let (pred, succ) = (ServerId::new(story.pred), ServerId::new(story.succ));
-    let Ok(mut server) = Server::first(alloc, pred, succ) else {
+    let (pred, succ, before, word) = *story;
+    let first = Server::first(alloc, ServerId::new(pred), ServerId::new(succ));
+    let Ok(mut server) = first else {
         return Ended::NotBegun;
     };
-    let ended = told_at(alloc, &mut server, story);
+    let ended = told_at(alloc, &mut server, before, word);
     drop(server);
     ended
 }
 
-fn told_at(alloc: Global, server: &mut Server, story: &Story) -> Ended {
-    if let Some(before) = story.before
+fn told_at(alloc: Global, server: &mut Server, before: Option<Word>, word: Word) -> Ended {
+    if let Some(before) = before
         && !hears(alloc, server, before)
     {
         return Ended::NotBegun;
     }
-    match message(alloc, story.word) {
-        Ok(message) => takes(alloc, server, sender(story.word), message),
+    match message(alloc, word) {
+        Ok(message) => takes(alloc, server, sender(word), message),
         Err(Memory) => Ended::NotBegun,
     }
 }
