@@ -1,4 +1,4 @@
-use Rattle.std.proofs.Common.{sym, ap, subst, ◌∙◌, arith}
+use Rattle.std.proofs.Common.{sym, ap, subst, ◌∙◌, arith, rules}
 use Rattle.std.specs.Prelude.{is_some}
 use Rattle.std.specs.FinMap as finite
 use Rattle.zslots.proofs.Maps.{id_cmp_total, id_cmp_same}
@@ -66,3 +66,6 @@ returns-in-Taken-clause-room c =
     let room = (c.put_back.ensures fits.taken fits.held).room in
     let one = ap returning c.in-Taken.is in
     omega (arith, room, one)
+
+pub returns-in-Marked-clause-parts : goal.returns-in-Marked-clause-parts
+returns-in-Marked-clause-parts c = search rules
