@@ -1,11 +1,10 @@
 //! Worked scripts over chains: servers fail and join, and messages are delivered by hand, or lost. An answer has the
 //! lines of the answers that clients took first.
 
-use crate::playing::{Row, plays_row_over};
-use std::test::Fail;
+use crate::playing::{Row, plays_rows};
 use zscript::Servers;
 
-const OVER_ONE: [Row; 2] = [
+const OVER_ONE: &[Row] = &[
     // The only server fails: the state is lost, and the server that joined meanwhile holds nothing.
     &[
         ("join s2", "done"),
@@ -24,7 +23,7 @@ const OVER_ONE: [Row; 2] = [
     ],
 ];
 
-const OVER_TWO: [Row; 1] = [
+const OVER_TWO: &[Row] = &[
     // The tail fails while a server joins: the snapshot that was under way has an old epoch, and isn't taken.
     &[
         ("1 create /a p aGk=", "ok /a"),
@@ -43,7 +42,7 @@ const OVER_TWO: [Row; 1] = [
     ],
 ];
 
-const OVER_THREE: [Row; 4] = [
+const OVER_THREE: &[Row] = &[
     // A server in the middle fails.
     &[
         ("1 create /a p -", "ok /a"),
@@ -84,25 +83,16 @@ const OVER_THREE: [Row; 4] = [
 ];
 
 #[test]
-fn plays_over_one_server(rt: HostRuntime) -> Result<(), Fail> {
-    for row in OVER_ONE {
-        plays_row_over(&rt, rt.alloc(), Servers::new(1), row)?;
-    }
-    Ok(())
+fn plays_over_one_server(rt: HostRuntime) {
+    plays_rows(&rt, rt.alloc(), Servers::new(1), OVER_ONE);
 }
 
 #[test]
-fn plays_over_two_servers(rt: HostRuntime) -> Result<(), Fail> {
-    for row in OVER_TWO {
-        plays_row_over(&rt, rt.alloc(), Servers::new(2), row)?;
-    }
-    Ok(())
+fn plays_over_two_servers(rt: HostRuntime) {
+    plays_rows(&rt, rt.alloc(), Servers::new(2), OVER_TWO);
 }
 
 #[test]
-fn plays_over_three_servers(rt: HostRuntime) -> Result<(), Fail> {
-    for row in OVER_THREE {
-        plays_row_over(&rt, rt.alloc(), Servers::new(3), row)?;
-    }
-    Ok(())
+fn plays_over_three_servers(rt: HostRuntime) {
+    plays_rows(&rt, rt.alloc(), Servers::new(3), OVER_THREE);
 }

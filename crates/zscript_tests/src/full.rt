@@ -1,43 +1,39 @@
-//! A tree that is full: 4,096 nodes, the root among them.
+//! A tree that is full: 4,096 nodes, the root among them, and `/a1` to `/a4095`, made in this order.
 
-use crate::playing::plays;
-use std::alloc::{AllocError, Global};
-use std::process::Abort;
-use std::test::Fail;
+use crate::pieces::Piece::{Each, Text};
+use crate::pieces::{Piece, plays_pieces};
 
-// Plays lines on a full tree: its nodes are the root, and `/a1` to `/a4095`, made in this order.
-fn plays_on_full(
-    rt: &impl Abort,
-    alloc: Global,
-    lines: &str,
-    answers: &str,
-) -> Result<(), AllocError> {
-    let mut script = String::new(alloc);
-    let mut text = String::new(alloc);
-    for number in 1..4096 {
-        write!(script, "1 create /a{number} p -\n")?;
-        write!(text, "ok /a{number}\n")?;
-    }
-    script.push_str(lines)?;
-    text.push_str(answers)?;
-    plays(rt, alloc, &script, &text, 65536);
-    Ok(())
-}
+const MADE: Piece = Each("1 create /a", 4095, " p -\n");
+
+const ITS_ANSWERS: Piece = Each("ok /a", 4095, "\n");
+
+const NODES: &[Piece] = &[
+    MADE,
+    Text("1 create /z p -\n1 delete /a1 any\n1 create /z p -\n1 create /y p -\n"),
+];
+
+const ANSWERS_OF_NODES: &[Piece] = &[ITS_ANSWERS, Text("no Full\nok deleted\nok /z\nno Full\n")];
 
 #[test]
-fn refuses_a_node_too_many(rt: HostRuntime) -> Result<(), Fail> {
-    let lines = "1 create /z p -\n1 delete /a1 any\n1 create /z p -\n1 create /y p -\n";
-    let answers = "no Full\nok deleted\nok /z\nno Full\n";
-    plays_on_full(&rt, rt.alloc(), lines, answers)?;
-    Ok(())
+fn refuses_a_node_too_many(rt: HostRuntime) {
+    plays_pieces(&rt, rt.alloc(), NODES, ANSWERS_OF_NODES);
 }
 
+const PARTS: &[Piece] = &[
+    MADE,
+    Text("1 multi create /z p - ; delete /a1 any\n"),
+    Text("1 multi delete /a1 any ; create /z p -\n"),
+    Text("1 multi delete /a2 any ; create /a2 p - ; check /a3 9\n"),
+    Text("1 exists /a2\n1 exists /\n"),
+];
+
+const ANSWERS_OF_PARTS: &[Piece] = &[
+    ITS_ANSWERS,
+    Text("no multi 1 Full\nok multi deleted ; /z\nno multi 3 BadVersion\n"),
+    Text("ok stat 2 2 2 0 0 0 0 0 0 0\nok stat 0 0 4096 0 0 0 4097 0 0 4095\n"),
+];
+
 #[test]
-fn refuses_a_part_too_many(rt: HostRuntime) -> Result<(), Fail> {
-    let lines =
-        "1 multi create /z p - ; delete /a1 any\n1 multi delete /a1 any ; create /z p -\n1 multi delete /a2 any ; create /a2 p - ; check /a3 9\n1 exists /a2\n1 exists /\n";
-    let answers =
-        "no multi 1 Full\nok multi deleted ; /z\nno multi 3 BadVersion\nok stat 2 2 2 0 0 0 0 0 0 0\nok stat 0 0 4096 0 0 0 4097 0 0 4095\n";
-    plays_on_full(&rt, rt.alloc(), lines, answers)?;
-    Ok(())
+fn refuses_a_part_too_many(rt: HostRuntime) {
+    plays_pieces(&rt, rt.alloc(), PARTS, ANSWERS_OF_PARTS);
 }

@@ -13,6 +13,8 @@ mod limits;
 #[cfg(test)]
 mod lines;
 #[cfg(test)]
+mod pieces;
+#[cfg(test)]
 mod playing;
 #[cfg(test)]
 mod rows;

@@ -1,69 +1,98 @@
 //! The limits of the text and of the service.
 
-use crate::playing::plays;
-use std::test::Fail;
+use crate::pieces::Piece::{Each, Text, Times};
+use crate::pieces::{Piece, plays_pieces};
+
+const LONGEST_NAME: &[Piece] = &[
+    Text("1 create /"),
+    Times("a", 255),
+    Text(" p -\n1 create /"),
+    Times("a", 256),
+    Text(" p -\n"),
+];
+
+const ITS_ANSWER: &[Piece] = &[
+    Text("ok /"),
+    Times("a", 255),
+    Text("\nbad path NameTooLong\n"),
+];
 
 #[test]
-fn knows_the_longest_name(rt: HostRuntime) -> Result<(), Fail> {
-    let name = "a".repeat(rt.alloc(), 255)?;
-    let script = format!(in rt.alloc(); "1 create /{name} p -\n1 create /{name}a p -\n")?;
-    let text = format!(in rt.alloc(); "ok /{name}\nbad path NameTooLong\n")?;
-    plays(&rt, rt.alloc(), &script, &text, 65536);
-    Ok(())
+fn knows_the_longest_name(rt: HostRuntime) {
+    plays_pieces(&rt, rt.alloc(), LONGEST_NAME, ITS_ANSWER);
 }
 
 // The counter stays where the made name is too long.
-#[test]
-fn knows_the_longest_sequential_name(rt: HostRuntime) -> Result<(), Fail> {
-    let name = "a".repeat(rt.alloc(), 245)?;
-    let script = format!(in rt.alloc();
-        "1 create /{name} ps -\n1 create /{name}a ps -\n1 create /b ps -\n1 create / ps -\n"
-    )?;
-    let text = format!(in rt.alloc();
-        "ok /{name}0000000000\nno PathLimit\nok /b0000000001\nno NodeExists\n"
-    )?;
-    plays(&rt, rt.alloc(), &script, &text, 65536);
-    Ok(())
-}
+const SEQUENTIAL_NAMES: &[Piece] = &[
+    Text("1 create /"),
+    Times("a", 245),
+    Text(" ps -\n1 create /"),
+    Times("a", 246),
+    Text(" ps -\n1 create /b ps -\n1 create / ps -\n"),
+];
+
+const MADE_NAMES: &[Piece] = &[
+    Text("ok /"),
+    Times("a", 245),
+    Text("0000000000\nno PathLimit\nok /b0000000001\nno NodeExists\n"),
+];
 
 #[test]
-fn knows_the_most_data(rt: HostRuntime) -> Result<(), Fail> {
-    let most = "QUFB".repeat(rt.alloc(), 1365)?;
-    let script = format!(in rt.alloc(); "1 create /a p {most}QQ==\n1 create /b p {most}QUE=\n")?;
-    plays(&rt, rt.alloc(), &script, "ok /a\nbad data\n", 65536);
-    Ok(())
+fn knows_the_longest_sequential_name(rt: HostRuntime) {
+    plays_pieces(&rt, rt.alloc(), SEQUENTIAL_NAMES, MADE_NAMES);
 }
 
-#[test]
-fn knows_the_most_parts(rt: HostRuntime) -> Result<(), Fail> {
-    let checks = " ; check / 0".repeat(rt.alloc(), 63)?;
-    let checked = " ; checked".repeat(rt.alloc(), 63)?;
-    let script = format!(in rt.alloc();
-        "1 multi check / 0{checks}\n1 multi check / 0{checks} ; check / 0\n"
-    )?;
-    let text = format!(in rt.alloc(); "ok multi checked{checked}\nbad line\n")?;
-    plays(&rt, rt.alloc(), &script, &text, 65536);
-    Ok(())
-}
+const MOST_DATA: &[Piece] = &[
+    Text("1 create /a p "),
+    Times("QUFB", 1365),
+    Text("QQ==\n1 create /b p "),
+    Times("QUFB", 1365),
+    Text("QUE=\n"),
+];
 
 #[test]
-fn answers_long_lines(rt: HostRuntime) -> Result<(), Fail> {
-    for len in [524288, 524289, 700000] {
-        let line = "x".repeat(rt.alloc(), len)?;
-        let script = format!(in rt.alloc(); "{line}\n1 ls /\n")?;
-        plays(&rt, rt.alloc(), &script, "bad line\nok 0\n", 65536);
+fn knows_the_most_data(rt: HostRuntime) {
+    plays_pieces(&rt, rt.alloc(), MOST_DATA, &[Text("ok /a\nbad data\n")]);
+}
+
+const MOST_PARTS: &[Piece] = &[
+    Text("1 multi check / 0"),
+    Times(" ; check / 0", 63),
+    Text("\n1 multi check / 0"),
+    Times(" ; check / 0", 64),
+    Text("\n"),
+];
+
+const CHECKED_PARTS: &[Piece] = &[
+    Text("ok multi checked"),
+    Times(" ; checked", 63),
+    Text("\nbad line\n"),
+];
+
+#[test]
+fn knows_the_most_parts(rt: HostRuntime) {
+    plays_pieces(&rt, rt.alloc(), MOST_PARTS, CHECKED_PARTS);
+}
+
+const LONG_LINES: &[&[Piece]] = &[
+    &[Times("x", 524288), Text("\n1 ls /\n")],
+    &[Times("x", 524289), Text("\n1 ls /\n")],
+    &[Times("x", 700000), Text("\n1 ls /\n")],
+];
+
+#[test]
+fn answers_long_lines(rt: HostRuntime) {
+    for script in LONG_LINES {
+        plays_pieces(&rt, rt.alloc(), script, &[Text("bad line\nok 0\n")]);
     }
-    Ok(())
 }
 
+const SESSIONS: &[Piece] = &[
+    Each("ok session ", 1024, " timeout 2\n"),
+    Text("no TooManySessions\n"),
+];
+
 #[test]
-fn opens_1024_sessions(rt: HostRuntime) -> Result<(), Fail> {
-    let script = "1 open 2\n".repeat(rt.alloc(), 1025)?;
-    let mut text = String::new(rt.alloc());
-    for number in 1..1025 {
-        write!(text, "ok session {number} timeout 2\n")?;
-    }
-    text.push_str("no TooManySessions\n")?;
-    plays(&rt, rt.alloc(), &script, &text, 65536);
-    Ok(())
+fn opens_1024_sessions(rt: HostRuntime) {
+    plays_pieces(&rt, rt.alloc(), &[Times("1 open 2\n", 1025)], SESSIONS);
 }

@@ -3,7 +3,7 @@
 use crate::playing::plays;
 
 // An empty script, and scripts whose last line has no LF.
-const ENDS: [(&str, &str); 4] = [
+const ENDS: &[(&str, &str)] = &[
     ("", ""),
     ("\n", "bad line\n"),
     ("1 exists /", "ok stat 0 0 0 0 0 0 0 0 0 0\n"),

@@ -2,16 +2,34 @@
 
 ghost use Rattle.std.specs.Prelude.{◌<◌};
 
-use std::alloc::{AllocError, Global};
+use std::alloc::Global;
 use std::process::Abort;
 use zscript::{Servers, SliceSource, VecSink, play};
 
 /// Lines, and beside each its answer.
 pub(crate) type Row = &'static [(&'static str, &'static str)];
 
-/// Plays a script over so many servers, by at most so many bytes a read and a write, and asserts that this is its
-/// answer.
-pub(crate) fn plays_over(
+/// Plays the lines of each row as a script of its own, over so many servers, in large blocks and byte by byte.
+pub(crate) fn plays_rows(rt: &impl Abort, alloc: Global, servers: Servers, rows: &[Row]) {
+    for row in rows {
+        let (script, text) = joined(rt, alloc, row);
+        plays_over(rt, alloc, servers, &script, &text, 65536);
+        plays_over(rt, alloc, servers, &script, &text, 1);
+        drop(script);
+        drop(text);
+    }
+}
+
+/// Plays a script over one server.
+pub(crate) fn plays(rt: &impl Abort, alloc: Global, script: &str, text: &str, at_most: usize)
+    requires { 0 < at_most }
+{
+    plays_over(rt, alloc, Servers::new(1), script, text, at_most);
+}
+
+// Plays a script over so many servers, by at most so many bytes a read and a write, and asserts that this is its
+// answer.
+fn plays_over(
     rt: &impl Abort,
     alloc: Global,
     servers: Servers,
@@ -24,37 +42,28 @@ pub(crate) fn plays_over(
     let mut source = SliceSource::new(script.as_bytes(), at_most);
     let mut sink = VecSink::new(alloc, at_most);
     let result = play(alloc, &mut source, &mut sink, servers);
-    assert_eq!(rt; result, Ok(()), "{script:?}");
-    assert_eq!(rt; sink.bytes(), text.as_bytes(), "{script:?}");
+    let is_answer = sink.bytes() == text.as_bytes();
+    drop(sink);
+    assert!(rt; result == Ok(()) && is_answer, "{script:?}");
 }
 
-/// Plays a script over one server.
-pub(crate) fn plays(rt: &impl Abort, alloc: Global, script: &str, text: &str, at_most: usize)
-    requires { 0 < at_most }
-{
-    plays_over(rt, alloc, Servers::new(1), script, text, at_most);
-}
-
-/// Plays the lines of a row as a script of its own, over so many servers, in large blocks and byte by byte.
-pub(crate) fn plays_row_over(
-    rt: &impl Abort,
-    alloc: Global,
-    servers: Servers,
-    row: Row,
-) -> Result<(), AllocError> {
+// The lines of a row, and their answers.
+fn joined(rt: &impl Abort, alloc: Global, row: Row) -> (String, String) {
     let mut script = String::new(alloc);
     let mut text = String::new(alloc);
     for (line, answer) in row {
-        write!(script, "{line}\n")?;
-        write!(text, "{answer}\n")?;
+        ends_line(rt, &mut script, line);
+        ends_line(rt, &mut text, answer);
     }
-    plays_over(rt, alloc, servers, &script, &text, 65536);
-    plays_over(rt, alloc, servers, &script, &text, 1);
-    Ok(())
+    (script, text)
 }
 
-/// Plays a row in which no server fails and none joins: it is answered alike over one server and over three.
-pub(crate) fn plays_row(rt: &impl Abort, alloc: Global, row: Row) -> Result<(), AllocError> {
-    plays_row_over(rt, alloc, Servers::new(1), row)?;
-    plays_row_over(rt, alloc, Servers::new(3), row)
+fn ends_line(rt: &impl Abort, text: &mut String, line: &str) {
+    adds(rt, text, line);
+    adds(rt, text, "\n");
+}
+
+/// Adds to a text.
+pub(crate) fn adds(rt: &impl Abort, text: &mut String, more: &str) {
+    text.push_str(more).expect(rt, "there is memory");
 }

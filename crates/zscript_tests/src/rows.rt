@@ -1,9 +1,10 @@
 //! Worked scripts, each a script of its own: lines, and beside each its answer.
 
-use crate::playing::{Row, plays_row};
-use std::test::Fail;
+use crate::playing::{Row, plays_rows};
+use zscript::Servers;
 
-const ROWS: [Row; 13] = [
+// No server fails and none joins: each row is answered alike over one server and over three.
+const ROWS: &[Row] = &[
     // A node is made, and read.
     &[
         ("1 create /a p aGk=", "ok /a"),
@@ -176,9 +177,7 @@ const ROWS: [Row; 13] = [
 ];
 
 #[test]
-fn plays_the_rows(rt: HostRuntime) -> Result<(), Fail> {
-    for row in ROWS {
-        plays_row(&rt, rt.alloc(), row)?;
-    }
-    Ok(())
+fn plays_the_rows(rt: HostRuntime) {
+    plays_rows(&rt, rt.alloc(), Servers::new(1), ROWS);
+    plays_rows(&rt, rt.alloc(), Servers::new(3), ROWS);
 }

@@ -1,9 +1,10 @@
 //! Worked scripts of sessions.
 
-use crate::playing::{Row, plays_row};
-use std::test::Fail;
+use crate::playing::{Row, plays_rows};
+use zscript::Servers;
 
-const ROWS: [Row; 10] = [
+// No server fails and none joins: each row is answered alike over one server and over three.
+const ROWS: &[Row] = &[
     // A session that isn't kept alive ends at its deadline, and takes its node with it.
     &[
         ("1 open 1", "ok session 1 timeout 2"),
@@ -120,9 +121,7 @@ const ROWS: [Row; 10] = [
 ];
 
 #[test]
-fn plays_the_rows_of_sessions(rt: HostRuntime) -> Result<(), Fail> {
-    for row in ROWS {
-        plays_row(&rt, rt.alloc(), row)?;
-    }
-    Ok(())
+fn plays_the_rows_of_sessions(rt: HostRuntime) {
+    plays_rows(&rt, rt.alloc(), Servers::new(1), ROWS);
+    plays_rows(&rt, rt.alloc(), Servers::new(3), ROWS);
 }

@@ -1,12 +1,12 @@
 //! A program's words, and what it tells.
 
-use std::alloc::{AllocError, Global};
-use std::test::Fail;
+use std::alloc::Global;
+use std::process::Abort;
 use zcommand::{Settings, WordsFault, command, settings};
 use zscript::{SliceSource, VecSink};
 
 // Words, and beside them how many servers they ask for.
-const GOOD: [(&str, u8); 5] = [
+const GOOD: &[(&str, u8)] = &[
     ("zk script", 1),
     ("zk script --servers 1", 1),
     ("zk script --servers=1", 1),
@@ -14,7 +14,7 @@ const GOOD: [(&str, u8); 5] = [
     ("zk script --servers 8", 8),
 ];
 
-const BAD: [&str; 13] = [
+const BAD: &[&str] = &[
     "zk",
     "zk race",
     "zk --help",
@@ -30,49 +30,70 @@ const BAD: [&str; 13] = [
     "zk --servers 1 script",
 ];
 
+// Words, after how many reads one fails, and after how many writes; the status, and what is told.
+const TOLD: &[(&str, u64, u64, u8, &str)] = &[
+    ("zk script", 9, 9, 0, ""),
+    ("zk script", 1, 9, 1, "zk: read failed\n"),
+    ("zk script", 9, 0, 1, "zk: write failed\n"),
+    ("zk", 9, 9, 2, "zk: bad words\n"),
+];
+
 #[test]
-fn reads_good_words(rt: HostRuntime) -> Result<(), Fail> {
+fn reads_good_words(rt: HostRuntime) {
     for (text, count) in GOOD {
-        let words: Vec<&str> = text.split(' ').collect(rt.alloc())?;
-        let read = settings(rt.alloc(), &words);
-        let asked = read.map(|Settings::Script(servers)| servers.count());
-        assert_eq!(rt; asked, Ok(count), "{text}");
+        let asked = servers_of(&rt, rt.alloc(), text);
+        assert!(rt; asked == Ok(*count), "{text}");
     }
-    Ok(())
 }
 
 #[test]
-fn refuses_bad_words(rt: HostRuntime) -> Result<(), Fail> {
+fn refuses_bad_words(rt: HostRuntime) {
     for text in BAD {
-        let words: Vec<&str> = text.split(' ').collect(rt.alloc())?;
-        let read = settings(rt.alloc(), &words);
-        assert_eq!(rt; read, Err(WordsFault::BadWords), "{text}");
+        let asked = servers_of(&rt, rt.alloc(), text);
+        assert!(rt; asked == Err(WordsFault::BadWords), "{text}");
     }
-    assert_eq!(rt; settings(rt.alloc(), &[]), Err(WordsFault::BadWords));
-    Ok(())
+    assert!(rt; settings(rt.alloc(), &[]) == Err(WordsFault::BadWords));
+}
+
+// How many servers these words ask for.
+fn servers_of(rt: &impl Abort, alloc: Global, text: &'static str) -> Result<u8, WordsFault> {
+    let words = words_of(rt, alloc, text);
+    let read = settings(alloc, &words);
+    drop(words);
+    match read {
+        Ok(settings) => Ok(count_of(settings)),
+        Err(fault) => Err(fault),
+    }
+}
+
+fn count_of(settings: Settings) -> u8 {
+    let Settings::Script(servers) = settings;
+    servers.count()
+}
+
+fn words_of(rt: &impl Abort, alloc: Global, text: &'static str) -> Vec<&'static str> {
+    let words: Result<Vec<&str>, _> = text.split(' ').collect(alloc);
+    words.expect(rt, "there is memory")
+}
+
+#[test]
+fn tells_its_faults(rt: HostRuntime) {
+    for (text, reads, writes, status, line) in TOLD {
+        let mut faults = VecSink::new(rt.alloc(), 65536);
+        let words = words_of(&rt, rt.alloc(), text);
+        let answered = run(rt.alloc(), &words, *reads, *writes, &mut faults);
+        let is_told = faults.bytes() == line.as_bytes();
+        drop(words);
+        drop(faults);
+        assert!(rt; answered == *status && is_told, "{line}");
+    }
 }
 
 // Runs the program over memory by these words: one read fails, and one write, each after so many.
-fn told(alloc: Global, text: &str, reads: u64, writes: u64) -> Result<(u8, VecSink), AllocError> {
-    let words: Vec<&str> = text.split(' ').collect(alloc)?;
+fn run(alloc: Global, words: &[&str], reads: u64, writes: u64, faults: &mut VecSink) -> u8 {
     let mut source = SliceSource::new(b"a\nb", 65536).failing_after(reads);
     let mut sink = VecSink::new(alloc, 65536).failing_after(writes);
-    let mut faults = VecSink::new(alloc, 65536);
-    let status = command(alloc, &words, &mut source, &mut sink, &mut faults);
-    Ok((status, faults))
-}
-
-#[test]
-fn tells_its_faults(rt: HostRuntime) -> Result<(), Fail> {
-    for (text, reads, writes, status, line) in [
-        ("zk script", 9, 9, 0, ""),
-        ("zk script", 1, 9, 1, "zk: read failed\n"),
-        ("zk script", 9, 0, 1, "zk: write failed\n"),
-        ("zk", 9, 9, 2, "zk: bad words\n"),
-    ] {
-        let (answered, faults) = told(rt.alloc(), text, reads, writes)?;
-        assert_eq!(rt; answered, status, "{line}");
-        assert_eq!(rt; faults.bytes(), line.as_bytes(), "{line}");
-    }
-    Ok(())
+    let status = command(alloc, words, &mut source, &mut sink, faults);
+    drop(sink);
+    status
 }

@@ -1,0 +1,49 @@
+//! Long scripts and their answers, built of pieces.
+
+use crate::playing::{adds, plays};
+use Piece::{Each, Text, Times};
+use std::alloc::Global;
+use std::process::Abort;
+
+/// A piece of a text.
+pub(crate) enum Piece {
+    /// This text.
+    Text(&'static str),
+    /// This text, so many times.
+    Times(&'static str, usize),
+    /// Each number from 1 up to this one, between these texts.
+    Each(&'static str, usize, &'static str),
+}
+
+/// Plays the script of these pieces over one server: its answer is of those.
+pub(crate) fn plays_pieces(rt: &impl Abort, alloc: Global, script: &[Piece], text: &[Piece]) {
+    let script = built(rt, alloc, script);
+    let text = built(rt, alloc, text);
+    plays(rt, alloc, &script, &text, 65536);
+    drop(script);
+    drop(text);
+}
+
+fn built(rt: &impl Abort, alloc: Global, pieces: &[Piece]) -> String {
+    let mut text = String::new(alloc);
+    for piece in pieces {
+        match piece {
+            Text(more) => adds(rt, &mut text, more),
+            Times(more, count) => adds_times(rt, &mut text, more, *count),
+            Each(before, last, behind) => adds_each(rt, &mut text, before, *last, behind),
+        }
+    }
+    text
+}
+
+fn adds_times(rt: &impl Abort, text: &mut String, more: &str, count: usize) {
+    for _ in 0..count {
+        adds(rt, text, more);
+    }
+}
+
+fn adds_each(rt: &impl Abort, text: &mut String, before: &str, last: usize, behind: &str) {
+    for number in 1..=last {
+        write!(text, "{before}{number}{behind}").expect(rt, "there is memory");
+    }
+}
