@@ -1,6 +1,6 @@
 -- What a run of the program comes to, told by what its devices did.
 use Rattle.std.specs.Prelude.{ℕ, ◌⊎◌, List, [], ◌∷◌, ◌++◌}
-use Rattle.zscript.specs.Device.{SourceRun, SinkRun, Failed, TookBeginning}
+use Rattle.zdevices.specs.Device.{SourceRun, SinkRun, Failed, TookBeginning}
 use Rattle.zscript.specs.Outcome.{IsPlayed, IsCutBy, play_fault_text}
 use Rattle.zscript.specs.Servers.{IsServers}
 use Rattle.zscript.specs.declared.fault.PlayFault.{PlayFault}

@@ -1,7 +1,7 @@
 //! A run of the program, without its devices.
 
 ghost use Rattle.std.specs.Prelude.{◌≡◌, ◌≤◌, [], codes};
-ghost use Rattle.zscript.specs.Device.{source_run, sink_run};
+ghost use Rattle.zdevices.specs.Device.{source_run, sink_run};
 ghost use Rattle.zcommand.specs.Words.{words_fault_text, words_fault_status};
 ghost use Rattle.zcommand.specs.Command.{IsTold, IsPlayedBySome, IsCutAndTold};
 

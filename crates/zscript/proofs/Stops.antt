@@ -3,7 +3,7 @@ use Rattle.std.proofs.Common.{◌≡◌, ◌<◌, ◌+◌, ℕ, List, [], ◌∷
 use Rattle.std.proofs.lemmas.List.{append-nil}
 use Rattle.zanswers.specs.Line.{ServiceWorld}
 use Rattle.zanswers.specs.Done.{IsLineDone}
-use Rattle.zscript.specs.Device.{TookBeginning, Failed}
+use Rattle.zdevices.specs.Device.{TookBeginning, Failed}
 use Rattle.zscript.specs.support.Lines.{whole_lines_after, line_left, last_line, lines_after, AreLinesDone, IsPart}
 use Rattle.zscript.specs.support.PlayerView.{PlayerView, world_now, Tells}
 use Rattle.zscript.specs.Outcome.{IsStopped}

@@ -1,6 +1,6 @@
 -- A text that is told in two steps.
 use Rattle.std.proofs.Common.{ℕ, List, ◌++◌, sym, ap, ◌∙◌, subst, append_assoc}
-use Rattle.zscript.specs.Device.{TookBeginning}
+use Rattle.zdevices.specs.Device.{TookBeginning}
 use Rattle.zscript.specs.support.PlayerView.{Tells}
 
 -- what follows a text is held with it

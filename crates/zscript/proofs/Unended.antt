@@ -2,7 +2,7 @@
 use Rattle.std.proofs.Common.{◌≡◌, ℕ, List, [], ◌∷◌, ◌++◌, inl, inr, refl, ◌∙◌, sym}
 use Rattle.zworld_model.specs.declared.outcome.Outcome.{Outcome}
 use Rattle.zanswers.specs.Line.{opening_script, answers}
-use Rattle.zscript.specs.Device.{IsBeginning}
+use Rattle.zdevices.specs.Device.{IsBeginning}
 use Rattle.zscript.specs.Script.{whole_lines_of}
 use Rattle.zscript.specs.Outcome.{AreRead}
 use Rattle.zscript.specs.Laws.{UnendedLinesHaveNoAnswer}

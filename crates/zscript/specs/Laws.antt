@@ -1,6 +1,6 @@
 -- What holds of the definitions themselves: a line that has no LF is none before the source told its end.
 use Rattle.std.specs.Prelude.{◌≡◌, List, ℕ, [], ◌∷◌}
-use Rattle.zscript.specs.Device.{SourceRun, SinkRun}
+use Rattle.zdevices.specs.Device.{SourceRun, SinkRun}
 use Rattle.zscript.specs.Outcome.{IsCut}
 
 -- A source that gave these bytes and did not tell its end.

@@ -1,7 +1,7 @@
 -- What a run of the player comes to, told by what its devices did from its start to its end. Each names the
 -- outcomes of the run's events, in turn, under which the text was the one that was written.
 use Rattle.std.specs.Prelude.{◌≡◌, ℕ, ◌<◌, ◌⊎◌, List, [], ◌++◌, length, codes}
-use Rattle.zscript.specs.Device.{SourceRun, SinkRun, Failed, TookBeginning}
+use Rattle.zdevices.specs.Device.{SourceRun, SinkRun, Failed, TookBeginning}
 use Rattle.zworld_model.specs.declared.outcome.Outcome.{Outcome}
 use Rattle.zanswers.specs.Line.{ServiceWorld, script_state, opening_script, answers}
 use Rattle.zscript.specs.Script.{opening_of, lines_of, whole_lines_of, text_of}

@@ -1,5 +1,4 @@
 -- What serves the proofs alone: nobody has to believe it.
-pub mod DeviceLaws
 pub mod Lines
 pub mod PlayerView
 pub mod Stops

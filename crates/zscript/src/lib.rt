@@ -1,8 +1,8 @@
 //! Plays a script of lines: bytes from a source become answers at a sink.
 //!
 //! `play` is the whole: over any `Source` and any `Sink` it writes the text of the bytes that it reads (`text_of`,
-//! specs/Script.antt), and says by a `PlayFault` why it stopped earlier (`IsCutBy`, specs/Outcome.antt). Devices over
-//! memory are `SliceSource` and `VecSink`; `ReaderSource` and `WriterSink` are over any reader and writer of std.
+//! specs/Script.antt), and says by a `PlayFault` why it stopped earlier (`IsCutBy`, specs/Outcome.antt). The devices
+//! are those of `zdevices`, and can be named here.
 //!
 //! ```text
 //! let mut source = SliceSource::new(b"1 create /a p aGk=\n1 get /a\n", 4096);
@@ -11,22 +11,18 @@
 //! ```
 #![tactic(auto)]
 
-mod device;
 mod fault;
 pub mod laws;
 pub mod limits;
-mod memory;
 mod output;
 mod player;
 mod rows;
 mod script;
 mod servers;
-mod stream;
 
-pub use device::{DeviceFault, Sink, Source};
 pub use fault::PlayFault;
-pub use memory::{SliceSource, VecSink};
-pub use output::write_all;
 pub use script::play;
 pub use servers::Servers;
-pub use stream::{ReaderSource, WriterSink};
+pub use zdevices::{
+    DeviceFault, ReaderSource, Sink, SliceSource, Source, VecSink, WriterSink, write_all,
+};

@@ -1,27 +1,12 @@
 //! Replies on their way to the sink: held in a block, and written whole.
 
 ghost use Rattle.std.specs.Prelude.{◌≡◌, ◌<◌, [], OnOk, OnErr, string_bytes, string_len};
-ghost use Rattle.zscript.specs.Device.{Between, TookBeginning, Failed};
+ghost use Rattle.zdevices.specs.Device.{Between, TookBeginning, Failed};
 ghost use Rattle.zscript.specs.support.PlayerView.{Tells};
 
-use crate::device::{DeviceFault, Sink};
 use crate::limits::BLOCK;
 use std::alloc::Global;
-
-/// Writes all the bytes. After a fault the sink has taken a beginning of them.
-pub fn write_all<K: Sink>(sink: &mut K, bytes: &[u8]) -> Result<(), DeviceFault>
-    ensures took { OnOk result (K.took sink.old bytes.now sink.new) }
-    ensures sound { OnOk result (K.failed sink.old 0 sink.new) }
-    ensures beginning { TookBeginning (Between K.took sink.old sink.new) bytes.now }
-    ensures failed { OnErr result (Failed (Between K.failed sink.old sink.new)) }
-{
-    let mut done = 0;
-    while done < bytes.len() {
-        let count = sink.write(&bytes[done..])?;
-        done += count;
-    }
-    Ok(())
-}
+use zdevices::{DeviceFault, Sink, write_all};
 
 /// The replies that were not written yet.
 #[derive(Drop)]

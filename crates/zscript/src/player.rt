@@ -1,14 +1,13 @@
 //! What plays a script: fed with its bytes block by block, it answers each line as soon as its LF is there.
 
 ghost use Rattle.std.specs.Prelude.{◌≡◌, ◌<◌, ◌≤◌, [], ◌++◌, length, IfOk, IfErr, IfSome, IfNone, OnOk, OnErr, string_bytes};
-ghost use Rattle.zscript.specs.Device.{Between, sink_run, TookBeginning, Failed};
+ghost use Rattle.zdevices.specs.Device.{Between, sink_run, TookBeginning, Failed};
 ghost use Rattle.zscript.specs.Script.{opening_of};
 ghost use Rattle.zanswers.specs.Done.{IsLineDone};
 ghost use Rattle.zscript.specs.support.Lines.{whole_lines_after, line_left, last_line, AreLinesDone, IsPart, IsCutAtEnd};
 ghost use Rattle.zscript.specs.support.PlayerView.{IsFresh, world_now, kept_front, Tells};
 ghost use Rattle.zscript.specs.support.Stops.{IsBlockStoppedBy, IsEndStoppedBy, AreLinesStoppedBy, IsLineStoppedBy};
 
-use crate::device::{DeviceFault, Sink};
 use crate::fault::PlayFault;
 use crate::limits::KEPT;
 use crate::output::Output;
@@ -17,6 +16,7 @@ use memchr::memchr;
 use std::alloc::Global;
 use std::marker::Model;
 use zanswers::Chain;
+use zdevices::{DeviceFault, Sink};
 use zpath::Memory;
 
 /// Plays a script.

@@ -1,17 +1,17 @@
 //! Plays a script from a source to a sink.
 
 ghost use Rattle.std.specs.Prelude.{◌≡◌, ℕ, ◌<◌, length, IfOk, OnOk, OnErr, IfErr, vec_len};
-ghost use Rattle.zscript.specs.Device.{source_run, sink_run};
+ghost use Rattle.zdevices.specs.Device.{source_run, sink_run};
 ghost use Rattle.zscript.specs.Script.{opening_of};
 ghost use Rattle.zscript.specs.Outcome.{IsPlayed, IsCut, IsCutBy};
 ghost use Rattle.zscript.specs.support.PlayerView.{IsFresh, world_now};
 
-use crate::device::{Sink, Source};
 use crate::fault::PlayFault;
 use crate::limits::BLOCK;
 use crate::player::Player;
 use crate::servers::Servers;
 use std::alloc::{AllocError, Global};
+use zdevices::{Sink, Source};
 
 /// Plays a script to the end that its source tells: each line as soon as its LF is read, and a last line
 /// without one at the end.

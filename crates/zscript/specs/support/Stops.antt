@@ -2,7 +2,7 @@
 use Rattle.std.specs.Prelude.{ℕ, ◌<◌, List, [], ◌++◌, length}
 use Rattle.zanswers.specs.Line.{ServiceWorld}
 use Rattle.zanswers.specs.Done.{IsLineDone}
-use Rattle.zscript.specs.Device.{SinkRun, Failed, TookBeginning}
+use Rattle.zdevices.specs.Device.{SinkRun, Failed, TookBeginning}
 use Rattle.zscript.specs.Outcome.{IsStopped}
 use Rattle.zscript.specs.support.Lines.{whole_lines_after, last_line, lines_after}
 use Rattle.zscript.specs.support.PlayerView.{PlayerView, world_now}

@@ -1,5 +1,5 @@
 use Rattle.std.proofs.Common.{ℕ, List, inr, sym, subst, ◌∙◌, arith}
-use Rattle.zscript.specs.Device.{sink_run}
+use Rattle.zdevices.specs.Device.{sink_run}
 use Rattle.zscript.specs.declared.fault.PlayFault.TheVariants.{Memory}
 use Rattle.zcommand.specs.Command.{IsTold}
 use Rattle.zcommand.proofs.Told.{text-status_1, text-status_2}

@@ -1,5 +1,5 @@
 use Rattle.std.proofs.Common.{◌∷◌, [], inl, inr}
-use Rattle.zscript.specs.Device.{Between}
+use Rattle.zdevices.specs.Device.{Between}
 use Rattle.zscript.proofs.Stops.{beginning-longer, beginning-later, failed_after}
 use Rattle.zcommand.proofs.program.tell.Goals as goal
 

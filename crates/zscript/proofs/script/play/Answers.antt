@@ -1,5 +1,5 @@
 use Rattle.std.proofs.lemmas.Result.{err_from_is_err_and, on_ok_weaker, on_err_weaker, IfErr-weaker}
-use Rattle.zscript.specs.Device.{source_run, sink_run}
+use Rattle.zdevices.specs.Device.{source_run, sink_run}
 use Rattle.zscript.specs.declared.fault.PlayFault.TheVariants.{Memory}
 use Rattle.zscript.proofs.Cutting.{Ended, ended_unread}
 use Rattle.zscript.proofs.script.play.Given.{Over}

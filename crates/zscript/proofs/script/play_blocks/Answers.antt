@@ -1,7 +1,7 @@
 use Rattle.std.proofs.Common.{◌≡◌, ℕ, [], ◌++◌, take}
 use Rattle.std.proofs.lemmas.List.{append-nil}
 use Rattle.std.proofs.lemmas.Result.{err_from_is_err_and}
-use Rattle.zscript.specs.Device.{Between, source_run, sink_run}
+use Rattle.zdevices.specs.Device.{Between, source_run, sink_run}
 use Rattle.zscript.specs.Script.{opening_of}
 use Rattle.zscript.specs.support.PlayerView.{world_now}
 use Rattle.zscript.proofs.Runs.{heard-nil, heard-append, heard-last}

@@ -1,5 +1,5 @@
 use Rattle.std.proofs.Common.{List, ℕ}
-use Rattle.zscript.specs.Device.{Between}
+use Rattle.zdevices.specs.Device.{Between}
 use Rattle.zscript.specs.support.PlayerView.{world_now}
 use Rattle.zscript.proofs.Runs.{Heard}
 use Rattle.zscript.proofs.script.play_blocks.Given as goal

@@ -1,5 +1,5 @@
 use Rattle.std.proofs.Common.{◌≡◌, ◌++◌, ap, subst, ◌∙◌}
-use Rattle.zscript.specs.Device.{Between, TookBeginning}
+use Rattle.zdevices.specs.Device.{Between, TookBeginning}
 use Rattle.zscript.specs.support.PlayerView.{PlayerView, world_now}
 use Rattle.zscript.proofs.Done.{line_done-written}
 use Rattle.zscript.proofs.player.Player.end_line.Goals as goal

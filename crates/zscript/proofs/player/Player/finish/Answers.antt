@@ -2,7 +2,7 @@ use Rattle.std.proofs.Common.{◌≡◌, ◌<◌, length, ap, arith}
 use Rattle.std.proofs.lemmas.List.{append-nil}
 use Rattle.std.proofs.lemmas.Bool.Decides.{nat_tests}
 use Rattle.std.proofs.lemmas.Result.{err_from_is_err_and}
-use Rattle.zscript.specs.Device.{Between}
+use Rattle.zdevices.specs.Device.{Between}
 use Rattle.zscript.specs.support.PlayerView.{PlayerView, world_now}
 use Rattle.zscript.proofs.Stops.{line-stopped, line-cut, last_line-some, failed_after, line-told, none-told}
 use Rattle.zscript.proofs.player.Player.finish.Goals as goal

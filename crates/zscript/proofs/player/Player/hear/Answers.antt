@@ -1,6 +1,6 @@
 use Rattle.std.proofs.Common.{◌<◌, length, length-append, ap, ◌∙◌, arith}
 use Rattle.std.proofs.lemmas.Result.{err_from_is_err_and}
-use Rattle.zscript.specs.Device.{Between}
+use Rattle.zdevices.specs.Device.{Between}
 use Rattle.zscript.specs.support.Lines.{whole_lines_after, line_left, last_line}
 use Rattle.zscript.specs.support.PlayerView.{world_now}
 use Rattle.zscript.proofs.Stops.{stopped-longer, left-stopped, replies-stopped, replies-written, failed_after}

@@ -1,5 +1,5 @@
 use Rattle.std.proofs.lemmas.Result.{err_from_is_err_and}
-use Rattle.zscript.specs.Device.{Between}
+use Rattle.zdevices.specs.Device.{Between}
 use Rattle.zscript.proofs.Progress.{progress-none, progress-line, progress-whole, progress-left}
 use Rattle.zscript.proofs.Stops.{progress-stopped}
 use Rattle.zscript.proofs.player.Player.play_lines.Goals as goal

@@ -1,5 +1,5 @@
 use Rattle.std.proofs.Common.{length}
-use Rattle.zscript.specs.Device.{Between}
+use Rattle.zdevices.specs.Device.{Between}
 use Rattle.zscript.proofs.Progress.{Progress}
 use Rattle.zscript.proofs.player.Player.play_lines.Given as goal
 

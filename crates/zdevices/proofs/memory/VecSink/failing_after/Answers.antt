@@ -1,0 +1,5 @@
+use Rattle.std.proofs.Common.{rules}
+use Rattle.zdevices.proofs.memory.VecSink.failing_after.Goals as goal
+
+pub returns : goal.returns
+returns c = search rules

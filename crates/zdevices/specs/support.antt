@@ -1,0 +1,2 @@
+-- What serves the proofs alone: nobody has to believe it.
+pub mod DeviceLaws

@@ -1,0 +1,52 @@
+-- What a device did in two stretches, one after the other: the laws that each device owes its trait.
+use Rattle.std.specs.Prelude.{◌≡◌, ℕ, zero, suc, ◌<◌, ◌+◌, Bool, List, [], ◌++◌, Option, None, Some}
+use Rattle.std.specs.Io.KnownBytes.{Consumes, Appends}
+use Rattle.std.proofs.Common.{ap, sym, ◌∙◌, append_assoc, refl, arith, true}
+use Rattle.std.proofs.lemmas.List.{append-nil}
+use Rattle.zdevices.specs.Device.{Raises}
+
+-- a flag stays where nothing failed
+pub never_raises : (flag : Bool) → Raises flag 0 flag
+never_raises flag = record { kept = λ e. e; raised = λ some. absurd (omega arith); same = λ _. refl }
+
+-- failures of two stretches add up
+pub raises_both : (a b c : Bool) (m n : ℕ) → Raises a m b → Raises b n c → Raises a (m + n) c
+raises_both a b c m n first second = record {
+  kept = λ e. second.kept (first.kept e);
+  raised = λ some. some_raised some m refl;
+  same = λ none. second.same (omega arith) ∙ first.same (omega arith);
+}
+  where
+    some_raised : 0 < m + n → (k : ℕ) → k ≡ m → c ≡ true
+    some_raised some zero e = second.raised (omega arith)
+    some_raised some (suc k) e = second.kept (first.raised (omega arith))
+
+-- what is left after two pieces is what is left after both
+pub left_after_both : (s t u a b : List ℕ) → s ≡ a ++ t → t ≡ b ++ u → s ≡ (a ++ b) ++ u
+left_after_both s t u a b first second = first ∙ ap (λ x. a ++ x) second ∙ sym (append_assoc a b u)
+
+-- what is held after two pieces is what was held, and both
+pub held_after_both : (s t u a b : List ℕ) → t ≡ s ++ a → u ≡ t ++ b → u ≡ s ++ (a ++ b)
+held_after_both s t u a b first second = second ∙ ap (λ x. x ++ b) first ∙ append_assoc s a b
+
+-- the same of a reader, where its bytes are known
+pub consumes_nothing : (o : Option (List ℕ)) → Consumes o o []
+consumes_nothing None = tt
+consumes_nothing (Some xs) = refl
+
+pub consumes_both : (o p q : Option (List ℕ)) (a b : List ℕ) → Consumes o p a → Consumes p q b → Consumes o q (a ++ b)
+consumes_both None p q a b first second = tt
+consumes_both (Some s) None q a b first second = absurd first
+consumes_both (Some s) (Some t) None a b first second = absurd second
+consumes_both (Some s) (Some t) (Some u) a b first second = left_after_both s t u a b first second
+
+-- and of a writer
+pub appends_nothing : (o : Option (List ℕ)) → Appends o o []
+appends_nothing None = tt
+appends_nothing (Some xs) = sym (append-nil xs)
+
+pub appends_both : (o p q : Option (List ℕ)) (a b : List ℕ) → Appends o p a → Appends p q b → Appends o q (a ++ b)
+appends_both None p q a b first second = tt
+appends_both (Some s) None q a b first second = absurd first
+appends_both (Some s) (Some t) None a b first second = absurd second
+appends_both (Some s) (Some t) (Some u) a b first second = held_after_both s t u a b first second

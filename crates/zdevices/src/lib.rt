@@ -1,0 +1,15 @@
+//! Where bytes come from and where they go: devices, by what they promise of each read and each write.
+//!
+//! A `Source` and a `Sink` are told by relations between their states (specs/Device.antt). Devices over memory are
+//! `SliceSource` and `VecSink`; `ReaderSource` and `WriterSink` are over any reader and writer of std.
+#![tactic(auto)]
+
+mod device;
+mod memory;
+mod stream;
+mod writing;
+
+pub use device::{DeviceFault, Sink, Source};
+pub use memory::{SliceSource, VecSink};
+pub use stream::{ReaderSource, WriterSink};
+pub use writing::write_all;

@@ -1,0 +1,214 @@
+//! Devices over memory, for tests and for callers that hold their script.
+//!
+//! Both are exact: what was handed out is what is no longer left, and what was taken is what is held.
+
+ghost use Rattle.std.specs.Prelude.{◌≡◌, ◌<◌, ◌+◌, List, [], ◌++◌, length, refl, ◌-◌, ◌↔◌, true, false, Some, None, IfSome};
+ghost use Rattle.zdevices.specs.Device.{Raises};
+ghost use Rattle.zdevices.specs.support.DeviceLaws.{never_raises, raises_both, left_after_both, held_after_both};
+ghost use Rattle.std.proofs.Common.{sym};
+ghost use Rattle.std.proofs.lemmas.List.{append-nil};
+
+use crate::device::{DeviceFault, Sink, Source};
+use std::alloc::Global;
+use std::marker::Model;
+
+// Fails once, after so many calls.
+#[derive(Clone, Copy)]
+struct Failure {
+    calls_left: Option<u64>,
+}
+
+impl Failure {
+    // Counts one call down, and answers whether this is the one that fails.
+    fn comes(&mut self) -> bool
+        ensures due { (result ≡ true) ↔ (self.old.calls_left ≡ Some 0) }
+        ensures once { result ≡ true → self.new.calls_left ≡ None }
+        ensures never { self.old.calls_left ≡ None → self.new.calls_left ≡ None }
+        ensures counted { IfSome self.old.calls_left (λ calls. 0 < calls → self.new.calls_left
+            ≡ Some (calls - 1)) }
+    {
+        match self.calls_left {
+            None => false,
+            Some(0) => {
+                self.calls_left = None;
+                true
+            }
+            Some(count) => {
+                self.calls_left = Some(count - 1);
+                false
+            }
+        }
+    }
+}
+
+/// Hands out a slice.
+#[derive(Drop)]
+pub struct SliceSource<'a> {
+    left: &'a [u8],
+    at_most: usize,
+    failure: Failure,
+    has_failed: bool,
+}
+
+impl<'a> Model for SliceSource<'a> {
+    ghost use Rattle.std.specs.Prelude.{◌<◌};
+    ghost use Rattle.zdevices.specs.DeviceViews.{SliceSourceView};
+
+    ghost Value = { SliceSourceView };
+
+    ghost view = { λ s. record {
+      left = s.left.now;
+      at_most = s.at_most;
+      fails_after = s.failure.calls_left;
+      has_failed = s.has_failed;
+    } };
+
+    ghost invariant = { λ s. 0 < s.at_most };
+}
+
+impl<'a> SliceSource<'a> {
+    /// Hands out these bytes, at most so many at a read.
+    pub fn new(left: &'a [u8], at_most: usize) -> SliceSource<'a>
+        requires { 0 < at_most }
+        ensures left { result.left ≡ left.entry.now }
+        ensures at_most { result.at_most ≡ at_most }
+        ensures failure { result.fails_after ≡ None }
+        ensures sound { result.has_failed ≡ false }
+    {
+        SliceSource {
+            left,
+            at_most,
+            failure: Failure { calls_left: None },
+            has_failed: false,
+        }
+    }
+
+    /// The same bytes, but one read fails: the one after so many reads.
+    pub fn failing_after(self, reads: u64) -> SliceSource<'a>
+        ensures { result ≡ record self.entry { fails_after = Some reads } }
+    {
+        SliceSource {
+            left: self.left,
+            at_most: self.at_most,
+            failure: Failure {
+                calls_left: Some(reads),
+            },
+            has_failed: self.has_failed,
+        }
+    }
+}
+
+impl Source for SliceSource<'_> {
+    ghost gave = { λ s bytes t. s.left ≡ bytes ++ t.left };
+
+    ghost failed = { λ s count t. Raises s.has_failed count t.has_failed };
+
+    ghost has_ended = { λ s. s.left ≡ [] };
+
+    ghost reads_left = { λ s. length s.left };
+
+    fn read(&mut self, buffer: &mut [u8]) -> Result<usize, DeviceFault> {
+        if self.failure.comes() {
+            self.has_failed = true;
+            return Err(DeviceFault);
+        }
+        let count = self.left.len().min(buffer.len()).min(self.at_most);
+        let (front, rest) = self.left.split_at(count);
+        buffer[..count].copy_from_slice(front);
+        self.left = rest;
+        Ok(count)
+    }
+
+    ghost gave_nothing = { λ s. refl };
+
+    ghost gave_both = { λ s t u a b first second.
+        left_after_both s.left t.left u.left a b first second };
+
+    ghost failed_never = { λ s. never_raises s.has_failed };
+
+    ghost failed_both = { λ s t u m n first second.
+        raises_both s.has_failed t.has_failed u.has_failed m n first second };
+}
+
+/// Takes bytes into a vector, and fails where memory runs out.
+#[derive(Drop)]
+pub struct VecSink {
+    bytes: Vec<u8>,
+    at_most: usize,
+    failure: Failure,
+    has_failed: bool,
+}
+
+impl Model for VecSink {
+    ghost use Rattle.std.specs.Prelude.{◌<◌};
+    ghost use Rattle.zdevices.specs.DeviceViews.{VecSinkView};
+
+    ghost Value = { VecSinkView };
+
+    ghost view = { λ s. record {
+      held = s.bytes.items;
+      at_most = s.at_most;
+      fails_after = s.failure.calls_left;
+      has_failed = s.has_failed;
+    } };
+
+    ghost invariant = { λ s. 0 < s.at_most };
+}
+
+impl VecSink {
+    /// Holds nothing yet, and takes at most so many bytes at a write.
+    pub fn new(alloc: Global, at_most: usize) -> VecSink
+        requires { 0 < at_most }
+        ensures held { result.held ≡ [] }
+        ensures at_most { result.at_most ≡ at_most }
+        ensures failure { result.fails_after ≡ None }
+        ensures sound { result.has_failed ≡ false }
+    {
+        VecSink {
+            bytes: Vec::new(alloc),
+            at_most,
+            failure: Failure { calls_left: None },
+            has_failed: false,
+        }
+    }
+
+    /// The same, but one write fails: the one after so many writes.
+    pub fn failing_after(mut self, writes: u64) -> VecSink
+        ensures { result ≡ record self { fails_after = Some writes } }
+    {
+        self.failure.calls_left = Some(writes);
+        self
+    }
+
+    /// What it holds.
+    pub fn bytes(&self) -> &[u8]
+        ensures { result.now ≡ self.now.held }
+    {
+        &self.bytes
+    }
+}
+
+impl Sink for VecSink {
+    ghost took = { λ s bytes t. t.held ≡ s.held ++ bytes };
+
+    ghost failed = { λ s count t. Raises s.has_failed count t.has_failed };
+
+    fn write(&mut self, bytes: &[u8]) -> Result<usize, DeviceFault> {
+        let count = bytes.len().min(self.at_most);
+        if self.failure.comes() || self.bytes.extend_from_slice(&bytes[..count]).is_err() {
+            self.has_failed = true;
+            return Err(DeviceFault);
+        }
+        Ok(count)
+    }
+
+    ghost took_nothing = { λ s. sym (append-nil s.held) };
+
+    ghost took_both = { λ s t u a b first second.
+        held_after_both s.held t.held u.held a b first second };
+
+    ghost failed_never = { λ s. never_raises s.has_failed };
+
+    ghost failed_both = { λ s t u m n first second.
+        raises_both s.has_failed t.has_failed u.has_failed m n first second };
+}

@@ -1,0 +1,140 @@
+//! Devices over the readers and writers of std, as a program's own input and output.
+//!
+//! What bytes such a reader has left, or such a writer holds, is std's `remaining` and `contents` where it is known,
+//! as of a slice or a vector. Of a terminal, a file or a pipe it is not, and the relations then hold for all bytes.
+
+ghost use Rattle.std.specs.Prelude.{◌≡◌, ◌<◌, IsTrue, false, ◌^◌, ◌-◌};
+ghost use Rattle.std.specs.Io.KnownBytes.{Consumes, Appends};
+ghost use Rattle.zdevices.specs.Device.{Raises};
+ghost use Rattle.zdevices.specs.support.DeviceLaws.{never_raises, raises_both, consumes_nothing, consumes_both, appends_nothing, appends_both};
+
+use crate::device::{DeviceFault, Sink, Source};
+use std::io::{Read, Write};
+use std::marker::Model;
+
+/// Reads from any reader. After `u64::MAX` reads it fails, so that no reader can keep a player forever.
+#[derive(Drop)]
+pub struct ReaderSource<R> {
+    reader: R,
+    budget: u64,
+    has_failed: bool,
+    told_end: bool,
+}
+
+impl<R> Model for ReaderSource<R> {
+    ghost use Rattle.zdevices.specs.DeviceViews.{ReaderSourceView};
+
+    ghost Value = { ReaderSourceView R };
+
+    ghost view = { λ s. record {
+      reader = s.reader;
+      budget = s.budget;
+      has_failed = s.has_failed;
+      told_end = s.told_end;
+    } };
+}
+
+impl<R: Read> ReaderSource<R> {
+    /// Reads from this reader.
+    pub fn new(reader: R) -> ReaderSource<R>
+        ensures reader { result.reader ≡ reader }
+        ensures budget { result.budget ≡ 2 ^ 64 - 1 }
+        ensures sound { result.has_failed ≡ false }
+        ensures untold { result.told_end ≡ false }
+    {
+        ReaderSource {
+            reader,
+            budget: u64::MAX,
+            has_failed: false,
+            told_end: false,
+        }
+    }
+}
+
+impl<R: Read> Source for ReaderSource<R> {
+    ghost gave = { λ s bytes t. Consumes (R.remaining s.reader) (R.remaining t.reader) bytes };
+
+    ghost failed = { λ s count t. Raises s.has_failed count t.has_failed };
+
+    ghost has_ended = { λ s. IsTrue s.told_end };
+
+    ghost reads_left = { λ s. s.budget };
+
+    fn read(&mut self, buffer: &mut [u8]) -> Result<usize, DeviceFault> {
+        if self.budget > 0
+            && let Ok(count) = self.reader.read(buffer)
+        {
+            self.budget -= 1;
+            self.told_end = count == 0;
+            return Ok(count);
+        }
+        self.has_failed = true;
+        Err(DeviceFault)
+    }
+
+    ghost gave_nothing = { λ s. consumes_nothing (R.remaining s.reader) };
+
+    ghost gave_both = { λ s t u a b first second.
+        consumes_both (R.remaining s.reader) (R.remaining t.reader) (R.remaining u.reader)
+        a b first second };
+
+    ghost failed_never = { λ s. never_raises s.has_failed };
+
+    ghost failed_both = { λ s t u m n first second.
+        raises_both s.has_failed t.has_failed u.has_failed m n first second };
+}
+
+/// Writes to any writer. A write that takes no byte is a failure.
+#[derive(Drop)]
+pub struct WriterSink<W> {
+    writer: W,
+    has_failed: bool,
+}
+
+impl<W> Model for WriterSink<W> {
+    ghost use Rattle.zdevices.specs.DeviceViews.{WriterSinkView};
+
+    ghost Value = { WriterSinkView W };
+
+    ghost view = { λ s. record { writer = s.writer; has_failed = s.has_failed } };
+}
+
+impl<W: Write> WriterSink<W> {
+    /// Writes to this writer.
+    pub fn new(writer: W) -> WriterSink<W>
+        ensures writer { result.writer ≡ writer }
+        ensures sound { result.has_failed ≡ false }
+    {
+        WriterSink {
+            writer,
+            has_failed: false,
+        }
+    }
+}
+
+impl<W: Write> Sink for WriterSink<W> {
+    ghost took = { λ s bytes t. Appends (W.contents s.writer) (W.contents t.writer) bytes };
+
+    ghost failed = { λ s count t. Raises s.has_failed count t.has_failed };
+
+    fn write(&mut self, bytes: &[u8]) -> Result<usize, DeviceFault> {
+        if let Ok(count) = self.writer.write(bytes)
+            && count > 0
+        {
+            return Ok(count);
+        }
+        self.has_failed = true;
+        Err(DeviceFault)
+    }
+
+    ghost took_nothing = { λ s. appends_nothing (W.contents s.writer) };
+
+    ghost took_both = { λ s t u a b first second.
+        appends_both (W.contents s.writer) (W.contents t.writer) (W.contents u.writer)
+        a b first second };
+
+    ghost failed_never = { λ s. never_raises s.has_failed };
+
+    ghost failed_both = { λ s t u m n first second.
+        raises_both s.has_failed t.has_failed u.has_failed m n first second };
+}

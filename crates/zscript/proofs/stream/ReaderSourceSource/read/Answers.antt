@@ -1,5 +1,0 @@
-use Rattle.std.proofs.Common.{refl}
-use Rattle.zscript.proofs.stream.ReaderSourceSource.read.Goals as goal
-
-pub returns-clause-end : goal.returns-clause-end
-returns-clause-end g c = λ none. rw none refl
