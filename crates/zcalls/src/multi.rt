@@ -44,7 +44,7 @@ impl Multi {
     pub fn as_slice(&self) -> &[Part]
         ensures parts { result.now ≡ self.now }
         ensures some { 0 < length self.now }
-        ensures few { length self.now ≤ 64 }
+        ensures few { length self.now ≤ MAX_PARTS }
     {
         &self.parts
     }

@@ -173,7 +173,10 @@ impl ClientCore {
 
     // From now on it waits for this call.
     fn wait_for(&mut self, number: CallNumber, call: Call)
-        ensures { self.new ≡ record self.old { number = number; outstanding = Some (number, call) } }
+        ensures { self.new ≡ record self.old {
+          number = number;
+          outstanding = Some (number, call);
+        } }
     {
         self.number = number;
         drop(self.outstanding.replace((number, call)));

@@ -18,7 +18,7 @@ Word = List ℕ
 
 -- what stands between spaces
 abbrev pub words_of : List ℕ → List Word
-words_of line = slice_split (λ byte. byte == 32) line
+words_of line = slice_split (λ byte. byte == 0x20) line
 
 -- a space, or a byte that can be seen
 abbrev pub is_plain : ℕ → Bool

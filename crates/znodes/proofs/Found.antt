@@ -14,7 +14,7 @@ use Rattle.znodes.specs.declared.row.Row.{Row}
 use Rattle.znodes.specs.support.Rows.{IsLinked, nodes_of, node_at}
 use Rattle.znodes.specs.support.OwnerLists.{OwnerLists}
 use Rattle.zindex.specs.IndexView.{IdsByPath}
-use Rattle.zslots.proofs.Mapped.{get-mapped, len-mapped}
+use Rattle.zslots.proofs.MapValues.{get-map_values, len-map_values}
 
 -- what is found through an Id
 through : {X Y : Type 0} (f : X → Option Y) (o : Option X) (x : X) → o ≡ Some x → option_and_then f o ≡ f x
@@ -22,7 +22,7 @@ through f o x e = ap (option_and_then f) e
 
 module _ (m : Items Row) (index : IdsByPath) where
   pub get-nodes : (q : Path) → get (nodes_of m index) q ≡ option_and_then (node_at m) (get index q)
-  get-nodes q = get-mapped paths_total _ index q
+  get-nodes q = get-map_values paths_total _ index q
 
   pub get-nodes-found : (q : Path) (id : Id) (r : Row) → get index q ≡ Some id → get m id ≡ Some r → get (nodes_of m index) q ≡ Some r.node
   get-nodes-found q id r at is = get-nodes q ∙ through _ (get index q) id at ∙ ap (option_map (λ (r : Row). r.node)) is
@@ -41,7 +41,7 @@ module _ (m : Items Row) (index : IdsByPath) where
 
     pub len-nodes : finite.len (nodes_of m index) ≡ finite.len index
     len-nodes =
-        len-mapped paths_total (node_at m) index (λ q id at.
+        len-map_values paths_total (node_at m) index (λ q id at.
         subst IsSome (sym (ap (option_map (λ (r : Row). r.node)) (linked.named q id at).1)) refl)
 
     -- what is found at a path is the node of a live row

@@ -8,7 +8,7 @@ use Rattle.zslots.specs.SlotsView.{Items}
 use Rattle.zslots.specs.declared.list.List.{List as IdList}
 use Rattle.zslots.specs.Ids.{Ids}
 use Rattle.zslots.specs.Lists.{IsList, empty_list}
-use Rattle.zslots.proofs.Mapped.{get-mapped}
+use Rattle.zslots.proofs.MapValues.{get-map_values}
 use Rattle.zslots.proofs.Maps.{id_cmp_total}
 use Rattle.zpath.specs.Grammar.{name_cmp}
 use Rattle.ztree.specs.Tree.{Name, Path, Nodes, has_node, children, ephemerals}
@@ -50,7 +50,7 @@ live_parts m id r = by (get m id) refl
 
 -- the path of an Id is that of its live row
 places-live : (m : Items Row) (id : Id) → get (places_of m) id ≡ option_map (λ (r : Row). r.path) (live_at m id)
-places-live m id = get-mapped id_cmp_total live_path m id ∙ by (get m id)
+places-live m id = get-map_values id_cmp_total live_path m id ∙ by (get m id)
   where
     by : (o : Option Row) → option_and_then live_path o ≡ option_map (λ (r : Row). r.path) (option_and_then if_live o)
     by None = refl

@@ -7,7 +7,7 @@ use Rattle.std.specs.FinMap.{FinMap, IsAntisymmetric, get, insert, remove, same_
 use Rattle.zslots.specs.declared.id.Id.{Id}
 use Rattle.zslots.specs.SlotsView.{Items}
 use Rattle.zslots.proofs.Maps.{id_cmp_total, id_cmp_same}
-use Rattle.zslots.proofs.Mapped.{get-mapped}
+use Rattle.zslots.proofs.MapValues.{get-map_values}
 use Rattle.zindex.specs.IndexView.{IdsByPath}
 use Rattle.ztree.specs.declared.node.Node.{Node}
 use Rattle.ztree.specs.Tree.{Path}
@@ -20,16 +20,16 @@ use Rattle.znodes.specs.support.Rows.{Key, live_path, taken_row, node_at, nodes_
 use Rattle.znodes.proofs.Faces.{Face, face, by-face, face-at}
 
 pub get-nodes : (m : Items Row) (ids : IdsByPath) (q : Path) → get (nodes_of m ids) q ≡ option_and_then (node_at m) (get ids q)
-get-nodes m ids q = get-mapped paths_total (node_at m) ids q
+get-nodes m ids q = get-map_values paths_total (node_at m) ids q
 
 pub get-places : (m : Items Row) (q : Id) → get (places_of m) q ≡ option_and_then live_path (get m q)
-get-places m q = get-mapped id_cmp_total live_path m q
+get-places m q = get-map_values id_cmp_total live_path m q
 
 pub get-held : (m : Items Row) (q : Id) → get (held_of m) q ≡ option_and_then taken_row (get m q)
-get-held m q = get-mapped id_cmp_total taken_row m q
+get-held m q = get-map_values id_cmp_total taken_row m q
 
 pub get-known : (owners : OwnerLists) (q : ℕ) → get (known_of owners) q ≡ option_and_then (λ _. Some tt) (get owners q)
-get-known owners q = get-mapped nat_cmp_total (λ _. Some tt) owners q
+get-known owners q = get-map_values nat_cmp_total (λ _. Some tt) owners q
 
 -- as faces tell it
 abbrev live_face : Face → Option Path

@@ -2,7 +2,7 @@
 use Rattle.std.proofs.Common.{◌≡◌, ℕ, ◌+◌, ◌-◌, ◌*◌, ◌≤◌, Bool, true, false, cond, Some, None, refl, sym, ap, subst, ◌∙◌, arith}
 use Rattle.std.specs.Prelude.{nat_le, is_some, IsSome}
 use Rattle.std.proofs.lemmas.Bool.Decides.{nat_tests}
-use Rattle.zstore.specs.StoreView.{StoreView, Mark, AtMark, GoesBack, MarksHere, stepped}
+use Rattle.zstore.specs.StoreView.{StoreView, Mark, AtMark, GoesBack, MarksHere, mark_left}
 use Rattle.zops.specs.support.Ready.{HasMark, IsAsItWas, KeepsMark}
 
 -- room for more is room for fewer
@@ -14,8 +14,8 @@ pub mark_stays : (old new : StoreView) → new.marked ≡ old.marked → KeepsMa
 mark_stays old new same parts m has = let room = has.4 in (has.0, same ∙ has.1, has.2, has.3, omega (arith, room))
 
 -- and one of at most two steps has room for them
-pub mark_steps : (steps : ℕ) (old new : StoreView) → steps ≤ 2 → new.marked ≡ stepped steps old.marked → KeepsMark old new
-mark_steps steps old new few is parts m has = (record n { steps = n.steps - steps }, is ∙ ap (stepped steps) has.1 ∙ by (nat_le steps n.steps) refl, has.2, has.3, omega (arith, room, few))
+pub mark_steps : (steps : ℕ) (old new : StoreView) → steps ≤ 2 → new.marked ≡ mark_left steps old.marked → KeepsMark old new
+mark_steps steps old new few is parts m has = (record n { steps = n.steps - steps }, is ∙ ap (mark_left steps) has.1 ∙ by (nat_le steps n.steps) refl, has.2, has.3, omega (arith, room, few))
   where
     n : Mark
     n = has.0

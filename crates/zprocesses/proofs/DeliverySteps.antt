@@ -13,7 +13,7 @@ use Rattle.zserver_table.specs.View.{MessageOf}
 use Rattle.zworld_model.specs.declared.event.Event.TheVariants as event
 use Rattle.zworld_model.specs.declared.outcome.Outcome.TheVariants as outcome
 use Rattle.zworld_model.specs.History.{History}
-use Rattle.zworld_model.specs.Links.{is_same, addressed, without_front}
+use Rattle.zworld_model.specs.Links.{is_same, messages_to, without_front}
 use Rattle.zworld_model.specs.World.{World}
 use Rattle.zworld_model.specs.Events.{is_request, has_failed, is_enabled, is_server, happens, acts, front_step, process_step}
 use Rattle.zworld_model.specs.Reading.{is_query, read}
@@ -118,7 +118,7 @@ module _ (old : Held) (from : Process) (s : ℕ) (front : MessageOf (KeptState T
           let same : without_front w.links from (Server s) p q ≡ w.links p q =
           ap (λ b. if is_same p from && b then drop 1 (w.links p q) else w.links p q) (on_it q lives)
           ∙ ap (λ b. if b then drop 1 (w.links p q) else w.links p q) (and_false (is_same p from)) in
-          ap (λ link. if is_same p (Server s) then link ++ addressed q ((Master, message.Gone) ∷ []) else link) (sym same)
+          ap (λ link. if is_same p (Server s) then link ++ messages_to q ((Master, message.Gone) ∷ []) else link) (sym same)
 
   -- the server stopped at it
   pub stopped : (mid new : Held) → is_server s ≡ true → ((history : History) → world_of mid history ≡ without (world_of old history) from (Server s))

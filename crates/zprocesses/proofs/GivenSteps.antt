@@ -20,7 +20,7 @@ use Rattle.zworld_model.specs.declared.event.Event.TheVariants as event
 use Rattle.zworld_model.specs.declared.outcome.Outcome.TheVariants as outcome
 use Rattle.zworld_model.specs.declared.history.CallEvent.TheVariants as call_event
 use Rattle.zworld_model.specs.History.{History}
-use Rattle.zworld_model.specs.Links.{is_same, addressed}
+use Rattle.zworld_model.specs.Links.{is_same, messages_to}
 use Rattle.zworld_model.specs.World.{at}
 use Rattle.zworld_model.specs.Events.{has_failed, is_server, acts, process_step, server_does, client_does, with_answer}
 use Rattle.zworld_model.specs.Reading.{is_query, read}
@@ -120,7 +120,7 @@ module _ (held : Held) (from : Process) (s place : ℕ) (m : MessageOf (KeptStat
       alike_by (server_does (world_of held history) s did) (world_of (record held { members = members_then; links = rows }) history) refl refl
       (λ c. refl) gone_then (λ t alive. views_then t)
       (λ p q alive.
-      ap (λ words. if is_same p (Server s) then (links_of held.links p q ++ words) ++ addressed q did.1 else links_of held.links p q ++ words) (same_words p q)
+      ap (λ words. if is_same p (Server s) then (links_of held.links p q ++ words) ++ messages_to q did.1 else links_of held.links p q ++ words) (same_words p q)
       ∙ posted members_then held.links rows (Server s) did.1 no_words done p q (sym (lost_same history q) ∙ alive))
 
   pub given_to_server : IsGiven held from (Server s) m [] (record held { members = members_then; links = rows })

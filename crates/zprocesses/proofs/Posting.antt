@@ -10,7 +10,7 @@ use Rattle.zserver_table.specs.declared.process.Process.{Process}
 use Rattle.zserver_table.specs.declared.process.Process.TheVariants.{Master, Server, Client}
 use Rattle.zserver_table.specs.View.{MessageOf, Post}
 use Rattle.zlinks.specs.Places.{links_of, with_link}
-use Rattle.zworld_model.specs.Links.{Links, is_same, addressed, put, without_front}
+use Rattle.zworld_model.specs.Links.{Links, is_same, messages_to, put, without_front}
 use Rattle.zworld_model.specs.Events.{has_failed}
 use Rattle.zworld_model.specs.History.{History}
 use Rattle.zprocesses.specs.Held.{Held, MemberView, last_words, world_of}
@@ -53,12 +53,12 @@ pub posted : (members : List MemberView) (old new : Rows) (sender : Process) (po
 posted members old new sender posts silent done from to alive = elim (test (is_same from sender)) [
   | inl here ↦
       let words : last_words members from to ≡ [] = ap (λ p. last_words members p to) (same_process from sender here) ∙ silent to in
-      let is : links_of new from to ≡ links_of old from to ++ addressed to posts =
-      done from to alive ∙ ap (λ b. if b then links_of old from to ++ addressed to posts else links_of old from to) here in
-      rw (here, words, is) (ap (λ ms. ms ++ addressed to posts) (append-nil (links_of old from to)) ∙ sym (append-nil (links_of old from to ++ addressed to posts)))
+      let is : links_of new from to ≡ links_of old from to ++ messages_to to posts =
+      done from to alive ∙ ap (λ b. if b then links_of old from to ++ messages_to to posts else links_of old from to) here in
+      rw (here, words, is) (ap (λ ms. ms ++ messages_to to posts) (append-nil (links_of old from to)) ∙ sym (append-nil (links_of old from to ++ messages_to to posts)))
   | inr other ↦
       let is : links_of new from to ≡ links_of old from to =
-      done from to alive ∙ ap (λ b. if b then links_of old from to ++ addressed to posts else links_of old from to) other in
+      done from to alive ∙ ap (λ b. if b then links_of old from to ++ messages_to to posts else links_of old from to) other in
       rw (other, is) refl
 ]
 
@@ -119,7 +119,7 @@ rest_put links new from to m rest is p q = elim (test (is_same p from)) [
         let now : new p q ≡ links p q ++ m ∷ [] =
         is p q ∙ ap (λ b. if b && is_same q to then links from to ++ m ∷ [] else links p q) here
         ∙ ap (λ b. if b then links from to ++ m ∷ [] else links p q) there ∙ ap (λ ms. ms ++ m ∷ []) same in
-        rw (here, there, now) (append_assoc (links p q) (m ∷ []) (addressed q rest))
+        rw (here, there, now) (append_assoc (links p q) (m ∷ []) (messages_to q rest))
     | inr other ↦
         let now : new p q ≡ links p q =
         is p q ∙ ap (λ b. if b && is_same q to then links from to ++ m ∷ [] else links p q) here

@@ -11,7 +11,7 @@ use Rattle.std.specs.List.Sorted.{IsStrictlySortedBy}
 use Rattle.std.specs.Map.{keys_of}
 use Rattle.std.proofs.lemmas.Map.Keys.{sorted_head, sorted_tail}
 use Rattle.zslots.specs.declared.id.Id.{Id}
-use Rattle.zslots.proofs.Mapped.{len-mapped}
+use Rattle.zslots.proofs.MapValues.{len-map_values}
 use Rattle.zsessions.specs.declared.row.SessionRow.{SessionRow}
 use Rattle.zsessions.specs.support.Rows.{Rows, Buckets, IdEntries, IsTable, session_at, id_at, sessions_of}
 use Rattle.zsessions.proofs.Read.{get-ids}
@@ -32,7 +32,7 @@ len-ids (e ∷ ids) s =
     counted ∙ omega (arith, more)
 
 pub len-sessions : (ids : IdEntries) (rows : Rows) (buckets : Buckets) → IsTable ids rows buckets → IsStrictlySortedBy nat_cmp (keys_of ids) → finite.len (sessions_of ids rows) ≡ length ids
-len-sessions ids rows buckets is s = len-mapped nat_cmp_total (session_at rows) (from_entries ids) (λ n id e. there id n (is.named n id (sym (get-ids ids n) ∙ e))) ∙ len-ids ids s
+len-sessions ids rows buckets is s = len-map_values nat_cmp_total (session_at rows) (from_entries ids) (λ n id e. there id n (is.named n id (sym (get-ids ids n) ∙ e))) ∙ len-ids ids s
   where
     some : (o : Option SessionRow) (n : ℕ) → option_map (λ (row : SessionRow). row.id) o ≡ Some n → IsSome (option_map (λ (row : SessionRow). row.session) o)
     some None n e = cc

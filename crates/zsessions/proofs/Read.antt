@@ -15,7 +15,7 @@ use Rattle.zslots.specs.declared.list.List.{List as IdList}
 use Rattle.zslots.specs.Families.{key_at, ChangesHead}
 use Rattle.zslots.specs.Lists.{empty_list}
 use Rattle.zslots.proofs.Items.{some_same}
-use Rattle.zslots.proofs.Mapped.{get-mapped}
+use Rattle.zslots.proofs.MapValues.{get-map_values}
 use Rattle.zsessions.specs.declared.row.SessionRow.{SessionRow}
 use Rattle.zsessions.specs.support.Rows.{Rows, Buckets, IdEntries, IsTable, bucket, bucket_number, number_of, session_at, id_at, sessions_of}
 
@@ -38,7 +38,7 @@ get-ids ids n = get-from_entries nat_cmp_total ids n ∙ find-ids ids n
 
 pub get-sessions : (ids : IdEntries) (rows : Rows) (n : ℕ) → get (sessions_of ids rows) n ≡ option_and_then (session_at rows) (id_at ids n)
 get-sessions ids rows n =
-    get-mapped nat_cmp_total (session_at rows) (from_entries ids) n
+    get-map_values nat_cmp_total (session_at rows) (from_entries ids) n
     ∙ ap (option_and_then (session_at rows)) (get-ids ids n)
 
 -- the key of a row is fixed by what a part of it is

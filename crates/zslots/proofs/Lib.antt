@@ -7,4 +7,4 @@ pub mod RunLaws
 pub mod Members
 pub mod Families
 pub mod Walks
-pub mod Mapped
+pub mod MapValues

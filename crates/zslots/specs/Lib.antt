@@ -9,6 +9,6 @@ pub mod Runs
 pub mod SlotsLaws
 pub mod ListLaws
 pub mod Families
-pub mod Mapped
+pub mod MapValues
 pub mod Rows
 pub mod support

@@ -110,9 +110,9 @@ abbrev pub without_mark : StoreView → StoreView
 without_mark h = record h { marked = None }
 
 -- a mark after so many steps: it is given up where it has no room for them
-abbrev pub stepped : ℕ → Option Mark → Option Mark
-stepped k None = None
-stepped k (Some m) = if nat_le k m.steps then Some (record m { steps = m.steps - k }) else None
+abbrev pub mark_left : ℕ → Option Mark → Option Mark
+mark_left k None = None
+mark_left k (Some m) = if nat_le k m.steps then Some (record m { steps = m.steps - k }) else None
 
 -- nothing has changed but that a mark stands here, with room for so many steps
 pub record MarksHere (steps : ℕ) (old new : StoreView) : Type 0 where

@@ -18,8 +18,8 @@ pub(crate) struct Log {
 
 impl Log {
     ghost use Rattle.std.specs.Prelude.{None, OnOk, OnErr};
-    ghost use Rattle.zstore.specs.support.Undoing.{notes_of, noted, held_after, undos_of, StartsWith, GivesUp};
-    ghost use Rattle.zstore.specs.support.Undoing.{FitAll, parts_of, all_undone, all_returning, all_freed, AllHeld};
+    ghost use Rattle.zstore.specs.support.Undoing.{notes_of, add_note, held_after, undos_of, StartsWith, GivesUp};
+    ghost use Rattle.zstore.specs.support.Undoing.{FitAll, parts_of, all_undone, all_returning, release_all, AllHeld};
 
     /// No mark.
     pub(crate) fn new(alloc: Global) -> Log
@@ -48,7 +48,7 @@ impl Log {
     /// Notes what undoes a change. A mark that has no room left is given up.
     pub(crate) fn note(&mut self, nodes: &mut Nodes, undo: Undo)
         requires { AllHeld (undos_of (notes_of self.old) ++ undo ∷ []) nodes.old.held }
-        ensures notes { notes_of self.new ≡ noted undo (notes_of self.old) }
+        ensures notes { notes_of self.new ≡ add_note undo (notes_of self.old) }
         ensures nodes { nodes.new ≡ record nodes.old {
           held = held_after undo (notes_of self.old) nodes.old.held;
         } }
@@ -83,7 +83,7 @@ impl Log {
         ensures off { notes_of self.new ≡ None }
         ensures empty { self.new.undos.items ≡ [] }
         ensures nodes { nodes.new ≡ record nodes.old {
-          held = all_freed (undos_of (notes_of self.old)) nodes.old.held;
+          held = release_all (undos_of (notes_of self.old)) nodes.old.held;
         } }
     {
         self.free_taken(nodes);
@@ -95,7 +95,7 @@ impl Log {
     pub(crate) fn free_taken(&self, nodes: &mut Nodes)
         requires { AllHeld (undos_of (notes_of self.now)) nodes.old.held }
         ensures { nodes.new ≡ record nodes.old {
-          held = all_freed (undos_of (notes_of self.now)) nodes.old.held;
+          held = release_all (undos_of (notes_of self.now)) nodes.old.held;
         } }
     {
         if self.is_on {

@@ -4,7 +4,7 @@ ghost use Rattle.std.specs.Prelude.{◌≡◌, ◌≢◌, ◌<◌, ◌+◌, [], 
 ghost use Rattle.ztree.specs.declared.limits.TheConstants.{ZXID_BOUND};
 ghost use Rattle.ztree.specs.Tree.{children, parent_of};
 ghost use Rattle.ztree.specs.Room.{HasRoomForLosses};
-ghost use Rattle.zstore.specs.StoreView.{path_of, AtPath, AtNode, AtParentOf, KeepsIds, stepped};
+ghost use Rattle.zstore.specs.StoreView.{path_of, AtPath, AtNode, AtParentOf, KeepsIds, mark_left};
 ghost use Rattle.zstore.specs.StoreView.{Forgets, ForgetsGone, DropsNode};
 ghost use Rattle.zstore.specs.support.Parts.{tree_without, LosesChild};
 
@@ -25,7 +25,7 @@ impl Store {
         ensures forgotten { Forgets self.old self.new id }
         ensures gone { ForgetsGone self.old self.new }
         ensures given { self.new.given ≡ self.old.given }
-        ensures marked { self.new.marked ≡ stepped 2 self.old.marked }
+        ensures marked { self.new.marked ≡ mark_left 2 self.old.marked }
     {
         let parent = self.parent_id(id);
         self.take(id);
@@ -54,7 +54,7 @@ impl Store {
         ensures forgotten { Forgets self.old self.new id }
         ensures gone { ForgetsGone self.old self.new }
         ensures given { self.new.given ≡ self.old.given }
-        ensures marked { self.new.marked ≡ stepped 1 self.old.marked }
+        ensures marked { self.new.marked ≡ mark_left 1 self.old.marked }
     {
         self.nodes.take(id);
         self.log.note(&mut self.nodes, Undo::Taken(id));
@@ -67,7 +67,7 @@ impl Store {
         requires zxid { self.old.tree.zxid + 1 < ZXID_BOUND }
         ensures tree { LosesChild self.old self.new parent }
         ensures same { KeepsIds self.old self.new }
-        ensures marked { self.new.marked ≡ stepped 1 self.old.marked }
+        ensures marked { self.new.marked ≡ mark_left 1 self.old.marked }
     {
         if let Some(node) = self.nodes.node(parent) {
             let marks = Marks {

@@ -2,7 +2,7 @@
 
 ghost use Rattle.std.specs.Prelude.{◌≡◌, ◌≤◌, ◌+◌};
 ghost use Rattle.zstore.specs.support.Undoing.{Fits, FitAll, parts_of, undone, all_undone, returning, all_returning};
-ghost use Rattle.zstore.specs.support.Undoing.{freed, all_freed, IsHeld, AllHeld};
+ghost use Rattle.zstore.specs.support.Undoing.{release, release_all, IsHeld, AllHeld};
 
 use crate::undo::Undo;
 use znodes::Nodes;
@@ -47,7 +47,7 @@ fn undo_one(nodes: &mut Nodes, undo: Undo)
 /// Gives up what all these changes took away, from the last to the first: they won't be undone.
 pub(crate) fn free_all(nodes: &mut Nodes, undos: &[Undo])
     requires { AllHeld undos.now nodes.old.held }
-    ensures { nodes.new ≡ record nodes.old { held = all_freed undos.now nodes.old.held } }
+    ensures { nodes.new ≡ record nodes.old { held = release_all undos.now nodes.old.held } }
 {
     let mut left = undos;
     while let Some((last, before)) = left.split_last() {
@@ -59,7 +59,7 @@ pub(crate) fn free_all(nodes: &mut Nodes, undos: &[Undo])
 /// Gives up what one change took away, if it took something.
 pub(crate) fn free_one(nodes: &mut Nodes, undo: &Undo)
     requires { IsHeld undo.now nodes.old.held }
-    ensures { nodes.new ≡ record nodes.old { held = freed undo.now nodes.old.held } }
+    ensures { nodes.new ≡ record nodes.old { held = release undo.now nodes.old.held } }
 {
     if let Undo::Taken(id) = undo {
         nodes.free(*id);

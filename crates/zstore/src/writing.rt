@@ -7,7 +7,7 @@ ghost use Rattle.zstore.specs.declared.limits.TheConstants.{ID_BOUND};
 ghost use Rattle.ztree.specs.Tree.{parent_of, has_node, with_node, with_next_zxid};
 ghost use Rattle.ztree.specs.Room.{HasRoomForChild, HasRoomForData};
 ghost use Rattle.zstore.specs.StoreView.{path_of, node_of, AtNode};
-ghost use Rattle.zstore.specs.StoreView.{KeepsIds, GivesAtMostOne, NamesNew, WritesData, stepped};
+ghost use Rattle.zstore.specs.StoreView.{KeepsIds, GivesAtMostOne, NamesNew, WritesData, mark_left};
 ghost use Rattle.zstore.specs.support.Parts.{tree_with, GainsChild, WritesMarks, WritesContent};
 ghost use Rattle.ztree.specs.Lawful.{IsPersistent, IsOwner};
 
@@ -52,7 +52,7 @@ impl Store {
             (self.new.tree ≡ with_node self.old.tree path bytes owner sequential) }
         ensures named { IfOk result (λ id. NamesNew self.old self.new id path) }
         ensures given { GivesAtMostOne self.old self.new }
-        ensures marked { OnOk result (self.new.marked ≡ stepped 2 self.old.marked) }
+        ensures marked { OnOk result (self.new.marked ≡ mark_left 2 self.old.marked) }
         ensures err { OnErr result (self.new ≡ self.old) }
     {
         let zxid = self.zxid.next();
@@ -80,7 +80,7 @@ impl Store {
         requires zxid { self.old.tree.zxid + 1 < ZXID_BOUND }
         ensures tree { OnOk result (WritesData self.old self.new id bytes) }
         ensures same { OnOk result (KeepsIds self.old self.new) }
-        ensures marked { OnOk result (self.new.marked ≡ stepped 1 self.old.marked) }
+        ensures marked { OnOk result (self.new.marked ≡ mark_left 1 self.old.marked) }
         ensures err { OnErr result (self.new ≡ self.old) }
     {
         if let Some(node) = self.nodes.node(id) {
@@ -106,7 +106,7 @@ impl Store {
         requires given { self.old.given < ID_BOUND }
         ensures tree { OnOk result (self.new.tree ≡ tree_with self.old.tree path node) }
         ensures named { IfOk result (λ id. NamesNew self.old self.new id path) }
-        ensures marked { OnOk result (self.new.marked ≡ stepped 1 self.old.marked) }
+        ensures marked { OnOk result (self.new.marked ≡ mark_left 1 self.old.marked) }
         ensures err { OnErr result (self.new ≡ self.old) }
     {
         // A path's names are those of a path: the store keeps that.
@@ -123,7 +123,7 @@ impl Store {
         requires zxid { self.old.tree.zxid + 1 < ZXID_BOUND }
         ensures tree { GainsChild self.old self.new parent sequential }
         ensures same { KeepsIds self.old self.new }
-        ensures marked { self.new.marked ≡ stepped 1 self.old.marked }
+        ensures marked { self.new.marked ≡ mark_left 1 self.old.marked }
     {
         if let Some(node) = self.nodes.node(parent) {
             let marks = Marks {
@@ -140,7 +140,7 @@ impl Store {
         requires live { IsSome (path_of self.old id) }
         ensures tree { WritesMarks self.old self.new id marks }
         ensures same { KeepsIds self.old self.new }
-        ensures marked { self.new.marked ≡ stepped 1 self.old.marked }
+        ensures marked { self.new.marked ≡ mark_left 1 self.old.marked }
     {
         let before = self.nodes.put_marks(id, marks);
         self.log.note(&mut self.nodes, Undo::Marked(id, before));
@@ -151,7 +151,7 @@ impl Store {
         requires live { IsSome (path_of self.old id) }
         ensures tree { WritesContent self.old self.new id content }
         ensures same { KeepsIds self.old self.new }
-        ensures marked { self.new.marked ≡ stepped 1 self.old.marked }
+        ensures marked { self.new.marked ≡ mark_left 1 self.old.marked }
     {
         let before = self.nodes.put_content(id, content);
         self.log.note(&mut self.nodes, Undo::Written(id, before));

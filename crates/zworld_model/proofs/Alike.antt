@@ -12,7 +12,7 @@ use Rattle.zserver_table.specs.Table as server
 use Rattle.zclient_table.specs.Table as client
 use Rattle.zworld_model.specs.declared.event.Event.{Event}
 use Rattle.zworld_model.specs.declared.event.Event.TheVariants.{Begin, Retry, Take, Ignore, Fail, Join}
-use Rattle.zworld_model.specs.Links.{Links, put, without_front, is_same, addressed}
+use Rattle.zworld_model.specs.Links.{Links, put, without_front, is_same, messages_to}
 use Rattle.zworld_model.specs.World.{World, at}
 use Rattle.zworld_model.specs.Events.{front_is, is_request, has_failed, is_enabled, with_answer, server_does, client_does, process_step, front_step, acts, happens, run}
 use Rattle.zworld_model.specs.declared.outcome.Outcome.{Outcome}
@@ -27,7 +27,7 @@ Agree v links others = (from to : Process) → has_failed v to ≡ false → lin
 -- what is put keeps that
 put_agrees : {M : Type 0} (v : World M) (links others : Links M) (sender : Process) (posts : List (Post M))
     → Agree v links others → Agree v (put links sender posts) (put others sender posts)
-put_agrees v links others sender posts agree from to alive = ap (λ link. if is_same from sender then link ++ addressed to posts else link) (agree from to alive)
+put_agrees v links others sender posts agree from to alive = ap (λ link. if is_same from sender then link ++ messages_to to posts else link) (agree from to alive)
 
 -- and so does a front that is taken
 front_agrees : {M : Type 0} (v : World M) (links others : Links M) (sender taker : Process)

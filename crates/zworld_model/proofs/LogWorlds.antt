@@ -21,7 +21,7 @@ use Rattle.zclient_table.proofs.Projection.{begins_with, retries_with, table_wit
 use Rattle.zworld_model.specs.declared.event.Event.{Event}
 use Rattle.zworld_model.specs.declared.event.Event.TheVariants.{Begin, Retry, Take, Ignore, Fail, Join}
 use Rattle.zworld_model.specs.declared.history.CallEvent.TheVariants as call_event
-use Rattle.zworld_model.specs.Links.{Links, put, without_front, is_same, addressed}
+use Rattle.zworld_model.specs.Links.{Links, put, without_front, is_same, messages_to}
 use Rattle.zworld_model.specs.World.{World, at, opening_world}
 use Rattle.zworld_model.specs.Events.{front_is, is_request, has_failed, is_enabled, process_step, front_step, acts, happens, run}
 use Rattle.zworld_model.specs.Events.{server_does, master_does, client_does, with_answer, client_took, client_began}
@@ -38,9 +38,9 @@ module _ {M N : Type 0} (h : M → N) where
   kept_if true post more others same = ap (λ rest. message_with h post ∷ rest) same
   kept_if false post more others same = same
 
-  addressed_with : (to : Process) (posts : List (Post M)) → addressed to (posts_with h posts) ≡ map (message_with h) (addressed to posts)
+  addressed_with : (to : Process) (posts : List (Post M)) → messages_to to (posts_with h posts) ≡ map (message_with h) (messages_to to posts)
   addressed_with to [] = refl
-  addressed_with to (post ∷ posts) = kept_if (is_same to post.0) post.1 (addressed to posts) (addressed to (posts_with h posts)) (addressed_with to posts)
+  addressed_with to (post ∷ posts) = kept_if (is_same to post.0) post.1 (messages_to to posts) (messages_to to (posts_with h posts)) (addressed_with to posts)
 
   -- what is put
   put_if : (b : Bool) (link more : List (MessageOf M)) (others : List (MessageOf N)) → others ≡ map (message_with h) more
@@ -50,7 +50,7 @@ module _ {M N : Type 0} (h : M → N) where
 
   put_with : (links : Links M) (sender : Process) (posts : List (Post M)) (from to : Process)
       → put (links_with links) sender (posts_with h posts) from to ≡ map (message_with h) (put links sender posts from to)
-  put_with links sender posts from to = put_if (is_same from sender) (links from to) (addressed to posts) (addressed to (posts_with h posts)) (addressed_with to posts)
+  put_with links sender posts from to = put_if (is_same from sender) (links from to) (messages_to to posts) (messages_to to (posts_with h posts)) (addressed_with to posts)
 
   -- a front that is taken
   front_if : (b : Bool) (link : List (MessageOf M))

@@ -23,7 +23,7 @@ use Rattle.zclient_table.specs.support.Cases as client
 use Rattle.zclient_table.proofs.Cases.{client_case}
 use Rattle.zworld_model.specs.declared.event.Event.{Event}
 use Rattle.zworld_model.specs.declared.event.Event.TheVariants.{Begin, Retry, Take, Ignore, Fail, Join}
-use Rattle.zworld_model.specs.Links.{Links, put, without_front, is_same, addressed}
+use Rattle.zworld_model.specs.Links.{Links, put, without_front, is_same, messages_to}
 use Rattle.zworld_model.specs.World.{World, at}
 use Rattle.zworld_model.specs.Events.{is_server, is_enabled, process_step, front_step, acts, happens, run, with_answer, client_does}
 use Rattle.zworld_model.specs.support.Within.{is_process, SpeaksWithin, GoesWithin, IsViewWithin, IsClientWithin, AreLinksWithin, IsWithin}
@@ -68,20 +68,20 @@ module _ (M : Type 0) (n : ℕ) where
   addressed_by to post more m goes rest true is (inr among) = rest among
   addressed_by to post more m goes rest false is among = rest among
 
-  addressed_within : (to : Process) (posts : List (Post M)) → AllByRecursion (GoesWithin n) posts → (m : MessageOf M) → Among m (addressed to posts)
+  addressed_within : (to : Process) (posts : List (Post M)) → AllByRecursion (GoesWithin n) posts → (m : MessageOf M) → Among m (messages_to to posts)
       → (is_process n to ≡ true) × SpeaksWithin n m
   addressed_within to [] all m among = absurd among
   addressed_within to (post ∷ posts) all m among =
-      addressed_by to post (addressed to posts) m all.0 (addressed_within to posts all.1 m) (is_same to post.0) refl among
+      addressed_by to post (messages_to to posts) m all.0 (addressed_within to posts all.1 m) (is_same to post.0) refl among
 
   -- what a process of the world puts
   put_within : (links : Links M) (sender : Process) (posts : List (Post M)) → AreLinksWithin n links → is_process n sender ≡ true
       → AllByRecursion (GoesWithin n) posts → AreLinksWithin n (put links sender posts)
   put_within links sender posts within known all from to m = put_by (is_same from sender) refl
     where
-      put_by : (b : Bool) → is_same from sender ≡ b → Among m (if b then links from to ++ addressed to posts else links from to)
+      put_by : (b : Bool) → is_same from sender ≡ b → Among m (if b then links from to ++ messages_to to posts else links from to)
           → (is_process n from ≡ true) × (is_process n to ≡ true) × SpeaksWithin n m
-      put_by true is among = elim (among_cases m (links from to) (addressed to posts) among) [
+      put_by true is among = elim (among_cases m (links from to) (messages_to to posts) among) [
         | inl old ↦ within from to m old
         | inr new ↦
             let goes = addressed_within to posts all m new in

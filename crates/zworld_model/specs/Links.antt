@@ -18,13 +18,13 @@ abbrev pub Links : Type 0 → Type 0
 Links M = Process → Process → List (MessageOf M)
 
 -- what is put for one receiver, in order
-abbrev pub addressed : {M : Type 0} → Process → List (Post M) → List (MessageOf M)
-addressed to [] = []
-addressed to (post ∷ posts) = if is_same to post.0 then post.1 ∷ addressed to posts else addressed to posts
+abbrev pub messages_to : {M : Type 0} → Process → List (Post M) → List (MessageOf M)
+messages_to to [] = []
+messages_to to (post ∷ posts) = if is_same to post.0 then post.1 ∷ messages_to to posts else messages_to to posts
 
 -- the links after a process put messages
 abbrev pub put : {M : Type 0} → Links M → Process → List (Post M) → Links M
-put links sender posts from to = if is_same from sender then links from to ++ addressed to posts else links from to
+put links sender posts from to = if is_same from sender then links from to ++ messages_to to posts else links from to
 
 -- the links after the front of one was taken
 abbrev pub without_front : {M : Type 0} → Links M → Process → Process → Links M

@@ -6,7 +6,7 @@ use Rattle.zcalls.proofs.Among.{test, among_cases}
 use Rattle.zserver_table.specs.declared.process.Process.{Process}
 use Rattle.zserver_table.specs.declared.process.Process.TheVariants.{Master, Server, Client}
 use Rattle.zserver_table.specs.View.{MessageOf, Post}
-use Rattle.zworld_model.specs.Links.{Links, is_same, addressed, put, without_front}
+use Rattle.zworld_model.specs.Links.{Links, is_same, messages_to, put, without_front}
 use Rattle.zworld_model.specs.World.{at}
 
 -- one process
@@ -41,14 +41,14 @@ at_other n v f m e = ap (λ b. cond b v (f m)) e
 
 module _ {M : Type 0} where
   -- what is put for a receiver
-  addressed_among : (to : Process) (posts : List (Post M)) (m : MessageOf M) → Among m (addressed to posts) → Among (to, m) posts
+  addressed_among : (to : Process) (posts : List (Post M)) (m : MessageOf M) → Among m (messages_to to posts) → Among (to, m) posts
   addressed_among to [] m a = absurd a
   addressed_among to (post ∷ posts) m a = elim (test (is_same to post.0)) [
-    | inl t ↦ first (addressed_among to posts m) (same_process to post.0 t) (subst (λ l. Among m l) (ap (λ b. cond b (post.1 ∷ addressed to posts) (addressed to posts)) t) a)
-    | inr f ↦ inr (addressed_among to posts m (subst (λ l. Among m l) (ap (λ b. cond b (post.1 ∷ addressed to posts) (addressed to posts)) f) a))
+    | inl t ↦ first (addressed_among to posts m) (same_process to post.0 t) (subst (λ l. Among m l) (ap (λ b. cond b (post.1 ∷ messages_to to posts) (messages_to to posts)) t) a)
+    | inr f ↦ inr (addressed_among to posts m (subst (λ l. Among m l) (ap (λ b. cond b (post.1 ∷ messages_to to posts) (messages_to to posts)) f) a))
   ]
     where
-      first : (Among m (addressed to posts) → Among (to, m) posts) → to ≡ post.0 → Among m (post.1 ∷ addressed to posts) → Among (to, m) (post ∷ posts)
+      first : (Among m (messages_to to posts) → Among (to, m) posts) → to ≡ post.0 → Among m (post.1 ∷ messages_to to posts) → Among (to, m) (post ∷ posts)
       first rest same (inl e) = inl (λ i. (sym same i, e i))
       first rest same (inr b) = inr (rest b)
 
@@ -56,11 +56,11 @@ module _ {M : Type 0} where
   pub put_among : (links : Links M) (sender : Process) (posts : List (Post M)) (from to : Process) (m : MessageOf M)
       → Among m (put links sender posts from to) → Among m (links from to) ⊎ ((from ≡ sender) × Among (to, m) posts)
   put_among links sender posts from to m a = elim (test (is_same from sender)) [
-    | inl t ↦ elim (among_cases m (links from to) (addressed to posts) (subst (λ l. Among m l) (ap (λ b. cond b (links from to ++ addressed to posts) (links from to)) t) a)) [
+    | inl t ↦ elim (among_cases m (links from to) (messages_to to posts) (subst (λ l. Among m l) (ap (λ b. cond b (links from to ++ messages_to to posts) (links from to)) t) a)) [
       | inl old ↦ inl old
       | inr new ↦ inr (same_process from sender t, addressed_among to posts m new)
     ]
-    | inr f ↦ inl (subst (λ l. Among m l) (ap (λ b. cond b (links from to ++ addressed to posts) (links from to)) f) a)
+    | inr f ↦ inl (subst (λ l. Among m l) (ap (λ b. cond b (links from to ++ messages_to to posts) (links from to)) f) a)
   ]
 
   -- what is under way without a front was there

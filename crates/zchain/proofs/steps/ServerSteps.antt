@@ -13,7 +13,7 @@ use Rattle.zserver_table.specs.declared.process.Process.TheVariants.{Master, Ser
 use Rattle.zserver_table.specs.View.{ServerView, Neighbour, Post}
 use Rattle.zserver_table.specs.Table.{ack_posts, answer_posts}
 use Rattle.zmaster_table.specs.View.{is_among}
-use Rattle.zworld_model.specs.Links.{Links, is_same, addressed, put}
+use Rattle.zworld_model.specs.Links.{Links, is_same, messages_to, put}
 use Rattle.zlegal.specs.Prefix.{IsPrefix}
 use Rattle.zlegal.specs.Items.{Item, IsGiven, all_at_time, new_items}
 use Rattle.zlegal.proofs.lists.Prefixes.{prefix_of, prefix_same}
@@ -38,8 +38,8 @@ put_more : {M : Type 0} (links : Links M) (sender : Process) (post : Post M) (po
     → put (put links sender (post ∷ [])) sender posts p q ≡ put links sender (post ∷ posts) p q
 put_more links sender post posts p q = elim (test (is_same p sender)) [
   | inl t ↦ rw t (elim (test (is_same q post.0)) [
-    | inl s ↦ rw s (append_assoc (links p q) (post.1 ∷ []) (addressed q posts))
-    | inr f ↦ rw f (ap (λ l. l ++ addressed q posts) (append-nil (links p q)))
+    | inl s ↦ rw s (append_assoc (links p q) (post.1 ∷ []) (messages_to q posts))
+    | inr f ↦ rw f (ap (λ l. l ++ messages_to q posts) (append-nil (links p q)))
   ])
   | inr f ↦ rw f refl
 ]

@@ -10,7 +10,7 @@ use Rattle.zserver_table.specs.declared.process.Process.TheVariants.{Master, Ser
 use Rattle.zserver_table.specs.View.{Post, Neighbour, Transfer}
 use Rattle.zmaster_table.specs.View.{MasterView, members, is_among, is_joining, with_number}
 use Rattle.zmaster_table.specs.Table as master
-use Rattle.zworld_model.specs.Links.{addressed}
+use Rattle.zworld_model.specs.Links.{messages_to}
 use Rattle.zlegal.proofs.lists.Members.{among_left, among_right, among_insert, among_inserted}
 use Rattle.zlegal.proofs.lists.Places.{before_insert}
 use Rattle.zlegal.proofs.lists.Distinct.{no_two_without}
@@ -134,7 +134,7 @@ module _ {P : Type 0} (plain : Plain P) (t : Account) (s : IsSound plain t) (x :
       ]
 
   -- what is told
-  told_is : (z : ℕ) → (addressed (Server z) posts ≡ []) ⊎ ((m : LogMessage) × (addressed (Server z) posts ≡ m ∷ []) × IsTold before e rest z m)
+  told_is : (z : ℕ) → (messages_to (Server z) posts ≡ []) ⊎ ((m : LogMessage) × (messages_to (Server z) posts ≡ m ∷ []) × IsTold before e rest z m)
   told_is z = elim (told_one before e rest z) [
     | inl none ↦ inl (addressed_told z v (repair before e rest).1 ∙ none)
     | inr one ↦ inr (one.0, addressed_told z v (repair before e rest).1 ∙ one.1, one.2)
@@ -174,7 +174,7 @@ module _ {P : Type 0} (plain : Plain P) (t : Account) (s : IsSound plain t) (x :
   leads : (z : ℕ) (place : Place) → place_from None w.master.chain z ≡ Some place → LeadsTo (IsPast w1) (is_fresh w z) (w.servers z).pred (queue w z) place
   leads z place is = leads_more (IsPast w) (IsPast w1) (is_fresh w z) (is_fresh w z) (w.servers z).pred (queue w z) place past_later (λ h. h) (s.line z place is)
 
-  line : (z : ℕ) (place : Place) → place_from None v.chain z ≡ Some place → LeadsTo (IsPast w1) (is_fresh w z) (w.servers z).pred (queue w z ++ addressed (Server z) posts) place
+  line : (z : ℕ) (place : Place) → place_from None v.chain z ≡ Some place → LeadsTo (IsPast w1) (is_fresh w z) (w.servers z).pred (queue w z ++ messages_to (Server z) posts) place
   line z place is = elim (places z place is) [
     | inl old ↦ elim (told_is z) [
       | inl none ↦ subst (λ l. LeadsTo (IsPast w1) (is_fresh w z) (w.servers z).pred (queue w z ++ l) place) (sym none)
@@ -184,8 +184,8 @@ module _ {P : Type 0} (plain : Plain P) (t : Account) (s : IsSound plain t) (x :
     ]
     | inr turned ↦
         let one = told_turned before e turned.next turned.more z turned.here in
-        let there : addressed (Server z) posts ≡ one.0 ∷ [] =
-        addressed_told z v (repair before e rest).1 ∙ ap (λ l. addressed (Server z) (repair before e l).1) turned.is ∙ one.1 in
+        let there : messages_to (Server z) posts ≡ one.0 ∷ [] =
+        addressed_told z v (repair before e rest).1 ∙ ap (λ l. messages_to (Server z) (repair before e l).1) turned.is ∙ one.1 in
         subst (λ l. LeadsTo (IsPast w1) (is_fresh w z) (w.servers z).pred (queue w z ++ l) place) (sym there)
         (one_more_order (IsPast w1) (is_fresh w z) (w.servers z).pred (queue w z) (Some (x, turned.next.1)) place one.0 (one.2 ∙ ap (λ p. Some p) turned.place_is)
         (past_now turned.next.1) (leads z (Some (x, turned.next.1)) turned.was))

@@ -11,7 +11,7 @@ use Rattle.zserver_table.specs.declared.process.Process.TheVariants.{Master, Ser
 use Rattle.zserver_table.specs.View.{ServerView, Post, Neighbour, Transfer, spare}
 use Rattle.zmaster_table.specs.View.{MasterView, members, is_among, with_number}
 use Rattle.zmaster_table.specs.Table as master
-use Rattle.zworld_model.specs.Links.{addressed}
+use Rattle.zworld_model.specs.Links.{messages_to}
 use Rattle.zlegal.proofs.lists.Members.{among_left, among_right, among_last}
 use Rattle.zlegal.proofs.lists.Distinct.{no_two_last}
 use Rattle.zlegal.proofs.lists.Places.{before_last}
@@ -90,10 +90,10 @@ module _ {P : Type 0} (plain : Plain P) (t : Account) (s : IsSound plain t) (x :
         inr (new.0, sym (ap (λ b. place_behind b e) is_last) ∙ new.1)
   ]
 
-  told_is : (z : ℕ) → (addressed (Server z) posts ≡ []) ⊎ ((z ≡ x) × (addressed (Server z) posts ≡ order ∷ []))
+  told_is : (z : ℕ) → (messages_to (Server z) posts ≡ []) ⊎ ((z ≡ x) × (messages_to (Server z) posts ≡ order ∷ []))
   told_is z = one_told x order z
 
-  line : (z : ℕ) (place : Place) → place_from None v.chain z ≡ Some place → LeadsTo (IsPast w1) (is_fresh w z) (w.servers z).pred (queue w z ++ addressed (Server z) posts) place
+  line : (z : ℕ) (place : Place) → place_from None v.chain z ≡ Some place → LeadsTo (IsPast w1) (is_fresh w z) (w.servers z).pred (queue w z ++ messages_to (Server z) posts) place
   line z place is = elim (places z place is) [
     | inl old ↦ elim (told_is z) [
       | inl none ↦ subst (λ l. LeadsTo (IsPast w1) (is_fresh w z) (w.servers z).pred (queue w z ++ l) place) (sym none)
@@ -102,7 +102,7 @@ module _ {P : Type 0} (plain : Plain P) (t : Account) (s : IsSound plain t) (x :
       | inr one ↦ absurd (new_member z (place_in None w.master.chain z place old) (sym one.0))
     ]
     | inr new ↦
-        let there : addressed (Server z) posts ≡ order ∷ [] = (let same : (z == x) ≡ true = eq-eqb z x (sym new.0) in rw same refl) in
+        let there : messages_to (Server z) posts ≡ order ∷ [] = (let same : (z == x) ≡ true = eq-eqb z x (sym new.0) in rw same refl) in
         let view = nothing z new.0 in
         let empty : queue w z ≡ [] = subst (λ y. queue w y ≡ []) new.0 (s.blank x unused).1 in
         subst (λ l. LeadsTo (IsPast w1) (is_fresh w z) (w.servers z).pred (queue w z ++ l) place) (sym there)

@@ -9,7 +9,7 @@ use Rattle.zserver_table.specs.declared.process.Process.{Process}
 use Rattle.zserver_table.specs.declared.process.Process.TheVariants.{Master, Server}
 use Rattle.zserver_table.specs.View.{Post, Neighbour}
 use Rattle.zmaster_table.specs.View.{MasterView, members, is_among}
-use Rattle.zworld_model.specs.Links.{addressed, put}
+use Rattle.zworld_model.specs.Links.{messages_to, put}
 use Rattle.zlegal.specs.Items.{Item}
 use Rattle.zchain.specs.Flow.{LogWorld, LogMessage, Log, or_else, log_at, final_log_by, final_log, first_snapshot_by, first_log}
 use Rattle.zchain.specs.Chain.{queue, IsAhead, IsOpened, IsMember, IsUsed, IsPair, place_from, HasNoTailOrder, HoldsBehind, HasNoTailOrderBehind, IsNewEpoch, HasDistinctEpochs}
@@ -45,7 +45,7 @@ pub record IsGoodMove (w : LogWorld) (items : List Item) (v : MasterView) (posts
   -- who is in the chain was, or has nothing
   pub ordered : (x y : ℕ) → ComesBefore x y (members v) → ComesBefore x y (members w.master) ⊎ (final_log w y ≡ None)
   pub members_were : (z : ℕ) → Among z (members v) → IsMember w z ⊎ (first_log w z ≡ None)
-  pub orders : (z : ℕ) → (addressed (Server z) posts ≡ []) ⊎ ((m : LogMessage) × (addressed (Server z) posts ≡ m ∷ []) × IsGoodPost w v z m)
+  pub orders : (z : ℕ) → (messages_to (Server z) posts ≡ []) ⊎ ((m : LogMessage) × (messages_to (Server z) posts ≡ m ∷ []) × IsGoodPost w v z m)
   pub justified : (to : Process) (m : LogMessage) → Among (to, m) posts → IsJustified (world_with_move w v posts) items Master to m
 
 -- epochs stay distinct with one order more
@@ -105,7 +105,7 @@ module _ {P : Type 0} (plain : Plain P) (t : Account) (s : IsSound plain t) (v :
   w1 = world_with_move t.world v posts
 
   abbrev new : ℕ → List LogMessage
-  new z = addressed (Server z) posts
+  new z = messages_to (Server z) posts
 
   -- what is new in a queue is its one order
   new_is : (z : ℕ) (m : LogMessage) → Among m (new z) → IsGoodPost w v z m

@@ -6,7 +6,7 @@ use Rattle.zcalls.proofs.Among.{test}
 use Rattle.zserver_table.specs.declared.message.Message.TheVariants as message
 use Rattle.zserver_table.specs.declared.process.Process.TheVariants.{Master, Server}
 use Rattle.zserver_table.specs.View.{Post, Neighbour}
-use Rattle.zworld_model.specs.Links.{addressed}
+use Rattle.zworld_model.specs.Links.{messages_to}
 use Rattle.zchain.specs.Flow.{LogWorld, LogMessage}
 use Rattle.zchain.specs.Chain.{Place, place_behind, place_from, turn_of}
 use Rattle.zchain.specs.Messages.{IsJustified}
@@ -19,12 +19,12 @@ pub data IsTold (before : Option ℕ) (e : ℕ) (rest : List Neighbour) (z : ℕ
   Turns : (p : ℕ) (r : Neighbour) (more : List Neighbour) → before ≡ Some p → rest ≡ r ∷ more → z ≡ r.0 → m ≡ message.NewPred e p → IsTold before e rest z m
 
 -- a server is told one order, or nothing
-pub one_told : (y : ℕ) (o : LogMessage) (z : ℕ) → (addressed (Server z) ((Server y, o) ∷ []) ≡ []) ⊎ ((z ≡ y) × (addressed (Server z) ((Server y, o) ∷ []) ≡ o ∷ []))
+pub one_told : (y : ℕ) (o : LogMessage) (z : ℕ) → (messages_to (Server z) ((Server y, o) ∷ []) ≡ []) ⊎ ((z ≡ y) × (messages_to (Server z) ((Server y, o) ∷ []) ≡ o ∷ []))
 one_told y o z = elim (test (z == y)) [ inl t ↦ inr (eqb-true _ _ t, rw t refl) | inr f ↦ inl (rw f refl) ]
 
 -- so of a repair
 pub told_one : (before : Option ℕ) (e : ℕ) (rest : List Neighbour) (z : ℕ)
-    → (addressed (Server z) (repair before e rest).1 ≡ []) ⊎ ((m : LogMessage) × (addressed (Server z) (repair before e rest).1 ≡ m ∷ []) × IsTold before e rest z m)
+    → (messages_to (Server z) (repair before e rest).1 ≡ []) ⊎ ((m : LogMessage) × (messages_to (Server z) (repair before e rest).1 ≡ m ∷ []) × IsTold before e rest z m)
 told_one None e [] z = inl refl
 told_one None e (r ∷ more) z = elim (one_told r.0 (message.BecomeHead e) z) [ inl n ↦ inl n | inr o ↦ inr (message.BecomeHead e, o.1, Heads r more refl refl o.0 refl) ]
 told_one (Some p) e [] z = elim (one_told p (message.BecomeTail e) z) [ inl n ↦ inl n | inr o ↦ inr (message.BecomeTail e, o.1, Ends p refl refl o.0 refl) ]
@@ -32,7 +32,7 @@ told_one (Some p) e (r ∷ more) z = elim (one_told r.0 (message.NewPred e p) z)
 
 -- the next one is told its new place
 pub told_turned : (before : Option ℕ) (e : ℕ) (r : Neighbour) (more : List Neighbour) (z : ℕ) → z ≡ r.0
-    → (m : LogMessage) × (addressed (Server z) (repair before e (r ∷ more)).1 ≡ m ∷ []) × (turn_of m ≡ Some (place_behind before e))
+    → (m : LogMessage) × (messages_to (Server z) (repair before e (r ∷ more)).1 ≡ m ∷ []) × (turn_of m ≡ Some (place_behind before e))
 told_turned None e r more z is = let t : (z == r.0) ≡ true = eq-eqb z r.0 is in (message.BecomeHead e, rw t refl, refl)
 told_turned (Some p) e r more z is = let t : (z == r.0) ≡ true = eq-eqb z r.0 is in (message.NewPred e p, rw t refl, refl)
 

@@ -12,7 +12,7 @@ use Rattle.zserver_table.specs.declared.process.Process.TheVariants.{Master, Ser
 use Rattle.zserver_table.specs.View.{Post, Neighbour}
 use Rattle.zmaster_table.specs.View.{MasterView, is_among, is_joining, head_of, tail_of}
 use Rattle.zmaster_table.specs.Table as master
-use Rattle.zworld_model.specs.Links.{is_same, addressed}
+use Rattle.zworld_model.specs.Links.{is_same, messages_to}
 use Rattle.zchain.specs.Flow.{LogWorld, LogMessage}
 use Rattle.zchain.specs.Chain.{queue, IsOpened, IsPast, LeadsTo, is_fresh, turn_of}
 use Rattle.zchain.specs.Messages.{IsJustified}
@@ -39,12 +39,12 @@ not_tail : (w : LogWorld) (k : ℕ) (m : LogMessage) → m ≡ message.BecomeTai
 not_tail w k m e h = subst (IsStanding w) e h
 
 -- what clients are told is nothing to servers
-pub addressed_clients : (z : ℕ) (m : LogMessage) (cs : List ℕ) → addressed (Server z) (map (λ c. (Client c, m)) cs) ≡ []
+pub addressed_clients : (z : ℕ) (m : LogMessage) (cs : List ℕ) → messages_to (Server z) (map (λ c. (Client c, m)) cs) ≡ []
 addressed_clients z m [] = refl
 addressed_clients z m (c ∷ cs) = addressed_clients z m cs
 
 -- with the clients told, servers are put what they were
-pub addressed_told : (z : ℕ) (v : MasterView) (first : List (Post (List Entry))) → addressed (Server z) (first ++ master.config_posts v) ≡ addressed (Server z) first
+pub addressed_told : (z : ℕ) (v : MasterView) (first : List (Post (List Entry))) → messages_to (Server z) (first ++ master.config_posts v) ≡ messages_to (Server z) first
 addressed_told z v [] = addressed_clients z (message.Config v.epoch (head_of v) (tail_of v)) (range_with_len 0 v.clients)
 addressed_told z v (post ∷ first) = elim (test (is_same (Server z) post.0)) [
   | inl t ↦ rw t (ap (λ l. post.1 ∷ l) (addressed_told z v first))
@@ -66,7 +66,7 @@ told_among v first post a = elim (among_cases post first (master.config_posts v)
 
 module _ {P : Type 0} (plain : Plain P) (t : Account) (s : IsSound plain t) (joining : Option ℕ) (e : ℕ) (low : t.world.master.epoch ≤ e) (posts : List (Post (List Entry)))
     (standing : (post : Post (List Entry)) → Among post posts → IsStanding t.world post.1)
-    (each : (z : ℕ) → (addressed (Server z) posts ≡ []) ⊎ ((m : LogMessage) × (addressed (Server z) posts ≡ m ∷ []) × (is_among z t.world.master.used ≡ true) × IsStanding t.world m)) where
+    (each : (z : ℕ) → (messages_to (Server z) posts ≡ []) ⊎ ((m : LogMessage) × (messages_to (Server z) posts ≡ m ∷ []) × (is_among z t.world.master.used ≡ true) × IsStanding t.world m)) where
   abbrev w : LogWorld
   w = t.world
 
@@ -79,7 +79,7 @@ module _ {P : Type 0} (plain : Plain P) (t : Account) (s : IsSound plain t) (joi
   opened : (z k : ℕ) → IsOpened w z k → IsOpened (world_with_move w v posts) z k
   opened z k h = (
     (let given : k ≤ w.master.epoch = h.0 in omega arith),
-    λ p a. elim (among_cases (message.NewPred k p) (queue w z) (addressed (Server z) posts) a) [
+    λ p a. elim (among_cases (message.NewPred k p) (queue w z) (messages_to (Server z) posts) a) [
       | inl b ↦ h.1 p b
       | inr c ↦ elim (each z) [
         | inl none ↦ subst (Among (message.NewPred k p)) none c

@@ -12,7 +12,7 @@ use Rattle.zslots.specs.SlotsView.{Items}
 use Rattle.zslots.specs.Links.{no_links}
 use Rattle.zslots.specs.Lists.{empty_list}
 use Rattle.zslots.specs.Families.{HasFamilies}
-use Rattle.zslots.specs.Mapped.{mapped}
+use Rattle.zslots.specs.MapValues.{map_values}
 use Rattle.zindex.specs.IndexView.{IdsByPath}
 use Rattle.ztree.specs.declared.node.Node.{Node}
 use Rattle.ztree.specs.Tree.{Name, Path, Nodes, parent_of}
@@ -103,13 +103,13 @@ node_at m id = option_map (λ (r : Row). r.node) (get m id)
 
 -- what the rows, the index and the owners show
 abbrev pub nodes_of : Items Row → IdsByPath → Nodes
-nodes_of m ids = mapped (node_at m) ids
+nodes_of m ids = map_values (node_at m) ids
 
 abbrev pub places_of : Items Row → FinMap id_cmp Path
-places_of m = mapped live_path m
+places_of m = map_values live_path m
 
 abbrev pub held_of : Items Row → FinMap id_cmp Taken
-held_of m = mapped taken_row m
+held_of m = map_values taken_row m
 
 abbrev pub known_of : OwnerLists → FinMap nat_cmp (Unit {0})
-known_of owners = mapped (λ _. Some tt) owners
+known_of owners = map_values (λ _. Some tt) owners

@@ -15,7 +15,7 @@ use Rattle.zslots.specs.SlotsView.{Items}
 use Rattle.zslots.specs.Links.{with_front, without}
 use Rattle.zslots.specs.Lists.{empty_list, list_with_front, list_without}
 use Rattle.zslots.specs.Families.{HasFamilies}
-use Rattle.zslots.specs.Mapped.{mapped}
+use Rattle.zslots.specs.MapValues.{map_values}
 use Rattle.zsessions.specs.declared.row.SessionRow.{SessionRow}
 
 abbrev pub Rows : Type 0
@@ -48,7 +48,7 @@ id_at ids number = lookup (is_at (nat_cmp number)) ids
 
 -- the sessions by their ids
 abbrev pub sessions_of : IdEntries → Rows → Sessions
-sessions_of ids rows = mapped (session_at rows) (from_entries ids)
+sessions_of ids rows = map_values (session_at rows) (from_entries ids)
 
 -- the number of the bucket of a deadline
 abbrev pub bucket_number : ℕ → ℕ

@@ -7,7 +7,7 @@ use Rattle.zslots.specs.declared.id.Id.{Id}
 use Rattle.zslots.proofs.Maps.{id_cmp_total, id_cmp_same}
 use Rattle.ztree.specs.Tree.{Path}
 use Rattle.ztree.proofs.Maps.{same_some, none_some, same_or_other, get-insert-elsewhere, get-remove-elsewhere}
-use Rattle.zstore.specs.StoreView.{StoreView, Mark, path_of, NamesNew, Forgets, stepped}
+use Rattle.zstore.specs.StoreView.{StoreView, Mark, path_of, NamesNew, Forgets, mark_left}
 
 -- an Id that names a path still names it after another Id was given
 pub still_named : (old new : StoreView) (id : Id) (path : Path) (other : Id) (p : Path) →
@@ -43,9 +43,9 @@ path_there None there = absurd (clash there)
     clash e = cc
 
 -- a step and another are two
-pub stepped_twice : (m : Option Mark) → stepped 1 (stepped 1 m) ≡ stepped 2 m
-stepped_twice None = refl
-stepped_twice (Some m) = by (nat_le 1 m.steps) refl (nat_le 2 m.steps) refl
+pub mark_left_twice : (m : Option Mark) → mark_left 1 (mark_left 1 m) ≡ mark_left 2 m
+mark_left_twice None = refl
+mark_left_twice (Some m) = by (nat_le 1 m.steps) refl (nat_le 2 m.steps) refl
   where
     twice : (b : Bool) → nat_le 1 (m.steps - 1) ≡ b → (d : Bool) → nat_le 2 m.steps ≡ d →
         cond b (Some (record m { steps = m.steps - 1 - 1 })) None ≡ cond d
@@ -56,7 +56,7 @@ stepped_twice (Some m) = by (nat_le 1 m.steps) refl (nat_le 2 m.steps) refl
     twice false e true f = absurd (grind (arith, nat_tests))
 
     by : (a : Bool) → nat_le 1 m.steps ≡ a → (d : Bool) → nat_le 2 m.steps ≡ d →
-        stepped 1 (cond a (Some (record m { steps = m.steps - 1 })) None) ≡ cond d
+        mark_left 1 (cond a (Some (record m { steps = m.steps - 1 })) None) ≡ cond d
         (Some (record m { steps = m.steps - 2 })) None
     by true e d f = twice (nat_le 1 (m.steps - 1)) refl d f
     by false e true f = absurd (grind (arith, nat_tests))

@@ -12,22 +12,22 @@ use Rattle.ztree.specs.Tree.{Path, Sessions}
 use Rattle.znodes.specs.NodesView.{NodesView, SameButRoom}
 use Rattle.zstore.specs.declared.undo.Undo.{Undo}
 use Rattle.zstore.specs.declared.log.Log.{Log}
-use Rattle.zstore.specs.StoreView.{stepped}
-use Rattle.zstore.specs.support.Undoing.{Held, Owners, Parts, parts_of, undone, all_undone, Fits, FitAll, returning, all_freed, freed, AllHeld, Notes, notes_of, undos_of, noted, held_after, GivesUp}
+use Rattle.zstore.specs.StoreView.{mark_left}
+use Rattle.zstore.specs.support.Undoing.{Held, Owners, Parts, parts_of, undone, all_undone, Fits, FitAll, returning, release_all, release, AllHeld, Notes, notes_of, undos_of, add_note, held_after, GivesUp}
 use Rattle.zstore.specs.support.Stored.{tree_of, mark_of, IsKept, AreOwners, IsStored}
-use Rattle.zstore.proofs.parts.Undone.{all_undone-push, all_freed-push, fit_all_push, all_returning-push, held-all_undone, all_held}
+use Rattle.zstore.proofs.parts.Undone.{all_undone-push, release_all-push, fit_all_push, all_returning-push, held-all_undone, all_held}
 
 -- where no note more is taken, nothing needs to be undone
 pub freed_full : (u : Undo) (l : Log) (held : Held) → l.is_on ≡ true →
     vec_capacity l.undos ≤ vec_len l.undos →
-    held_after u (notes_of l) held ≡ all_freed (undos_of (notes_of l)) (freed u held)
+    held_after u (notes_of l) held ≡ release_all (undos_of (notes_of l)) (release u held)
 freed_full u l held on full =
     let none : nat_le 1 (vec_capacity l.undos - vec_len l.undos) ≡ false =
     grind (arith, nat_tests, full) in
-    rw (on, none) (all_freed-push l.undos.items u held)
+    rw (on, none) (release_all-push l.undos.items u held)
 
 pub freed_off : (u : Undo) (l : Log) (held : Held) → l.is_on ≡ false →
-    held_after u (notes_of l) held ≡ all_freed (undos_of (notes_of l)) (freed u held)
+    held_after u (notes_of l) held ≡ release_all (undos_of (notes_of l)) (release u held)
 freed_off u l held off = rw off refl
 
 -- the same nodes where other nodes are held
@@ -55,23 +55,23 @@ module _ (v : NodesView) (sessions : Sessions) (time zxid : ℕ) where
     notes_held = all_held v.owners (undos_of notes) (parts_of v) stored.fit
 
     -- and nothing else
-    pub none_held : all_freed (undos_of notes) v.held ≡ finite.empty
+    pub none_held : release_all (undos_of notes) v.held ≡ finite.empty
     none_held = sym (held-all_undone v.owners (undos_of notes) (parts_of v) stored.fit)
         ∙ stored.held
 
     -- the mark given up
-    pub stored_kept : IsStored None (with_held v (all_freed (undos_of notes) v.held)) sessions time
+    pub stored_kept : IsStored None (with_held v (release_all (undos_of notes) v.held)) sessions time
         zxid
     stored_kept =
-        stored_plain v sessions time zxid (all_freed (undos_of notes) v.held) none_held stored.kept
+        stored_plain v sessions time zxid (release_all (undos_of notes) v.held) none_held stored.kept
         stored.owners
 
     -- and something else than the nodes changed
     pub stored_changed : (sessions' : Sessions) (time' zxid' : ℕ) →
         IsKept v.nodes v.places sessions' time' zxid' → AreOwners v.owners sessions' →
-        IsStored None (with_held v (all_freed (undos_of notes) v.held)) sessions' time' zxid'
+        IsStored None (with_held v (release_all (undos_of notes) v.held)) sessions' time' zxid'
     stored_changed sessions' time' zxid' kept owners =
-        stored_plain v sessions' time' zxid' (all_freed (undos_of notes) v.held) none_held kept
+        stored_plain v sessions' time' zxid' (release_all (undos_of notes) v.held) none_held kept
         owners
 
     -- and with other room
@@ -80,17 +80,17 @@ module _ (v : NodesView) (sessions : Sessions) (time zxid : ℕ) where
     stored_freed w gives =
         subst (λ (x : NodesView). IsStored None x sessions time zxid) (sym gives)
         (stored_plain (record v { room = w.room }) sessions time zxid
-        (all_freed (undos_of notes) v.held) none_held stored.kept stored.owners)
+        (release_all (undos_of notes) v.held) none_held stored.kept stored.owners)
 
     -- and so in a copy of the nodes
     pub stored_copied : (w : NodesView) → SameButRoom v w →
-        IsStored None (with_held w (all_freed (undos_of notes) w.held)) sessions time zxid
+        IsStored None (with_held w (release_all (undos_of notes) w.held)) sessions time zxid
     stored_copied w same =
         subst (λ (x : NodesView).
-        IsStored None (with_held x (all_freed (undos_of notes) x.held)) sessions time zxid)
+        IsStored None (with_held x (release_all (undos_of notes) x.held)) sessions time zxid)
         (sym same)
         (stored_plain (record v { room = w.room }) sessions time zxid
-        (all_freed (undos_of notes) v.held) none_held stored.kept stored.owners)
+        (release_all (undos_of notes) v.held) none_held stored.kept stored.owners)
 
     pub copy_held : (w : NodesView) → SameButRoom v w → AllHeld (undos_of notes) w.held
     copy_held w same =
@@ -139,13 +139,13 @@ module _ (u : Undo) (old new : NodesView) (sessions : Sessions) (time zxid : ℕ
   -- the mark that stands then
   pub noted_marked : (notes : Option Notes) →
       option_map (mark_of (with_held new (held_after u notes new.held)) sessions time zxid)
-      (noted u notes) ≡ stepped 1 (option_map (mark_of old sessions time zxid) notes)
+      (add_note u notes) ≡ mark_left 1 (option_map (mark_of old sessions time zxid) notes)
   noted_marked None = refl
   noted_marked (Some n) = by (nat_le 1 n.room)
     where
       by : (b : Bool) →
           option_map
-          (mark_of (with_held new (cond b new.held (all_freed (n.undos ++ u ∷ []) new.held)))
+          (mark_of (with_held new (cond b new.held (release_all (n.undos ++ u ∷ []) new.held)))
           sessions time zxid)
           (cond b (Some (record { undos = n.undos ++ u ∷ []; room = n.room - 1 })) None)
           ≡ cond b (Some (record (mark_of old sessions time zxid n) { steps = n.room - 1 })) None
@@ -170,7 +170,7 @@ module _ (u : Undo) (old new : NodesView) (sessions : Sessions) (time zxid : ℕ
     pub noted_held : AllHeld (undos_of notes ++ u ∷ []) new.held
     noted_held = all_held new.owners (undos_of notes ++ u ∷ []) (parts_of new) fit
 
-    none_left : all_freed (undos_of notes ++ u ∷ []) new.held ≡ finite.empty
+    none_left : release_all (undos_of notes ++ u ∷ []) new.held ≡ finite.empty
     none_left = sym (held-all_undone new.owners (undos_of notes ++ u ∷ []) (parts_of new) fit)
         ∙ ap (λ (p : Parts). p.held) (all_back (undos_of notes)) ∙ stored.held
 
@@ -178,7 +178,7 @@ module _ (u : Undo) (old new : NodesView) (sessions : Sessions) (time zxid : ℕ
     pub stored_noted : IsKept new.nodes new.places sessions time zxid →
         ((id : Id) (path : Path) → finite.get new.places id ≡ Some path →
         finite.get new.held id ≡ None) → old.room + returning u ≤ new.room + 1 →
-        IsStored (noted u notes) (with_held new (held_after u notes new.held)) sessions time zxid
+        IsStored (add_note u notes) (with_held new (held_after u notes new.held)) sessions time zxid
     stored_noted kept apart more = by notes stored fit none_left
       where
         again : AreOwners new.owners sessions
@@ -186,13 +186,13 @@ module _ (u : Undo) (old new : NodesView) (sessions : Sessions) (time zxid : ℕ
 
         within : (n : Notes) → IsStored (Some n) old sessions time zxid →
             FitAll new.owners (n.undos ++ u ∷ []) (parts_of new) →
-            all_freed (n.undos ++ u ∷ []) new.held ≡ finite.empty → (b : Bool) → nat_le 1 n.room ≡ b
+            release_all (n.undos ++ u ∷ []) new.held ≡ finite.empty → (b : Bool) → nat_le 1 n.room ≡ b
             → IsStored
             (cond b (Some (record { undos = n.undos ++ u ∷ []; room = n.room - 1 })) None)
-            (with_held new (cond b new.held (all_freed (n.undos ++ u ∷ []) new.held))) sessions
+            (with_held new (cond b new.held (release_all (n.undos ++ u ∷ []) new.held))) sessions
             time zxid
         within n was fit none false full =
-            stored_plain new sessions time zxid (all_freed (n.undos ++ u ∷ []) new.held) none kept
+            stored_plain new sessions time zxid (release_all (n.undos ++ u ∷ []) new.held) none kept
             again
         within n was fit none true enough =
             let had = was.room in
@@ -210,9 +210,9 @@ module _ (u : Undo) (old new : NodesView) (sessions : Sessions) (time zxid : ℕ
 
         by : (notes : Option Notes) → IsStored notes old sessions time zxid →
             FitAll new.owners (undos_of notes ++ u ∷ []) (parts_of new) →
-            all_freed (undos_of notes ++ u ∷ []) new.held ≡ finite.empty →
-            IsStored (noted u notes) (with_held new (held_after u notes new.held)) sessions time
+            release_all (undos_of notes ++ u ∷ []) new.held ≡ finite.empty →
+            IsStored (add_note u notes) (with_held new (held_after u notes new.held)) sessions time
             zxid
         by None was fit none =
-            stored_plain new sessions time zxid (freed u new.held) none kept again
+            stored_plain new sessions time zxid (release u new.held) none kept again
         by (Some n) was fit none = within n was fit none (nat_le 1 n.room) refl

@@ -13,7 +13,7 @@ use Rattle.znodes.specs.declared.parts.Content.{Content}
 use Rattle.znodes.specs.NodesView.{NodesView, AtPath, AtNode, Takes, Writes, marks_of, content_of, node_with_marks, node_with_content}
 use Rattle.zstore.specs.declared.undo.Undo.TheVariants as undo
 use Rattle.zstore.specs.StoreView.{while_there}
-use Rattle.zstore.specs.support.Undoing.{CanGo, parts_of, undone, AllHeld, Notes, undos_of, noted, held_after}
+use Rattle.zstore.specs.support.Undoing.{CanGo, parts_of, undone, AllHeld, Notes, undos_of, add_note, held_after}
 use Rattle.zstore.specs.support.Stored.{IsStored}
 use Rattle.zstore.proofs.ids.Naming.{path_there}
 use Rattle.zstore.proofs.parts.Maps.{remove-insert}
@@ -31,7 +31,7 @@ module _ (v w : NodesView) (id : Id) (fits : CanGo (parts_of v) id)
 
   pub gone_parts : (x : NodesView) → x ≡ record w { held = finite.remove w.held id } →
       parts_of x ≡ undone (undo.Added id) (parts_of v)
-  gone_parts x freed =
+  gone_parts x release =
       let held = ap (λ h. finite.remove h id) gone.held
       ∙ remove-insert id_cmp_total id_cmp_same v.held id (fits.path, fits.node) fits.unheld in
       let parts : parts_of (with_held w (finite.remove w.held id)) ≡ record {
@@ -40,7 +40,7 @@ module _ (v w : NodesView) (id : Id) (fits : CanGo (parts_of v) id)
         held = v.held;
       } =
       λ i. record { nodes = gone.nodes i; places = gone.places i; held = held i } in
-      ap parts_of freed ∙ parts ∙ sym (undone-gone (parts_of v) id fits)
+      ap parts_of release ∙ parts ∙ sym (undone-gone (parts_of v) id fits)
 
 module _ (old new : NodesView) (sessions : Sessions) (time zxid : ℕ) (notes : Option Notes)
     (stored : IsStored notes old sessions time zxid) (id : Id)
@@ -94,7 +94,7 @@ module _ (old new : NodesView) (sessions : Sessions) (time zxid : ℕ) (notes : 
 
     pub take_stored : AtPath old id (λ path. path ≢ []) →
         AtPath old id (λ path. children old.nodes path ≡ []) →
-        IsStored (noted (undo.Taken id) notes)
+        IsStored (add_note (undo.Taken id) notes)
         (with_held new (held_after (undo.Taken id) notes new.held)) sessions time zxid
     take_stored below leaf =
         taken_stored old new sessions time zxid notes stored id path node took named found
@@ -136,7 +136,7 @@ module _ (old new : NodesView) (sessions : Sessions) (time zxid : ℕ) (notes : 
         (node_with_marks marks) (node_with_marks before) (writes path named) named found marks_again
         (λ p. refl) (λ p some. some) refl
 
-    pub marks_stored : IsStored (noted (undo.Marked id before) notes)
+    pub marks_stored : IsStored (add_note (undo.Marked id before) notes)
         (with_held new (held_after (undo.Marked id before) notes new.held)) sessions time zxid
     marks_stored =
         written_stored old new sessions time zxid notes stored id (undo.Marked id before) path node
@@ -161,7 +161,7 @@ module _ (old new : NodesView) (sessions : Sessions) (time zxid : ℕ) (notes : 
         (node_with_content content) (node_with_content before) (writes path named) named found
         content_again (λ p. refl) (λ p some. some) refl
 
-    pub content_stored : IsStored (noted (undo.Written id before) notes)
+    pub content_stored : IsStored (add_note (undo.Written id before) notes)
         (with_held new (held_after (undo.Written id before) notes new.held)) sessions time zxid
     content_stored =
         written_stored old new sessions time zxid notes stored id (undo.Written id before) path node

@@ -11,7 +11,7 @@ use Rattle.ztree.specs.Lawful.{IsPersistent, IsOwner}
 use Rattle.znodes.specs.NodesView.{NodesView, Adds, Takes}
 use Rattle.zstore.specs.declared.undo.Undo.{Undo}
 use Rattle.zstore.specs.declared.undo.Undo.TheVariants as undo
-use Rattle.zstore.specs.support.Undoing.{Owners, Parts, parts_of, undone, with_change_of, CanGo, CanComeBack, Fits, returning, AllHeld, Notes, undos_of, noted, held_after}
+use Rattle.zstore.specs.support.Undoing.{Owners, Parts, parts_of, undone, with_change_of, CanGo, CanComeBack, Fits, returning, AllHeld, Notes, undos_of, add_note, held_after}
 use Rattle.zstore.specs.support.Stored.{IsKept, AreOwners, IsStored}
 use Rattle.zstore.proofs.parts.Undone.{parts_with, parts_without, parts_changed, undone-added, undone-taken, changed_back}
 use Rattle.zstore.proofs.parts.Kept.{node_or_none, kept_with, kept_without, kept_changed, can_go, can_come_back, apart_with, apart_without}
@@ -42,7 +42,7 @@ module _ (old new : NodesView) (sessions : Sessions) (time zxid : ℕ) (notes : 
 
     pub added_stored : IsPersistent (finite.get old.nodes (parent_of path)) →
         IsOwner sessions n.owner → finite.len old.nodes < MAX_NODES → IsPath path →
-        IsStored (noted (undo.Added id) notes)
+        IsStored (add_note (undo.Added id) notes)
         (with_held new (held_after (undo.Added id) notes new.held)) sessions time zxid
     added_stored parent owner few is_path =
         let room = adds.room in
@@ -82,7 +82,7 @@ module _ (old new : NodesView) (sessions : Sessions) (time zxid : ℕ) (notes : 
         taken_fits
 
     pub taken_stored : children old.nodes path ≡ [] →
-        IsStored (noted (undo.Taken id) notes)
+        IsStored (add_note (undo.Taken id) notes)
         (with_held new (held_after (undo.Taken id) notes new.held)) sessions time zxid
     taken_stored leaf =
         let room = takes.room in
@@ -122,7 +122,7 @@ module _ (old new : NodesView) (sessions : Sessions) (time zxid : ℕ) (notes : 
         noted_held u old new sessions time zxid written_back notes stored owners written_fits
 
     pub written_stored : ((m : Node) → (f m).owner ≡ m.owner) →
-        IsStored (noted u notes) (with_held new (held_after u notes new.held)) sessions time zxid
+        IsStored (add_note u notes) (with_held new (held_after u notes new.held)) sessions time zxid
     written_stored same =
         let room = ap (λ (v : NodesView). v.room) writes in
         let kept =

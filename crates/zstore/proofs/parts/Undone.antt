@@ -12,7 +12,7 @@ use Rattle.ztree.proofs.Maps.{get-insert-here}
 use Rattle.ztree.proofs.Nodes.{changed_at-some}
 use Rattle.zstore.specs.declared.undo.Undo.{Undo}
 use Rattle.zstore.specs.declared.undo.Undo.TheVariants as undo
-use Rattle.zstore.specs.support.Undoing.{Held, Owners, Parts, CanGo, CanComeBack, with_change_of, undone, all_undone, Fits, FitAll, returning, all_returning, freed, all_freed, IsHeld, AllHeld}
+use Rattle.zstore.specs.support.Undoing.{Held, Owners, Parts, CanGo, CanComeBack, with_change_of, undone, all_undone, Fits, FitAll, returning, all_returning, release, release_all, IsHeld, AllHeld}
 use Rattle.zstore.proofs.parts.Maps.{remove-insert, insert-remove, insert-insert}
 
 -- the parts with one node more
@@ -115,17 +115,17 @@ all_returning-push [] u = omega arith
 all_returning-push (v ∷ us) u = let rest = all_returning-push us u in omega (arith, rest)
 
 -- the last note is freed first
-pub all_freed-push : (us : List Undo) (u : Undo) (held : Held) →
-    all_freed (us ++ u ∷ []) held ≡ all_freed us (freed u held)
-all_freed-push [] u held = refl
-all_freed-push (v ∷ us) u held = ap (freed v) (all_freed-push us u held)
+pub release_all-push : (us : List Undo) (u : Undo) (held : Held) →
+    release_all (us ++ u ∷ []) held ≡ release_all us (release u held)
+release_all-push [] u held = refl
+release_all-push (v ∷ us) u held = ap (release v) (release_all-push us u held)
 
 pub all_held_last : (us : List Undo) (u : Undo) (held : Held) → AllHeld (us ++ u ∷ []) held →
-    IsHeld u held × AllHeld us (freed u held)
+    IsHeld u held × AllHeld us (release u held)
 all_held_last [] u held all = (all.0, tt)
 all_held_last (v ∷ us) u held all =
     let rest = all_held_last us u held all.1 in
-    (rest.0, (subst (IsHeld v) (all_freed-push us u held) all.0, rest.1))
+    (rest.0, (subst (IsHeld v) (release_all-push us u held) all.0, rest.1))
 
 held-changed : (p : Parts) (f : Node → Node) (o : Option Path) →
     (option_map_or (λ path. record p { nodes = with_change_at p.nodes path f }) o p).held ≡ p.held
@@ -134,17 +134,17 @@ held-changed p f (Some path) = refl
 
 -- what undoes a change leaves held what freeing it does
 held-undone : (owners : Owners) (u : Undo) (p : Parts) → Fits owners u p →
-    (undone u p).held ≡ freed u p.held
+    (undone u p).held ≡ release u p.held
 held-undone owners (undo.Added id) p fits = rw fits.named refl
 held-undone owners (undo.Taken id) p fits = rw fits.held refl
 held-undone owners (undo.Marked id marks) p fits = held-changed p _ (finite.get p.places id)
 held-undone owners (undo.Written id content) p fits = held-changed p _ (finite.get p.places id)
 
 pub held-all_undone : (owners : Owners) (us : List Undo) (p : Parts) → FitAll owners us p →
-    (all_undone us p).held ≡ all_freed us p.held
+    (all_undone us p).held ≡ release_all us p.held
 held-all_undone owners [] p fit = refl
 held-all_undone owners (u ∷ us) p fit = held-undone owners u (all_undone us p) fit.0
-    ∙ ap (freed u) (held-all_undone owners us p fit.1)
+    ∙ ap (release u) (held-all_undone owners us p fit.1)
 
 -- what can be undone is held
 is_held : (owners : Owners) (u : Undo) (p : Parts) → Fits owners u p → IsHeld u p.held

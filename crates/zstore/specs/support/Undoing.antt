@@ -107,16 +107,16 @@ all_returning [] = 0
 all_returning (u ∷ us) = returning u + all_returning us
 
 -- what is held once a change needn't be undone any more
-abbrev pub freed : Undo → Held → Held
-freed (undo.Added id) held = held
-freed (undo.Taken id) held = remove held id
-freed (undo.Marked id marks) held = held
-freed (undo.Written id content) held = held
+abbrev pub release : Undo → Held → Held
+release (undo.Added id) held = held
+release (undo.Taken id) held = remove held id
+release (undo.Marked id marks) held = held
+release (undo.Written id content) held = held
 
 -- and once none needs to be
-abbrev pub all_freed : List Undo → Held → Held
-all_freed [] held = held
-all_freed (u ∷ us) held = freed u (all_freed us held)
+abbrev pub release_all : List Undo → Held → Held
+release_all [] held = held
+release_all (u ∷ us) held = release u (release_all us held)
 
 -- what a change took away is held
 abbrev pub IsHeld : Undo → Held → Type 0
@@ -128,7 +128,7 @@ IsHeld (undo.Written id content) held = Unit {0}
 -- what all changes took away is held, each once
 abbrev pub AllHeld : List Undo → Held → Type 0
 AllHeld [] held = Unit {0}
-AllHeld (u ∷ us) held = IsHeld u (all_freed us held) × AllHeld us held
+AllHeld (u ∷ us) held = IsHeld u (release_all us held) × AllHeld us held
 
 -- what was noted since a mark, and the room for more
 pub record Notes : Type 0 where
@@ -152,15 +152,15 @@ room_of None = 0
 room_of (Some n) = n.room
 
 -- one note more, where there is room for it
-abbrev pub noted : Undo → Option Notes → Option Notes
-noted u None = None
-noted u (Some n) =
+abbrev pub add_note : Undo → Option Notes → Option Notes
+add_note u None = None
+add_note u (Some n) =
     if nat_le 1 n.room then Some (record { undos = n.undos ++ u ∷ []; room = n.room - 1 }) else None
 
 -- what is held then: where there is no room for the note, none of the changes needs to be undone
 abbrev pub held_after : Undo → Option Notes → Held → Held
-held_after u None held = freed u held
-held_after u (Some n) held = if nat_le 1 n.room then held else all_freed (n.undos ++ u ∷ []) held
+held_after u None held = release u held
+held_after u (Some n) held = if nat_le 1 n.room then held else release_all (n.undos ++ u ∷ []) held
 
 -- a mark was set, with room for so many notes, and for as many nodes
 pub record StartsWith (steps : ℕ) (notes : Option Notes) (room : ℕ) : Type 0 where
@@ -171,4 +171,4 @@ pub record StartsWith (steps : ℕ) (notes : Option Notes) (room : ℕ) : Type 0
 
 -- nothing has changed in the nodes but what is held, and the room
 abbrev pub GivesUp : List Undo → NodesView → NodesView → Type 0
-GivesUp us old new = new ≡ record old { held = all_freed us old.held; room = new.room }
+GivesUp us old new = new ≡ record old { held = release_all us old.held; room = new.room }

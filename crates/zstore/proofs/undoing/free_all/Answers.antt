@@ -1,7 +1,7 @@
 use Rattle.std.proofs.Common.{◌≡◌, List, [], ◌∷◌, length, refl, ap, sym, subst, ◌∙◌, arith}
 use Rattle.znodes.specs.NodesView.{NodesView}
-use Rattle.zstore.specs.support.Undoing.{Held, all_freed, AllHeld}
-use Rattle.zstore.proofs.parts.Undone.{all_freed-push, all_held_last}
+use Rattle.zstore.specs.support.Undoing.{Held, release_all, AllHeld}
+use Rattle.zstore.proofs.parts.Undone.{release_all-push, all_held_last}
 use Rattle.zstore.proofs.undoing.free_all.Goals as goal
 
 no_items : {X : Type 0} (xs : List X) → length xs ≡ 0 → xs ≡ []
@@ -23,19 +23,19 @@ loop-last-preserved c =
     let before = c.in-Some.before.now in
     let last = c.in-Some.last.now in
     let items = c.in-Some.ensures.cases.0 in
-    let freed = c.free_one.ensures in
+    let release = c.free_one.ensures in
     record {
-      held = subst (λ (w : NodesView). AllHeld before w.held) (sym freed)
+      held = subst (λ (w : NodesView). AllHeld before w.held) (sym release)
           (all_held_last before last v.held
           (subst (λ us. AllHeld us v.held) items c.loop-last.invariant.held)).1;
-      nodes = ap (λ (w : NodesView). record w { held = all_freed before w.held }) freed
+      nodes = ap (λ (w : NodesView). record w { held = release_all before w.held }) release
           ∙ ap (λ (h : Held). record v { held = h })
-          (sym (all_freed-push before last v.held) ∙ ap (λ us. all_freed us v.held) (sym items))
+          (sym (release_all-push before last v.held) ∙ ap (λ us. release_all us v.held) (sym items))
           ∙ c.loop-last.invariant.nodes;
     }
 
 pub returns : goal.returns
 returns c =
     let v = c.loop-last.nodes in
-    sym (ap (λ us. record v { held = all_freed us v.held })
+    sym (ap (λ us. record v { held = release_all us v.held })
     (no_items c.loop-last.left.now c.in_default.ensures.cases)) ∙ c.loop-last.invariant.nodes

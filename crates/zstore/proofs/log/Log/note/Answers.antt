@@ -1,6 +1,6 @@
 use Rattle.std.proofs.Common.{◌≡◌, sym, ap, subst, ◌∙◌, arith}
 use Rattle.znodes.specs.NodesView.{NodesView}
-use Rattle.zstore.specs.support.Undoing.{Held, notes_of, undos_of, held_after, freed, all_freed, AllHeld}
+use Rattle.zstore.specs.support.Undoing.{Held, notes_of, undos_of, held_after, release, release_all, AllHeld}
 use Rattle.zstore.proofs.parts.Undone.{all_held_last}
 use Rattle.zstore.proofs.parts.Noted.{freed_full, freed_off}
 use Rattle.zstore.proofs.log.Log.note.Goals.{else-self-via-then-self+else-len-capacity, else-self-via-else-self}
@@ -21,8 +21,8 @@ pub returns-clause-nodes : goal.returns-clause-nodes
 returns-clause-nodes c =
     let l = c.args.self.now in
     let v = c.args.nodes.now in
-    let full : held_after c.args.undo (notes_of l) v.held ≡ all_freed (undos_of (notes_of l))
-    (freed c.args.undo v.held) =
+    let full : held_after c.args.undo (notes_of l) v.held ≡ release_all (undos_of (notes_of l))
+    (release c.args.undo v.held) =
     elim c.else-self.branch [
       | else-self-via-then-self+else-len-capacity w ↦ freed_full c.args.undo l v.held w.if-self.true
           (let full = w.if-len-capacity.false in let len = w.len.ensures in let capacity =
@@ -30,5 +30,5 @@ returns-clause-nodes c =
       | else-self-via-else-self w ↦ freed_off c.args.undo l v.held w.if-self.false
     ] in
     c.stop.ensures.nodes
-    ∙ ap (λ (x : NodesView). record x { held = all_freed (undos_of (notes_of l)) x.held })
+    ∙ ap (λ (x : NodesView). record x { held = release_all (undos_of (notes_of l)) x.held })
     c.free_one.ensures ∙ ap (λ (h : Held). record v { held = h }) (sym full)

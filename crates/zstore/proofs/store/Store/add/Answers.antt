@@ -2,10 +2,10 @@ use Rattle.std.proofs.Common.{◌+◌, sym, ap, ◌∙◌, rules}
 use Rattle.std.specs.FinMap as finite
 use Rattle.ztree.specs.declared.node.Node.{Node}
 use Rattle.ztree.specs.Tree.{Tree, parent_of, new_node, with_change_at, with_child}
-use Rattle.zstore.specs.StoreView.{StoreView, stepped}
+use Rattle.zstore.specs.StoreView.{StoreView, mark_left}
 use Rattle.std.specs.Option.{option_and_then}
 use Rattle.ztree.proofs.Nodes.{get-insert-other, parent_is_other}
-use Rattle.zstore.proofs.ids.Naming.{still_named, stepped_twice}
+use Rattle.zstore.proofs.ids.Naming.{still_named, mark_left_twice}
 use Rattle.zstore.proofs.store.Store.add.Goals as goal
 
 pub child_changed-requires-clause-live : goal.child_changed-requires-clause-live
@@ -49,5 +49,5 @@ returns-clause-added c =
     }) made
 
 pub returns-clause-marked : goal.returns-clause-marked
-returns-clause-marked c = c.child_changed.ensures.marked ∙ ap (stepped 1) c.in_ok-id.ensures.marked
-    ∙ stepped_twice c.args.self.now.marked
+returns-clause-marked c = c.child_changed.ensures.marked ∙ ap (mark_left 1) c.in_ok-id.ensures.marked
+    ∙ mark_left_twice c.args.self.now.marked

@@ -5,9 +5,9 @@ use Rattle.zslots.specs.Ids.{id_cmp}
 use Rattle.std.specs.FinMap.{FinMap, get-remove}
 use Rattle.ztree.specs.Tree.{Tree, Path, parent_of, has_node, without_child}
 use Rattle.ztree.proofs.Nodes.{parent_is_other}
-use Rattle.zstore.specs.StoreView.{path_of, stepped}
+use Rattle.zstore.specs.StoreView.{path_of, mark_left}
 use Rattle.zstore.specs.support.Parts.{without_child_at}
-use Rattle.zstore.proofs.ids.Naming.{not_forgotten, path_there, stepped_twice}
+use Rattle.zstore.proofs.ids.Naming.{not_forgotten, path_there, mark_left_twice}
 use Rattle.ztree.proofs.Ending.{has_node-changed}
 use Rattle.zstore.proofs.ids.UnderWay.{while_there_same}
 use Rattle.ztree.proofs.Sorted.{paths_total}
@@ -46,8 +46,8 @@ returns-clause-tree c = λ path named. c.child_gone.ensures.tree (parent_of path
     ∙ ap (λ t. without_child_at t (parent_of path)) (c.take.ensures.tree path named)
 
 pub returns-clause-marked : goal.returns-clause-marked
-returns-clause-marked c = c.child_gone.ensures.marked ∙ ap (λ m. stepped 1 m) c.take.ensures.marked
-    ∙ stepped_twice c.args.self.now.marked
+returns-clause-marked c = c.child_gone.ensures.marked ∙ ap (λ m. mark_left 1 m) c.take.ensures.marked
+    ∙ mark_left_twice c.args.self.now.marked
 
 pub returns-clause-gone : goal.returns-clause-gone
 returns-clause-gone c = λ id.

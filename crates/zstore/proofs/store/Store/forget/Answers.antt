@@ -3,7 +3,7 @@ use Rattle.std.specs.FinMap as finite
 use Rattle.znodes.specs.NodesView.{NodesView}
 use Rattle.ztree.specs.Tree.{ephemerals}
 use Rattle.zstore.specs.StoreView.{StoreView}
-use Rattle.zstore.specs.support.Undoing.{notes_of, undos_of, all_freed, AllHeld}
+use Rattle.zstore.specs.support.Undoing.{notes_of, undos_of, release_all, AllHeld}
 use Rattle.zstore.proofs.parts.Alive.{owners_ended, kept_ended}
 use Rattle.zstore.proofs.parts.Noted.{stored_plain, notes_held, none_held}
 use Rattle.zstore.proofs.store.Store.forget.Goals as goal
@@ -30,7 +30,7 @@ invariant_of-self c =
       c.end.ensures,
     ) (
     stored_plain (record s.nodes { owners = finite.remove s.nodes.owners id })
-    (finite.remove s.sessions id) s.time s.zxid (all_freed us s.nodes.held)
+    (finite.remove s.sessions id) s.time s.zxid (release_all us s.nodes.held)
     (none_held s.nodes s.sessions s.time s.zxid (notes_of s.log) c.self.invariant)
     (kept_ended s.nodes.nodes s.nodes.places s.sessions s.time s.zxid c.self.invariant.kept id none)
     (owners_ended s.nodes.owners s.sessions id c.self.invariant.owners))

@@ -9,7 +9,7 @@ use Rattle.ztree.specs.declared.limits.TheConstants.{MAX_SESSIONS}
 use Rattle.ztree.specs.Tree.{ephemerals}
 use Rattle.ztree.specs.Sessions.{new_session}
 use Rattle.zstore.specs.StoreView.{StoreView}
-use Rattle.zstore.specs.support.Undoing.{notes_of, undos_of, all_freed, AllHeld}
+use Rattle.zstore.specs.support.Undoing.{notes_of, undos_of, release_all, AllHeld}
 use Rattle.zstore.proofs.parts.Alive.{owners_opened, kept_opened, owns_nothing}
 use Rattle.zstore.proofs.parts.Maps.{remove-insert}
 use Rattle.zstore.proofs.parts.Noted.{stored_plain, notes_held, none_held}
@@ -77,7 +77,7 @@ invariant_of-self-2 c =
     ) (
     stored_plain (record s.nodes { owners = finite.insert s.nodes.owners id tt })
     (finite.insert s.sessions id new) s.time s.zxid
-    (all_freed (undos_of (notes_of s.log)) s.nodes.held)
+    (release_all (undos_of (notes_of s.log)) s.nodes.held)
     (none_held s.nodes s.sessions s.time s.zxid (notes_of s.log) c.self.invariant)
     (kept_opened s.nodes.nodes s.nodes.places s.sessions s.time s.zxid c.self.invariant.kept
     c.args.client c.args.timeout c.requires.lives few)

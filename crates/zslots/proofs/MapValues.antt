@@ -10,7 +10,7 @@ use Rattle.std.specs.List.{filter_map, cons_option}
 use Rattle.std.specs.FinMap as finite
 use Rattle.std.specs.FinMap.{len-empty, len-insert, len-entries, FinMap, find, is_sorted, get, get-from_entries, get-entries, entries, entries_sorted}
 use Rattle.std.specs.FinMap.Entries.{below_all, find_tied}
-use Rattle.zslots.specs.Mapped.{mapped}
+use Rattle.zslots.specs.MapValues.{map_values}
 
 both_parts : (a b : Bool) → T (a && b) → T a × T b
 both_parts true b h = (tt, h)
@@ -50,8 +50,8 @@ module _ {K X Y : Type 0} {R : K → K → Ordering} (o : IsTotalOrder R) (f : X
       tied Equal is tie none = sym (find_tied R o q e.0 is es) ∙ none
       tied Greater is tie none = cc
 
-  pub get-mapped : (m : FinMap R X) (q : K) → get (mapped f m) q ≡ option_and_then f (get m q)
-  get-mapped m q =
+  pub get-map_values : (m : FinMap R X) (q : K) → get (map_values f m) q ≡ option_and_then f (get m q)
+  get-map_values m q =
       get-from_entries o (filter_map kept (entries m)) q ∙ find-kept q (entries m) (entries_sorted m)
       ∙ ap (option_and_then f) (sym (get-entries m q))
 
@@ -81,5 +81,5 @@ module _ {K X Y : Type 0} {R : K → K → Ordering} (o : IsTotalOrder R) (f : X
       len-first e es parts.0 parts.1 more (f e.1) refl (all e.0 e.1 (ap (λ r. cond (is_eq r) (Some e.1) (find R e.0 es)) (tied_itself o e.0)))
 
   -- a map of what a function gives that gives something of each value has as many entries
-  pub len-mapped : (m : FinMap R X) → ((q : K) (x : X) → get m q ≡ Some x → IsSome (f x)) → finite.len (mapped f m) ≡ finite.len m
-  len-mapped m all = len-kept (entries m) (entries_sorted m) (λ q x found. all q x (get-entries m q ∙ found)) ∙ sym (len-entries m)
+  pub len-map_values : (m : FinMap R X) → ((q : K) (x : X) → get m q ≡ Some x → IsSome (f x)) → finite.len (map_values f m) ≡ finite.len m
+  len-map_values m all = len-kept (entries m) (entries_sorted m) (λ q x found. all q x (get-entries m q ∙ found)) ∙ sym (len-entries m)

@@ -6,6 +6,6 @@ use Rattle.std.specs.FinMap.{FinMap, entries, from_entries}
 use Rattle.std.specs.declared.cmp.Ordering.{Ordering}
 
 -- under each key what the function gives of its value, where it gives something
-abbrev pub mapped :
+abbrev pub map_values :
     {K X Y : Type 0} {R : K → K → Ordering} → (X → Option Y) → FinMap R X → FinMap R Y
-mapped f m = from_entries (filter_map (λ e. option_map (λ y. (e.0, y)) (f e.1)) (entries m))
+map_values f m = from_entries (filter_map (λ e. option_map (λ y. (e.0, y)) (f e.1)) (entries m))
