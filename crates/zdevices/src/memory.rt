@@ -2,8 +2,9 @@
 //!
 //! Both are exact: what was handed out is what is no longer left, and what was taken is what is held.
 
-ghost use Rattle.std.specs.Prelude.{◌≡◌, ◌<◌, ◌+◌, List, [], ◌++◌, length, refl, ◌-◌, ◌↔◌, true, false, Some, None, IfSome};
+ghost use Rattle.std.specs.Prelude.{◌≡◌, ◌<◌, ◌+◌, List, [], ◌++◌, length, refl, IsTrue, true, false, Some, None};
 ghost use Rattle.zdevices.specs.Device.{Raises};
+ghost use Rattle.zdevices.specs.DeviceViews.{is_due, after_call, IsSliceRead, IsVecWrite};
 ghost use Rattle.zdevices.specs.support.DeviceLaws.{never_raises, raises_both, left_after_both, held_after_both};
 ghost use Rattle.std.proofs.Common.{sym};
 ghost use Rattle.std.proofs.lemmas.List.{append-nil};
@@ -21,11 +22,8 @@ struct Failure {
 impl Failure {
     // Counts one call down, and answers whether this is the one that fails.
     fn comes(&mut self) -> bool
-        ensures due { (result ≡ true) ↔ (self.old.calls_left ≡ Some 0) }
-        ensures once { result ≡ true → self.new.calls_left ≡ None }
-        ensures never { self.old.calls_left ≡ None → self.new.calls_left ≡ None }
-        ensures counted { IfSome self.old.calls_left (λ calls. 0 < calls → self.new.calls_left
-            ≡ Some (calls - 1)) }
+        ensures due { result ≡ is_due self.old.calls_left }
+        ensures counted { self.new.calls_left ≡ after_call self.old.calls_left }
     {
         match self.calls_left {
             None => false,
@@ -48,6 +46,7 @@ pub struct SliceSource<'a> {
     at_most: usize,
     failure: Failure,
     has_failed: bool,
+    told_end: bool,
 }
 
 impl<'a> Model for SliceSource<'a> {
@@ -61,6 +60,7 @@ impl<'a> Model for SliceSource<'a> {
       at_most = s.at_most;
       fails_after = s.failure.calls_left;
       has_failed = s.has_failed;
+      told_end = s.told_end;
     } };
 
     ghost invariant = { λ s. 0 < s.at_most };
@@ -74,12 +74,14 @@ impl<'a> SliceSource<'a> {
         ensures at_most { result.at_most ≡ at_most }
         ensures failure { result.fails_after ≡ None }
         ensures sound { result.has_failed ≡ false }
+        ensures untold { result.told_end ≡ false }
     {
         SliceSource {
             left,
             at_most,
             failure: Failure { calls_left: None },
             has_failed: false,
+            told_end: false,
         }
     }
 
@@ -94,6 +96,7 @@ impl<'a> SliceSource<'a> {
                 calls_left: Some(reads),
             },
             has_failed: self.has_failed,
+            told_end: self.told_end,
         }
     }
 }
@@ -103,9 +106,11 @@ impl Source for SliceSource<'_> {
 
     ghost failed = { λ s count t. Raises s.has_failed count t.has_failed };
 
-    ghost has_ended = { λ s. s.left ≡ [] };
+    ghost has_ended = { λ s. IsTrue s.told_end × (s.left ≡ []) };
 
     ghost reads_left = { λ s. length s.left };
+
+    ghost told = { λ s room answer t. IsSliceRead s room answer t };
 
     fn read(&mut self, buffer: &mut [u8]) -> Result<usize, DeviceFault> {
         if self.failure.comes() {
@@ -116,6 +121,7 @@ impl Source for SliceSource<'_> {
         let (front, rest) = self.left.split_at(count);
         buffer[..count].copy_from_slice(front);
         self.left = rest;
+        self.told_end = count == 0;
         Ok(count)
     }
 
@@ -192,6 +198,8 @@ impl Sink for VecSink {
     ghost took = { λ s bytes t. t.held ≡ s.held ++ bytes };
 
     ghost failed = { λ s count t. Raises s.has_failed count t.has_failed };
+
+    ghost told = { λ s len answer t. IsVecWrite s len answer t };
 
     fn write(&mut self, bytes: &[u8]) -> Result<usize, DeviceFault> {
         let count = bytes.len().min(self.at_most);

@@ -4,7 +4,7 @@
 //! as of a slice or a vector. Of a terminal, a file or a pipe it is not, and the relations then hold for all bytes.
 
 ghost use Rattle.std.specs.Prelude.{◌≡◌, ◌<◌, IsTrue, false, ◌^◌, ◌-◌};
-ghost use Rattle.std.specs.Io.KnownBytes.{Consumes, Appends};
+ghost use Rattle.std.specs.Io.KnownBytes.{Consumes, Appends, IsAtEnd};
 ghost use Rattle.zdevices.specs.Device.{Raises};
 ghost use Rattle.zdevices.specs.support.DeviceLaws.{never_raises, raises_both, consumes_nothing, consumes_both, appends_nothing, appends_both};
 
@@ -56,9 +56,11 @@ impl<R: Read> Source for ReaderSource<R> {
 
     ghost failed = { λ s count t. Raises s.has_failed count t.has_failed };
 
-    ghost has_ended = { λ s. IsTrue s.told_end };
+    ghost has_ended = { λ s. IsTrue s.told_end × IsAtEnd (R.remaining s.reader) };
 
     ghost reads_left = { λ s. s.budget };
+
+    ghost told = { λ _ _ _ _. Unit {0} };
 
     fn read(&mut self, buffer: &mut [u8]) -> Result<usize, DeviceFault> {
         if self.budget > 0
@@ -116,6 +118,8 @@ impl<W: Write> Sink for WriterSink<W> {
     ghost took = { λ s bytes t. Appends (W.contents s.writer) (W.contents t.writer) bytes };
 
     ghost failed = { λ s count t. Raises s.has_failed count t.has_failed };
+
+    ghost told = { λ _ _ _ _. Unit {0} };
 
     fn write(&mut self, bytes: &[u8]) -> Result<usize, DeviceFault> {
         if let Ok(count) = self.writer.write(bytes)
