@@ -2,6 +2,7 @@
 
 ghost use Rattle.std.specs.Prelude.{◌≡◌, ℕ, IfOk};
 ghost use Rattle.zscript.specs.Servers.{IsServers};
+ghost use Rattle.zcommand.specs.Asked.{settings_of, fault_of_parse};
 
 use crate::fault::WordsFault;
 use crate::order::Settings;
@@ -23,21 +24,35 @@ pub fn settings<'a>(alloc: Global, words: &'a [&'a str]) -> Result<Settings, Wor
     };
     let matches = match command.try_get_matches_from(words) {
         Ok(matches) => matches,
-        Err(error) => {
-            return Err(match error.kind() {
-                ErrorKind::OutOfMemory => WordsFault::Memory,
-                _ => WordsFault::BadWords,
-            });
-        }
+        Err(error) => return Err(parse_fault(error.kind())),
     };
     let Some(("script", script)) = matches.subcommand() else {
         return Err(WordsFault::BadWords);
     };
-    match script.get_one::<u8>("servers") {
+    asked(script.get_one::<u8>("servers"))
+}
+
+// What a script over so many servers asks for: none stands where the words give no number.
+fn asked(servers: Option<u8>) -> Result<Settings, WordsFault>
+    ensures exact { result ≡ settings_of servers }
+    ensures few { IfOk result (λ settings. (servers : ℕ) × IsServers servers
+        × (settings ≡ Settings.Script servers)) }
+{
+    match servers {
         Some(count) if (1..=MAX_SERVERS).contains(&count) => {
             Ok(Settings::Script(Servers::new(count)))
         }
         _ => Err(WordsFault::BadWords),
+    }
+}
+
+// Why words were not understood: want of memory is told apart from all else.
+fn parse_fault(kind: ErrorKind) -> WordsFault
+    ensures { result ≡ fault_of_parse kind }
+{
+    match kind {
+        ErrorKind::OutOfMemory => WordsFault::Memory,
+        _ => WordsFault::BadWords,
     }
 }
 
