@@ -2,7 +2,10 @@
 
 use std::alloc::Global;
 use std::process::Abort;
-use zscript::{PlayFault, Servers, SliceSource, VecSink, WriterSink, play, write_all};
+use zscript::{
+    PlayFault, ReaderSource, Servers, Sink, SliceSource, Source, VecSink, WriterSink, play,
+    write_all,
+};
 
 const SCRIPT: &str = "1 create /a p -\n1 get /a\n1 get /";
 
@@ -41,4 +44,25 @@ fn a_writer_takes_what_it_is_given(rt: HostRuntime) {
     let written = write_all(&mut sink, b"ok /a\n");
     drop(sink);
     assert!(rt; written.is_ok());
+}
+
+#[test]
+fn a_reader_gives_two_thousand_bytes(rt: HostRuntime) {
+    let bytes = [b'a'; 2000];
+    let mut source = ReaderSource::new(bytes.as_slice());
+    let mut room = [0];
+    for _ in 0..2000 {
+        assert!(rt; source.read(&mut room) == Ok(1));
+    }
+    assert!(rt; source.read(&mut room) == Ok(0));
+}
+
+#[test]
+fn a_writer_takes_a_megabyte(rt: HostRuntime) {
+    let bytes = vec![in rt.alloc(); b'a'; 1_000_000].expect(&rt, "there is memory");
+    let mut sink = WriterSink::new(Vec::new(rt.alloc()));
+    let written = sink.write(&bytes);
+    drop(sink);
+    drop(bytes);
+    assert!(rt; written == Ok(1_000_000));
 }

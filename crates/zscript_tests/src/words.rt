@@ -11,6 +11,11 @@ const GOOD: &[(&str, u8)] = &[
     ("zk script --servers 1", 1),
     ("zk script --servers=1", 1),
     ("zk script --servers 2", 2),
+    ("zk script --servers 3", 3),
+    ("zk script --servers 4", 4),
+    ("zk script --servers 5", 5),
+    ("zk script --servers 6", 6),
+    ("zk script --servers 7", 7),
     ("zk script --servers 8", 8),
 ];
 
