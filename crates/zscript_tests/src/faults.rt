@@ -9,6 +9,49 @@ use zscript::{
 
 const SCRIPT: &str = "1 create /a p -\n1 get /a\n1 get /";
 
+// A session ends at its deadline, and takes its node with it.
+const SESSION: &str =
+    "1 open 1\n1 create /e e:1 -\n0 tick\n0 tick\n1 exists /e\n1 exists /\n1 ping 1\n";
+
+const ITS_ANSWERS: &str =
+    "ok session 1 timeout 2\nok /e\nok tick 1 ended 0\nok tick 2 ended 1\nno NoNode\nok stat 0 0 3 0 0 0 2 0 0 0\nno SessionGone\n";
+
+// The bytes are read one by one, and a read fails behind each of them, and at the end.
+#[test]
+fn each_read_fails_in_turn(rt: HostRuntime) {
+    for reads in 0..=SESSION.len() {
+        let mut source = SliceSource::new(SESSION.as_bytes(), 1).failing_after(reads as u64);
+        let mut sink = VecSink::new(rt.alloc(), 65536);
+        let result = play(rt.alloc(), &mut source, &mut sink, Servers::new(1));
+        let is_beginning = ITS_ANSWERS.as_bytes().starts_with(sink.bytes());
+        drop(sink);
+        assert!(rt; result == Err(PlayFault::Read) && is_beginning, "{reads}");
+    }
+}
+
+// The bytes are written one by one, and a write fails behind each of them but the last.
+#[test]
+fn each_write_fails_in_turn(rt: HostRuntime) {
+    for writes in 0..ITS_ANSWERS.len() {
+        let mut source = SliceSource::new(SESSION.as_bytes(), 65536);
+        let mut sink = VecSink::new(rt.alloc(), 1).failing_after(writes as u64);
+        let result = play(rt.alloc(), &mut source, &mut sink, Servers::new(1));
+        let is_beginning = sink.bytes() == &ITS_ANSWERS.as_bytes()[..writes];
+        drop(sink);
+        assert!(rt; result == Err(PlayFault::Write) && is_beginning, "{writes}");
+    }
+}
+
+// A write that takes no byte is a failure.
+#[test]
+fn a_writer_takes_none(rt: HostRuntime) {
+    let mut room: [u8; 0] = [];
+    let mut source = SliceSource::new(SESSION.as_bytes(), 65536);
+    let mut sink = WriterSink::new(room.as_mut_slice());
+    let result = play(rt.alloc(), &mut source, &mut sink, Servers::new(1));
+    assert!(rt; result == Err(PlayFault::Write));
+}
+
 #[test]
 fn a_failed_read_cuts_the_last_line(rt: HostRuntime) {
     let source = SliceSource::new(SCRIPT.as_bytes(), 24).failing_after(1);
