@@ -1,2 +1,4 @@
+mod Records
 pub mod Going
 pub mod Settled
+pub mod Complete

@@ -1,3 +1,4 @@
 pub mod Course
 pub mod Codes
 pub mod Past
+pub mod Verdict

@@ -121,6 +121,13 @@ impl Course {
         &self.history
     }
 
+    /// What callers saw, handed out.
+    pub(crate) fn into_history(self) -> Vec<CallEvent>
+        ensures { result.items ≡ self.history }
+    {
+        self.history
+    }
+
     /// One event.
     pub(crate) fn step(&mut self, event: Event) -> Result<Did, Memory>
         ensures goes { IfOk result (λ did. GoesBy self.old self.new event did) }

@@ -6,7 +6,9 @@
 #![tactic(auto)]
 
 mod answered;
+mod auditing;
 mod course;
 mod world;
 
+pub use auditing::{AuditFault, audit};
 pub use world::World;

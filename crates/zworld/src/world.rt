@@ -71,6 +71,14 @@ impl World {
         self.course.history()
     }
 
+    /// Its history, handed out for good.
+    pub fn into_history(self) -> Vec<CallEvent>
+        ensures history { result.items ≡ self.history }
+        ensures explained { IsExplained result.items }
+    {
+        self.course.into_history()
+    }
+
     /// Does one event, and says what became of it.
     pub fn step(&mut self, event: Event) -> Result<Did, Memory>
         ensures happened { IfOk result (λ did.

@@ -1,0 +1,12 @@
+//! What the threads of a run hand back, and what it means that it is lawful: types and definitions, with their laws.
+//!
+//! A trace is the list of what one process did, each with a stamp. The traces of all processes, merged by stamps, are a
+//! list of events of the world.
+#![tactic(auto)]
+
+mod laws;
+mod stamp;
+mod trace;
+
+pub use stamp::{MAX_STAMP, Stamp};
+pub use trace::{Act, ClientTrace, Trace, TraceEvent, Traces};

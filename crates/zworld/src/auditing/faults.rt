@@ -1,0 +1,25 @@
+//! Why traces aren't audited.
+
+ghost use Rattle.std.specs.Prelude.{◌≡◌};
+ghost use Rattle.zworld.specs.declared.auditing.faults.AuditFault.TheVariants.{Memory};
+
+/// Why an audit doesn't end well: the first that holds, in this order, but for `Memory`.
+#[derive(Clone, Copy, Debug, PartialEq, Eq)]
+pub enum AuditFault {
+    /// A trace is cut: nothing can be said of the run.
+    Cut,
+    /// The stamps of a trace don't rise, or an event isn't enabled in its place.
+    Disorder,
+    /// A client's record isn't what the run's history tells of it.
+    Mismatch,
+    /// There wasn't enough memory.
+    Memory,
+}
+
+impl From<zpath::Memory> for AuditFault {
+    ghost from_gives = { λ _ fault. fault ≡ Memory };
+
+    fn from(_fault: zpath::Memory) -> AuditFault {
+        AuditFault::Memory
+    }
+}

@@ -1,0 +1,94 @@
+//! The traces by place: which has the next event.
+
+ghost use Rattle.std.specs.Prelude.{◌≡◌, ◌<◌, ◌≤◌, IfSome, IfNone, length, get_or};
+ghost use Rattle.ztraces.specs.Traces.{trace_of};
+ghost use Rattle.ztraces.specs.support.Places.{place_count, process_at, head_at, chosen, IsLeast};
+
+use zcalls::ClientId;
+use zserver_table::{Process, ServerId};
+use ztraces::{TraceEvent, Traces};
+
+/// How many traces there are.
+pub(crate) fn count_of(traces: &Traces) -> usize
+    ensures count { result ≡ place_count traces.now }
+    ensures small { result ≤ 41 }
+{
+    1 + traces.servers.len() + traces.clients.len()
+}
+
+/// Whose trace it is.
+pub(crate) fn process_in(traces: &Traces, place: usize) -> Process
+    requires { place < place_count traces.now }
+    ensures { result ≡ process_at traces.now place }
+{
+    if place == 0 {
+        return Process::Master;
+    }
+    if place <= traces.servers.len() {
+        return match ServerId::new(place as u8) {
+            Some(server) => Process::Server(server),
+            None => unreachable!(),
+        };
+    }
+    match ClientId::new((place - (1 + traces.servers.len())) as u8) {
+        Some(client) => Process::Client(client),
+        None => unreachable!(),
+    }
+}
+
+/// The events of that trace.
+pub(crate) fn events_at(traces: &Traces, place: usize) -> &[TraceEvent]
+    requires { place < place_count traces.now }
+    ensures { result.now ≡ trace_of traces.now (process_at traces.now place) }
+{
+    if place == 0 {
+        return &traces.master.events;
+    }
+    if place <= traces.servers.len() {
+        return &traces.servers[place - 1].events;
+    }
+    &traces.clients[place - (1 + traces.servers.len())]
+        .trace
+        .events
+}
+
+// The stamp of its next event, if there is one.
+fn head_of(traces: &Traces, read: &[usize], place: usize) -> Option<u64>
+    requires place { place < place_count traces.now }
+    requires read { length read.now ≡ place_count traces.now }
+    ensures { result ≡ head_at traces.now read.now place }
+{
+    match events_at(traces, place).get(read[place]) {
+        Some(event) => Some(event.stamp.number()),
+        None => None,
+    }
+}
+
+// The lesser of the best so far and one more.
+fn better(best: Option<(usize, u64)>, place: usize, head: Option<u64>) -> Option<(usize, u64)>
+    ensures { result ≡ chosen best place head }
+{
+    match (best, head) {
+        (_, None) => best,
+        (None, Some(stamp)) => Some((place, stamp)),
+        (Some((_, least)), Some(stamp)) => {
+            if stamp < least {
+                Some((place, stamp))
+            } else {
+                best
+            }
+        }
+    }
+}
+
+/// The place of the trace whose next event comes first, with its stamp.
+pub(crate) fn next_place(traces: &Traces, read: &[usize]) -> Option<(usize, u64)>
+    requires read { length read.now ≡ place_count traces.now }
+    ensures { IsLeast traces.now read.now (place_count traces.now) result }
+{
+    let mut best = None;
+    for place in 0..count_of(traces) {
+        best = better(best, place, head_of(traces, read, place));
+    }
+    best
+}
