@@ -1,0 +1,12 @@
+use Rattle.std.proofs.Common.{arith}
+use Rattle.zwords.proofs.Stays.{seats}
+use Rattle.zwords.proofs.halts.Halt.new.Goals as goal
+
+-- src/halts.rt:31:17
+pub split_seat-one-requires : goal.split_seat-one-requires
+split_seat-one-requires c =
+    let words = c.in_ok-table.ensures.0 in (
+      c.loop.invariant.0,
+      omega arith,
+      seats c.loop.seat.id c.loop.seat.me.0,
+    )
