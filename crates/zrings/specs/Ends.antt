@@ -1,0 +1,45 @@
+-- What a clause says of the ends of a link.
+use Rattle.std.specs.Prelude.{◌≡◌, List, ◌++◌, None, option_to_list}
+use Rattle.rtrb.specs.Ring.{sent, received, known_items}
+use Rattle.rtrb.specs.Shared.{Names}
+use denote.RawPtr.{Ptr}
+use Rattle.std.specs.declared.alloc.Global.{Global}
+use Rattle.zrings.specs.declared.ends.Tx.{Tx}
+use Rattle.zrings.specs.declared.ends.Rx.{Rx}
+
+-- what tells one ring from another
+abbrev pub Ring : Type 0
+Ring = Ptr × Ptr × Names × Global
+
+module _ {M : Type 0} where
+  -- what waits before the ring: the outbox, and then the last message
+  abbrev pub waiting : Tx M → List M
+  waiting t = t.outbox.items ++ option_to_list t.last
+
+  -- what was put, oldest first: what went into the ring, and then what waits
+  abbrev pub put_of : Tx M → List M
+  put_of t = sent t.ring ++ waiting t
+
+  -- what was taken, oldest first
+  abbrev pub taken_of : Rx M → List M
+  taken_of r = received r.ring
+
+  -- what the taker has seen in the ring
+  abbrev pub in_ring : Rx M → List M
+  in_ring r = known_items r.ring
+
+  -- which ring the putting end is of
+  abbrev pub ring_of_tx : Tx M → Ring
+  ring_of_tx t = (t.ring.end.words, t.ring.end.slots, t.ring.end.names, t.ring.end.heap)
+
+  -- which ring the taking end is of
+  abbrev pub ring_of_rx : Rx M → Ring
+  ring_of_rx r = (r.ring.end.words, r.ring.end.slots, r.ring.end.names, r.ring.end.heap)
+
+  -- the two ends of one link
+  abbrev pub AreEnds : Tx M → Rx M → Type 0
+  AreEnds t r = ring_of_tx t ≡ ring_of_rx r
+
+  -- the place for a last message is free
+  abbrev pub HasLastPlace : Tx M → Type 0
+  HasLastPlace t = t.last ≡ None
