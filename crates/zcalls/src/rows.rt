@@ -1,6 +1,14 @@
 //! Worked rows of the definitions: each function's contract has some, and its body does nothing.
 
-ghost use Rattle.std.specs.Prelude.{◌≡◌, ℕ, List, [], ◌∷◌, true, Some, None, Ok, Err};
+ghost use Rattle.std.specs.Prelude.{◌≡◌, ℕ, List, [], ◌∷◌, true, false, Some, None, Ok, Err};
+ghost use Rattle.std.specs.FinMap.{get};
+ghost use Rattle.ztree.specs.support.Samples.{a, some_node};
+ghost use Rattle.ztree.specs.Tree.{children, stat_with, without_node};
+ghost use Rattle.zcalls.specs.declared.limits.TheConstants.{MAX_PARTS, MAX_COUNTER, MIN_TIMEOUT, MAX_TIMEOUT};
+ghost use Rattle.zcalls.specs.declared.limits.TheConstants.{MAX_CALL_NUMBER, MAX_RAISES};
+ghost use Rattle.zcalls.specs.declared.call.Expected.TheVariants.{Any, Exactly};
+ghost use Rattle.zcalls.specs.declared.call.Query.TheVariants.{GetData};
+ghost use Rattle.zcalls.specs.declared.change.ChangeReply.TheVariants as change;
 ghost use Rattle.zcalls.specs.declared.call.Create.{Create};
 ghost use Rattle.zcalls.specs.declared.call.Delete.{Delete};
 ghost use Rattle.zcalls.specs.declared.call.Part.{Part};
@@ -9,15 +17,18 @@ ghost use Rattle.zcalls.specs.declared.refusal.Refusal.TheVariants.{BadVersion, 
 ghost use Rattle.zcalls.specs.declared.refusal.Refusal.TheVariants.{NoChildrenForEphemerals, Full};
 ghost use Rattle.zcalls.specs.declared.refusal.Refusal.TheVariants.{SequenceFull, PathLimit, Exhausted};
 ghost use Rattle.zcalls.specs.declared.reply.PartReply.TheVariants.{Checked, Deleted};
-ghost use Rattle.zcalls.specs.declared.reply.Reply.TheVariants.{Refused};
+ghost use Rattle.zcalls.specs.declared.reply.Reply.TheVariants as reply;
+ghost use Rattle.zcalls.specs.declared.reply.Reply.TheVariants.{Refused, MultiRefused};
+ghost use Rattle.zcalls.specs.CallRuns.{is_success};
 ghost use Rattle.ztree.specs.Tree.{Tree, opening_tree};
 ghost use Rattle.zcalls.specs.declared.call.Query.{Query};
 ghost use Rattle.zcalls.specs.declared.call.Update.{Update};
 ghost use Rattle.zcalls.specs.Kept.{nothing_kept};
 ghost use Rattle.zcalls.specs.PlainTree.{plain_tree};
 ghost use Rattle.zcalls.specs.Part.{create_refusals, delete_refusals, part_step};
+ghost use Rattle.zcalls.specs.Part.{has_other_version, is_spent, delete_step, set_step};
 ghost use Rattle.zcalls.specs.Multi.{run};
-ghost use Rattle.zcalls.specs.Step.{step, query_reply, is_exhausted};
+ghost use Rattle.zcalls.specs.Step.{step, query_reply, is_exhausted, multi_result};
 ghost use Rattle.zcalls.specs.support.Rows.{refusals};
 ghost use Rattle.zcalls.specs.support.Rows.{number_reply, counting_entry, creates, deletes, keeping, third_kept, answers};
 
@@ -72,4 +83,58 @@ pub fn parts_are_done_in_turn()
     ensures done { (t u v : Tree) (client : ℕ) (part : Part) (parts : List Part)
         → part_step t client part ≡ Ok (u, Checked) → run u client parts ≡ Ok (v, Deleted ∷ [])
         → run t client (part ∷ parts) ≡ Ok (v, Checked ∷ Deleted ∷ []) }
+{}
+
+/// A change that names a version is done where the node has that version, and only there. The node that is spoken of has
+/// version 6 and cversion 8.
+pub fn versions_are_tested()
+    ensures any { has_other_version Any some_node ≡ false }
+    ensures same { has_other_version (Exactly 6) some_node ≡ false }
+    ensures other { has_other_version (Exactly 8) some_node ≡ true }
+    ensures delete { (t : Tree) → get t.nodes (a ∷ []) ≡ Some some_node → children t.nodes (a ∷ []) ≡ []
+        → delete_step t (record { path = a ∷ []; version = Exactly 6 })
+        ≡ Ok (without_node t (a ∷ []), change.Deleted) }
+    ensures delete_of_another { (t : Tree) → get t.nodes (a ∷ []) ≡ Some some_node
+        → delete_step t (record { path = a ∷ []; version = Exactly 8 }) ≡ Err BadVersion }
+    ensures set_of_another { (t : Tree) → get t.nodes (a ∷ []) ≡ Some some_node
+        → set_step t (record { path = a ∷ []; bytes = a; version = Exactly 8 }) ≡ Err BadVersion }
+{}
+
+/// What is told: the bytes and the stat of a node, the part of a multi that was refused, and whether a node's counter has
+/// given its last number.
+pub fn what_is_told()
+    ensures data { (t : Tree) → get t.nodes (a ∷ []) ≡ Some some_node → children t.nodes (a ∷ []) ≡ []
+        → query_reply t (GetData (a ∷ [])) ≡ reply.Data (7 ∷ (7 ∷ [])) (stat_with some_node 0) }
+    ensures no_data { (t : Tree) → get t.nodes (a ∷ []) ≡ None
+        → query_reply t (GetData (a ∷ [])) ≡ Refused NoNode }
+    ensures refused_part { (t : Tree) → multi_result t (Err (1, NoNode)) ≡ (t, MultiRefused 1 NoNode) }
+    ensures last_number { is_spent (record some_node { seq = 2147483647 }) ≡ false }
+    ensures no_number { is_spent (record some_node { seq = 2147483648 }) ≡ true }
+{}
+
+/// Which replies say that a call was done: all but the two refusals.
+pub fn successes()
+    ensures created { is_success (reply.Created []) ≡ true }
+    ensures deleted { is_success reply.Deleted ≡ true }
+    ensures set { is_success (reply.Set (stat_with some_node 0)) ≡ true }
+    ensures multi { is_success (reply.Multi []) ≡ true }
+    ensures opened { is_success (reply.Opened 1 2) ≡ true }
+    ensures pinged { is_success reply.Pinged ≡ true }
+    ensures closed { is_success reply.Closed ≡ true }
+    ensures ticked { is_success (reply.Ticked 1 0) ≡ true }
+    ensures data { is_success (reply.Data [] (stat_with some_node 0)) ≡ true }
+    ensures exists { is_success (reply.Exists (stat_with some_node 0)) ≡ true }
+    ensures children { is_success (reply.Children []) ≡ true }
+    ensures refused { is_success (Refused NoNode) ≡ false }
+    ensures multi_refused { is_success (MultiRefused 1 NoNode) ≡ false }
+{}
+
+/// The limits, as numbers.
+pub fn limits_are_numbers()
+    ensures parts { MAX_PARTS ≡ 64 }
+    ensures counter { MAX_COUNTER ≡ 2147483647 }
+    ensures least_timeout { MIN_TIMEOUT ≡ 2 }
+    ensures greatest_timeout { MAX_TIMEOUT ≡ 20 }
+    ensures call_number { MAX_CALL_NUMBER ≡ 4611686018427387903 }
+    ensures raises { MAX_RAISES ≡ 4096 }
 {}

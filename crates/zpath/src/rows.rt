@@ -2,8 +2,9 @@
 
 ghost use Rattle.std.specs.Prelude.{◌≡◌, ◌+◌, [], ◌∷◌, None, Some, codes, replicate};
 ghost use Rattle.zpath.specs.declared.fault.PathFault.TheVariants.{Empty, NotAbsolute, EmptyName, DotName, BadByte, NameTooLong, PathTooLong, TooDeep, Reserved};
-ghost use Rattle.zpath.specs.declared.limits.TheConstants.{MAX_NAME_LEN, MAX_TEXT_LEN};
-ghost use Rattle.zpath.specs.Faults.{fault_of, child_fault};
+ghost use Rattle.zpath.specs.declared.limits.TheConstants.{MAX_NAME_LEN, MAX_TEXT_LEN, MAX_DEPTH, COUNTER_DIGITS};
+ghost use Rattle.zpath.specs.declared.fault.PathFault.TheVariants as fault;
+ghost use Rattle.zpath.specs.Faults.{fault_of, child_fault, fault_name};
 ghost use Rattle.zpath.specs.Grammar.{text_of};
 ghost use Rattle.zpath.specs.Numbered.{numbered_path};
 
@@ -54,4 +55,26 @@ pub fn numbered_paths()
     ensures next { numbered_path (codes "n-" ∷ []) 1 ≡ codes "n-0000000001" ∷ [] }
     ensures last { numbered_path (codes "a" ∷ []) 2147483647 ≡ codes "a2147483647" ∷ [] }
     ensures text { text_of (numbered_path (codes "q" ∷ codes "n" ∷ []) 4) ≡ codes "/q/n0000000004" }
+{}
+
+/// The words for the faults.
+pub fn names_of_faults()
+    ensures empty { fault_name Empty ≡ codes "Empty" }
+    ensures relative { fault_name NotAbsolute ≡ codes "NotAbsolute" }
+    ensures empty_name { fault_name EmptyName ≡ codes "EmptyName" }
+    ensures dots { fault_name DotName ≡ codes "DotName" }
+    ensures bad_byte { fault_name BadByte ≡ codes "BadByte" }
+    ensures long_name { fault_name NameTooLong ≡ codes "NameTooLong" }
+    ensures long_text { fault_name PathTooLong ≡ codes "PathTooLong" }
+    ensures deep { fault_name TooDeep ≡ codes "TooDeep" }
+    ensures reserved { fault_name Reserved ≡ codes "Reserved" }
+    ensures memory { fault_name fault.Memory ≡ codes "Memory" }
+{}
+
+/// The limits, as numbers.
+pub fn limits_are_numbers()
+    ensures name { MAX_NAME_LEN ≡ 255 }
+    ensures text { MAX_TEXT_LEN ≡ 1024 }
+    ensures depth { MAX_DEPTH ≡ 32 }
+    ensures digits { COUNTER_DIGITS ≡ 10 }
 {}

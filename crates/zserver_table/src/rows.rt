@@ -2,7 +2,8 @@
 //! nothing. The machine counts its entries, and the servers are those of `specs/support/Rows.antt`.
 
 ghost use Rattle.std.specs.Prelude.{◌≡◌, ◌-◌, ℕ, true, false, None, Some, [], ◌∷◌};
-ghost use Rattle.zserver_table.specs.declared.limits.TheConstants.{MAX_LOG_NUMBER};
+ghost use Rattle.zserver_table.specs.declared.limits.TheConstants.{MAX_SERVERS, MAX_LOG_NUMBER, MAX_EPOCH};
+ghost use Rattle.zserver_table.specs.Laws.{is_answer};
 ghost use Rattle.zserver_table.specs.declared.message.Message.TheVariants as message;
 ghost use Rattle.zserver_table.specs.declared.process.Process.TheVariants.{Master, Server, Client};
 ghost use Rattle.zserver_table.specs.Machine.{replay, log_of};
@@ -121,6 +122,12 @@ pub fn state_is_handed_over()
           record joining_server { machine = Some 9; last = 9 },
           (Server 1, message.Ack 4 9) ∷ (Master, message.Joined 4) ∷ [],
         ) }
+    ensures nothing_stays_in_sent { after (record joining_server { sent = (6, call 16) ∷ [] }) (Server 1)
+        (message.Snapshot 4 nine)
+        ≡ (
+          record joining_server { machine = Some 9; last = 9 },
+          (Server 1, message.Ack 4 9) ∷ (Master, message.Joined 4) ∷ [],
+        ) }
     ensures snapshot_of_old_epoch { Ignores joining_server (Server 1) (message.Snapshot 3 nine) }
     ensures snapshot_of_a_stranger { Ignores joining_server (Server 2) (message.Snapshot 4 nine) }
     ensures snapshot_at_a_spare { Ignores spare (Server 1) (message.Snapshot 4 nine) }
@@ -180,4 +187,22 @@ pub fn log_replies_as_its_machine()
           record (on_log (call 11 ∷ call 12 ∷ [])) { sent = (2, call 12) ∷ [] },
           (Server 3, message.Update 5 2 (call 12)) ∷ [],
         ) }
+{}
+
+/// Which messages answer a call.
+pub fn answers_are_told_apart()
+    ensures answer { is_answer {M = ℕ} (message.Answer 18 (number_reply 7)) ≡ true }
+    ensures submit { is_answer {M = ℕ} (message.Submit 18 update) ≡ false }
+    ensures query { is_answer {M = ℕ} (message.Query 18 query) ≡ false }
+    ensures update { is_answer {M = ℕ} (message.Update 4 8 (call 18)) ≡ false }
+    ensures acknowledgement { is_answer {M = ℕ} (message.Ack 4 8) ≡ false }
+    ensures snapshot { is_answer (message.Snapshot 4 nine) ≡ false }
+    ensures gone { is_answer {M = ℕ} message.Gone ≡ false }
+{}
+
+/// The limits, as numbers.
+pub fn limits_are_numbers()
+    ensures servers { MAX_SERVERS ≡ 8 }
+    ensures log_number { MAX_LOG_NUMBER ≡ 4611686018427387903 }
+    ensures epoch { MAX_EPOCH ≡ 4611686018427387903 }
 {}

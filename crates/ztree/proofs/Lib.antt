@@ -9,3 +9,4 @@ pub mod LawfulEnd
 pub mod Listed
 pub mod Room
 pub mod Paths
+mod Worked

@@ -1,12 +1,14 @@
 //! Worked rows of the definitions. The functions do nothing.
 
 ghost use Rattle.std.specs.Prelude.{◌≡◌, [], ◌∷◌, None, Some, true, false};
+ghost use Rattle.ztree.specs.declared.limits.TheConstants.{MAX_DATA, MAX_NODES, MAX_SESSIONS, MAX_CLIENTS};
+ghost use Rattle.ztree.specs.declared.limits.TheConstants.{ZXID_BOUND, TICK_BOUND, COUNTER_BOUND, DEADLINE_BOUND};
 ghost use Rattle.std.specs.FinMap as finite;
 ghost use Rattle.ztree.specs.Tree.{parent_of, child_name, stat_with};
-ghost use Rattle.ztree.specs.Tree.{with_child, without_child, with_data};
+ghost use Rattle.ztree.specs.Tree.{with_child, without_child, with_data, new_node, with_node, without_node};
 ghost use Rattle.ztree.specs.Sessions.{new_session, renewed_session};
 ghost use Rattle.ztree.specs.Lawful.{HasPaths};
-ghost use Rattle.ztree.specs.support.Samples.{a, b, some_node, some_stat, some_session};
+ghost use Rattle.ztree.specs.support.Samples.{a, b, some_node, some_stat, some_session, two_nodes};
 
 /// Who is whose parent and child.
 pub fn families()
@@ -37,4 +39,49 @@ pub fn changes_of_a_session()
 /// An empty name makes no path.
 pub fn keys_are_paths()
     ensures { HasPaths (finite.insert finite.empty ([] ∷ []) some_node) → ⊥ }
+{}
+
+/// A new node has the number and the tick of the change that makes it, wherever it tells one.
+pub fn new_nodes()
+    ensures { new_node b 9 20 21 ≡ record {
+      bytes = b;
+      czxid = 20;
+      mzxid = 20;
+      pzxid = 20;
+      ctime = 21;
+      mtime = 21;
+      version = 0;
+      cversion = 0;
+      owner = 9;
+      seq = 0;
+    } }
+{}
+
+/// What change 41, at tick 30, leaves of a tree of two nodes where it makes a node beneath the second one, or takes that
+/// one away.
+pub fn changes_of_a_tree()
+    ensures made { finite.get (with_node two_nodes (a ∷ (b ∷ [])) b 9 false).nodes (a ∷ (b ∷ []))
+        ≡ Some (new_node b 9 41 30) }
+    ensures parent { finite.get (with_node two_nodes (a ∷ (b ∷ [])) b 9 false).nodes (a ∷ [])
+        ≡ Some (record some_node { pzxid = 41; cversion = 9 }) }
+    ensures sequential { finite.get (with_node two_nodes (a ∷ (b ∷ [])) b 9 true).nodes (a ∷ [])
+        ≡ Some (record some_node { pzxid = 41; cversion = 9; seq = 11 }) }
+    ensures grandparent { finite.get (with_node two_nodes (a ∷ (b ∷ [])) b 9 true).nodes []
+        ≡ Some some_node }
+    ensures gone { finite.get (without_node two_nodes (a ∷ [])).nodes (a ∷ []) ≡ None }
+    ensures left { finite.get (without_node two_nodes (a ∷ [])).nodes []
+        ≡ Some (record some_node { pzxid = 41; cversion = 9 }) }
+    ensures number_is_taken_later { (with_node two_nodes (a ∷ (b ∷ [])) b 9 true).zxid ≡ 40 }
+{}
+
+/// The limits, as numbers.
+pub fn limits_are_numbers()
+    ensures data { MAX_DATA ≡ 4096 }
+    ensures nodes { MAX_NODES ≡ 4096 }
+    ensures sessions { MAX_SESSIONS ≡ 1024 }
+    ensures clients { MAX_CLIENTS ≡ 32 }
+    ensures zxids { ZXID_BOUND ≡ 1099511627776 }
+    ensures ticks { TICK_BOUND ≡ 1099511627776 }
+    ensures counters { COUNTER_BOUND ≡ 4611686018427387904 }
+    ensures deadlines { DEADLINE_BOUND ≡ 4611686018427387904 }
 {}

@@ -1,5 +1,7 @@
 -- Samples for the worked rows.
 use Rattle.std.specs.Prelude.{ℕ, List, [], ◌∷◌, codes}
+use Rattle.std.specs.FinMap as finite
+use Rattle.ztree.specs.Tree.{Tree}
 use Rattle.ztree.specs.declared.node.Node.{Node}
 use Rattle.ztree.specs.declared.node.Stat.{Stat}
 use Rattle.ztree.specs.declared.session.Session.{Session}
@@ -24,3 +26,13 @@ some_stat =
 -- a session of client 3 that lives for five ticks, opened at tick 4
 abbrev pub some_session : Session
 some_session = record { client = 3; timeout = 5; deadline = 9 }
+
+-- a tree of the root and one node beneath it, at tick 30 and after change 40
+abbrev pub two_nodes : Tree
+two_nodes =
+    record {
+      nodes = finite.insert (finite.insert finite.empty [] some_node) (a ∷ []) some_node;
+      sessions = finite.empty;
+      time = 30;
+      zxid = 40;
+    }

@@ -6,6 +6,7 @@ pub returns : goal.returns
 unfolding server_table
 returns c = record {
   snapshot_is_taken = refl;
+  nothing_stays_in_sent = refl;
   snapshot_of_old_epoch = refl;
   snapshot_of_a_stranger = refl;
   snapshot_at_a_spare = refl;
