@@ -7,6 +7,7 @@
 mod laws;
 mod stamp;
 mod trace;
+mod worked;
 
 pub use stamp::{MAX_STAMP, Stamp};
 pub use trace::{Act, ClientTrace, Trace, TraceEvent, Traces};

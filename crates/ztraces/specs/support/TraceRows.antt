@@ -1,0 +1,121 @@
+-- Worked traces: one server and one client, over a machine that counts its entries.
+use Rattle.std.specs.Prelude.{ℕ, None, Some, List, [], ◌∷◌}
+use Rattle.zcalls.specs.declared.call.Call.{Call}
+use Rattle.zcalls.specs.declared.call.Call.TheVariants as call
+use Rattle.zserver_table.specs.declared.message.Message.TheVariants as message
+use Rattle.zserver_table.specs.declared.process.Process.{Process}
+use Rattle.zserver_table.specs.declared.process.Process.TheVariants.{Master, Server, Client}
+use Rattle.zserver_table.specs.View.{ServerView, MessageOf}
+use Rattle.zserver_table.specs.support.Rows.{counting_machine, number_reply, update, query}
+use Rattle.zclient_table.specs.View.{ClientView}
+use Rattle.zworld_model.specs.declared.history.CallEvent.TheVariants as call_event
+use Rattle.zworld_model.specs.declared.outcome.Outcome.TheVariants.{Acted}
+use Rattle.zworld_model.specs.History.{History}
+use Rattle.zworld_model.specs.World.{World, opening_world}
+use Rattle.zworld_model.specs.Events.{run}
+use Rattle.ztraces.specs.declared.trace.Act.{Act}
+use Rattle.ztraces.specs.declared.trace.Act.TheVariants.{Took, Began}
+use Rattle.ztraces.specs.declared.trace.TraceEvent.{TraceEvent}
+use Rattle.ztraces.specs.Traces.{Step, events_of}
+use Rattle.ztraces.specs.Deeds.{Deed, Standing, AtServer, AtClient}
+
+-- the processes, the two calls, and the opening
+abbrev pub s1 : Process
+s1 = Server 1
+
+abbrev pub c0 : Process
+c0 = Client 0
+
+abbrev pub write : Call
+write = call.Update update
+
+abbrev pub read : Call
+read = call.Query query
+
+abbrev pub opening : World ℕ
+opening = opening_world counting_machine 1 1
+
+-- an event of a trace, and with its process
+abbrev pub event_at : ℕ → Act → TraceEvent
+event_at stamp act = record { stamp = stamp; act = act }
+
+abbrev pub step_of : Process → ℕ → Act → Step
+step_of process stamp act = record { process = process; event = event_at stamp act }
+
+-- two events whose act is of no account
+abbrev pub tick : ℕ → TraceEvent
+tick stamp = event_at stamp (Took Master Acted)
+
+abbrev pub tick_of : Process → ℕ → Step
+tick_of process stamp = step_of process stamp (Took Master Acted)
+
+-- a write and a read, each begun, done and answered
+abbrev pub written_and_read : List Step
+written_and_read =
+    step_of c0 1 (Began write)
+    ∷ step_of s1 2 (Took c0 Acted)
+    ∷ step_of c0 3 (Took s1 Acted)
+    ∷ step_of c0 4 (Began read)
+    ∷ step_of s1 5 (Took c0 Acted)
+    ∷ step_of c0 6 (Took s1 Acted)
+    ∷ []
+
+-- what the caller sees of them
+abbrev pub seen : History
+seen =
+    call_event.Begin 0 1 write
+    ∷ call_event.Answer 0 1 (number_reply 1)
+    ∷ call_event.Begin 0 2 read
+    ∷ call_event.Answer 0 2 (number_reply 1)
+    ∷ []
+
+-- the world after steps
+abbrev pub after_steps : List Step → World ℕ
+after_steps steps = run counting_machine opening (events_of steps)
+
+-- the client where it waits for nothing and for its write, and the server before and after it
+abbrev pub idle_client : ℕ → ClientView
+idle_client number = record { number = number; outstanding = None; epoch = 0; head = Some 1; tail = Some 1 }
+
+abbrev pub waiting_client : ClientView
+waiting_client = record (idle_client 1) { outstanding = Some (1, write) }
+
+abbrev pub server_with : ℕ → ServerView ℕ
+server_with entries = record { machine = Some entries; last = entries; sent = []; pred = None; succ = None }
+
+-- the request and the answer
+abbrev pub request : MessageOf ℕ
+request = message.Submit 1 update
+
+abbrev pub answer : MessageOf ℕ
+answer = message.Answer 1 (number_reply 1)
+
+-- what the client and the server do at the write
+abbrev pub client_deeds : List (Deed ℕ)
+client_deeds =
+    record {
+      event = event_at 1 (Began write);
+      took = None;
+      left = AtClient waiting_client;
+      posts = (s1, request) ∷ [];
+      told = call_event.Begin 0 1 write ∷ [];
+    }
+    ∷ record {
+      event = event_at 3 (Took s1 Acted);
+      took = Some (2, answer);
+      left = AtClient (idle_client 1);
+      posts = [];
+      told = call_event.Answer 0 1 (number_reply 1) ∷ [];
+    }
+    ∷ []
+
+abbrev pub server_deeds : List (Deed ℕ)
+server_deeds =
+    record {
+      event = event_at 2 (Took c0 Acted);
+      took = Some (1, request);
+      left = AtServer (server_with 1);
+      posts = (c0, answer) ∷ [];
+      told = [];
+    }
+    ∷ []

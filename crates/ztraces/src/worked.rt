@@ -1,0 +1,162 @@
+//! Worked rows of the definitions: each function's contract has some, and its body does nothing.
+
+ghost use Rattle.std.specs.Prelude.{◌≡◌, ℕ, true, false, None, Some, [], ◌∷◌, take, drop};
+ghost use Rattle.std.specs.List.{list_any};
+ghost use Rattle.zserver_table.specs.declared.message.Message.TheVariants as message;
+ghost use Rattle.zserver_table.specs.declared.process.Process.TheVariants.{Master, Server, Client};
+ghost use Rattle.zserver_table.specs.support.Rows.{counting_machine};
+ghost use Rattle.zworld_model.specs.declared.event.Event.TheVariants as event;
+ghost use Rattle.zworld_model.specs.declared.history.CallEvent.TheVariants as call_event;
+ghost use Rattle.zworld_model.specs.declared.outcome.Outcome.TheVariants.{Acted, Stopped, Unheard};
+ghost use Rattle.zworld_model.specs.World.{at};
+ghost use Rattle.ztraces.specs.declared.trace.Act.TheVariants.{Took, Began, Retried, Joined, Halted};
+ghost use Rattle.ztraces.specs.declared.trace.Trace.{Trace};
+ghost use Rattle.ztraces.specs.declared.trace.ClientTrace.{ClientTrace};
+ghost use Rattle.ztraces.specs.declared.trace.Traces.{Traces};
+ghost use Rattle.ztraces.specs.Traces.{event_of, comes_before, stamps_rise, is_in_place, are_in_place};
+ghost use Rattle.ztraces.specs.Traces.{is_step_in_place, told_of, at_process, Merges};
+ghost use Rattle.ztraces.specs.Deeds.{Deed, Row, GoesBy, Standing, AtServer, AtClient, Out, IsStamped};
+ghost use Rattle.ztraces.specs.Deeds.{standing_in, last_post, takes, puts, told_by};
+ghost use Rattle.ztraces.specs.Audit.{is_any_cut};
+ghost use Rattle.ztraces.specs.support.TraceRows.{s1, c0, write, read, opening, event_at, step_of, tick};
+ghost use Rattle.ztraces.specs.support.TraceRows.{tick_of, written_and_read, seen, after_steps};
+ghost use Rattle.ztraces.specs.support.TraceRows.{server_with, request, answer, client_deeds};
+ghost use Rattle.ztraces.specs.support.TraceRows.{server_deeds};
+
+/// The event that an act stands for; an act of another kind of process stands for none.
+pub fn acts_are_events()
+    ensures take { event_of s1 (Took c0 Acted) ≡ Some (event.Take c0 s1) }
+    ensures ignored_query { event_of s1 (Took c0 Unheard) ≡ Some (event.Ignore c0 s1) }
+    ensures stop { event_of s1 (Took c0 Stopped) ≡ Some (event.Fail 1) }
+    ensures halt { event_of s1 Halted ≡ Some (event.Fail 1) }
+    ensures join { event_of Master (Joined 2) ≡ Some (event.Join 2) }
+    ensures begin { event_of c0 (Began write) ≡ Some (event.Begin 0 write) }
+    ensures retry { event_of c0 Retried ≡ Some (event.Retry 0) }
+    ensures client_stops { event_of c0 (Took s1 Stopped) ≡ None }
+    ensures master_ignores { event_of Master (Took s1 Unheard) ≡ None }
+    ensures master_is_halted { event_of Master Halted ≡ None }
+    ensures server_begins { event_of s1 (Began write) ≡ None }
+    ensures server_retries { event_of s1 Retried ≡ None }
+    ensures server_lets_join { event_of s1 (Joined 2) ≡ None }
+{}
+
+/// Steps come by their stamps, and at one stamp the master's first, then the servers' by number, then the clients'.
+pub fn steps_are_ordered()
+    ensures earlier { comes_before (tick_of c0 1) (tick_of Master 2) ≡ true }
+    ensures later { comes_before (tick_of Master 2) (tick_of c0 1) ≡ false }
+    ensures master_first { comes_before (tick_of Master 1) (tick_of s1 1) ≡ true }
+    ensures servers_by_number { comes_before (tick_of (Server 2) 1) (tick_of s1 1) ≡ false }
+    ensures clients_last { comes_before (tick_of (Server 8) 1) (tick_of c0 1) ≡ true }
+    ensures clients_by_number { comes_before (tick_of c0 1) (tick_of (Client 1) 1) ≡ true }
+    ensures itself { comes_before (tick_of s1 1) (tick_of s1 1) ≡ false }
+{}
+
+/// The stamps of a trace rise where each is above the one before it; the first may be any.
+pub fn stamps_rise_by_events()
+    ensures none { stamps_rise [] ≡ true }
+    ensures first_of_all { stamps_rise (tick 0 ∷ []) ≡ true }
+    ensures next { stamps_rise (tick 0 ∷ tick 1 ∷ []) ≡ true }
+    ensures gap { stamps_rise (tick 1 ∷ tick 7 ∷ []) ≡ true }
+    ensures twice { stamps_rise (tick 1 ∷ tick 1 ∷ []) ≡ false }
+    ensures falls_at_the_end { stamps_rise (tick 1 ∷ tick 3 ∷ tick 2 ∷ []) ≡ false }
+{}
+
+/// A write and a read of one client at one server: each event is in its place, and the history is what the caller sees.
+pub fn written_and_read_is_a_run()
+    ensures in_place { are_in_place counting_machine opening written_and_read ≡ true }
+    ensures told { told_of 0 (after_steps written_and_read).history ≡ seen }
+    ensures of_nobody_else { told_of 1 (after_steps written_and_read).history ≡ [] }
+    ensures without_its_beginning { are_in_place counting_machine opening (drop 1 written_and_read)
+        ≡ false }
+    ensures answer_before_the_deed { are_in_place counting_machine opening
+        (step_of c0 1 (Began write) ∷ step_of c0 3 (Took s1 Acted) ∷ [])
+        ≡ false }
+    ensures begun_twice { are_in_place counting_machine opening
+        (step_of c0 1 (Began write) ∷ step_of c0 2 (Began read) ∷ [])
+        ≡ false }
+    ensures retried { are_in_place counting_machine opening
+        (step_of c0 1 (Began write) ∷ step_of c0 2 Retried ∷ [])
+        ≡ true }
+    ensures update_is_not_unheard { are_in_place counting_machine opening
+        (step_of c0 1 (Began write) ∷ step_of s1 2 (Took (Client 1) Unheard) ∷ [])
+        ≡ false }
+    ensures stopped { are_in_place counting_machine opening
+        (step_of c0 1 (Began write) ∷ step_of s1 2 (Took c0 Stopped) ∷ step_of s1 3 (Took c0 Acted) ∷ [])
+        ≡ false }
+{}
+
+/// What is in its place in the opening of one server and one client: a join too, which the master refuses.
+pub fn places_are_tested()
+    ensures refused_join { is_in_place opening (event.Join 1) ≡ true }
+    ensures granted_join { is_in_place opening (event.Join 2) ≡ true }
+    ensures empty_link { is_in_place opening (event.Take c0 s1) ≡ false }
+    ensures failure { is_in_place opening (event.Fail 1) ≡ true }
+    ensures idle_retry { is_in_place opening (event.Retry 0) ≡ false }
+    ensures strange_client { is_in_place opening (event.Begin 1 write) ≡ false }
+    ensures no_event { is_step_in_place opening None ≡ false }
+{}
+
+/// At one stamp the merge goes by process: the server's event is before the client's, and not behind it.
+pub fn one_stamp_is_by_process()
+    ensures merge { Merges (at_process s1 (tick 1 ∷ []) (at_process c0 (tick 1 ∷ []) (λ p. [])))
+        (tick_of s1 1 ∷ tick_of c0 1 ∷ []) (λ p. []) }
+    ensures other_order { Merges (at_process s1 (tick 1 ∷ []) (at_process c0 (tick 1 ∷ []) (λ p. [])))
+        (tick_of c0 1 ∷ tick_of s1 1 ∷ []) (λ p. []) → ⊥ }
+    ensures not_all { Merges (at_process s1 (tick 1 ∷ []) (at_process c0 (tick 1 ∷ []) (λ p. [])))
+        (tick_of s1 1 ∷ []) (λ p. []) → ⊥ }
+{}
+
+/// A write by what each process does at it: client and server go by their tables from the opening, and each takes what the
+/// other put.
+pub fn write_goes_by_the_tables()
+    ensures client { GoesBy counting_machine c0 (standing_in opening c0) 0 client_deeds }
+    ensures server { GoesBy counting_machine s1 (standing_in opening s1) 0 server_deeds }
+    ensures request { takes c0 server_deeds ≡ puts s1 client_deeds }
+    ensures request_is_stamped { puts s1 client_deeds ≡ (1, request) ∷ [] }
+    ensures answer { takes s1 client_deeds ≡ puts c0 server_deeds }
+    ensures answer_is_stamped { puts c0 server_deeds ≡ (2, answer) ∷ [] }
+    ensures nothing_from_the_master { takes Master client_deeds ≡ [] }
+    ensures seen { told_by client_deeds ≡ take 2 seen }
+{}
+
+/// How a server ends: it stops or is halted, its last words are all that it puts, and nothing follows. A number that isn't a
+/// server's or a client's of this world takes no part, nor does a server that has failed.
+pub fn servers_end_by_their_rows()
+    ensures stops { Row counting_machine s1 (AtServer (server_with 0)) (Took c0 Stopped)
+        (Some (1, request)) Out ((Master, message.Gone) ∷ []) [] }
+    ensures halts { Row counting_machine s1 (AtServer (server_with 0)) Halted None Out
+        ((Master, message.Gone) ∷ []) [] }
+    ensures hears_an_update { Row counting_machine s1 (AtServer (server_with 0)) (Took c0 Unheard)
+        (Some (1, request)) (AtServer (server_with 0)) [] [] → ⊥ }
+    ensures nothing_follows { (last : ℕ) (d : Deed ℕ)
+        → GoesBy counting_machine s1 Out last (d ∷ []) → ⊥ }
+    ensures server_9 { standing_in opening (Server 9) ≡ Out }
+    ensures client_1 { standing_in opening (Client 1) ≡ Out }
+    ensures spare_server { standing_in opening (Server 2) ≡ AtServer (opening.servers 2) }
+    ensures failed { standing_in (record opening { failed = at 1 true opening.failed }) s1 ≡ Out }
+{}
+
+/// A stamp is one more than the greater of the process's last one and the message's; a client's may be above that.
+pub fn stamps_go_by_their_rule()
+    ensures by_the_message { IsStamped s1 3 5 6 }
+    ensures by_its_own { IsStamped s1 5 3 6 }
+    ensures no_gap { IsStamped s1 3 5 7 → ⊥ }
+    ensures above_the_message { IsStamped s1 3 5 4 → ⊥ }
+    ensures master { IsStamped Master 3 5 7 → ⊥ }
+    ensures client { IsStamped c0 3 5 9 }
+    ensures client_above_the_message { IsStamped c0 3 5 5 → ⊥ }
+{}
+
+/// Traces are cut where one of them is: the master's, a server's or a client's.
+pub fn one_cut_is_enough()
+    ensures master { (t : Traces) → t.master.is_cut ≡ true → is_any_cut t ≡ true }
+    ensures server { (t : Traces)
+        → list_any (λ (trace : Trace). trace.is_cut) t.servers.items ≡ true → is_any_cut t ≡ true }
+    ensures client { (t : Traces)
+        → list_any (λ (client : ClientTrace). client.trace.is_cut) t.clients.items ≡ true
+        → is_any_cut t ≡ true }
+    ensures none { (t : Traces) → t.master.is_cut ≡ false
+        → list_any (λ (trace : Trace). trace.is_cut) t.servers.items ≡ false
+        → list_any (λ (client : ClientTrace). client.trace.is_cut) t.clients.items ≡ false
+        → is_any_cut t ≡ false }
+{}
