@@ -1,9 +1,16 @@
 //! Worked rows of the definitions: each clause is one, and the bodies do nothing.
 
 ghost use Rattle.std.specs.Prelude.{◌≡◌, [], ◌∷◌, ◌++◌, codes, Some, None};
+ghost use Rattle.zpath.specs.declared.fault.PathFault.TheVariants.{Empty};
 ghost use Rattle.zcalls.specs.declared.reply.Reply.TheVariants.{Children, Deleted, Pinged};
+ghost use Rattle.zmaster_table.specs.declared.join_fault.JoinFault.TheVariants.{Used, Joining, NoChain, Lost};
+ghost use Rattle.zclient_table.specs.declared.begin_fault.BeginFault.TheVariants.{Busy, Exhausted};
+ghost use Rattle.zworld_model.specs.declared.settled.Settled.TheVariants.{Quiet, Limit};
+ghost use Rattle.zlines.specs.declared.request.LineFault.TheVariants.{BadLine, BadPath, BadData};
+ghost use Rattle.zanswers.specs.declared.limits.TheConstants.{MAX_EVENTS};
 ghost use Rattle.zworld_model.specs.declared.history.CallEvent.TheVariants.{Answer};
-ghost use Rattle.zanswers.specs.Line.{taken_text, reply_in};
+ghost use Rattle.zanswers.specs.Line.{taken_text, reply_in, join_fault_name, begin_fault_text, settled_text};
+ghost use Rattle.zanswers.specs.Line.{line_fault_text};
 ghost use Rattle.zanswers.specs.support.Rows.{AreAnswered};
 
 /// Events that aren't enabled, failures and joins.
@@ -40,4 +47,25 @@ pub fn answers_are_told()
     ensures own_reply { reply_in (Some (1, 2)) (Answer 1 1 Pinged ∷ Answer 1 2 Deleted ∷ [])
         ≡ Some Deleted }
     ensures no_reply { reply_in (Some (1, 2)) (Answer 2 2 Deleted ∷ []) ≡ None }
+{}
+
+/// The words for refused joins and calls, for the ends of settling and for lines that ask for nothing, those too that no
+/// script brings about.
+pub fn words_of_answers()
+    ensures used { join_fault_name Used ≡ codes "Used" }
+    ensures joining { join_fault_name Joining ≡ codes "Joining" }
+    ensures no_chain { join_fault_name NoChain ≡ codes "NoChain" }
+    ensures lost { join_fault_name Lost ≡ codes "Lost" }
+    ensures busy { begin_fault_text Busy ≡ codes "busy" }
+    ensures no_numbers { begin_fault_text Exhausted ≡ codes "no Numbers" }
+    ensures quiet { settled_text Quiet ≡ codes "quiet" }
+    ensures limit { settled_text Limit ≡ codes "limit" }
+    ensures bad_line { line_fault_text BadLine ≡ codes "bad line" }
+    ensures bad_path { line_fault_text (BadPath Empty) ≡ codes "bad path Empty" }
+    ensures bad_data { line_fault_text BadData ≡ codes "bad data" }
+{}
+
+/// The limit, as a number.
+pub fn limit_is_a_number()
+    ensures { MAX_EVENTS ≡ 100000 }
 {}

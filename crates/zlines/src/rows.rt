@@ -6,8 +6,15 @@ ghost use Rattle.zcalls.specs.declared.call.Kind.TheVariants.{Persistent, Epheme
 ghost use Rattle.zcalls.specs.declared.call.Update.TheVariants.{Create, Open, Ping, Close, Tick};
 ghost use Rattle.zcalls.specs.declared.call.Query.TheVariants.{GetData};
 ghost use Rattle.zcalls.specs.declared.call.Call.TheVariants.{Update, Query};
-ghost use Rattle.zcalls.specs.declared.refusal.Refusal.TheVariants.{NoNode};
+ghost use Rattle.zcalls.specs.declared.refusal.Refusal.TheVariants.{NoNode, NodeExists, NotEmpty, BadVersion};
+ghost use Rattle.zcalls.specs.declared.refusal.Refusal.TheVariants.{NoChildrenForEphemerals, SessionGone};
+ghost use Rattle.zcalls.specs.declared.refusal.Refusal.TheVariants.{SequenceFull, PathLimit, RootFixed, Full};
+ghost use Rattle.zcalls.specs.declared.refusal.Refusal.TheVariants.{TooManySessions, Exhausted};
+ghost use Rattle.zcalls.specs.declared.reply.PartReply.TheVariants as part;
+ghost use Rattle.zcalls.specs.declared.reply.Reply.TheVariants as reply;
 ghost use Rattle.zcalls.specs.declared.reply.Reply.TheVariants.{Created, Opened, Ticked, Refused};
+ghost use Rattle.zlines.specs.declared.limits.TheConstants.{MAX_LINE, NUMBER_BOUND};
+ghost use Rattle.ztree.specs.support.Samples.{a, some_stat};
 ghost use Rattle.zlines.specs.declared.request.LineFault.TheVariants.{BadLine, BadPath, BadData};
 ghost use Rattle.zlines.specs.LineWords.{number_of, client_of, data_of, data_text};
 ghost use Rattle.zserver_table.specs.declared.process.Process.TheVariants.{Master, Server, Client};
@@ -139,4 +146,49 @@ pub fn replies()
       children = 0;
     })
         ≡ codes " 1 1 1 0 0 0 0 0 2 0" }
+{}
+
+/// Worked rows of the texts of replies that tell what was done, each under its own word.
+#[tactic(auto, unfolding(base64::proofs::OnLiterals::base64_on_literals))]
+pub fn done_replies()
+    ensures deleted { reply_text reply.Deleted ≡ codes "ok deleted" }
+    ensures set { reply_text (reply.Set some_stat) ≡ codes "ok stat 1 2 3 4 5 6 8 9 2 11" }
+    ensures multi { reply_text (reply.Multi (part.Created (a ∷ []) ∷ part.Deleted ∷ part.Checked ∷ []))
+        ≡ codes "ok multi /a ; deleted ; checked" }
+    ensures multi_set { reply_text (reply.Multi (part.Set some_stat ∷ []))
+        ≡ codes "ok multi stat 1 2 3 4 5 6 8 9 2 11" }
+    ensures pinged { reply_text reply.Pinged ≡ codes "ok pinged" }
+    ensures closed { reply_text reply.Closed ≡ codes "ok closed" }
+    ensures data { reply_text (reply.Data (104 ∷ (105 ∷ [])) some_stat)
+        ≡ codes "ok data aGk= stat 1 2 3 4 5 6 8 9 2 11" }
+    ensures no_data { reply_text (reply.Data [] some_stat)
+        ≡ codes "ok data - stat 1 2 3 4 5 6 8 9 2 11" }
+    ensures exists { reply_text (reply.Exists some_stat) ≡ codes "ok stat 1 2 3 4 5 6 8 9 2 11" }
+    ensures children { reply_text (reply.Children (a ∷ (a ∷ []))) ≡ codes "ok 2 a a" }
+{}
+
+/// Worked rows of the texts of refusals, all of them.
+pub fn refused_replies()
+    ensures no_node { reply_text (Refused NoNode) ≡ codes "no NoNode" }
+    ensures node_exists { reply_text (Refused NodeExists) ≡ codes "no NodeExists" }
+    ensures not_empty { reply_text (Refused NotEmpty) ≡ codes "no NotEmpty" }
+    ensures bad_version { reply_text (Refused BadVersion) ≡ codes "no BadVersion" }
+    ensures ephemeral_parent { reply_text (Refused NoChildrenForEphemerals)
+        ≡ codes "no NoChildrenForEphemerals" }
+    ensures session_gone { reply_text (Refused SessionGone) ≡ codes "no SessionGone" }
+    ensures sequence_full { reply_text (Refused SequenceFull) ≡ codes "no SequenceFull" }
+    ensures path_limit { reply_text (Refused PathLimit) ≡ codes "no PathLimit" }
+    ensures root_fixed { reply_text (Refused RootFixed) ≡ codes "no RootFixed" }
+    ensures full { reply_text (Refused Full) ≡ codes "no Full" }
+    ensures too_many_sessions { reply_text (Refused TooManySessions)
+        ≡ codes "no TooManySessions" }
+    ensures exhausted { reply_text (Refused Exhausted) ≡ codes "no Exhausted" }
+    ensures multi { reply_text (reply.MultiRefused 12 BadVersion)
+        ≡ codes "no multi 12 BadVersion" }
+{}
+
+/// The limits, as numbers.
+pub fn limits_are_numbers()
+    ensures line { MAX_LINE ≡ 524288 }
+    ensures number { NUMBER_BOUND ≡ 4611686018427387904 }
 {}

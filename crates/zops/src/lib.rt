@@ -14,6 +14,7 @@ mod machine;
 mod owner;
 mod part;
 mod query;
+mod rows;
 mod run;
 mod session_calls;
 mod stop;
