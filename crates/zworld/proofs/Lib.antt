@@ -2,3 +2,4 @@ mod Records
 pub mod Going
 pub mod Settled
 pub mod Complete
+mod Heads

@@ -2,3 +2,4 @@ pub mod Course
 pub mod Codes
 pub mod Past
 pub mod Verdict
+pub mod Heads

@@ -6,10 +6,12 @@ ghost use Rattle.zworld_model.specs.PlainTree.{IsExplained};
 ghost use Rattle.zworld.specs.Steps.{world_in};
 ghost use Rattle.ztraces.specs.Lawful.{AreLawful};
 ghost use Rattle.ztraces.specs.Audit.{opening_of, is_any_cut, IsFound, IsDisordered, IsMismatched};
+ghost use Rattle.ztraces.specs.Audit.{HasFallingStamp};
 ghost use Rattle.zworld.specs.declared.auditing.faults.AuditFault.TheVariants.{Cut, Disorder, Mismatch, Memory};
 
 mod deeds;
 mod faults;
+mod heads;
 mod places;
 mod records;
 mod replaying;
@@ -39,6 +41,8 @@ fn examined(alloc: Global, traces: &Traces) -> Result<World, AuditFault>
     ensures disorder { IfErr result (λ fault. fault ≡ Disorder → IsDisordered traces.now) }
     ensures mismatch { IfErr result (λ fault. fault ≡ Mismatch → IsMismatched traces.now) }
     ensures cut_first { is_any_cut traces.now ≡ true → result ≡ Err Cut }
+    ensures then_stamps { is_any_cut traces.now ≡ false → HasFallingStamp traces.now
+        → result ≡ Err Disorder }
 {
     if has_cut(traces) {
         return Err(AuditFault::Cut);
@@ -61,13 +65,16 @@ fn examined(alloc: Global, traces: &Traces) -> Result<World, AuditFault>
 }
 
 /// Replays the traces, merged by their stamps, on one world, and compares its history with what the clients saw. The
-/// answer is that history. The tests are made in the order of the faults: where a trace is cut the answer is `Cut`.
+/// answer is that history. The tests are made in the order of the faults: where a trace is cut the answer is `Cut`, and
+/// else where the stamps of one don't rise it is `Disorder`: memory is asked for only behind both.
 /// Of lawful traces that aren't cut nothing but want of memory is found.
 pub fn audit(alloc: Global, traces: &Traces) -> Result<Vec<CallEvent>, AuditFault>
     ensures found { IfOk result (λ history. IsFound traces.now history.items) }
     ensures explained { IfOk result (λ history. IsExplained history.items) }
     ensures cut { IfErr result (λ fault. fault ≡ Cut → is_any_cut traces.now ≡ true) }
     ensures cut_first { is_any_cut traces.now ≡ true → result ≡ Err Cut }
+    ensures then_stamps { is_any_cut traces.now ≡ false → HasFallingStamp traces.now
+        → result ≡ Err Disorder }
     ensures disorder { IfErr result (λ fault. fault ≡ Disorder → IsDisordered traces.now) }
     ensures mismatch { IfErr result (λ fault. fault ≡ Mismatch → IsMismatched traces.now) }
     ensures complete { AreLawful traces.now → is_any_cut traces.now ≡ false

@@ -3,8 +3,11 @@
 ghost use Rattle.std.specs.Prelude.{◌≡◌};
 ghost use Rattle.zworld.specs.declared.auditing.faults.AuditFault.TheVariants.{Memory};
 
+use std::fmt;
+use thiserror::Error;
+
 /// Why an audit doesn't end well: the first that holds, in this order, but for `Memory`.
-#[derive(Clone, Copy, Debug, PartialEq, Eq)]
+#[derive(Clone, Copy, Debug, PartialEq, Eq, Error)]
 pub enum AuditFault {
     /// A trace is cut: nothing can be said of the run.
     Cut,
@@ -14,6 +17,22 @@ pub enum AuditFault {
     Mismatch,
     /// There wasn't enough memory.
     Memory,
+}
+
+impl fmt::Display for AuditFault {
+    ghost use Rattle.std.specs.Prelude.{Some};
+    ghost use Rattle.zworld.specs.Faults.{fault_name};
+
+    ghost output = { λ fault. Some (fault_name fault) };
+
+    fn fmt<W: fmt::Write>(&self, f: &mut fmt::Formatter<W>) -> fmt::Result {
+        f.write_str(match self {
+            AuditFault::Cut => "Cut",
+            AuditFault::Disorder => "Disorder",
+            AuditFault::Mismatch => "Mismatch",
+            AuditFault::Memory => "Memory",
+        })
+    }
 }
 
 impl From<zpath::Memory> for AuditFault {

@@ -1,8 +1,8 @@
-//! The traces by place: which has the next event.
+//! The traces by place: the master's first, then the servers', then the clients'.
 
-ghost use Rattle.std.specs.Prelude.{◌≡◌, ◌<◌, ◌≤◌, IfSome, IfNone, length, get_or};
+ghost use Rattle.std.specs.Prelude.{◌≡◌, ◌<◌, ◌≤◌, ◌+◌, ◌^◌, length, get_or};
 ghost use Rattle.ztraces.specs.Traces.{trace_of};
-ghost use Rattle.ztraces.specs.support.Places.{place_count, process_at, head_at, chosen, IsLeast};
+ghost use Rattle.ztraces.specs.support.Places.{place_count, process_at, head_at};
 
 use zcalls::ClientId;
 use zserver_table::{Process, ServerId};
@@ -52,8 +52,8 @@ pub(crate) fn events_at(traces: &Traces, place: usize) -> &[TraceEvent]
         .events
 }
 
-// The stamp of its next event, if there is one.
-fn head_of(traces: &Traces, read: &[usize], place: usize) -> Option<u64>
+/// The stamp of its next event, if there is one.
+pub(crate) fn head_of(traces: &Traces, read: &[usize], place: usize) -> Option<u64>
     requires place { place < place_count traces.now }
     requires read { length read.now ≡ place_count traces.now }
     ensures { result ≡ head_at traces.now read.now place }
@@ -64,31 +64,15 @@ fn head_of(traces: &Traces, read: &[usize], place: usize) -> Option<u64>
     }
 }
 
-// The lesser of the best so far and one more.
-fn better(best: Option<(usize, u64)>, place: usize, head: Option<u64>) -> Option<(usize, u64)>
-    ensures { result ≡ chosen best place head }
-{
-    match (best, head) {
-        (_, None) => best,
-        (None, Some(stamp)) => Some((place, stamp)),
-        (Some((_, least)), Some(stamp)) => {
-            if stamp < least {
-                Some((place, stamp))
-            } else {
-                best
-            }
-        }
-    }
-}
-
-/// The place of the trace whose next event comes first, with its stamp.
-pub(crate) fn next_place(traces: &Traces, read: &[usize]) -> Option<(usize, u64)>
+/// The next event of that trace, which has one.
+pub(crate) fn event_at<'a>(traces: &'a Traces, read: &[usize], place: usize) -> &'a TraceEvent
+    requires place { place < place_count traces.now }
     requires read { length read.now ≡ place_count traces.now }
-    ensures { IsLeast traces.now read.now (place_count traces.now) result }
+    requires left { get_or read.now place 0
+        < length (trace_of traces.now (process_at traces.now place)) }
+    ensures event { result.now ≡ get_or (trace_of traces.now (process_at traces.now place))
+        (get_or read.now place 0) result.now }
+    ensures small { get_or read.now place 0 + 1 < 2 ^ 64 }
 {
-    let mut best = None;
-    for place in 0..count_of(traces) {
-        best = better(best, place, head_of(traces, read, place));
-    }
-    best
+    &events_at(traces, place)[read[place]]
 }

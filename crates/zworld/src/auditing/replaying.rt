@@ -7,25 +7,35 @@ ghost use Rattle.zworld_model.specs.Alike.{IsAlike};
 ghost use Rattle.ztraces.specs.Traces.{Step, BeginsMerge, are_in_place};
 ghost use Rattle.ztraces.specs.Audit.{opening_of};
 ghost use Rattle.ztraces.specs.support.Places.{place_count, unread, HasReplayed, IsAllRead, IsReplayFault};
+ghost use Rattle.std.specs.BinaryHeap.{heap_items, IsHeap};
+ghost use Rattle.zworld.specs.support.Heads.{head_cmp, HoldsHeads};
 ghost use Rattle.zworld.specs.declared.auditing.faults.AuditFault.TheVariants.{Disorder, Memory};
 
 use crate::auditing::deeds::replay_act;
 use crate::auditing::faults::AuditFault;
-use crate::auditing::places::{count_of, events_at, next_place, process_in};
+use crate::auditing::heads::{Head, heads_of, next_event, put_head};
+use crate::auditing::places::{count_of, process_in};
 use crate::world::World;
 use std::alloc::Global;
+use std::collections::BinaryHeap;
 use ztraces::Traces;
 
 // Replays the next event; false where none is left.
 fn replay_next(
     alloc: Global,
     traces: &Traces,
+    heads: &mut BinaryHeap<Head>,
     read: &mut [usize],
     world: &mut World,
 ) -> Result<bool, AuditFault>
     requires read { length read.old ≡ place_count traces.now }
+    requires heap { IsHeap head_cmp (heap_items heads.old) }
+    requires heads { HoldsHeads traces.now read.old (place_count traces.now) (heap_items heads.old) }
     requires replayed { HasReplayed traces.now read.old (world_in world.old) }
     ensures same { length read.new ≡ length read.old }
+    ensures heap { OnOk result (IsHeap head_cmp (heap_items heads.new)) }
+    ensures heads { IfOk result (λ more. more ≡ true
+        → HoldsHeads traces.now read.new (place_count traces.now) (heap_items heads.new)) }
     ensures replayed { OnOk result (HasReplayed traces.now read.new (world_in world.new)) }
     ensures fewer { IfOk result (λ more. more ≡ true
         → unread traces.now read.new (place_count traces.now)
@@ -34,13 +44,35 @@ fn replay_next(
     ensures disorder { IfErr result (λ fault. fault ≡ Disorder → IsReplayFault traces.now) }
     ensures only { IfErr result (λ fault. (fault ≡ Disorder) ⊎ (fault ≡ Memory)) }
 {
-    let Some((place, _)) = next_place(traces, read) else {
+    let Some((place, event)) = next_event(heads, traces, read) else {
         return Ok(false);
     };
-    let event = &events_at(traces, place)[read[place]];
     replay_act(alloc, world, process_in(traces, place), &event.act)?;
     read[place] += 1;
+    put_head(heads, traces, read, place)?;
     Ok(true)
+}
+
+// Replays all that are left.
+fn replay_rest(
+    alloc: Global,
+    traces: &Traces,
+    heads: &mut BinaryHeap<Head>,
+    read: &mut [usize],
+    world: &mut World,
+) -> Result<(), AuditFault>
+    requires read { length read.old ≡ place_count traces.now }
+    requires heap { IsHeap head_cmp (heap_items heads.old) }
+    requires heads { HoldsHeads traces.now read.old (place_count traces.now)
+        (heap_items heads.old) }
+    requires replayed { HasReplayed traces.now read.old (world_in world.old) }
+    ensures replayed { OnOk result ((after : List ℕ)
+        × HasReplayed traces.now after (world_in world.new) × IsAllRead traces.now after) }
+    ensures disorder { IfErr result (λ fault. fault ≡ Disorder → IsReplayFault traces.now) }
+    ensures only { IfErr result (λ fault. (fault ≡ Disorder) ⊎ (fault ≡ Memory)) }
+{
+    while replay_next(alloc, traces, heads, read, world)? {}
+    Ok(())
 }
 
 /// Replays all events, by their stamps.
@@ -51,11 +83,9 @@ pub(crate) fn replay(alloc: Global, traces: &Traces, world: &mut World) -> Resul
     ensures disorder { IfErr result (λ fault. fault ≡ Disorder → IsReplayFault traces.now) }
     ensures only { IfErr result (λ fault. (fault ≡ Disorder) ⊎ (fault ≡ Memory)) }
 {
-    let Ok(mut read) = zeros(alloc, count_of(traces)) else {
-        return Err(AuditFault::Memory);
-    };
-    while replay_next(alloc, traces, &mut read, world)? {}
-    Ok(())
+    let mut read = zeros(alloc, count_of(traces))?;
+    let mut heads = heads_of(alloc, traces, &read)?;
+    replay_rest(alloc, traces, &mut heads, &mut read, world)
 }
 
 // So many zeros.

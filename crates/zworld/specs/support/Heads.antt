@@ -1,0 +1,56 @@
+-- The next events of all traces, each as its stamp and the place of its trace, in a heap whose top is the least of them.
+use Rattle.std.specs.Prelude.{◌≡◌, ℕ, zero, suc, ◌+◌, Bool, false, Option, None, Some, List, get_or}
+use Rattle.std.specs.List.{sum_by, AllByRecursion}
+use Rattle.std.specs.declared.cmp.Ordering.{Ordering}
+use Rattle.std.specs.declared.cmp.Reverse.{Reverse}
+use Rattle.std.specs.Ordering.{nat_cmp, ordering_then, is_lt}
+use Rattle.ztraces.specs.declared.trace.TraceEvent.{TraceEvent}
+use Rattle.ztraces.specs.declared.trace.Traces.{Traces}
+use Rattle.ztraces.specs.Traces.{trace_of}
+use Rattle.ztraces.specs.support.Places.{place_count, process_at, head_at, IsLeast}
+
+abbrev pub Head : Type 0
+Head = Reverse (ℕ × ℕ)
+
+-- by stamp, and at one stamp by place
+abbrev pub pair_cmp : ℕ × ℕ → ℕ × ℕ → Ordering
+pair_cmp x y = ordering_then (nat_cmp x.0 y.0) (nat_cmp x.1 y.1)
+
+-- the other way round, since a heap's top is the greatest
+abbrev pub head_cmp : Head → Head → Ordering
+head_cmp x y = pair_cmp y.0 x.0
+
+-- one comes before another
+abbrev pub is_before : ℕ × ℕ → ℕ × ℕ → Bool
+is_before x y = is_lt (pair_cmp x y)
+
+-- what f counts over some of them
+abbrev pub count_of : (ℕ × ℕ → ℕ) → List Head → ℕ
+count_of f heads = sum_by (λ (head : Head). f head.0) heads
+
+-- at a place, where there is a next event
+abbrev pub count_at : (ℕ × ℕ → ℕ) → ℕ → Option ℕ → ℕ
+count_at f place None = 0
+count_at f place (Some stamp) = f (stamp, place)
+
+-- over the places below n
+abbrev pub count_below : Traces → List ℕ → (ℕ × ℕ → ℕ) → ℕ → ℕ
+count_below t read f zero = 0
+count_below t read f (suc n) = count_at f n (head_at t read n) + count_below t read f n
+
+-- they are the next events of the places below n, each once: whatever is counted, it is counted alike
+abbrev pub HoldsHeads : Traces → List ℕ → ℕ → List Head → Type 0
+HoldsHeads t read n heads = (f : ℕ × ℕ → ℕ) → count_of f heads ≡ count_below t read f n
+
+-- this one is gone, and none of them comes before it
+abbrev pub IsFirstTaken : ℕ × ℕ → List Head → List Head → Type 0
+IsFirstTaken first old new =
+    ((f : ℕ × ℕ → ℕ) → count_of f new + f first ≡ count_of f old)
+    × AllByRecursion (λ (head : Head). is_before head.0 first ≡ false) old
+
+-- this event, at this place, is the next of all traces, and is gone from the heap
+abbrev pub IsNext : Traces → List ℕ → ℕ → TraceEvent → List Head → List Head → Type 0
+IsNext t read place event old new =
+    IsLeast t read (place_count t) (Some (place, event.stamp))
+    × (event ≡ get_or (trace_of t (process_at t place)) (get_or read place 0) event)
+    × ((f : ℕ × ℕ → ℕ) → count_of f new + f (event.stamp, place) ≡ count_of f old)
