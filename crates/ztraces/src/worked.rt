@@ -1,6 +1,6 @@
 //! Worked rows of the definitions: each function's contract has some, and its body does nothing.
 
-ghost use Rattle.std.specs.Prelude.{◌≡◌, ℕ, true, false, None, Some, [], ◌∷◌, take, drop};
+ghost use Rattle.std.specs.Prelude.{◌≡◌, ℕ, true, false, None, Some, [], ◌∷◌, ◌++◌, take, drop};
 ghost use Rattle.std.specs.List.{list_any};
 ghost use Rattle.zserver_table.specs.declared.message.Message.TheVariants as message;
 ghost use Rattle.zserver_table.specs.declared.process.Process.TheVariants.{Master, Server, Client};
@@ -19,7 +19,8 @@ ghost use Rattle.ztraces.specs.Deeds.{Deed, Row, GoesBy, Standing, AtServer, AtC
 ghost use Rattle.ztraces.specs.Deeds.{standing_in, last_post, takes, puts, told_by};
 ghost use Rattle.ztraces.specs.Audit.{is_any_cut};
 ghost use Rattle.ztraces.specs.support.TraceRows.{s1, c0, write, read, opening, event_at, step_of, tick};
-ghost use Rattle.ztraces.specs.support.TraceRows.{tick_of, written_and_read, seen, after_steps};
+ghost use Rattle.ztraces.specs.support.TraceRows.{tick_of, written_and_read, seen, after_steps, mended};
+ghost use Rattle.ztraces.specs.support.TraceRows.{opening_of_three};
 ghost use Rattle.ztraces.specs.support.TraceRows.{server_with, request, answer, client_deeds};
 ghost use Rattle.ztraces.specs.support.TraceRows.{server_deeds};
 
@@ -80,8 +81,26 @@ pub fn written_and_read_is_a_run()
     ensures update_is_not_unheard { are_in_place counting_machine opening
         (step_of c0 1 (Began write) ∷ step_of s1 2 (Took (Client 1) Unheard) ∷ [])
         ≡ false }
+    ensures ignored_query { are_in_place counting_machine opening
+        (step_of c0 1 (Began read) ∷ step_of s1 2 (Took c0 Unheard) ∷ [])
+        ≡ true }
+    ensures ignored_twice { are_in_place counting_machine opening
+        (step_of c0 1 (Began read) ∷ step_of s1 2 (Took c0 Unheard) ∷ step_of s1 3 (Took c0 Unheard) ∷ [])
+        ≡ false }
     ensures stopped { are_in_place counting_machine opening
         (step_of c0 1 (Began write) ∷ step_of s1 2 (Took c0 Stopped) ∷ step_of s1 3 (Took c0 Acted) ∷ [])
+        ≡ false }
+{}
+
+/// A chain of three in which two servers are halted, the second of them while the chain is mended, is a run; it is none where
+/// a server that was halted takes once more.
+pub fn mended_chain_is_a_run()
+    ensures in_place { are_in_place counting_machine opening_of_three mended ≡ true }
+    ensures nothing_after_the_halt { are_in_place counting_machine opening_of_three
+        (take 6 mended ++ step_of s1 7 (Took c0 Acted) ∷ [])
+        ≡ false }
+    ensures gone_is_last { are_in_place counting_machine opening_of_three
+        (take 4 mended ++ step_of Master 5 (Took (Server 2) Acted) ∷ [])
         ≡ false }
 {}
 

@@ -14,7 +14,7 @@ use Rattle.zworld_model.specs.History.{History}
 use Rattle.zworld_model.specs.World.{World, opening_world}
 use Rattle.zworld_model.specs.Events.{run}
 use Rattle.ztraces.specs.declared.trace.Act.{Act}
-use Rattle.ztraces.specs.declared.trace.Act.TheVariants.{Took, Began}
+use Rattle.ztraces.specs.declared.trace.Act.TheVariants.{Took, Began, Retried, Joined, Halted}
 use Rattle.ztraces.specs.declared.trace.TraceEvent.{TraceEvent}
 use Rattle.ztraces.specs.Traces.{Step, events_of}
 use Rattle.ztraces.specs.Deeds.{Deed, Standing, AtServer, AtClient}
@@ -60,6 +60,23 @@ written_and_read =
     ∷ step_of c0 6 (Took s1 Acted)
     ∷ []
 
+-- over three servers: the second is halted when the first has taken a write, and the first while the chain is mended; a fourth
+-- joins, and the client hears of the new chain and asks again
+abbrev pub mended : List Step
+mended =
+    step_of c0 1 (Began write)
+    ∷ step_of s1 2 (Took c0 Acted)
+    ∷ step_of (Server 2) 3 Halted
+    ∷ step_of Master 4 (Took (Server 2) Acted)
+    ∷ step_of (Server 3) 5 (Took Master Acted)
+    ∷ step_of s1 6 Halted
+    ∷ step_of Master 7 (Took s1 Acted)
+    ∷ step_of Master 8 (Took (Server 3) Acted)
+    ∷ step_of Master 9 (Joined 4)
+    ∷ step_of c0 10 (Took Master Acted)
+    ∷ step_of c0 11 Retried
+    ∷ []
+
 -- what the caller sees of them
 abbrev pub seen : History
 seen =
@@ -68,6 +85,10 @@ seen =
     ∷ call_event.Begin 0 2 read
     ∷ call_event.Answer 0 2 (number_reply 1)
     ∷ []
+
+-- the same of three servers
+abbrev pub opening_of_three : World ℕ
+opening_of_three = opening_world counting_machine 3 1
 
 -- the world after steps
 abbrev pub after_steps : List Step → World ℕ

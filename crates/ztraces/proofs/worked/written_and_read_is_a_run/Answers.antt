@@ -17,3 +17,11 @@ returns-clause-begun_twice c = refl
 pub returns-clause-retried : goal.returns-clause-retried
 unfolding all_tables
 returns-clause-retried c = refl
+
+pub returns-clause-ignored_query : goal.returns-clause-ignored_query
+unfolding all_tables
+returns-clause-ignored_query c = refl
+
+pub returns-clause-ignored_twice : goal.returns-clause-ignored_twice
+unfolding all_tables
+returns-clause-ignored_twice c = refl
