@@ -8,6 +8,7 @@ use crate::traces::{traces, verdict};
 use std::alloc::Global;
 use std::process::Abort;
 use std::test::Fail;
+use zworld::AuditFault;
 
 // A table, what the caller saw, whose trace is marked as cut, and the verdict.
 type Row = (&'static [Step], &'static [Seen], Option<u8>, &'static str);
@@ -92,4 +93,20 @@ fn another_record_is_a_mismatch(rt: HostRuntime) -> Result<(), Fail> {
             (&[], SEEN, None, "mismatch"),
         ],
     )
+}
+
+#[test]
+fn faults_have_words(rt: HostRuntime) -> Result<(), Fail> {
+    let faults = [
+        (AuditFault::Cut, "Cut"),
+        (AuditFault::Disorder, "Disorder"),
+        (AuditFault::Mismatch, "Mismatch"),
+        (AuditFault::Memory, "Memory"),
+    ];
+    for (fault, word) in faults {
+        let mut text = String::new(rt.alloc());
+        write!(text, "{fault}")?;
+        assert!(rt; text.as_str() == word);
+    }
+    Ok(())
 }

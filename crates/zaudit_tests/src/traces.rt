@@ -3,7 +3,7 @@
 use crate::stories::{Deed, Seen, Step};
 use std::alloc::Global;
 use std::test::Fail;
-use zcalls::{Call, Create, Kind, Query, Reply, Update};
+use zcalls::{Call, CallNumber, ClientId, Create, Kind, Query, Reply, Update};
 use zliterals::{call_number, client, server};
 use zpath::Path;
 use zserver_table::Process;
@@ -123,16 +123,35 @@ pub fn traces(
     })
 }
 
-// What an event of the history shows.
-fn shown(event: &CallEvent) -> Option<Seen> {
-    match event {
-        CallEvent::Begin(_, _, Call::Update(Update::Create(_))) => Some(Seen::Create),
-        CallEvent::Answer(_, _, Reply::Created(path)) if path.names().len() == 1 => Some(
-            Seen::Created,
-        ),
-        CallEvent::Begin(_, _, Call::Query(Query::GetData(_))) => Some(Seen::Get),
-        CallEvent::Answer(_, _, Reply::Data(_, stat)) => Some(Seen::Told(stat.czxid.number())),
-        _ => None,
+// Whether it is the client's call of that number.
+fn is_call(of: ClientId, number: CallNumber, wanted: u64) -> bool {
+    of.number() == 0 && number.number() == wanted
+}
+
+// Whether it is the path of the one node.
+fn is_the_node(path: &Path) -> bool {
+    path.names().len() == 1 && path.names()[0].as_str() == "a"
+}
+
+// Whether an event of the history is just what was seen.
+fn is_told(event: &CallEvent, seen: Seen) -> bool {
+    match (event, seen) {
+        (CallEvent::Begin(of, number, Call::Update(Update::Create(create))), Seen::Create) => {
+            is_call(*of, *number, 1)
+                && is_the_node(&create.path)
+                && create.kind == Kind::Persistent
+                && create.bytes.as_slice().is_empty()
+        }
+        (CallEvent::Answer(of, number, Reply::Created(path)), Seen::Created) => {
+            is_call(*of, *number, 1) && is_the_node(path)
+        }
+        (CallEvent::Begin(of, number, Call::Query(Query::GetData(path))), Seen::Get) => {
+            is_call(*of, *number, 2) && is_the_node(path)
+        }
+        (CallEvent::Answer(of, number, Reply::Data(bytes, told)), Seen::Told(made)) => {
+            is_call(*of, *number, 2) && bytes.as_slice().is_empty() && *told == stat(made)
+        }
+        _ => false,
     }
 }
 
@@ -142,7 +161,7 @@ fn is_history(history: &[CallEvent], seen: &[Seen]) -> bool {
         && history
             .iter()
             .zip(seen)
-            .all(|(event, &each)| shown(event) == Some(each))
+            .all(|(event, &each)| is_told(event, each))
 }
 
 /// What the audit says, in a word: that the history is just what was seen, or its fault.
