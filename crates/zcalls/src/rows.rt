@@ -91,7 +91,8 @@ pub fn versions_are_tested()
     ensures any { has_other_version Any some_node ≡ false }
     ensures same { has_other_version (Exactly 6) some_node ≡ false }
     ensures other { has_other_version (Exactly 8) some_node ≡ true }
-    ensures delete { (t : Tree) → get t.nodes (a ∷ []) ≡ Some some_node → children t.nodes (a ∷ []) ≡ []
+    ensures delete { (t : Tree) → get t.nodes (a ∷ []) ≡ Some some_node
+        → children t.nodes (a ∷ []) ≡ []
         → delete_step t (record { path = a ∷ []; version = Exactly 6 })
         ≡ Ok (without_node t (a ∷ []), change.Deleted) }
     ensures delete_of_another { (t : Tree) → get t.nodes (a ∷ []) ≡ Some some_node
@@ -103,11 +104,13 @@ pub fn versions_are_tested()
 /// What is told: the bytes and the stat of a node, the part of a multi that was refused, and whether a node's counter has
 /// given its last number.
 pub fn what_is_told()
-    ensures data { (t : Tree) → get t.nodes (a ∷ []) ≡ Some some_node → children t.nodes (a ∷ []) ≡ []
+    ensures data { (t : Tree) → get t.nodes (a ∷ []) ≡ Some some_node
+        → children t.nodes (a ∷ []) ≡ []
         → query_reply t (GetData (a ∷ [])) ≡ reply.Data (7 ∷ (7 ∷ [])) (stat_with some_node 0) }
     ensures no_data { (t : Tree) → get t.nodes (a ∷ []) ≡ None
         → query_reply t (GetData (a ∷ [])) ≡ Refused NoNode }
-    ensures refused_part { (t : Tree) → multi_result t (Err (1, NoNode)) ≡ (t, MultiRefused 1 NoNode) }
+    ensures refused_part { (t : Tree)
+        → multi_result t (Err (1, NoNode)) ≡ (t, MultiRefused 1 NoNode) }
     ensures last_number { is_spent (record some_node { seq = 2147483647 }) ≡ false }
     ensures no_number { is_spent (record some_node { seq = 2147483648 }) ≡ true }
 {}

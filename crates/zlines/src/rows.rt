@@ -153,7 +153,8 @@ pub fn replies()
 pub fn done_replies()
     ensures deleted { reply_text reply.Deleted ≡ codes "ok deleted" }
     ensures set { reply_text (reply.Set some_stat) ≡ codes "ok stat 1 2 3 4 5 6 8 9 2 11" }
-    ensures multi { reply_text (reply.Multi (part.Created (a ∷ []) ∷ part.Deleted ∷ part.Checked ∷ []))
+    ensures multi { reply_text
+        (reply.Multi (part.Created (a ∷ []) ∷ part.Deleted ∷ part.Checked ∷ []))
         ≡ codes "ok multi /a ; deleted ; checked" }
     ensures multi_set { reply_text (reply.Multi (part.Set some_stat ∷ []))
         ≡ codes "ok multi stat 1 2 3 4 5 6 8 9 2 11" }

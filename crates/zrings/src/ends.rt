@@ -126,7 +126,8 @@ pub fn told<M: Drop>(tx: &mut Tx<M>, rx: &mut Rx<M>) -> Option<u64>
     ensures tx { ring_of_tx tx.new ≡ ring_of_tx tx.old }
     ensures rx { ring_of_rx rx.new ≡ ring_of_rx rx.old }
     ensures number { IfSome result (λ n. n ≡ length (in_ring rx.new)) }
-    ensures law { IfSome result (λ _. put_of tx.new ≡ (taken_of rx.new ++ in_ring rx.new) ++ waiting tx.new) }
+    ensures law { IfSome result (λ _.
+        put_of tx.new ≡ (taken_of rx.new ++ in_ring rx.new) ++ waiting tx.new) }
 {
     let inside = rx.ring.slots_beside(&mut tx.ring);
     Some(inside as u64)

@@ -122,7 +122,8 @@ pub fn state_is_handed_over()
           record joining_server { machine = Some 9; last = 9 },
           (Server 1, message.Ack 4 9) ∷ (Master, message.Joined 4) ∷ [],
         ) }
-    ensures nothing_stays_in_sent { after (record joining_server { sent = (6, call 16) ∷ [] }) (Server 1)
+    ensures nothing_stays_in_sent { after
+        (record joining_server { sent = (6, call 16) ∷ [] }) (Server 1)
         (message.Snapshot 4 nine)
         ≡ (
           record joining_server { machine = Some 9; last = 9 },

@@ -14,13 +14,13 @@ ghost use Rattle.ztraces.specs.declared.trace.Trace.{Trace};
 ghost use Rattle.ztraces.specs.declared.trace.ClientTrace.{ClientTrace};
 ghost use Rattle.ztraces.specs.declared.trace.Traces.{Traces};
 ghost use Rattle.ztraces.specs.Traces.{event_of, comes_before, stamps_rise, is_in_place, are_in_place};
-ghost use Rattle.ztraces.specs.Traces.{is_step_in_place, told_of, at_process, Merges};
+ghost use Rattle.ztraces.specs.Traces.{is_step_in_place, told_of, Merges};
 ghost use Rattle.ztraces.specs.Deeds.{Deed, Row, GoesBy, Standing, AtServer, AtClient, Out, IsStamped};
 ghost use Rattle.ztraces.specs.Deeds.{standing_in, last_post, takes, puts, told_by};
 ghost use Rattle.ztraces.specs.Audit.{is_any_cut};
 ghost use Rattle.ztraces.specs.support.TraceRows.{s1, c0, write, read, opening, event_at, step_of, tick};
-ghost use Rattle.ztraces.specs.support.TraceRows.{tick_of, written_and_read, seen, after_steps, mended};
-ghost use Rattle.ztraces.specs.support.TraceRows.{opening_of_three};
+ghost use Rattle.ztraces.specs.support.TraceRows.{tick_of, both_at_1, written_and_read, seen};
+ghost use Rattle.ztraces.specs.support.TraceRows.{after_steps, mended, opening_of_three};
 ghost use Rattle.ztraces.specs.support.TraceRows.{server_with, request, answer, client_deeds};
 ghost use Rattle.ztraces.specs.support.TraceRows.{server_deeds};
 
@@ -117,12 +117,9 @@ pub fn places_are_tested()
 
 /// At one stamp the merge goes by process: the server's event is before the client's, and not behind it.
 pub fn one_stamp_is_by_process()
-    ensures merge { Merges (at_process s1 (tick 1 ∷ []) (at_process c0 (tick 1 ∷ []) (λ p. [])))
-        (tick_of s1 1 ∷ tick_of c0 1 ∷ []) (λ p. []) }
-    ensures other_order { Merges (at_process s1 (tick 1 ∷ []) (at_process c0 (tick 1 ∷ []) (λ p. [])))
-        (tick_of c0 1 ∷ tick_of s1 1 ∷ []) (λ p. []) → ⊥ }
-    ensures not_all { Merges (at_process s1 (tick 1 ∷ []) (at_process c0 (tick 1 ∷ []) (λ p. [])))
-        (tick_of s1 1 ∷ []) (λ p. []) → ⊥ }
+    ensures merge { Merges both_at_1 (tick_of s1 1 ∷ tick_of c0 1 ∷ []) (λ p. []) }
+    ensures other_order { Merges both_at_1 (tick_of c0 1 ∷ tick_of s1 1 ∷ []) (λ p. []) → ⊥ }
+    ensures not_all { Merges both_at_1 (tick_of s1 1 ∷ []) (λ p. []) → ⊥ }
 {}
 
 /// A write by what each process does at it: client and server go by their tables from the opening, and each takes what the

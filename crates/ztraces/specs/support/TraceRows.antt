@@ -16,7 +16,7 @@ use Rattle.zworld_model.specs.Events.{run}
 use Rattle.ztraces.specs.declared.trace.Act.{Act}
 use Rattle.ztraces.specs.declared.trace.Act.TheVariants.{Took, Began, Retried, Joined, Halted}
 use Rattle.ztraces.specs.declared.trace.TraceEvent.{TraceEvent}
-use Rattle.ztraces.specs.Traces.{Step, events_of}
+use Rattle.ztraces.specs.Traces.{Step, events_of, at_process}
 use Rattle.ztraces.specs.Deeds.{Deed, Standing, AtServer, AtClient}
 
 -- the processes, the two calls, and the opening
@@ -48,6 +48,10 @@ tick stamp = event_at stamp (Took Master Acted)
 
 abbrev pub tick_of : Process → ℕ → Step
 tick_of process stamp = step_of process stamp (Took Master Acted)
+
+-- the server and the client have an event each, at one stamp
+abbrev pub both_at_1 : Process → List TraceEvent
+both_at_1 = at_process s1 (tick 1 ∷ []) (at_process c0 (tick 1 ∷ []) (λ p. []))
 
 -- a write and a read, each begun, done and answered
 abbrev pub written_and_read : List Step

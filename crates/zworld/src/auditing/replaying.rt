@@ -78,7 +78,8 @@ fn replay_rest(
 /// Replays all events, by their stamps.
 pub(crate) fn replay(alloc: Global, traces: &Traces, world: &mut World) -> Result<(), AuditFault>
     requires opening { IsAlike (opening_of traces.now) (world_in world.old) }
-    ensures replayed { OnOk result ((read : List ℕ) × HasReplayed traces.now read (world_in world.new)
+    ensures replayed { OnOk result ((read : List ℕ)
+        × HasReplayed traces.now read (world_in world.new)
         × IsAllRead traces.now read) }
     ensures disorder { IfErr result (λ fault. fault ≡ Disorder → IsReplayFault traces.now) }
     ensures only { IfErr result (λ fault. (fault ≡ Disorder) ⊎ (fault ≡ Memory)) }
