@@ -1,6 +1,6 @@
 -- The links as they are kept: a row for each process of what it has put, and in it a queue for each receiver.
 -- Van Renesse and Schneider, "Chain Replication for Supporting High Throughput and Availability" (OSDI 2004), section 3.
-use Rattle.std.specs.Prelude.{ℕ, ◌+◌, Bool, true, false, not, ◌&&◌, nat_lt, if◌then◌else◌, List, [], ◌∷◌, get_or}
+use Rattle.std.specs.Prelude.{ℕ, ◌+◌, ◌-◌, ◌==◌, Bool, true, false, not, ◌&&◌, nat_lt, nat_le, if◌then◌else◌, List, [], ◌∷◌, get_or}
 use Rattle.std.specs.List.{list_any}
 use Rattle.ztree.specs.declared.limits.TheConstants.{MAX_CLIENTS}
 use Rattle.zserver_table.specs.declared.limits.TheConstants.{MAX_SERVERS}
@@ -16,6 +16,13 @@ abbrev pub place_of : Process → ℕ
 place_of Master = 0
 place_of (Server s) = if is_server s then s else PROCESSES
 place_of (Client c) = if nat_lt c MAX_CLIENTS then MAX_SERVERS + 1 + c else PROCESSES
+
+-- the process of a place
+abbrev pub process_at : ℕ → Process
+process_at place =
+    if place == 0 then Master else
+    if nat_le place MAX_SERVERS then Server place else
+    Client (place - (MAX_SERVERS + 1))
 
 -- the messages on each link
 abbrev pub Queues : Type 0 → Type 0

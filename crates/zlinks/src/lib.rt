@@ -8,7 +8,7 @@
 mod limits;
 mod link;
 mod links;
-mod place;
+pub mod place;
 mod row;
 
 pub use limits::PROCESSES;

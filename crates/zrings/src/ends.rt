@@ -1,6 +1,6 @@
 //! The two ends of a link.
-ghost use Rattle.std.specs.Prelude.{◌≡◌, ◌++◌, [], ◌∷◌, length, option_to_list};
-ghost use Rattle.std.specs.Prelude.{IfErr, IfOk, IfSome, IsOk, OnOk};
+ghost use Rattle.std.specs.Prelude.{◌≡◌, ◌≢◌, ◌++◌, [], ◌∷◌, length, option_to_list};
+ghost use Rattle.std.specs.Prelude.{IfErr, IfOk, IfSome, IsFalse, IsOk, IsTrue, OnOk};
 ghost use Rattle.zrings.specs.Ends.{AreEnds, HasLastPlace, in_ring, put_of, ring_of_rx, ring_of_tx};
 ghost use Rattle.zrings.specs.Ends.{taken_of, waiting};
 
@@ -90,6 +90,14 @@ impl<M: Drop> Tx<M> {
             };
             self.ring.push_reserved(message);
         }
+    }
+
+    /// Whether something waits before the ring.
+    pub fn has_waiting(&self) -> bool
+        ensures none { IsFalse result → waiting self.now ≡ [] }
+        ensures some { IsTrue result → waiting self.now ≢ [] }
+    {
+        !self.outbox.is_empty() || self.last.is_some()
     }
 
     // The last message goes behind all others.

@@ -1,0 +1,25 @@
+-- What a clause says of the two ends of the console's channel.
+use Rattle.std.specs.Prelude.{◌≡◌, List, ℕ}
+use Rattle.crossbeam_channel.specs.Claims.{view}
+use Rattle.crossbeam_channel.specs.Ends.{sends_on, receives_on}
+use Rattle.zconsole.specs.declared.ends.Console.{Console}
+use Rattle.zconsole.specs.declared.ends.Inbox.{Inbox}
+
+-- what was ordered, oldest first
+abbrev pub ordered : Console → List ℕ
+ordered c = (view c.pass).put
+
+-- what was taken, oldest first
+abbrev pub taken_of : Inbox → List ℕ
+taken_of i = (view i.pass).taken
+
+-- the two ends of one channel
+abbrev pub AreEnds : Console → Inbox → Type 0
+AreEnds c i = receives_on i.from ≡ sends_on c.to
+
+-- which channel an end is of
+abbrev pub IsSameConsole : Console → Console → Type 0
+IsSameConsole a b = sends_on b.to ≡ sends_on a.to
+
+abbrev pub IsSameInbox : Inbox → Inbox → Type 0
+IsSameInbox a b = receives_on b.from ≡ receives_on a.from

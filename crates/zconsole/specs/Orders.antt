@@ -1,0 +1,19 @@
+-- What was ordered is what was taken and then what the channel holds. One pass at most puts, and it has the list of what was
+-- put; and one at most takes, with the list of what was taken.
+use Rattle.std.specs.Prelude.{◌≡◌, ℕ, Bool, true, List, ◌++◌}
+use mathlib.Core.Option.{some}
+use lib.ListN.{get_elem?}
+use Rattle.zconsole.specs.declared.rule.Log.{Log}
+
+abbrev pub log : Bool → Bool → List ℕ → List ℕ → Log
+log puts takes put taken = record { puts = puts; takes = takes; put = put; taken = taken }
+
+-- a pass that may put is the writer's, and knows what was put; one that may take is the reader's, and knows what was taken
+abbrev pub Fits : ℕ → ℕ → List ℕ → List ℕ → ℕ → Log → Type 0
+Fits writer reader put taken seat v =
+    (v.puts ≡ true → (seat ≡ writer) × (v.put ≡ put)) × (v.takes ≡ true → (seat ≡ reader) × (v.taken ≡ taken))
+
+abbrev pub InOrder : List ℕ → List Log → Type 0
+InOrder items views =
+    (writer : ℕ) × (reader : ℕ) × (put : List ℕ) × (taken : List ℕ) × (put ≡ taken ++ items)
+    × ((seat : ℕ) (v : Log) → get_elem? views seat ≡ some v → Fits writer reader put taken seat v)

@@ -1,0 +1,78 @@
+//! The rule of the console's channel: one end puts, one takes, and what was put is what was taken and then what is there.
+
+ghost use Rattle.std.specs.Prelude.{◌≡◌, true, false, [], ◌∷◌, ◌++◌};
+ghost use Rattle.zconsole.specs.Orders.{log, InOrder};
+
+use crossbeam_channel::protocol::{Join, Lesson, Outcome, Protocol, Split};
+use std::collections::LinkedList;
+use zserver_table::ServerId;
+
+/// What an end may do, and what it has put or taken. No value of it is made.
+pub struct Log {
+    pub puts: bool,
+    pub takes: bool,
+    pub put: LinkedList<ServerId>,
+    pub taken: LinkedList<ServerId>,
+}
+
+/// First in, first out.
+pub struct Fifo;
+
+impl Protocol<ServerId, Log> for Fifo {
+    ghost use Rattle.std.specs.Prelude.{true, []};
+    ghost use Rattle.zconsole.specs.Orders.{log, InOrder};
+
+    ghost holds = { InOrder };
+
+    ghost first = { log true true [] [] };
+}
+
+/// The two ends' parts.
+pub struct Roles;
+
+impl Split<Log> for Roles {
+    ghost use Rattle.std.specs.Prelude.{true, false, []};
+    ghost use Rattle.zconsole.specs.Orders.{log};
+
+    ghost left = { λ v. log true false v.put [] };
+
+    ghost right = { λ v. log false true [] v.taken };
+}
+
+impl Join<Log> for Roles {
+    ghost use Rattle.std.specs.Prelude.{true, false, []};
+    ghost use Rattle.zconsole.specs.Orders.{log};
+
+    ghost both = { λ v w. log true true v.put w.taken };
+
+    ghost spent = { log false false [] [] };
+}
+
+/// One more is put.
+pub struct Puts;
+
+impl Outcome<ServerId, Log> for Puts {
+    ghost then = { λ v x w. w ≡ log v.puts v.takes (v.put ++ x ∷ []) v.taken };
+}
+
+impl Lesson<ServerId, Log> for Puts {
+    ghost fact = { λ v items. Unit {0} };
+}
+
+/// One more is taken.
+pub struct Takes;
+
+impl Outcome<ServerId, Log> for Takes {
+    ghost then = { λ v x w. w ≡ log v.puts v.takes v.put (v.taken ++ x ∷ []) };
+}
+
+impl Lesson<ServerId, Log> for Takes {
+    ghost fact = { λ v items. Unit {0} };
+}
+
+/// What both ends together know.
+pub struct Law;
+
+impl Lesson<ServerId, Log> for Law {
+    ghost fact = { λ v items. v.put ≡ v.taken ++ items };
+}

@@ -1,0 +1,56 @@
+-- One more deed.
+use Rattle.std.proofs.Common.{◌≡◌, List, [], ◌∷◌, ◌++◌, Option, None, sym, refl, ap, ◌∙◌, subst, append-nil}
+use Rattle.std.specs.Option.{option_map}
+use Rattle.zserver_table.specs.Machine.{kept_tree}
+use Rattle.zserver_table.specs.declared.process.Process.{Process}
+use Rattle.zworld_model.specs.History.{History}
+use Rattle.zworld_model.specs.Links.{messages_to}
+use Rattle.ztraces.specs.declared.trace.TraceEvent.{TraceEvent}
+use Rattle.ztraces.specs.Deeds.{Row, IsStamped, stamp_of, taken_from, takes, stamped}
+use Rattle.ztraces.proofs.Deeds.{goes_more, left_more, last_more, trace_more, takes_more, puts_more, told_more}
+use Rattle.zrings.specs.Ends.{put_of}
+use Rattle.zlinks.specs.Places.{process_at}
+use Rattle.zdesks.specs.Desks.{TreeDeed, TreeStanding, TreeStamped, TreePost, Self, Books, Accounts, IsEvent, took_from}
+
+-- an event more
+pub accounts_more : (who : Self) (b : Books) (s s' : TreeStanding) (t : Option (Process × TreeStamped)) (posts : List TreePost) (deeds : List TreeDeed) (e : TraceEvent) (told : History)
+    → Accounts who b s t [] deeds → IsEvent who.me b.stamp s t e.act e.stamp s' posts told
+    → (deeds' : List TreeDeed) × Accounts who (record { ins = b.ins; outs = b.outs; trace = b.trace ++ e ∷ []; told = b.told ++ told; stamp = e.stamp }) s' None posts deeds'
+accounts_more who b s s' t posts deeds e told a event =
+    let d : TreeDeed = record { event = e; took = option_map (λ x. x.1) t; left = s'; posts = posts; told = told } in (
+      deeds ++ d ∷ [],
+      record {
+        goes = goes_more kept_tree who.me who.opening 0 deeds d a.goes (subst (λ x. Row kept_tree who.me x e.act d.took s' posts told) (sym a.left) event.row)
+            (subst (λ n. IsStamped who.me n (stamp_of d.took) e.stamp) (sym a.last) event.at);
+        left = left_more who.opening deeds d;
+        last = last_more 0 deeds d;
+        traced = trace_more deeds d ∙ ap (λ l. l ++ e ∷ []) a.traced;
+        told = told_more deeds d ∙ ap (λ l. l ++ told) a.told;
+        taken = λ i r at. a.taken i r at ∙ ap (λ l. takes (process_at i) deeds ++ l) (sym (event.from (process_at i))) ∙ sym (takes_more (process_at i) deeds d) ∙ sym (append-nil (takes (process_at i) (deeds ++ d ∷ [])));
+        others = λ p outside.
+            let o = a.others p outside in
+            (takes_more p deeds d ∙ ap (λ l. l ++ taken_from p e.act d.took) o.0 ∙ event.from p ∙ o.1, refl);
+        put = λ i x at. ap (λ l. l ++ stamped e.stamp (messages_to (process_at i) posts)) (sym (append-nil (put_of x)) ∙ a.put i x at) ∙ sym (puts_more (process_at i) deeds d);
+      },
+    )
+
+-- an event more that took no message, while one is kept
+pub accounts_beside : (who : Self) (b : Books) (s s' : TreeStanding) (t : Option (Process × TreeStamped)) (posts : List TreePost) (deeds : List TreeDeed) (e : TraceEvent) (told : History)
+    → Accounts who b s t [] deeds → IsEvent who.me b.stamp s None e.act e.stamp s' posts told
+    → (deeds' : List TreeDeed) × Accounts who (record { ins = b.ins; outs = b.outs; trace = b.trace ++ e ∷ []; told = b.told ++ told; stamp = e.stamp }) s' t posts deeds'
+accounts_beside who b s s' t posts deeds e told a event =
+    let d : TreeDeed = record { event = e; took = None; left = s'; posts = posts; told = told } in
+    let none : (p : Process) → takes p (deeds ++ d ∷ []) ≡ takes p deeds = λ p. takes_more p deeds d ∙ ap (λ l. takes p deeds ++ l) (event.from p) ∙ append-nil (takes p deeds) in (
+      deeds ++ d ∷ [],
+      record {
+        goes = goes_more kept_tree who.me who.opening 0 deeds d a.goes (subst (λ x. Row kept_tree who.me x e.act d.took s' posts told) (sym a.left) event.row)
+            (subst (λ n. IsStamped who.me n (stamp_of d.took) e.stamp) (sym a.last) event.at);
+        left = left_more who.opening deeds d;
+        last = last_more 0 deeds d;
+        traced = trace_more deeds d ∙ ap (λ l. l ++ e ∷ []) a.traced;
+        told = told_more deeds d ∙ ap (λ l. l ++ told) a.told;
+        taken = λ i r at. a.taken i r at ∙ ap (λ l. l ++ took_from (process_at i) t) (sym (none (process_at i)));
+        others = λ p outside. let o = a.others p outside in (none p ∙ o.0, o.1);
+        put = λ i x at. ap (λ l. l ++ stamped e.stamp (messages_to (process_at i) posts)) (sym (append-nil (put_of x)) ∙ a.put i x at) ∙ sym (puts_more (process_at i) deeds d);
+      },
+    )

@@ -1,0 +1,4 @@
+pub mod Deeds
+pub mod Endings
+pub mod Pending
+pub mod Wires

@@ -1,0 +1,24 @@
+use Rattle.std.proofs.Common.{◌≡◌, ◌++◌, [], List, refl, sym, subst, ◌∙◌, append-nil}
+use Rattle.zworld_model.specs.Links.{messages_to}
+use Rattle.ztraces.specs.Deeds.{stamped}
+use Rattle.zrings.specs.Ends.{put_of}
+use Rattle.zlinks.specs.Places.{process_at}
+use Rattle.zdesks.specs.Desks.{TreePost, Each}
+use Rattle.zdesks.proofs.desk.Desk.new.Goals as goal
+
+pub returns-clause-at : goal.returns-clause-at
+returns-clause-at c cut =
+    ∣ (
+      [],
+      record {
+        goes = tt;
+        left = refl;
+        last = sym c.zero.ensures;
+        traced = sym c.new-2.ensures.items;
+        told = sym c.new-3.ensures.items;
+        taken = λ i r at. c.requires.ins i r at;
+        others = λ p out. (refl, refl);
+        put = subst (λ (w : List TreePost). Each (λ i t. put_of t ++ stamped c.zero.result (messages_to (process_at i) w) ≡ []) c.args.outs.items) (sym c.new.ensures)
+            (λ i t at. append-nil (put_of t) ∙ c.requires.outs i t at);
+      },
+    ) ∣₁

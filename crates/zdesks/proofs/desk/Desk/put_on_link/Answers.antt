@@ -1,0 +1,56 @@
+use mathlib.Core.Logic.{∥∥₁_map}
+use Rattle.std.proofs.Common.{◌<◌, ◌∷◌, ◌++◌, Option, refl, ap, sym, subst, length, set, option_to_list, ◌≤◌, arith}
+use Rattle.zrings.specs.Ends.{ring_of_tx}
+use Rattle.zdesks.specs.Desks.{self_of, books_of, Accounts, TreePost}
+use Rattle.atomic_table.proofs.Lists.{at_index}
+use Rattle.zdesks.proofs.Wires.{map_same, out_lost, out_more, out_same}
+use Rattle.zdesks.proofs.desk.Desk.put_on_link.Goals as goal
+
+pub returns-then-place-len-clause-stands : goal.returns-then-place-len-clause-stands
+returns-then-place-len-clause-stands c s t h cut =
+    let d = c.args.self.now in
+    let beyond : length d.outs.items ≤ c.place-place.result = let n = c.if-place-len.true in let m = c.len.ensures in let o = d.outs.ok in omega arith in
+    ∥∥₁_map (h cut) (λ a. (
+      a.0,
+      subst (λ (w : Option TreePost). Accounts (self_of d) (books_of d) s t (option_to_list w ++ d.out.posts) a.0) (sym c.requires)
+          (out_lost (self_of d) (books_of d) s a.0 t c.args.to c.args.message d.out.posts c.place-place.result a.1 c.place-place.ensures.back beyond),
+    ))
+
+pub returns-in-Ok-clause-stands : goal.returns-in-Ok-clause-stands
+returns-in-Ok-clause-stands c s t h cut =
+    let d = c.args.self.now in
+    let k = c.place-place.result in
+    let old = c.index_mut.result.now in
+    let lt : k < length d.outs.items = let n = c.if-place-len.false in let m = c.len.ensures in let o = d.outs.ok in omega arith in
+    let at = at_index d.outs.items k old lt c.index_mut.ensures.value in
+    ∥∥₁_map (h cut) (λ a.
+    let more = out_more (self_of d) (books_of d) s a.0 t c.args.to c.args.message d.out.posts k old c.put.new.self a.1 at c.place-place.ensures.back c.in-Ok.ensures.ok in
+    (a.0, subst (λ (w : Option TreePost). Accounts (self_of d) (record (books_of d) { outs = set d.outs.items k c.put.new.self }) s t (option_to_list w ++ d.out.posts) a.0) (sym c.requires) more))
+
+pub returns-in-Ok-clause-same : goal.returns-in-Ok-clause-same
+returns-in-Ok-clause-same c =
+    let d = c.args.self.now in
+    let k = c.place-place.result in
+    let lt : k < length d.outs.items = let n = c.if-place-len.false in let m = c.len.ensures in let o = d.outs.ok in omega arith in
+    record { me = refl; last = refl; clients = refl; links = refl; ins = refl; outs = map_same ring_of_tx d.outs.items k c.index_mut.result.now c.put.new.self lt c.index_mut.ensures.value c.put.ensures.ends }
+
+pub returns-in-Err-clause-stands : goal.returns-in-Err-clause-stands
+returns-in-Err-clause-stands c s t h cut =
+    let d = c.args.self.now in
+    let k = c.place-place.result in
+    let old = c.index_mut.result.now in
+    let lt : k < length d.outs.items = let n = c.if-place-len.false in let m = c.len.ensures in let o = d.outs.ok in omega arith in
+    let at = at_index d.outs.items k old lt c.index_mut.ensures.value in
+    let e = c.in-Err.ensures.err in
+    ∥∥₁_map (h cut) (λ a. (
+      a.0,
+      subst (λ m. Accounts (self_of d) (record (books_of d) { outs = set d.outs.items k c.put.new.self }) s t ((c.args.to, m) ∷ d.out.posts) a.0) (sym (ap (λ x. x.1) e.0))
+          (out_same (self_of d) (books_of d) s a.0 t ((c.args.to, c.args.message) ∷ d.out.posts) k old c.put.new.self a.1 at e.1),
+    ))
+
+pub returns-in-Err-clause-same : goal.returns-in-Err-clause-same
+returns-in-Err-clause-same c =
+    let d = c.args.self.now in
+    let k = c.place-place.result in
+    let lt : k < length d.outs.items = let n = c.if-place-len.false in let m = c.len.ensures in let o = d.outs.ok in omega arith in
+    record { me = refl; last = refl; clients = refl; links = refl; ins = refl; outs = map_same ring_of_tx d.outs.items k c.index_mut.result.now c.put.new.self lt c.index_mut.ensures.value c.put.ensures.ends }

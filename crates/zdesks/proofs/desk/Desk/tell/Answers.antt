@@ -1,0 +1,23 @@
+use mathlib.Core.Logic.{∥∥₁_map}
+use Rattle.std.proofs.Common.{◌++◌, sym, ap, ◌∙◌, subst, option_to_list, append-nil}
+use Rattle.zworld_model.specs.History.{History}
+use Rattle.zdesks.specs.Desks.{Accounts, self_of, books_of}
+use Rattle.zdesks.proofs.desk.Desk.tell.Goals as goal
+
+pub returns-in_default-clause-stands : goal.returns-in_default-clause-stands
+returns-in_default-clause-stands c s t posts h cut =
+    let d = c.args.self.now in
+    let items = d.seen.items in
+    ∥∥₁_map (h cut) (λ a. (
+      a.0,
+      subst (λ (l : History). Accounts (self_of d) (record (books_of d) { told = l }) s t posts a.0) (ap (λ o. items ++ option_to_list o) c.in_default.is ∙ append-nil items) a.1,
+    ))
+
+pub returns-in-Ok-clause-stands : goal.returns-in-Ok-clause-stands
+returns-in-Ok-clause-stands c s t posts h cut =
+    let d = c.args.self.now in
+    let items = d.seen.items in
+    ∥∥₁_map (h cut) (λ a. (
+      a.0,
+      subst (λ (l : History). Accounts (self_of d) (record (books_of d) { told = l }) s t posts a.0) (ap (λ o. items ++ option_to_list o) c.in-Some.is ∙ sym c.in-Ok.ensures.items) a.1,
+    ))

@@ -1,0 +1,204 @@
+-- What a clause says of a desk: that its process went by its table through its trace, having taken what was taken from its
+-- links, and having put what was put on them.
+-- Van Renesse and Schneider, "Chain Replication for Supporting High Throughput and Availability" (OSDI 2004), section 3.
+use Rattle.std.specs.Prelude.{◌≡◌, ◌<◌, ℕ, Bool, false, List, [], ◌∷◌, ◌++◌, Option, None, Some, length, map, option_to_list, if◌then◌else◌}
+use Rattle.std.specs.Option.{option_map}
+use Rattle.std.specs.Vec.{vec_len, vec_capacity}
+use mathlib.Core.Option.{some}
+use lib.ListN.{get_elem?}
+use Rattle.ztree.specs.Tree.{Tree}
+use Rattle.zcalls.specs.Kept.{KeptState}
+use Rattle.zserver_table.specs.Machine.{kept_tree}
+use Rattle.zserver_table.specs.View.{Post}
+use Rattle.zserver_table.specs.declared.process.Process.{Process}
+use Rattle.zworld_model.specs.History.{History}
+use Rattle.zworld_model.specs.Links.{is_same, messages_to}
+use Rattle.zworld_model.specs.World.{opening_world}
+use Rattle.ztraces.specs.declared.stamp.TheConstants.{MAX_STAMP}
+use Rattle.ztraces.specs.declared.trace.TraceEvent.{TraceEvent}
+use Rattle.ztraces.specs.declared.trace.Act.{Act}
+use Rattle.ztraces.specs.Deeds.{Deed, Standing, Stamped, standing_in, Row, IsStamped, stamp_of, taken_from, GoesBy, trace_by, takes, puts, stamped, told_by, left_by, last_by}
+use Rattle.zlinks.specs.Places.{process_at}
+use Rattle.zrings.specs.declared.ends.Tx.{Tx}
+use Rattle.zrings.specs.declared.ends.Rx.{Rx}
+use Rattle.zrings.specs.Ends.{ring_of_tx, ring_of_rx, put_of, taken_of}
+use Rattle.zdesks.specs.declared.desk.Desk.{Desk}
+
+-- deeds, standings, messages and posts over the machine of the service
+abbrev pub TreeDeed : Type 0
+TreeDeed = Deed (KeptState Tree)
+
+abbrev pub TreeStanding : Type 0
+TreeStanding = Standing (KeptState Tree)
+
+abbrev pub TreeStamped : Type 0
+TreeStamped = Stamped (KeptState Tree)
+
+abbrev pub TreePost : Type 0
+TreePost = Post (KeptState Tree)
+
+-- each element of a list, with its place
+abbrev pub Each : {X : Type 0} → (ℕ → X → Type 0) → List X → Type 0
+Each P xs = (i : ℕ) (x : _) → get_elem? xs i ≡ some x → P i x
+
+-- links on which nothing was put, and from which nothing was taken
+abbrev pub AreFreshIns : List (Rx TreeStamped) → Type 0
+AreFreshIns ins = Each (λ i r. taken_of r ≡ []) ins
+
+abbrev pub AreFreshOuts : List (Tx TreeStamped) → Type 0
+AreFreshOuts outs = Each (λ i t. put_of t ≡ []) outs
+
+-- what was put and is on no link yet
+abbrev pub pending : Desk → List TreePost
+pending d = option_to_list d.held ++ d.out.posts
+
+-- all that was put is on links
+abbrev pub IsSettled : Desk → Type 0
+IsSettled d = (d.held ≡ None) × (d.out.posts ≡ [])
+
+-- what was taken from the link of a process and isn't in the trace yet
+abbrev pub took_from : Process → Option (Process × TreeStamped) → List TreeStamped
+took_from p None = []
+took_from p (Some t) = if is_same p t.0 then t.1 ∷ [] else []
+
+-- who the process is, and where it stood at the opening
+pub record Self : Type 0 where
+  pub me : Process
+  pub opening : TreeStanding
+
+-- where a process stands at the opening, where the chain is the servers up to the last one, and there are so many clients
+unfoldable pub opening_of : ℕ → ℕ → Process → TreeStanding
+opening_of last clients p = standing_in (opening_world kept_tree last clients) p
+
+abbrev pub self_of : Desk → Self
+self_of d = record { me = d.me; opening = opening_of d.last d.clients d.me }
+
+-- it is the desk of that process, in such a run
+abbrev pub IsDeskOf : Process → ℕ → ℕ → Desk → Type 0
+IsDeskOf me last clients d = (d.me ≡ me) × (d.last ≡ last) × (d.clients ≡ clients)
+
+-- what it has beside its view
+abbrev pub process_of : Desk → Process
+process_of d = d.me
+
+abbrev pub trace_of : Desk → List TraceEvent
+trace_of d = d.trace.items
+
+abbrev pub seen_of : Desk → History
+seen_of d = d.seen.items
+
+abbrev pub is_cut_of : Desk → Bool
+is_cut_of d = d.is_cut
+
+abbrev pub stamp_of_desk : Desk → ℕ
+stamp_of_desk d = d.stamp
+
+abbrev pub wires_of : Desk → List (Rx TreeStamped) × List (Tx TreeStamped)
+wires_of d = (d.ins.items, d.outs.items)
+
+-- the room that is kept for more posts
+abbrev pub room_of : Desk → ℕ
+room_of d = d.out.room
+
+abbrev pub link_count : Desk → ℕ
+link_count d = length d.ins.items
+
+-- the lists of a desk, and its last stamp
+pub record Books : Type 0 where
+  pub ins : List (Rx TreeStamped)
+  pub outs : List (Tx TreeStamped)
+  pub trace : List TraceEvent
+  pub told : History
+  pub stamp : ℕ
+
+abbrev pub books_of : Desk → Books
+books_of d = record {
+  ins = d.ins.items;
+  outs = d.outs.items;
+  trace = d.trace.items;
+  told = d.seen.items;
+  stamp = d.stamp;
+}
+
+-- the process is at none of so many places
+abbrev pub IsOutside : Process → ℕ → Type 0
+IsOutside p n = (i : ℕ) → i < n → is_same p (process_at i) ≡ false
+
+-- the deeds of a process account for its books: it stands there now, this message was taken beside them, and this was put and
+-- is on no link yet
+pub record Accounts (who : Self) (b : Books) (s : TreeStanding) (t : Option (Process × TreeStamped)) (waits : List TreePost) (deeds : List TreeDeed) : Type 0 where
+  pub goes : GoesBy kept_tree who.me who.opening 0 deeds
+  pub left : left_by who.opening deeds ≡ s
+  pub last : last_by 0 deeds ≡ b.stamp
+  pub traced : trace_by deeds ≡ b.trace
+  pub told : told_by deeds ≡ b.told
+  pub taken : Each (λ i r. taken_of r ≡ takes (process_at i) deeds ++ took_from (process_at i) t) b.ins
+  pub others : (p : Process) → IsOutside p (length b.ins) → (takes p deeds ≡ []) × (took_from p t ≡ [])
+  pub put : Each (λ i x. put_of x ++ stamped b.stamp (messages_to (process_at i) waits) ≡ puts (process_at i) deeds) b.outs
+
+-- where its trace isn't cut, the process went by its table to where it stands
+abbrev pub Stands : Desk → TreeStanding → Option (Process × TreeStamped) → List TreePost → Type 0
+Stands d s t waits =
+    d.is_cut ≡ false → ∥ ((deeds : List TreeDeed) × Accounts (self_of d) (books_of d) s t waits deeds) ∥₁
+
+-- the same, once the caller has been told this
+abbrev pub StandsToTell : Desk → History → TreeStanding → Option (Process × TreeStamped) → List TreePost → Type 0
+StandsToTell d told s t waits =
+    d.is_cut ≡ false
+    → ∥ ((deeds : List TreeDeed)
+    × Accounts (self_of d) (record (books_of d) { told = (books_of d).told ++ told }) s t waits deeds) ∥₁
+
+-- the same, between two events
+abbrev pub IsAt : Desk → TreeStanding → Type 0
+IsAt d s = Stands d s None (pending d)
+
+-- whatever it accounted for is accounted for still
+abbrev pub Keeps : Desk → Desk → Type 0
+Keeps a b =
+    (s : TreeStanding) (t : Option (Process × TreeStamped)) (waits : List TreePost)
+    → Stands a s t waits → Stands b s t waits
+
+-- the same process, with the same ends of the same rings
+pub record SameDesk (a b : Desk) : Type 0 where
+  pub me : b.me ≡ a.me
+  pub last : b.last ≡ a.last
+  pub clients : b.clients ≡ a.clients
+  pub links : link_count b ≡ link_count a
+  pub ins : map ring_of_rx b.ins.items ≡ map ring_of_rx a.ins.items
+  pub outs : map ring_of_tx b.outs.items ≡ map ring_of_tx a.outs.items
+
+-- there is room for one event in trace and record
+abbrev pub HasSeenRoom : Desk → Type 0
+HasSeenRoom d = vec_len d.seen < vec_capacity d.seen
+
+abbrev pub HasRoom : Desk → Type 0
+HasRoom d = (vec_len d.trace < vec_capacity d.trace) × HasSeenRoom d
+
+-- trace, record and last stamp are as they were
+pub record SameBooks (a b : Desk) : Type 0 where
+  pub trace : b.trace.items ≡ a.trace.items
+  pub told : b.seen.items ≡ a.seen.items
+  pub stamp : b.stamp ≡ a.stamp
+  pub is_cut : b.is_cut ≡ a.is_cut
+  pub room : HasRoom a → HasRoom b
+
+-- an event was entered, with its stamp, and what the caller saw of it
+pub record HasEntered (a b : Desk) (event : TraceEvent) (told : History) : Type 0 where
+  pub trace : b.trace.items ≡ a.trace.items ++ event ∷ []
+  pub seen : b.seen.items ≡ a.seen.items ++ told
+  pub stamp : b.stamp ≡ event.stamp
+  pub early : event.stamp < MAX_STAMP
+
+-- an event: the process stood there with its last stamp, had taken that message, and did this; then it stands there, and has put
+-- and told this
+pub record IsEvent (me : Process) (last : ℕ) (s : TreeStanding) (t : Option (Process × TreeStamped)) (act : Act) (stamp : ℕ) (s' : TreeStanding) (posts : List TreePost) (told : History) : Type 0 where
+  pub row : Row kept_tree me s act (option_map (λ x. x.1) t) s' posts told
+  pub from : (p : Process) → taken_from p act (option_map (λ x. x.1) t) ≡ took_from p t
+  pub at : IsStamped me last (stamp_of (option_map (λ x. x.1) t)) stamp
+
+-- of what a desk has beside its links, nothing is changed
+pub record SameRest (a b : Desk) : Type 0 where
+  pub desk : SameDesk a b
+  pub books : SameBooks a b
+  pub held : b.held ≡ a.held
+  pub out : b.out ≡ a.out

@@ -1,0 +1,30 @@
+-- What a clause says of what a desk leaves.
+use Rattle.std.specs.Prelude.{◌≡◌, false, List, [], length, map}
+use Rattle.zserver_table.specs.declared.process.Process.{Process}
+use Rattle.zserver_table.specs.Machine.{kept_tree}
+use Rattle.ztraces.specs.Deeds.{GoesBy, trace_by, takes, puts, told_by}
+use Rattle.ztraces.specs.Lawful.{Begins}
+use Rattle.zlinks.specs.Places.{process_at}
+use Rattle.zrings.specs.Ends.{put_of, ring_of_rx, ring_of_tx, taken_of}
+use Rattle.zdesks.specs.declared.desk.Desk.{Desk}
+use Rattle.zdesks.specs.declared.desk.Ending.{Ending}
+use Rattle.zdesks.specs.Desks.{TreeDeed, Each, Self, IsOutside}
+
+-- the deeds of a process account for what its desk left: what they took of each link begins what was taken there, and what was
+-- put is what they put
+pub record AccountsAtEnd (who : Self) (e : Ending) (deeds : List TreeDeed) : Type 0 where
+  pub goes : GoesBy kept_tree who.me who.opening 0 deeds
+  pub traced : trace_by deeds ≡ e.trace.events.items
+  pub told : told_by deeds ≡ e.seen.items
+  pub taken : Each (λ i r. Begins (takes (process_at i) deeds) (taken_of r)) e.ins.items
+  pub others : (p : Process) → IsOutside p (length e.ins.items) → takes p deeds ≡ []
+  pub put : Each (λ i x. put_of x ≡ puts (process_at i) deeds) e.outs.items
+
+-- where its trace isn't cut, there are such deeds
+abbrev pub HasEnded : Self → Ending → Type 0
+HasEnded who e = e.trace.is_cut ≡ false → ∥ ((deeds : List TreeDeed) × AccountsAtEnd who e deeds) ∥₁
+
+-- what a desk leaves has the ends of the same rings
+abbrev pub SameWires : Desk → Ending → Type 0
+SameWires d e =
+    (map ring_of_rx e.ins.items ≡ map ring_of_rx d.ins.items) × (map ring_of_tx e.outs.items ≡ map ring_of_tx d.outs.items)

@@ -1,0 +1,131 @@
+//! The desk of a process.
+
+ghost use Rattle.std.specs.Prelude.{◌≡◌, [], Option, true, false, length};
+ghost use Rattle.zserver_table.specs.declared.process.Process.{Process};
+
+use std::alloc::Global;
+use zout::Out;
+use zrings::ends::{Rx, Tx};
+use zserver::Snapshot;
+use zserver_table::{Message, Process, ServerId};
+use ztraces::{Stamp, Trace, TraceEvent};
+use zworld_model::CallEvent;
+
+/// A message with the stamp of the event that put it.
+pub type Stamped = (Stamp, Message<Snapshot>);
+
+/// What a process in a thread has beside its view.
+#[derive(Drop)]
+pub struct Desk {
+    pub(crate) me: Process,
+    // the last server of the opening chain, and how many clients there are
+    pub(crate) last: ServerId,
+    pub(crate) clients: u8,
+    // by place: from each process, and to each
+    pub(crate) ins: Vec<Rx<Stamped>>,
+    pub(crate) outs: Vec<Tx<Stamped>>,
+    /// What the last event put and is on no link yet, but for the first of it.
+    pub out: Out<Snapshot>,
+    // the first of it, where no memory was found for it
+    pub(crate) held: Option<(Process, Message<Snapshot>)>,
+    // whether something may wait before a ring
+    pub(crate) waits: bool,
+    pub(crate) stamp: Stamp,
+    pub(crate) trace: Vec<TraceEvent>,
+    pub(crate) seen: Vec<CallEvent>,
+    pub(crate) is_cut: bool,
+    ghost sides: { length ins.items ≡ length outs.items },
+}
+
+/// What a desk leaves: the process's links, its trace, and what its caller saw.
+#[derive(Drop)]
+pub struct Ending {
+    /// The links it took from, by place.
+    pub ins: Vec<Rx<Stamped>>,
+    /// The links it put on, by place.
+    pub outs: Vec<Tx<Stamped>>,
+    /// What it did. It is cut where something of that is on no link.
+    pub trace: Trace,
+    /// What its caller saw.
+    pub seen: Vec<CallEvent>,
+}
+
+impl Desk {
+    ghost use Rattle.zdesks.specs.Desks.{AreFreshIns, AreFreshOuts, IsAt, IsDeskOf, IsSettled, Stands};
+    ghost use Rattle.zdesks.specs.Desks.{is_cut_of, opening_of, pending, seen_of, self_of};
+    ghost use Rattle.zdesks.specs.Desks.{stamp_of_desk, trace_of};
+    ghost use Rattle.zdesks.specs.Desks.{wires_of, TreeStamped, TreeStanding};
+    ghost use Rattle.zdesks.specs.Endings.{HasEnded, SameWires};
+
+    /// The desk of a process that did nothing yet, with links on which nothing was put.
+    pub fn new(
+        alloc: Global,
+        me: Process,
+        last: ServerId,
+        clients: u8,
+        ins: Vec<Rx<Stamped>>,
+        outs: Vec<Tx<Stamped>>,
+    ) -> Desk
+        requires sides { length ins.items ≡ length outs.items }
+        requires ins { AreFreshIns ins.items }
+        requires outs { AreFreshOuts outs.items }
+        ensures at { IsAt result (opening_of last clients me) }
+        ensures desk { IsDeskOf me last clients result }
+        ensures wires { wires_of result ≡ (ins.items, outs.items) }
+        ensures settled { IsSettled result }
+        ensures whole { is_cut_of result ≡ false }
+        ensures blank { (trace_of result ≡ []) × (seen_of result ≡ []) × (stamp_of_desk result ≡ 0) }
+    {
+        Desk {
+            me,
+            last,
+            clients,
+            ins,
+            outs,
+            out: Out::new(alloc),
+            held: None,
+            waits: false,
+            stamp: Stamp::zero(),
+            trace: Vec::new(alloc),
+            seen: Vec::new(alloc),
+            is_cut: false,
+        }
+    }
+
+    /// What it leaves. Its trace is cut also where something that an event put is on no link.
+    pub fn into_ending(mut self) -> Ending
+        ensures ended { (s : TreeStanding) (t : Option (Process × TreeStamped)) → Stands self s t (pending self)
+            → HasEnded (self_of self) result }
+        ensures wires { SameWires self result }
+        ensures trace { result.trace.events.items ≡ trace_of self }
+        ensures seen { result.seen.items ≡ seen_of self }
+        ensures cut { is_cut_of self ≡ true → result.trace.is_cut ≡ true }
+        ensures whole { IsSettled self → result.trace.is_cut ≡ is_cut_of self }
+    {
+        let post = self.next_post();
+        let waits = post.is_some();
+        drop(post);
+        let Desk {
+            ins,
+            outs,
+            out,
+            held,
+            trace,
+            seen,
+            is_cut,
+            ..
+        } = self;
+        drop(out);
+        drop(held);
+        let trace = Trace {
+            events: trace,
+            is_cut: is_cut | waits,
+        };
+        Ending {
+            ins,
+            outs,
+            trace,
+            seen,
+        }
+    }
+}

@@ -1,0 +1,56 @@
+//! The links of a desk.
+
+ghost use Rattle.std.specs.Prelude.{◌≡◌, ◌<◌, List};
+ghost use Rattle.zdesks.specs.Desks.{Keeps, SameRest, Stands, TreePost, TreeStanding, link_count};
+
+use crate::desk::{Desk, Stamped};
+use zlinks::place::process_at;
+use zserver_table::Process;
+
+impl Desk {
+    /// How many links it takes from.
+    pub fn links(&self) -> usize
+        ensures { result ≡ link_count self.now }
+    {
+        self.ins.len()
+    }
+
+    /// The next message of a link, with its sender. None where its ring has none.
+    pub fn take(&mut self, link: usize) -> Option<(Process, Stamped)>
+        requires { link < link_count self.old }
+        ensures taken { (s : TreeStanding) (waits : List TreePost) → Stands self.old s None waits
+            → Stands self.new s result waits }
+        ensures same { SameRest self.old self.new }
+    {
+        let Some(from) = process_at(link) else {
+            return None;
+        };
+        let Some(message) = self.ins[link].take() else {
+            return None;
+        };
+        Some((from, message))
+    }
+
+    /// Moves what waits into the rings, as far as there is room.
+    pub fn flush(&mut self)
+        ensures keeps { Keeps self.old self.new }
+        ensures same { SameRest self.old self.new }
+    {
+        if self.waits {
+            self.waits = self.flush_all();
+        }
+    }
+
+    // The same, whether or not something waits; true where something waits still.
+    fn flush_all(&mut self) -> bool
+        ensures keeps { Keeps self.old self.new }
+        ensures same { SameRest self.old self.new }
+    {
+        let mut waits = false;
+        for link in 0..self.outs.len() {
+            self.outs[link].flush();
+            waits |= self.outs[link].has_waiting();
+        }
+        waits
+    }
+}

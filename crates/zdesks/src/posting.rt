@@ -1,0 +1,91 @@
+//! What the last event put goes onto the links.
+
+ghost use Rattle.std.specs.Prelude.{◌≡◌, ◌∷◌, [], List, None, Option, IfNone, IfSome, IsTrue};
+ghost use Rattle.zserver_table.specs.declared.process.Process.{Process};
+ghost use Rattle.ztraces.specs.Deeds.{last_post};
+ghost use Rattle.zdesks.specs.Desks.{IsSettled, Keeps, pending, SameBooks, SameDesk, Stands};
+ghost use Rattle.zdesks.specs.Desks.{TreePost, TreeStamped, TreeStanding};
+
+use crate::desk::Desk;
+use zlinks::place::place;
+use zserver::Snapshot;
+use zserver_table::{Message, Process};
+
+impl Desk {
+    /// Puts what the last event put on its links. False where there was no memory for all of it: the rest is kept for later.
+    pub fn settle(&mut self) -> bool
+        ensures stands { (s : TreeStanding) (t : Option (Process × TreeStamped))
+            → Stands self.old s t (pending self.old) → Stands self.new s t (pending self.new) }
+        ensures all { IsTrue result → IsSettled self.new }
+        ensures same { SameDesk self.old self.new }
+        ensures books { SameBooks self.old self.new }
+    {
+        while let Some((to, message)) = self.next_post() {
+            if !self.put_on_link(to, message) {
+                return false;
+            }
+        }
+        true
+    }
+
+    // The next of what waits.
+    pub(crate) fn next_post(&mut self) -> Option<(Process, Message<Snapshot>)>
+        ensures none { IfNone result ((pending self.old ≡ []) × (self.new.out.posts ≡ [])) }
+        ensures some { IfSome result (λ post. pending self.old ≡ post ∷ self.new.out.posts) }
+        ensures held { self.new.held ≡ None }
+        ensures keeps { Keeps self.old self.new }
+        ensures same { SameDesk self.old self.new }
+        ensures books { SameBooks self.old self.new }
+    {
+        match self.held.take() {
+            Some(post) => Some(post),
+            None => self.out.next(),
+        }
+    }
+
+    // Puts one message on its link, or keeps it. A process that has no place is none of this run: its message is let go.
+    fn put_on_link(&mut self, to: Process, message: Message<Snapshot>) -> bool
+        requires { self.old.held ≡ None }
+        ensures stands { (s : TreeStanding) (t : Option (Process × TreeStamped))
+            → Stands self.old s t ((to, message) ∷ self.old.out.posts)
+            → Stands self.new s t (pending self.new) }
+        ensures held { IsTrue result → self.new.held ≡ None }
+        ensures out { self.new.out ≡ self.old.out }
+        ensures same { SameDesk self.old self.new }
+        ensures books { SameBooks self.old self.new }
+    {
+        let place = place(&to);
+        if place >= self.outs.len() {
+            drop(message);
+            return true;
+        }
+        match self.outs[place].put((self.stamp, message)) {
+            Ok(()) => {
+                self.waits = true;
+                true
+            }
+            Err((_, message)) => {
+                self.held = Some((to, message));
+                false
+            }
+        }
+    }
+
+    /// Puts the last words of a server, for which its link to the master keeps a place. It takes no memory.
+    pub fn put_gone(&mut self)
+        ensures stands { (s : TreeStanding) (t : Option (Process × TreeStamped))
+            → Stands self.old s t last_post → Stands self.new s t [] }
+        ensures rest { (self.new.held ≡ self.old.held) × (self.new.out ≡ self.old.out) }
+        ensures same { SameDesk self.old self.new }
+    {
+        self.waits = true;
+        if self.outs.len() == 0 {
+            self.is_cut = true;
+            return;
+        }
+        if let Err(refused) = self.outs[0].put_last((self.stamp, Message::Gone)) {
+            drop(refused);
+            self.is_cut = true;
+        }
+    }
+}
