@@ -1,0 +1,3 @@
+pub mod Books
+pub mod Rows
+pub mod Results

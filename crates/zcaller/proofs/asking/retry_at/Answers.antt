@@ -1,0 +1,47 @@
+use Rattle.std.proofs.Common.{◌≡◌, ◌<◌, ◌∷◌, ◌++◌, [], List, Option, Some, None, refl, sym, ◌∙◌, subst, ap, max, option_to_list}
+use Rattle.ztraces.specs.Deeds.{AtClient}
+use Rattle.zclient_table.specs.Table.{retry_posts}
+use Rattle.zdesks.specs.Desks.{Stands, IsEvent, pending, TreePost}
+use Rattle.zdesks.proofs.Pending.{pending_none}
+use Rattle.ztraces.specs.declared.stamp.TheConstants.{MAX_STAMP}
+use Rattle.ztraces.specs.declared.trace.Act.TheVariants.{Retried}
+use Rattle.zcaller.proofs.Books.{is_entered}
+use Rattle.zcaller.proofs.Rows.{client_retries}
+use Rattle.zcaller.proofs.asking.retry_at.Goals as goal
+
+pub returns-clause-at : goal.returns-clause-at
+returns-clause-at c t h cut =
+    let d = c.args.desk.now in
+    let v = c.args.core.now in
+    let b = c.enter.new.self in
+    let rest = c.enter.ensures.rest in
+    let posts : pending b ≡ retry_posts v = pending_none b (rest.0 ∙ c.requires.settled.0) ∙ ap (λ o. o.posts) rest.1 ∙ c.in-Ok.ensures.puts ∙ ap (λ l. l ++ retry_posts v) c.requires.settled.1 in
+    let stands = c.enter.ensures.beside (AtClient v) (AtClient v) t (retry_posts v) h
+    (λ below. client_retries d.me c.requires.me.0 d.stamp v c.args.next c.requires.me.1 c.requires.waits (c.requires.next below)) in
+    subst (λ (w : List TreePost). Stands b (AtClient v) t w) (sym posts) stands cut
+
+pub returns-in_default-clause-at : goal.returns-in_default-clause-at
+returns-in_default-clause-at c t h =
+    let d = c.args.desk.now in
+    let posts = c.retry.new.out.posts in
+    let none : option_to_list d.held ++ posts ≡ [] = ap (λ x. option_to_list x ++ posts) c.requires.settled.0 ∙ c.in_default.ensures.silent ∙ c.requires.settled.1 in
+    subst (λ (w : List TreePost). Stands d (AtClient c.args.core.now) t w) (sym none) h
+
+pub returns-clause-sent : goal.returns-clause-sent
+returns-clause-sent c =
+    let d = c.args.desk.now in
+    let v = c.args.core.now in
+    let b = c.enter.new.self in
+    let rest = c.enter.ensures.rest in
+    record {
+      waits = c.requires.waits;
+      view = refl;
+      posts = pending_none b (rest.0 ∙ c.requires.settled.0) ∙ ap (λ o. o.posts) rest.1 ∙ c.in-Ok.ensures.puts ∙ ap (λ l. l ++ retry_posts v) c.requires.settled.1;
+      entered = λ whole.
+          let e = c.enter.ensures.entered whole in
+          is_entered d b c.args.next Retried Retried [] [] (record { trace = e.trace; seen = e.seen; stamp = e.stamp; early = e.early }) refl refl;
+    }
+
+pub returns-clause-whole : goal.returns-clause-whole
+returns-clause-whole c few early =
+    c.enter.ensures.whole c.requires.room few (subst (λ n. n < MAX_STAMP) c.enter.ensures.stamp early)

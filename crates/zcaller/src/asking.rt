@@ -1,0 +1,99 @@
+//! A client begins a call, and sends it again.
+
+ghost use Rattle.std.specs.Prelude.{◌≡◌, ◌<◌, true, [], Option, ℕ, IfOk, OnErr, OnOk, is_some, max};
+ghost use Rattle.zserver_table.specs.declared.process.Process.{Process};
+ghost use Rattle.zserver_table.specs.declared.process.Process.TheVariants.{Client};
+ghost use Rattle.zworld_model.specs.declared.history.CallEvent.TheVariants as call_event;
+ghost use Rattle.ztraces.specs.declared.stamp.TheConstants.{MAX_STAMP};
+ghost use Rattle.ztraces.specs.declared.trace.Act.TheVariants as act;
+ghost use Rattle.ztraces.specs.Deeds.{AtClient};
+ghost use Rattle.zdesks.specs.Desks.{HasRoom, IsSettled, pending, process_of, SameBooks, SameDesk};
+ghost use Rattle.zdesks.specs.Desks.{stamp_of_desk, Stands, TreeStamped};
+ghost use Rattle.zcaller.specs.Steps.{Begins, IsCutForNeed, SendsAgain};
+
+use std::alloc::Global;
+use zcalls::{Call, CallNumber, ClientId};
+use zclient::{BeginFault, ClientCore};
+use zdesks::Desk;
+use zpath::Memory;
+use ztraces::{Act, Stamp};
+use zworld_model::CallEvent;
+
+// A client begins a call, which nothing but memory, or its numbers, can refuse.
+pub(crate) fn begin_at(
+    alloc: Global,
+    id: ClientId,
+    desk: &mut Desk,
+    core: &mut ClientCore,
+    call: Call,
+    next: Stamp,
+) -> Result<CallNumber, BeginFault>
+    requires me { process_of desk.old ≡ Client id }
+    requires settled { IsSettled desk.old }
+    requires room { HasRoom desk.old }
+    requires next { next < MAX_STAMP → max (stamp_of_desk desk.old) 0 < next }
+    ensures at { (t : Option (Process × TreeStamped)) → Stands desk.old (AtClient core.old) t []
+        → Stands desk.new (AtClient core.new) t (pending desk.new) }
+    ensures begun { IfOk result (Begins id desk.old core.old desk.new core.new call) }
+    ensures stamp { OnOk result (stamp_of_desk desk.new ≡ next) }
+    ensures whole { OnOk result (IsCutForNeed desk.old desk.new) }
+    ensures kept { OnErr result (core.new ≡ core.old) }
+    ensures books { OnErr result (SameBooks desk.old desk.new) }
+    ensures same { SameDesk desk.old desk.new }
+{
+    let Ok(traced) = call.copied(alloc) else {
+        drop(call);
+        return Err(BeginFault::Memory);
+    };
+    let Ok(told) = call.copied(alloc) else {
+        drop(call);
+        drop(traced);
+        return Err(BeginFault::Memory);
+    };
+    match core.begin(call, &mut desk.out) {
+        Ok(number) => {
+            desk.enter(began(traced), next, Some(begun(id, number, told)));
+            Ok(number)
+        }
+        Err(fault) => {
+            drop(traced);
+            drop(told);
+            Err(fault)
+        }
+    }
+}
+
+fn began(call: Call) -> Act
+    ensures { result ≡ act.Began call }
+{
+    Act::Began(call)
+}
+
+fn begun(id: ClientId, number: CallNumber, call: Call) -> CallEvent
+    ensures { result ≡ call_event.Begin id number call }
+{
+    CallEvent::Begin(id, number, call)
+}
+
+// A client that waits for a call sends it once more.
+pub(crate) fn retry_at(desk: &mut Desk, core: &ClientCore, next: Stamp) -> Result<bool, Memory>
+    requires me { (id : ℕ) × (process_of desk.old ≡ Client id) }
+    requires settled { IsSettled desk.old }
+    requires room { HasRoom desk.old }
+    requires waits { is_some core.now.outstanding ≡ true }
+    requires next { next < MAX_STAMP → max (stamp_of_desk desk.old) 0 < next }
+    ensures at { (t : Option (Process × TreeStamped)) → Stands desk.old (AtClient core.now) t []
+        → Stands desk.new (AtClient core.now) t (pending desk.new) }
+    ensures done { IfOk result (λ done. done ≡ true) }
+    ensures sent { OnOk result (SendsAgain desk.old core.now desk.new core.now) }
+    ensures stamp { OnOk result (stamp_of_desk desk.new ≡ next) }
+    ensures whole { OnOk result (IsCutForNeed desk.old desk.new) }
+    ensures books { OnErr result (SameBooks desk.old desk.new) }
+    ensures same { SameDesk desk.old desk.new }
+{
+    let Ok(_) = core.retry(&mut desk.out) else {
+        return Err(Memory);
+    };
+    desk.enter(Act::Retried, next, None);
+    Ok(true)
+}

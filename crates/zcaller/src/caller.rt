@@ -1,0 +1,156 @@
+//! What a caller's thread owns.
+
+ghost use Rattle.std.specs.Prelude.{◌≡◌, IfOk, OnErr, OnOk, max};
+ghost use Rattle.zserver_table.specs.declared.process.Process.TheVariants.{Client};
+ghost use Rattle.ztraces.specs.Deeds.{AtClient};
+ghost use Rattle.zdesks.specs.Desks.{IsAt, pending, process_of, SameDesk, stamp_of_desk, Stands};
+
+use crate::asking::{begin_at, retry_at};
+use crate::hearing::{front_of, hear_or_keep};
+use std::alloc::Global;
+use zcalls::{Call, CallNumber, ClientId, Reply};
+use zclient::{BeginFault, ClientCore};
+use zdesks::{Desk, Stamped};
+use zpath::Memory;
+use zserver_table::Process;
+use ztraces::Stamp;
+
+/// A client with its desk. It went by the client table from its opening view through its trace.
+#[derive(Drop)]
+pub struct Caller {
+    pub(crate) alloc: Global,
+    pub(crate) id: ClientId,
+    pub(crate) desk: Desk,
+    pub(crate) core: ClientCore,
+    // the last stamp that it was told of
+    pub(crate) learnt: Stamp,
+    // a message that was taken, and counts as still in its ring: no memory was found for it
+    pub(crate) front: Option<(Process, Stamped)>,
+    // the link that it took from last
+    pub(crate) link: usize,
+    ghost is_client: { desk.me ≡ Client id },
+    ghost at: { Stands desk (AtClient core) front (pending desk) },
+}
+
+impl Caller {
+    ghost use Rattle.zcaller.specs.Callers.{Began, IsUncut, Retried, SameCaller, Turned};
+    ghost use Rattle.zcaller.specs.Callers.{caller_desk, caller_stamp, caller_view};
+
+    /// The client with a desk that has done nothing.
+    pub fn new(alloc: Global, id: ClientId, desk: Desk, core: ClientCore) -> Caller
+        requires me { process_of desk ≡ Client id }
+        requires at { IsAt desk (AtClient core) }
+        ensures desk { caller_desk result ≡ desk }
+        ensures view { caller_view result ≡ core }
+        ensures stamp { caller_stamp result ≡ max (stamp_of_desk desk) 0 }
+    {
+        Caller {
+            alloc,
+            id,
+            desk,
+            core,
+            learnt: Stamp::zero(),
+            front: None,
+            link: 0,
+        }
+    }
+
+    /// The last stamp of its events, or a later one that it was told of.
+    pub fn stamp(&self) -> Stamp
+        ensures { result ≡ caller_stamp self.now }
+    {
+        self.desk.stamp().later(self.learnt)
+    }
+
+    /// From now on its events have later stamps than this one: so they stand behind what had it.
+    pub fn learn(&mut self, stamp: Stamp)
+        ensures stamp { caller_stamp self.new ≡ max (caller_stamp self.old) stamp }
+        ensures same { SameCaller self.old self.new }
+    {
+        self.learnt = self.learnt.later(stamp);
+    }
+
+    /// Begins a call, and answers its number. Busy where one has no answer yet, Exhausted where there are no numbers left, and
+    /// Memory where none is found: then nothing is begun.
+    pub fn begin(&mut self, call: Call) -> Result<CallNumber, BeginFault>
+        ensures same { SameDesk (caller_desk self.old) (caller_desk self.new) }
+        ensures began { IfOk result (Began self.old self.new call) }
+        ensures refused { OnErr result (SameCaller self.old self.new) }
+        ensures whole { OnOk result (IsUncut self.old self.new) }
+    {
+        if self.core.outstanding().is_some() {
+            drop(call);
+            return Err(BeginFault::Busy);
+        }
+        if !self.desk.settle() {
+            drop(call);
+            return Err(BeginFault::Memory);
+        }
+        if !self.desk.reserve() {
+            drop(call);
+            return Err(BeginFault::Memory);
+        }
+        let next = self.desk.next_stamp(self.learnt);
+        begin_at(
+            self.alloc,
+            self.id,
+            &mut self.desk,
+            &mut self.core,
+            call,
+            next,
+        )
+    }
+
+    /// Sends the call that has no answer yet once more. False where there is none.
+    pub fn retry(&mut self) -> Result<bool, Memory>
+        ensures same { SameDesk (caller_desk self.old) (caller_desk self.new) }
+        ensures retried { IfOk result (Retried self.old self.new) }
+        ensures refused { OnErr result (SameCaller self.old self.new) }
+        ensures whole { OnOk result (IsUncut self.old self.new) }
+    {
+        if self.core.outstanding().is_none() {
+            return Ok(false);
+        }
+        if !self.desk.settle() {
+            return Err(Memory);
+        }
+        if !self.desk.reserve() {
+            return Err(Memory);
+        }
+        let again = self.desk.next_stamp(self.learnt);
+        retry_at(&mut self.desk, &self.core, again)
+    }
+
+    /// Moves what waits into the rings, then takes at most one message, and answers the reply that it waited for, if the message
+    /// brings it. A message for which there is no memory counts as still in its ring, and comes first at the next turn.
+    pub fn turn(&mut self) -> Option<Reply>
+        ensures same { SameDesk (caller_desk self.old) (caller_desk self.new) }
+        ensures turned { Turned self.old self.new result }
+        ensures whole { IsUncut self.old self.new }
+    {
+        if !self.desk.settle() {
+            return None;
+        }
+        self.desk.flush();
+        if !self.desk.reserve() {
+            return None;
+        }
+        let front = self.front.take();
+        let Some((from, stamped)) = front_of(&mut self.desk, &mut self.link, front) else {
+            return None;
+        };
+        let (stamp, message) = stamped;
+        let next = self.desk.next_stamp(self.learnt.later(stamp));
+        hear_or_keep(
+            self.alloc,
+            self.id,
+            &mut self.desk,
+            &mut self.core,
+            &mut self.front,
+            from,
+            stamp,
+            message,
+            next,
+        )
+    }
+}

@@ -1,0 +1,191 @@
+//! A client hears a message.
+
+ghost use Rattle.std.specs.Prelude.{◌≡◌, ◌<◌, List, [], None, Some, IfErr, IfOk, OnErr, OnOk, max, if◌then◌else◌};
+ghost use Rattle.zserver_table.specs.declared.process.Process.TheVariants.{Client};
+ghost use Rattle.zworld_model.specs.declared.outcome.Outcome.TheVariants.{Acted};
+ghost use Rattle.ztraces.specs.declared.stamp.TheConstants.{MAX_STAMP};
+ghost use Rattle.ztraces.specs.declared.trace.Act.TheVariants.{Took};
+ghost use Rattle.ztraces.specs.Deeds.{AtClient};
+ghost use Rattle.zdesks.specs.Desks.{HasRoom, IsAt, IsSettled, Keeps, pending, process_of, SameBooks};
+ghost use Rattle.zdesks.specs.Desks.{SameDesk, SameRest, stamp_of_desk, Stands, TreePost, TreeStanding};
+ghost use Rattle.zcaller.specs.Steps.{answer_event, Heard, HeardOrNothing, IsCutForNeed};
+
+use std::alloc::Global;
+use zcalls::{ClientId, Reply};
+use zclient::ClientCore;
+use zdesks::{Desk, Stamped};
+use zpath::Memory;
+use zserver::Snapshot;
+use zserver_table::{Message, Process};
+use ztraces::{Act, Stamp};
+use zworld_model::{CallEvent, Outcome};
+
+// What counts as still in its ring, or else the next message.
+pub(crate) fn front_of(
+    desk: &mut Desk,
+    last: &mut usize,
+    front: Option<(Process, Stamped)>,
+) -> Option<(Process, Stamped)>
+    ensures taken { (s : TreeStanding) (waits : List TreePost) → Stands desk.old s front waits
+        → Stands desk.new s result waits }
+    ensures same { SameRest desk.old desk.new }
+{
+    match front {
+        Some(front) => Some(front),
+        None => look(desk, last),
+    }
+}
+
+// The next message of its links, each in turn, from the one behind the last one.
+fn look(desk: &mut Desk, last: &mut usize) -> Option<(Process, Stamped)>
+    ensures taken { (s : TreeStanding) (waits : List TreePost) → Stands desk.old s None waits
+        → Stands desk.new s result waits }
+    ensures same { SameRest desk.old desk.new }
+{
+    for _ in 0..desk.links() {
+        let link = behind(*last, desk.links());
+        *last = link;
+        match take_at(desk, link) {
+            Some(taken) => return Some(taken),
+            None => {}
+        }
+    }
+    None
+}
+
+// The link behind this one, in a round.
+fn behind(link: usize, links: usize) -> usize {
+    if link < links { link + 1 } else { 0 }
+}
+
+// The next message of that link, where there is one.
+fn take_at(desk: &mut Desk, link: usize) -> Option<(Process, Stamped)>
+    ensures taken { (s : TreeStanding) (waits : List TreePost) → Stands desk.old s None waits
+        → Stands desk.new s result waits }
+    ensures same { SameRest desk.old desk.new }
+{
+    if link >= desk.links() {
+        return None;
+    }
+    desk.take(link)
+}
+
+// A client hears a message, or keeps it where there is no memory.
+pub(crate) fn hear_or_keep(
+    alloc: Global,
+    id: ClientId,
+    desk: &mut Desk,
+    core: &mut ClientCore,
+    front: &mut Option<(Process, Stamped)>,
+    from: Process,
+    stamp: Stamp,
+    message: Message<Snapshot>,
+    next: Stamp,
+) -> Option<Reply>
+    requires me { process_of desk.old ≡ Client id }
+    requires settled { IsSettled desk.old }
+    requires room { HasRoom desk.old }
+    requires next { next < MAX_STAMP → max (stamp_of_desk desk.old) stamp < next }
+    requires front { front.old ≡ None }
+    ensures at { Stands desk.old (AtClient core.old) (Some (from, (stamp, message))) []
+        → Stands desk.new (AtClient core.new) front.new (pending desk.new) }
+    ensures heard { HeardOrNothing id desk.old core.old desk.new core.new result from (stamp, message)
+        next }
+    ensures whole { IsCutForNeed desk.old desk.new }
+    ensures same { SameDesk desk.old desk.new }
+{
+    let sender = from;
+    match hear(alloc, id, desk, core, sender, stamp, message, next) {
+        Ok(reply) => reply,
+        Err(message) => {
+            *front = kept(&from, message);
+            None
+        }
+    }
+}
+
+// A message that is handed back.
+fn kept(from: &Process, message: Stamped) -> Option<(Process, Stamped)>
+    ensures { result ≡ Some (from.now, message) }
+{
+    Some((*from, message))
+}
+
+// A client hears a message, or hands it back where there is no memory.
+fn hear(
+    alloc: Global,
+    id: ClientId,
+    desk: &mut Desk,
+    core: &mut ClientCore,
+    from: Process,
+    stamp: Stamp,
+    message: Message<Snapshot>,
+    next: Stamp,
+) -> Result<Option<Reply>, Stamped>
+    requires me { process_of desk.old ≡ Client id }
+    requires settled { IsSettled desk.old }
+    requires room { HasRoom desk.old }
+    requires next { next < MAX_STAMP → max (stamp_of_desk desk.old) stamp < next }
+    ensures at { OnOk result (Stands desk.old (AtClient core.old) (Some (from, (stamp, message))) []
+        → IsAt desk.new (AtClient core.new)) }
+    ensures heard { IfOk result (λ reply.
+        Heard id desk.old core.old desk.new core.new reply from (stamp, message)) }
+    ensures stamp { OnOk result (stamp_of_desk desk.new ≡ next) }
+    ensures whole { IsCutForNeed desk.old desk.new }
+    ensures back { IfErr result (λ back. back ≡ (stamp, message)) }
+    ensures kept { OnErr result (core.new ≡ core.old) }
+    ensures keeps { OnErr result (Keeps desk.old desk.new) }
+    ensures books { OnErr result (SameBooks desk.old desk.new) }
+    ensures pending { OnErr result (pending desk.new ≡ []) }
+    ensures same { SameDesk desk.old desk.new }
+{
+    let Ok(told) = told_of(alloc, id, &message) else {
+        return Err((stamp, message));
+    };
+    let sender = from;
+    match core.take(sender, message, &mut desk.out) {
+        Ok(reply) => {
+            let told = only_if(told, reply.is_some());
+            desk.enter(took(&from), next, told);
+            Ok(reply)
+        }
+        Err(message) => {
+            drop(told);
+            Err((stamp, message))
+        }
+    }
+}
+
+// The act of taking a message.
+fn took(from: &Process) -> Act
+    ensures { result ≡ Took from.now Acted }
+{
+    Act::Took(*from, Outcome::Acted)
+}
+
+// What the caller sees where this message is the one that it waits for.
+fn told_of(
+    alloc: Global,
+    id: ClientId,
+    message: &Message<Snapshot>,
+) -> Result<Option<CallEvent>, Memory>
+    ensures { IfOk result (λ told. told ≡ answer_event id message.now) }
+{
+    match message {
+        Message::Answer(number, reply) => {
+            let copy = reply.copied(alloc)?;
+            Ok(Some(CallEvent::Answer(id, *number, copy)))
+        }
+        _ => Ok(None),
+    }
+}
+
+fn only_if(told: Option<CallEvent>, is: bool) -> Option<CallEvent>
+    ensures { result ≡ if is then told else None }
+{
+    if is {
+        return told;
+    }
+    drop(told);
+    None
+}

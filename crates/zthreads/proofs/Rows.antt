@@ -1,0 +1,69 @@
+-- An event of a server and of the master, from what its table did.
+use Rattle.std.proofs.Common.{◌≡◌, ◌<◌, ◌≤◌, ℕ, ◌+◌, ◌&&◌, true, [], Some, None, nat_lt, nat_le, refl, ap, ◌∙◌, max, arith}
+use Rattle.std.proofs.lemmas.Bool.Decides.{nat_tests}
+use Rattle.ztree.specs.Tree.{Tree}
+use Rattle.zcalls.specs.Kept.{KeptState}
+use Rattle.zserver_table.specs.declared.limits.TheConstants.{MAX_SERVERS}
+use Rattle.zserver_table.specs.declared.message.Message.TheVariants as message
+use Rattle.zserver_table.specs.declared.process.Process.{Process}
+use Rattle.zserver_table.specs.declared.process.Process.TheVariants.{Client}
+use Rattle.zserver_table.specs.declared.process.Process.TheVariants as process
+use Rattle.zserver_table.specs.View.{Transfer}
+use Rattle.zmaster_table.specs.declared.join_fault.JoinFault.{JoinFault}
+use Rattle.zmaster_table.specs.View.{MasterView}
+use Rattle.zmaster_table.specs.Table.{join_fault, join_step, master_step}
+use Rattle.zserver.specs.Server.{TreeView, TreeMessage, MayBeUnheard, taken_result}
+use Rattle.zserver.specs.declared.taken.Taken.{Taken}
+use Rattle.zserver.specs.declared.taken.Taken.TheVariants as taken
+use Rattle.zworld_model.specs.Events.{is_server}
+use Rattle.zworld_model.specs.Reading.{is_query}
+use Rattle.zworld_model.specs.declared.outcome.Outcome.TheVariants as outcome
+use Rattle.ztraces.specs.declared.trace.Act.TheVariants.{Took, Halted, Joined}
+use Rattle.ztraces.specs.Deeds.{AtServer, AtMaster, Out, last_post, ServerTakes, ServerIgnores, ServerStops, ServerHalts, MasterTakes, MasterJoins, MasterRefuses}
+use Rattle.zdesks.specs.Desks.{IsEvent}
+use Rattle.zthreads.specs.Threads.{IsServer, outcome_of}
+
+unheard_query : (v : TreeView) (from : Process) (m : TreeMessage) → MayBeUnheard v from m → is_query m ≡ true
+unheard_query v (Client c) (message.Query number query) h = refl
+unheard_query v from m h = absurd h
+
+module _ (me : Process) (last : ℕ) (v : TreeView) (is : IsServer me) where
+  pub server_takes : (from : Process) (stamp n : ℕ) (m : TreeMessage) (t : Taken)
+      → (t ≡ taken.Unheard → MayBeUnheard v from m) → n ≡ max last stamp + 1
+      → IsEvent me last (AtServer v) (Some (from, (stamp, m))) (Took from (outcome_of t)) n (AtServer (taken_result t v from m).0) (taken_result t v from m).1 []
+  server_takes from stamp n m taken.Acted unheard e =
+      record { row = rw is.1 (ServerTakes is.0 v from (stamp, m)); from = λ p. refl; at = rw is.1 e }
+  server_takes from stamp n m taken.Unheard unheard e =
+      record {
+        row = rw is.1 (ServerIgnores is.0 v from (stamp, m) (unheard_query v from m (unheard refl)));
+        from = λ p. refl;
+        at = rw is.1 e;
+      }
+
+  pub server_stops : (from : Process) (stamp n : ℕ) (m : TreeMessage) → n ≡ max last stamp + 1
+      → IsEvent me last (AtServer v) (Some (from, (stamp, m))) (Took from outcome.Stopped) n Out last_post []
+  server_stops from stamp n m e =
+      record { row = rw is.1 (ServerStops is.0 v from (stamp, m)); from = λ p. refl; at = rw is.1 e }
+
+  pub server_halts : (n : ℕ) → n ≡ max last 0 + 1 → IsEvent me last (AtServer v) None Halted n Out last_post []
+  server_halts n e = record { row = rw is.1 (ServerHalts is.0 v); from = λ p. refl; at = rw is.1 e }
+
+module _ (me : Process) (last : ℕ) (v : MasterView) (is : me ≡ process.Master) where
+  pub master_takes : (from : Process) (stamp n : ℕ) (m : TreeMessage) → n ≡ max last stamp + 1
+      → IsEvent me last (AtMaster v) (Some (from, (stamp, m))) (Took from outcome.Acted) n (AtMaster (master_step v from m).0) (master_step v from m).1 []
+  master_takes from stamp n m e =
+      record { row = rw is (MasterTakes v from (stamp, m)); from = λ p. refl; at = rw is e }
+
+  pub master_joins : (s n : ℕ) → is_server s ≡ true → join_fault v s ≡ None → n ≡ max last 0 + 1
+      → IsEvent me last (AtMaster v) None (Joined s) n (AtMaster (join_step {T = Transfer (KeptState Tree)} v s).0) (join_step v s).1 []
+  master_joins s n server none e = record { row = rw is (MasterJoins v s server none); from = λ p. refl; at = rw is e }
+
+  pub master_refuses : (s n : ℕ) (fault : JoinFault) → join_fault v s ≡ Some fault → n ≡ max last 0 + 1
+      → IsEvent me last (AtMaster v) None (Joined s) n (AtMaster v) [] []
+  master_refuses s n fault fails e = record { row = rw is (MasterRefuses v s fault fails); from = λ p. refl; at = rw is e }
+
+pub server_is : (s : ℕ) → 0 < s → s ≤ MAX_SERVERS → is_server s ≡ true
+server_is s some small =
+    let above : nat_lt 0 s ≡ true = grind (arith, nat_tests) in
+    let below : nat_le s MAX_SERVERS ≡ true = grind (arith, nat_tests) in
+    ap (λ t. t && nat_le s MAX_SERVERS) above ∙ below

@@ -1,0 +1,39 @@
+use Rattle.std.proofs.Common.{◌≡◌, ◌<◌, ◌≤◌, ◌++◌, [], List, Some, None, sym, ◌∙◌, subst, ap, max}
+use Rattle.ztraces.specs.Deeds.{AtMaster}
+use Rattle.zserver_table.specs.declared.limits.TheConstants.{MAX_SERVERS}
+use Rattle.zmaster_table.specs.View.{MasterView}
+use Rattle.zmaster_table.specs.Table.{join_step}
+use Rattle.zserver_table.specs.View.{Transfer}
+use Rattle.ztree.specs.Tree.{Tree}
+use Rattle.zcalls.specs.Kept.{KeptState}
+use Rattle.zdesks.specs.Desks.{Stands, IsEvent, pending, TreePost}
+use Rattle.zdesks.proofs.Pending.{pending_none, is_next_idle}
+use Rattle.zthreads.proofs.Rows.{master_joins, master_refuses, server_is}
+use Rattle.zthreads.proofs.master_thread.admit.Goals as goal
+
+pub returns-in-Ok-clause-at : goal.returns-in-Ok-clause-at
+returns-in-Ok-clause-at c h cut =
+    let d = c.args.desk.now in
+    let v = c.args.master.now in
+    let s = c.args.server in
+    let did = join_step {T = Transfer (KeptState Tree)} v s in
+    let b = c.enter.new.self in
+    let rest = c.enter.ensures.rest in
+    let pend : pending b ≡ did.1 = pending_none b (rest.0 ∙ c.requires.settled.0) ∙ ap (λ o. o.posts) rest.1 ∙ c.in-Ok.ensures.puts.puts ∙ ap (λ l. l ++ did.1) c.requires.settled.1 in
+    let stands = c.enter.ensures.stands (AtMaster v) (AtMaster did.0) None did.1 h
+    (λ below. master_joins d.me d.stamp v c.requires.me s c.next_stamp-next.result (server_is s (subst (λ x. 0 < x) c.number.ensures.same c.number.ensures.some) (subst (λ x. x ≤ MAX_SERVERS) c.number.ensures.same c.number.ensures.small)) c.in-Ok.ensures.allowed
+    (is_next_idle c.next_stamp-next.result d.stamp c.zero.result c.zero.ensures c.next_stamp-next.ensures below)) in
+    subst (λ (w : List TreePost). Stands b (AtMaster c.join.new.self) None w) (sym pend) (subst (λ (x : MasterView). Stands b (AtMaster x) None did.1) (sym c.in-Ok.ensures.next) stands) cut
+
+pub returns-in-Err-clause-at : goal.returns-in-Err-clause-at
+returns-in-Err-clause-at c h cut =
+    let d = c.args.desk.now in
+    let v = c.args.master.now in
+    let s = c.args.server in
+    let b = c.enter-in-Err.new.self in
+    let rest = c.enter-in-Err.ensures.rest in
+    let pend : pending b ≡ [] = pending_none b (rest.0 ∙ c.requires.settled.0) ∙ ap (λ o. o.posts) rest.1 ∙ ap (λ o. o.posts) c.in-Err.ensures.silent ∙ c.requires.settled.1 in
+    let stands = c.enter-in-Err.ensures.stands (AtMaster v) (AtMaster v) None [] h
+    (λ below. master_refuses d.me d.stamp v c.requires.me s c.next_stamp-next.result c.in-Err.field-0 c.in-Err.ensures.fault
+    (is_next_idle c.next_stamp-next.result d.stamp c.zero.result c.zero.ensures c.next_stamp-next.ensures below)) in
+    subst (λ (w : List TreePost). Stands b (AtMaster c.join.new.self) None w) (sym pend) (subst (λ (x : MasterView). Stands b (AtMaster x) None []) (sym c.in-Err.ensures.same) stands) cut

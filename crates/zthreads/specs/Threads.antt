@@ -1,0 +1,29 @@
+-- Where the processes in threads stand.
+use Rattle.std.specs.Prelude.{◌≡◌, ℕ, Bool, true, false}
+use Rattle.zserver_table.specs.declared.process.Process.{Process}
+use Rattle.zserver_table.specs.declared.process.Process.TheVariants.{Server}
+use Rattle.zserver.specs.Server.{ServerState}
+use Rattle.zserver.specs.declared.taken.Taken.{Taken}
+use Rattle.zserver.specs.declared.taken.Taken.TheVariants as taken
+use Rattle.zworld_model.specs.declared.outcome.Outcome.{Outcome}
+use Rattle.zworld_model.specs.declared.outcome.Outcome.TheVariants as outcome
+use Rattle.ztraces.specs.Deeds.{AtServer, Out}
+use Rattle.zdesks.specs.Desks.{TreeStanding}
+
+-- the server of that number
+abbrev pub ServerProcess : ℕ → Process
+ServerProcess s = Server s
+
+-- the process is a server
+abbrev pub IsServer : Process → Type 0
+IsServer p = (s : ℕ) × (p ≡ Server s)
+
+-- where a server stands: at its view, or out once it is over
+abbrev pub server_standing : Bool → ServerState → TreeStanding
+server_standing true s = Out
+server_standing false s = AtServer s.view
+
+-- what became of a message, as a trace tells it
+abbrev pub outcome_of : Taken → Outcome
+outcome_of taken.Acted = outcome.Acted
+outcome_of taken.Unheard = outcome.Unheard

@@ -1,0 +1,18 @@
+//! What stands between taking a message and acting on it.
+
+use zserver::Snapshot;
+use zserver_table::{Message, Process};
+
+/// Called on a server's thread between taking a message and acting on it: so a test can hold a server there.
+pub trait Gate: Drop {
+    /// Passes the message on; it is acted on once this returns.
+    fn pass(&mut self, from: &Process, message: &Message<Snapshot>);
+}
+
+/// The gate that lets all pass at once.
+#[derive(Clone, Copy)]
+pub struct Open;
+
+impl Gate for Open {
+    fn pass(&mut self, _from: &Process, _message: &Message<Snapshot>) {}
+}

@@ -1,0 +1,120 @@
+//! What the master's thread owns.
+
+ghost use Rattle.std.specs.Prelude.{◌≡◌, ◌<◌, ◌≤◌, None, Some, []};
+ghost use Rattle.zserver_table.specs.declared.process.Process.TheVariants as process;
+ghost use Rattle.zmaster.specs.declared.limits.TheConstants.{MAX_POSTS};
+ghost use Rattle.ztraces.specs.Deeds.{AtMaster};
+ghost use Rattle.zdesks.specs.Desks.{IsAt, IsSettled, link_count, process_of, room_of, SameDesk, Stands};
+
+use crate::took::took;
+use zdesks::Desk;
+use zmaster::{MAX_POSTS, Master};
+use zserver::Snapshot;
+use zserver_table::{Message, Process, ServerId};
+use ztraces::{Act, Stamp};
+use zworld_model::Outcome;
+
+/// The master with its desk. It went by the master table from its opening view through its trace.
+#[derive(Drop)]
+pub struct MasterThread {
+    pub(crate) desk: Desk,
+    pub(crate) master: Master,
+    ghost is_master: { desk.me ≡ process.Master },
+    ghost at: { IsAt desk (AtMaster master) },
+}
+
+impl MasterThread {
+    ghost use Rattle.zthreads.specs.Owned.{master_desk};
+
+    /// The master with a desk that has done nothing.
+    pub fn new(desk: Desk, master: Master) -> MasterThread
+        requires me { process_of desk ≡ process.Master }
+        requires at { IsAt desk (AtMaster master) }
+        ensures same { master_desk result ≡ desk }
+    {
+        MasterThread { desk, master }
+    }
+
+    /// How many links it takes from.
+    pub fn links(&self) -> usize
+        ensures { result ≡ link_count (master_desk self.now) }
+    {
+        self.desk.links()
+    }
+
+    /// Moves what waits into the rings.
+    pub fn flush(&mut self)
+        ensures same { SameDesk (master_desk self.old) (master_desk self.new) }
+    {
+        self.desk.flush();
+    }
+
+    /// Takes one message of a link and acts on it, once all is put that the last event put. False where nothing was taken.
+    pub fn turn(&mut self, link: usize) -> bool
+        requires { link < link_count (master_desk self.old) }
+        ensures same { SameDesk (master_desk self.old) (master_desk self.new) }
+    {
+        if !self.desk.settle() {
+            return false;
+        }
+        if self.desk.out.reserve(MAX_POSTS).is_err() {
+            return false;
+        }
+        let Some((from, (stamp, message))) = self.desk.take(link) else {
+            return false;
+        };
+        hear(&mut self.desk, &mut self.master, from, stamp, message);
+        true
+    }
+
+    /// Lets a server join, or refuses it. False where that has to be tried again, for memory.
+    pub fn join(&mut self, server: ServerId) -> bool
+        ensures same { SameDesk (master_desk self.old) (master_desk self.new) }
+    {
+        if !self.desk.settle() {
+            return false;
+        }
+        if self.desk.out.reserve(MAX_POSTS).is_err() {
+            return false;
+        }
+        admit(&mut self.desk, &mut self.master, server);
+        true
+    }
+}
+
+// The master acts on a message.
+fn hear(
+    desk: &mut Desk,
+    master: &mut Master,
+    from: Process,
+    stamp: Stamp,
+    message: Message<Snapshot>,
+)
+    requires me { process_of desk.old ≡ process.Master }
+    requires settled { IsSettled desk.old }
+    requires room { MAX_POSTS ≤ room_of desk.old }
+    ensures at { Stands desk.old (AtMaster master.old) (Some (from, (stamp, message))) []
+        → IsAt desk.new (AtMaster master.new) }
+    ensures same { SameDesk desk.old desk.new }
+{
+    let next = desk.next_stamp(stamp);
+    let sender = from;
+    master.take(sender, message, &mut desk.out);
+    desk.enter(took(&from, Outcome::Acted), next, None);
+}
+
+// The master lets a server join, or refuses it.
+fn admit(desk: &mut Desk, master: &mut Master, server: ServerId)
+    requires me { process_of desk.old ≡ process.Master }
+    requires settled { IsSettled desk.old }
+    requires room { MAX_POSTS ≤ room_of desk.old }
+    ensures at { Stands desk.old (AtMaster master.old) None [] → IsAt desk.new (AtMaster master.new) }
+    ensures same { SameDesk desk.old desk.new }
+{
+    let _ = server.number();
+    let next = desk.next_stamp(Stamp::zero());
+    match master.join(server, &mut desk.out) {
+        Ok(()) => desk.enter(Act::Joined(server), next, None),
+        Err(_) => desk.enter(Act::Joined(server), next, None),
+    }
+}

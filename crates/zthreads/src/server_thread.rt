@@ -1,0 +1,133 @@
+//! What a server's thread owns.
+
+ghost use Rattle.std.specs.Prelude.{◌≡◌, ◌<◌, None, Some, []};
+ghost use Rattle.ztraces.specs.Deeds.{AtServer};
+ghost use Rattle.zdesks.specs.Desks.{IsAt, IsSettled, link_count, process_of, SameDesk, Stands};
+ghost use Rattle.zthreads.specs.Threads.{IsServer, outcome_of, server_standing, ServerProcess};
+
+use crate::gate::Gate;
+use crate::took::took;
+use zdesks::Desk;
+use zserver::{Server, Snapshot, Stopped, Taken};
+use zserver_table::{Message, Process, ServerId};
+use ztraces::{Act, Stamp};
+use zworld_model::Outcome;
+
+/// A server with its desk. It went by the server table from its opening view through its trace.
+#[derive(Drop)]
+pub struct ServerThread {
+    pub(crate) desk: Desk,
+    pub(crate) server: Server,
+    pub(crate) is_over: bool,
+    pub(crate) id: ServerId,
+    ghost is_server: { desk.me ≡ ServerProcess id },
+    ghost at: { IsAt desk (server_standing is_over server) },
+}
+
+impl ServerThread {
+    ghost use Rattle.zthreads.specs.Owned.{server_desk};
+
+    /// A server with a desk that has done nothing.
+    pub fn new(id: ServerId, desk: Desk, server: Server) -> ServerThread
+        requires me { process_of desk ≡ ServerProcess id }
+        requires at { IsAt desk (AtServer server.view) }
+        ensures same { server_desk result ≡ desk }
+    {
+        ServerThread {
+            desk,
+            server,
+            is_over: false,
+            id,
+        }
+    }
+
+    /// How many links it takes from.
+    pub fn links(&self) -> usize
+        ensures { result ≡ link_count (server_desk self.now) }
+    {
+        self.desk.links()
+    }
+
+    /// Moves what waits into the rings.
+    pub fn flush(&mut self)
+        ensures same { SameDesk (server_desk self.old) (server_desk self.new) }
+    {
+        self.desk.flush();
+    }
+
+    /// Takes one message of a link and acts on it, once all is put that the last event put. False where nothing was taken.
+    pub fn turn<G: Gate>(&mut self, link: usize, gate: &mut G) -> bool
+        requires { link < link_count (server_desk self.old) }
+        ensures same { SameDesk (server_desk self.old) (server_desk self.new) }
+    {
+        if self.is_over {
+            return false;
+        }
+        if !self.desk.settle() {
+            return false;
+        }
+        let Some((from, (stamp, message))) = self.desk.take(link) else {
+            return false;
+        };
+        gate.pass(&from, &message);
+        self.is_over = give(&mut self.desk, &mut self.server, from, stamp, message);
+        true
+    }
+
+    /// Puts its last words, once all is put that the last event put. True once they are put; false where it has to be tried
+    /// again, for memory.
+    pub fn halt(&mut self) -> bool
+        ensures same { SameDesk (server_desk self.old) (server_desk self.new) }
+    {
+        if self.is_over {
+            return true;
+        }
+        if !self.desk.settle() {
+            return false;
+        }
+        let stamp = self.desk.next_stamp(Stamp::zero());
+        self.desk.enter(Act::Halted, stamp, None);
+        self.desk.put_gone();
+        self.is_over = true;
+        true
+    }
+}
+
+// A server acts on a message, ignores it, or stops at it, which is answered by true.
+fn give(
+    desk: &mut Desk,
+    server: &mut Server,
+    from: Process,
+    stamp: Stamp,
+    message: Message<Snapshot>,
+) -> bool
+    requires me { IsServer (process_of desk.old) }
+    requires settled { IsSettled desk.old }
+    ensures at { Stands desk.old (AtServer server.old.view) (Some (from, (stamp, message))) []
+        → IsAt desk.new (server_standing result server.new) }
+    ensures same { SameDesk desk.old desk.new }
+{
+    let next = desk.next_stamp(stamp);
+    let sender = from;
+    match server.take(sender, message, &mut desk.out) {
+        Ok(taken) => {
+            desk.enter(took(&from, outcome_of(taken)), next, None);
+            false
+        }
+        Err(Stopped) => {
+            desk.enter(took(&from, Outcome::Stopped), next, None);
+            desk.put_gone();
+            true
+        }
+    }
+}
+
+// What became of a message that the server heard of.
+fn outcome_of(taken: Taken) -> Outcome
+    ensures { result ≡ outcome_of taken }
+{
+    match taken {
+        Taken::Acted => Outcome::Acted,
+        Taken::Unheard => Outcome::Unheard,
+    }
+}
