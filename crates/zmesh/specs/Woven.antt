@@ -1,0 +1,41 @@
+-- The rings between processes: a row for each process, of those on which it puts, and a column for each, of those from which it
+-- takes.
+use Rattle.std.specs.Prelude.{◌≡◌, ℕ, List, [], ◌∷◌, ◌++◌, length, map, All}
+use mathlib.Core.Option.{some}
+use lib.ListN.{get_elem?}
+use Rattle.std.specs.declared.alloc.Global.{Global}
+use Rattle.std.specs.declared.vec.Vec.{Vec}
+use Rattle.zrings.specs.declared.ends.Tx.{Tx}
+use Rattle.zrings.specs.declared.ends.Rx.{Rx}
+use Rattle.zrings.specs.Ends.{Ring, put_of, ring_of_rx, ring_of_tx, taken_of}
+
+-- the rings of the ends
+abbrev pub out_rings : {M : Type 0} → List (Vec (Tx M) Global) → List (List Ring)
+out_rings rows = map (λ row. map ring_of_tx row.items) rows
+
+abbrev pub in_rings : {M : Type 0} → List (Vec (Rx M) Global) → List (List Ring)
+in_rings columns = map (λ column. map ring_of_rx column.items) columns
+
+-- nothing was put, and nothing was taken
+abbrev pub AreBlankOuts : {M : Type 0} → List (Vec (Tx M) Global) → Type 0
+AreBlankOuts rows = All (λ row. All (λ tx. put_of tx ≡ []) row.items) rows
+
+abbrev pub AreBlankIns : {M : Type 0} → List (Vec (Rx M) Global) → Type 0
+AreBlankIns columns = All (λ column. All (λ rx. taken_of rx ≡ []) column.items) columns
+
+-- each of so many processes has a ring to each and from each, and that on which one puts to another is that from which the other
+-- takes from it
+pub record IsWoven (n : ℕ) (outs ins : List (List Ring)) : Type 0 where
+  pub rows : length outs ≡ n
+  pub columns : length ins ≡ n
+  pub each_row : (i : ℕ) (row : List Ring) → get_elem? outs i ≡ some row → length row ≡ n
+  pub each_column : (j : ℕ) (column : List Ring) → get_elem? ins j ≡ some column → length column ≡ n
+  pub ends : (i j : ℕ) (row column : List Ring) (a b : Ring)
+      → get_elem? outs i ≡ some row → get_elem? row j ≡ some a
+      → get_elem? ins j ≡ some column → get_elem? column i ≡ some b → a ≡ b
+
+-- the columns with one ring more at the end of each
+abbrev pub with_row : List (List Ring) → List Ring → List (List Ring)
+with_row [] row = []
+with_row (column ∷ columns) [] = column ∷ columns
+with_row (column ∷ columns) (ring ∷ row) = (column ++ ring ∷ []) ∷ with_row columns row

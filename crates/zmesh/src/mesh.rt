@@ -1,0 +1,62 @@
+//! The links between all processes.
+
+ghost use Rattle.std.specs.Prelude.{◌≡◌, IfOk, OnOk, length, map, replicate, All, []};
+ghost use Rattle.zrings.specs.Ends.{put_of, ring_of_tx, taken_of};
+ghost use Rattle.zmesh.specs.Woven.{AreBlankIns, AreBlankOuts, in_rings, IsWoven, out_rings, with_row};
+
+use std::alloc::Global;
+use zpath::Memory;
+use zrings::ends::{Rx, Tx, link};
+
+/// The ends of all links, by process: what each puts on, and what each takes from, each by the other's place.
+#[derive(Drop)]
+pub struct Mesh<M: Drop> {
+    /// The ends on which each process puts.
+    pub outs: Vec<Vec<Tx<M>>>,
+    /// The ends from which each process takes.
+    pub ins: Vec<Vec<Rx<M>>>,
+}
+
+/// A link from each of so many processes to each, on which nothing was put. Err where there is no memory.
+pub fn weave<M: Drop>(alloc: Global, count: usize) -> Result<Mesh<M>, Memory>
+    ensures woven { IfOk result (λ mesh.
+        IsWoven count (out_rings mesh.outs.items) (in_rings mesh.ins.items)) }
+    ensures blank { IfOk result (λ mesh. AreBlankOuts mesh.outs.items × AreBlankIns mesh.ins.items) }
+{
+    let mut ins = columns(alloc, count)?;
+    let mut outs = Vec::with_capacity(alloc, count)?;
+    for _ in 0..count {
+        let row = add_row(alloc, &mut ins)?;
+        outs.push(row)?;
+    }
+    Ok(Mesh { outs, ins })
+}
+
+// So many processes that take from nobody yet.
+fn columns<M: Drop>(alloc: Global, count: usize) -> Result<Vec<Vec<Rx<M>>>, Memory>
+    ensures rings { IfOk result (λ columns. in_rings columns.items ≡ replicate count []) }
+    ensures blank { IfOk result (λ columns. AreBlankIns columns.items) }
+{
+    let mut columns = Vec::with_capacity(alloc, count)?;
+    for _ in 0..count {
+        columns.push(Vec::with_capacity(alloc, count)?)?;
+    }
+    Ok(columns)
+}
+
+// One process more that puts to all: the ends on which it puts.
+fn add_row<M: Drop>(alloc: Global, ins: &mut Vec<Vec<Rx<M>>>) -> Result<Vec<Tx<M>>, Memory>
+    ensures rings { IfOk result (λ row.
+        in_rings ins.new.items ≡ with_row (in_rings ins.old.items) (map ring_of_tx row.items)) }
+    ensures length { IfOk result (λ row. length row.items ≡ length ins.old.items) }
+    ensures outs { IfOk result (λ row. All (λ tx. put_of tx ≡ []) row.items) }
+    ensures ins { AreBlankIns ins.old.items → OnOk result (AreBlankIns ins.new.items) }
+{
+    let mut row = Vec::with_capacity(alloc, ins.len())?;
+    for to in 0..ins.len() {
+        let (tx, rx) = link(alloc)?;
+        row.push(tx)?;
+        ins[to].push(rx)?;
+    }
+    Ok(row)
+}
