@@ -1,5 +1,5 @@
 -- Steps of a client, seen from where its desk was before it was made ready.
-use Rattle.std.proofs.Common.{◌≡◌, ◌<◌, ℕ, ◌+◌, [], ◌∷◌, ◌++◌, Option, List, refl, sym, ap, ◌∙◌, subst, inl, inr, nat_lt, if◌then◌else◌, max, length, arith, ⊎_elim}
+use Rattle.std.proofs.Common.{◌≡◌, ◌<◌, ℕ, [], ◌∷◌, ◌++◌, Option, List, refl, sym, ap, ◌∙◌, subst, max, length, arith}
 use Rattle.std.proofs.Math.Nat.{le-max_left, le-max_right, max-le, max-zero}
 use Rattle.zcalls.specs.declared.call.Call.{Call}
 use Rattle.zcalls.specs.declared.reply.Reply.{Reply}

@@ -10,7 +10,10 @@ use Rattle.zdesks.specs.Desks.{SameBooks, TreeStamped, is_cut_of, stamp_of_desk}
 use Rattle.zcaller.specs.Steps.{Begins, Heard, HeardNothing, IsCutForNeed, SendsAgain}
 use Rattle.zcaller.specs.declared.caller.Caller.{Caller}
 
--- its desk and view, and the last stamp that it knows
+-- its number, desk and view, and the last stamp that it knows
+abbrev pub caller_id : Caller → ℕ
+caller_id c = c.id
+
 abbrev pub caller_desk : Caller → Desk
 caller_desk c = c.desk
 

@@ -1,5 +1,5 @@
 -- What a clause says of a client that had this desk and stood there, and then has that desk and stands there.
-use Rattle.std.specs.Prelude.{◌≡◌, ◌⊎◌, ◌<◌, ℕ, ◌+◌, true, false, List, [], ◌∷◌, Option, None, Some, is_some, length}
+use Rattle.std.specs.Prelude.{◌≡◌, ◌⊎◌, ◌<◌, ℕ, ◌+◌, true, false, [], ◌∷◌, Option, None, Some, is_some, length}
 use Rattle.std.specs.Option.{option_map}
 use Rattle.ztree.specs.Tree.{Tree}
 use Rattle.zcalls.specs.declared.call.Call.{Call}

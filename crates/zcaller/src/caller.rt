@@ -1,16 +1,18 @@
 //! What a caller's thread owns.
 
-ghost use Rattle.std.specs.Prelude.{◌≡◌, IfOk, OnErr, OnOk, max};
+ghost use Rattle.std.specs.Prelude.{◌≡◌, IfOk, OnErr, OnOk, max, true};
 ghost use Rattle.zserver_table.specs.declared.process.Process.TheVariants.{Client};
 ghost use Rattle.ztraces.specs.Deeds.{AtClient};
-ghost use Rattle.zdesks.specs.Desks.{IsAt, pending, process_of, SameDesk, stamp_of_desk, Stands};
+ghost use Rattle.zdesks.specs.Desks.{is_cut_of, IsAt, IsSettled, pending, process_of, SameDesk};
+ghost use Rattle.zdesks.specs.Desks.{seen_of, self_of, stamp_of_desk, Stands, trace_of};
+ghost use Rattle.zdesks.specs.Endings.{HasEnded, SameWires};
 
 use crate::asking::{begin_at, retry_at};
 use crate::hearing::{front_of, hear_or_keep};
 use std::alloc::Global;
 use zcalls::{Call, CallNumber, ClientId, Reply};
 use zclient::{BeginFault, ClientCore};
-use zdesks::{Desk, Stamped};
+use zdesks::{Desk, Ending, Stamped};
 use zpath::Memory;
 use zserver_table::Process;
 use ztraces::Stamp;
@@ -34,7 +36,7 @@ pub struct Caller {
 
 impl Caller {
     ghost use Rattle.zcaller.specs.Callers.{Began, IsUncut, Retried, SameCaller, Turned};
-    ghost use Rattle.zcaller.specs.Callers.{caller_desk, caller_stamp, caller_view};
+    ghost use Rattle.zcaller.specs.Callers.{caller_desk, caller_id, caller_stamp, caller_view};
 
     /// The client with a desk that has done nothing.
     pub fn new(alloc: Global, id: ClientId, desk: Desk, core: ClientCore) -> Caller
@@ -152,5 +154,27 @@ impl Caller {
             message,
             next,
         )
+    }
+
+    /// What it leaves, with its number.
+    pub fn into_ending(self) -> (ClientId, Ending)
+        ensures id { result.0 ≡ caller_id self }
+        ensures ended { HasEnded (self_of (caller_desk self)) result.1 }
+        ensures wires { SameWires (caller_desk self) result.1 }
+        ensures trace { result.1.trace.events.items ≡ trace_of (caller_desk self) }
+        ensures seen { result.1.seen.items ≡ seen_of (caller_desk self) }
+        ensures cut { is_cut_of (caller_desk self) ≡ true → result.1.trace.is_cut ≡ true }
+        ensures whole { IsSettled (caller_desk self) → result.1.trace.is_cut ≡ is_cut_of (caller_desk self) }
+    {
+        let Caller {
+            id,
+            desk,
+            core,
+            front,
+            ..
+        } = self;
+        drop(core);
+        drop(front);
+        (id, desk.into_ending())
     }
 }

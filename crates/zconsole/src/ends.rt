@@ -21,6 +21,7 @@ pub const ROOM: usize = 8;
 pub struct Closed;
 
 /// The end from which servers are ordered to join.
+#[derive(Drop)]
 pub struct Console {
     pub(crate) to: RuledSender<ServerId, Log, Fifo>,
     pub(crate) pass: Pass<ServerId, Log>,
@@ -29,6 +30,7 @@ pub struct Console {
 }
 
 /// The end where the master's thread takes the orders.
+#[derive(Drop)]
 pub struct Inbox {
     pub(crate) from: RuledReceiver<ServerId, Log, Fifo>,
     pub(crate) pass: Pass<ServerId, Log>,

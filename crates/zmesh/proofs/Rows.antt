@@ -7,8 +7,9 @@ use Rattle.zrings.specs.declared.ends.Tx.{Tx}
 use Rattle.zrings.specs.declared.ends.Rx.{Rx}
 use mathlib.Core.Option.{some, some-injective, some-ne-none}
 use lib.ListN.{get_elem?}
+use Rattle.atomic_table.proofs.Lists.{at_index}
 use Rattle.zrings.specs.Ends.{Ring, ring_of_rx, ring_of_tx}
-use Rattle.zmesh.specs.Woven.{in_rings, IsWoven, with_row}
+use Rattle.zmesh.specs.Woven.{AreWide, in_rings, IsWoven, with_row}
 
 pub with_none : (columns : List (List Ring)) → with_row columns [] ≡ columns
 with_none [] = refl
@@ -120,3 +121,13 @@ one_more n k outs ins row first wide =
 pub all_of_them : (n : ℕ) (outs ins : List (List Ring)) → AreFirst n n outs ins → IsWoven n outs ins
 all_of_them n outs ins first =
     record { rows = first.rows; columns = first.columns; each_row = first.each_row; each_column = first.each_column; ends = first.ends }
+
+-- what is true of each element's image under a map
+pub wide_from : {X : Type 0} (f : X → Ring) (n : ℕ) (ends : List (Vec X Global))
+    → ((i : ℕ) (row : List Ring) → get_elem? (map (λ e. map f e.items) ends) i ≡ some row → length row ≡ n)
+    → AreWide n ends
+wide_from f n ends each i d lt =
+    let e = get_or ends i d in
+    let g : Vec _ Global → List Ring = λ e. map f e.items in
+    sym (length-map e.items f)
+    ∙ each i (g e) (at_index (map g ends) i (g e) (subst (λ m. i < m) (sym (length-map ends g)) lt) (sym (get_or-map g ends i d (g e) lt)))

@@ -23,6 +23,10 @@ AreBlankOuts rows = All (λ row. All (λ tx. put_of tx ≡ []) row.items) rows
 abbrev pub AreBlankIns : {M : Type 0} → List (Vec (Rx M) Global) → Type 0
 AreBlankIns columns = All (λ column. All (λ rx. taken_of rx ≡ []) column.items) columns
 
+-- each has so many ends
+abbrev pub AreWide : {X : Type 0} → ℕ → List (Vec X Global) → Type 0
+AreWide n ends = All (λ e. length e.items ≡ n) ends
+
 -- each of so many processes has a ring to each and from each, and that on which one puts to another is that from which the other
 -- takes from it
 pub record IsWoven (n : ℕ) (outs ins : List (List Ring)) : Type 0 where

@@ -2,7 +2,7 @@
 
 ghost use Rattle.std.specs.Prelude.{◌≡◌, IfOk, OnOk, length, map, replicate, All, []};
 ghost use Rattle.zrings.specs.Ends.{put_of, ring_of_tx, taken_of};
-ghost use Rattle.zmesh.specs.Woven.{AreBlankIns, AreBlankOuts, in_rings, IsWoven, out_rings, with_row};
+ghost use Rattle.zmesh.specs.Woven.{AreBlankIns, AreBlankOuts, AreWide, in_rings, IsWoven, out_rings, with_row};
 
 use std::alloc::Global;
 use zpath::Memory;
@@ -22,6 +22,7 @@ pub fn weave<M: Drop>(alloc: Global, count: usize) -> Result<Mesh<M>, Memory>
     ensures woven { IfOk result (λ mesh.
         IsWoven count (out_rings mesh.outs.items) (in_rings mesh.ins.items)) }
     ensures blank { IfOk result (λ mesh. AreBlankOuts mesh.outs.items × AreBlankIns mesh.ins.items) }
+    ensures wide { IfOk result (λ mesh. AreWide count mesh.outs.items × AreWide count mesh.ins.items) }
 {
     let mut ins = columns(alloc, count)?;
     let mut outs = Vec::with_capacity(alloc, count)?;

@@ -1,13 +1,15 @@
 //! What the master's thread owns.
 
-ghost use Rattle.std.specs.Prelude.{◌≡◌, ◌<◌, ◌≤◌, None, Some, []};
+ghost use Rattle.std.specs.Prelude.{◌≡◌, ◌<◌, ◌≤◌, None, Some, [], true};
 ghost use Rattle.zserver_table.specs.declared.process.Process.TheVariants as process;
 ghost use Rattle.zmaster.specs.declared.limits.TheConstants.{MAX_POSTS};
 ghost use Rattle.ztraces.specs.Deeds.{AtMaster};
-ghost use Rattle.zdesks.specs.Desks.{IsAt, IsSettled, link_count, process_of, room_of, SameDesk, Stands};
+ghost use Rattle.zdesks.specs.Desks.{is_cut_of, IsAt, IsSettled, link_count, process_of, room_of};
+ghost use Rattle.zdesks.specs.Desks.{SameDesk, self_of, Stands, trace_of};
+ghost use Rattle.zdesks.specs.Endings.{HasEnded, SameWires};
 
 use crate::took::took;
-use zdesks::Desk;
+use zdesks::{Desk, Ending};
 use zmaster::{MAX_POSTS, Master};
 use zserver::Snapshot;
 use zserver_table::{Message, Process, ServerId};
@@ -79,6 +81,19 @@ impl MasterThread {
         }
         admit(&mut self.desk, &mut self.master, server);
         true
+    }
+
+    /// What it leaves, once its thread has ended.
+    pub fn into_ending(self) -> Ending
+        ensures ended { HasEnded (self_of (master_desk self)) result }
+        ensures wires { SameWires (master_desk self) result }
+        ensures trace { result.trace.events.items ≡ trace_of (master_desk self) }
+        ensures cut { is_cut_of (master_desk self) ≡ true → result.trace.is_cut ≡ true }
+        ensures whole { IsSettled (master_desk self) → result.trace.is_cut ≡ is_cut_of (master_desk self) }
+    {
+        let MasterThread { desk, master } = self;
+        drop(master);
+        desk.into_ending()
     }
 }
 

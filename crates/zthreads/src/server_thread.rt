@@ -1,13 +1,15 @@
 //! What a server's thread owns.
 
-ghost use Rattle.std.specs.Prelude.{◌≡◌, ◌<◌, None, Some, []};
+ghost use Rattle.std.specs.Prelude.{◌≡◌, ◌<◌, None, Some, [], true};
 ghost use Rattle.ztraces.specs.Deeds.{AtServer};
-ghost use Rattle.zdesks.specs.Desks.{IsAt, IsSettled, link_count, process_of, SameDesk, Stands};
+ghost use Rattle.zdesks.specs.Desks.{is_cut_of, IsAt, IsSettled, link_count, process_of, SameDesk};
+ghost use Rattle.zdesks.specs.Desks.{self_of, Stands, trace_of};
+ghost use Rattle.zdesks.specs.Endings.{HasEnded, SameWires};
 ghost use Rattle.zthreads.specs.Threads.{IsServer, outcome_of, server_standing, ServerProcess};
 
 use crate::gate::Gate;
 use crate::took::took;
-use zdesks::Desk;
+use zdesks::{Desk, Ending};
 use zserver::{Server, Snapshot, Stopped, Taken};
 use zserver_table::{Message, Process, ServerId};
 use ztraces::{Act, Stamp};
@@ -90,6 +92,19 @@ impl ServerThread {
         self.desk.put_gone();
         self.is_over = true;
         true
+    }
+
+    /// What it leaves, once its thread has ended.
+    pub fn into_ending(self) -> Ending
+        ensures ended { HasEnded (self_of (server_desk self)) result }
+        ensures wires { SameWires (server_desk self) result }
+        ensures trace { result.trace.events.items ≡ trace_of (server_desk self) }
+        ensures cut { is_cut_of (server_desk self) ≡ true → result.trace.is_cut ≡ true }
+        ensures whole { IsSettled (server_desk self) → result.trace.is_cut ≡ is_cut_of (server_desk self) }
+    {
+        let ServerThread { desk, server, .. } = self;
+        drop(server);
+        desk.into_ending()
     }
 }
 

@@ -1,7 +1,7 @@
-use Rattle.std.proofs.Common.{◌≡◌, ◌<◌, ◌∷◌, ◌++◌, [], List, Option, Some, None, refl, sym, ◌∙◌, subst, ap, max, option_to_list}
+use Rattle.std.proofs.Common.{◌≡◌, ◌<◌, ◌++◌, [], List, refl, sym, ◌∙◌, subst, ap, option_to_list}
 use Rattle.ztraces.specs.Deeds.{AtClient}
 use Rattle.zclient_table.specs.Table.{retry_posts}
-use Rattle.zdesks.specs.Desks.{Stands, IsEvent, pending, TreePost}
+use Rattle.zdesks.specs.Desks.{Stands, pending, TreePost}
 use Rattle.zdesks.proofs.Pending.{pending_none}
 use Rattle.ztraces.specs.declared.stamp.TheConstants.{MAX_STAMP}
 use Rattle.ztraces.specs.declared.trace.Act.TheVariants.{Retried}

@@ -1,13 +1,11 @@
-use Rattle.std.proofs.Common.{◌≡◌, ◌<◌, ◌∷◌, ◌++◌, [], List, Option, Some, None, sym, ◌∙◌, subst, ap, max, option_to_list, is_some, if◌then◌else◌}
+use Rattle.std.proofs.Common.{◌≡◌, ◌<◌, ◌++◌, List, Option, Some, None, sym, ◌∙◌, subst, ap, option_to_list, is_some, if◌then◌else◌}
 use Rattle.std.specs.Option.{option_map}
 use Rattle.zcalls.specs.declared.reply.Reply.{Reply}
-use Rattle.zworld_model.specs.declared.history.CallEvent.{CallEvent}
 use Rattle.ztraces.specs.declared.trace.Act.{Act}
 use Rattle.ztraces.specs.Deeds.{AtClient, answer_told}
 use Rattle.zclient_table.specs.View.{ClientView}
 use Rattle.zclient_table.specs.Table.{client_step}
 use Rattle.zdesks.specs.Desks.{Stands, IsEvent, pending, TreePost}
-use Rattle.zcaller.specs.Steps.{answer_event}
 use Rattle.zdesks.proofs.Pending.{pending_none}
 use Rattle.ztraces.specs.declared.stamp.TheConstants.{MAX_STAMP}
 use Rattle.ztraces.specs.declared.trace.Act.TheVariants.{Took}

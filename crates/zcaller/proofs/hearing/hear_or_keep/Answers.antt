@@ -1,4 +1,4 @@
-use Rattle.std.proofs.Common.{◌≡◌, [], List, Option, Some, None, sym, ◌∙◌, subst, ap, refl, inl, inr}
+use Rattle.std.proofs.Common.{[], List, Option, Some, sym, ◌∙◌, subst, ap, refl, inl, inr}
 use Rattle.zserver_table.specs.declared.process.Process.{Process}
 use Rattle.zclient_table.specs.View.{ClientView}
 use Rattle.ztraces.specs.Deeds.{AtClient}

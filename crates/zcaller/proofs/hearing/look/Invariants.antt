@@ -1,4 +1,4 @@
-use Rattle.std.proofs.Common.{◌≡◌, None, List}
+use Rattle.std.proofs.Common.{None, List}
 use Rattle.zdesks.specs.Desks.{SameRest, Stands, TreePost, TreeStanding}
 use Rattle.zcaller.proofs.hearing.look.Given as goal
 

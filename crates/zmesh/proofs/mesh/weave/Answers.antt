@@ -1,4 +1,4 @@
-use Rattle.std.proofs.Common.{◌≡◌, [], ◌∷◌, ◌++◌, List, map, length, sym, ap, ◌∙◌, subst, ◌+◌}
+use Rattle.std.proofs.Common.{◌≡◌, [], ◌∷◌, ◌++◌, List, map, length, sym, ap, ◌∙◌, subst, ◌+◌, arith}
 use Rattle.std.specs.Prelude.{All}
 use Rattle.std.proofs.lemmas.List.{length-map, map-append}
 use Rattle.std.proofs.lemmas.List.Elements.{All-nil, All-push, All-same}
@@ -8,7 +8,7 @@ use Rattle.zrings.specs.declared.ends.Tx.{Tx}
 use Rattle.zrings.specs.declared.ends.Rx.{Rx}
 use Rattle.zrings.specs.Ends.{Ring, put_of, ring_of_rx, ring_of_tx}
 use Rattle.zmesh.specs.Woven.{in_rings, out_rings}
-use Rattle.zmesh.proofs.Rows.{AreFirst, none_yet, one_more}
+use Rattle.zmesh.proofs.Rows.{AreFirst, none_yet, one_more, wide_from}
 use Rattle.zmesh.proofs.mesh.weave.Goals as goal
 
 pub loop-init : goal.loop-init
@@ -42,4 +42,13 @@ loop-preserved g c =
           (subst (λ (cs : List (List Ring)). AreFirst n (k + 1) (out_rings outs ++ f row ∷ []) cs) (sym is.rings) (one_more n k (out_rings outs) (in_rings ins) (f row) i.0 wide)),
       All-same Q c.push.new.self.items (outs ++ row ∷ []) grown (All-push Q outs row i.1 is.outs),
       is.ins i.2,
+    )
+
+pub returns-clause-wide : goal.returns-clause-wide
+returns-clause-wide g c =
+    let first = c.loop.invariant.0 in
+    let n = c.args.count in
+    let all : c.loop.counter ≡ n = let a = c.loop-test.false in let b = c.loop.auto.counter-end in omega arith in (
+      wide_from ring_of_tx n c.loop.outs.items first.each_row,
+      wide_from ring_of_rx n c.loop.ins.items (λ j column at. first.each_column j column at ∙ all),
     )

@@ -1,4 +1,4 @@
-use Rattle.std.proofs.Common.{◌≡◌, ◌<◌, ◌≤◌, ◌++◌, [], List, Some, None, sym, ◌∙◌, subst, ap, max}
+use Rattle.std.proofs.Common.{◌≡◌, ◌<◌, ◌≤◌, ◌++◌, [], List, None, sym, ◌∙◌, subst, ap}
 use Rattle.ztraces.specs.Deeds.{AtMaster}
 use Rattle.zserver_table.specs.declared.limits.TheConstants.{MAX_SERVERS}
 use Rattle.zmaster_table.specs.View.{MasterView}
@@ -6,7 +6,7 @@ use Rattle.zmaster_table.specs.Table.{join_step}
 use Rattle.zserver_table.specs.View.{Transfer}
 use Rattle.ztree.specs.Tree.{Tree}
 use Rattle.zcalls.specs.Kept.{KeptState}
-use Rattle.zdesks.specs.Desks.{Stands, IsEvent, pending, TreePost}
+use Rattle.zdesks.specs.Desks.{Stands, pending, TreePost}
 use Rattle.zdesks.proofs.Pending.{pending_none, is_next_idle}
 use Rattle.zthreads.proofs.Rows.{master_joins, master_refuses, server_is}
 use Rattle.zthreads.proofs.master_thread.admit.Goals as goal

@@ -1,9 +1,8 @@
-use Rattle.std.proofs.Common.{◌≡◌, ◌+◌, ◌++◌, ◌∷◌, [], List, ℕ, Option, Some, None, IfSome, sym, ◌∙◌, subst, ap, max}
+use Rattle.std.proofs.Common.{◌≡◌, ◌++◌, [], List, Some, None, sym, ◌∙◌, subst, ap, max}
 use Rattle.ztraces.specs.declared.trace.Act.{Act}
 use Rattle.ztraces.specs.declared.trace.Act.TheVariants.{Took}
 use Rattle.ztraces.specs.Deeds.{AtServer, Out, last_post}
 use Rattle.zserver.specs.Server.{taken_result, TreeView}
-use Rattle.zworld_model.specs.declared.outcome.Outcome.TheVariants as outcome
 use Rattle.zdesks.specs.Desks.{Stands, IsEvent, pending, TreePost}
 use Rattle.zthreads.specs.Threads.{outcome_of}
 use Rattle.zdesks.proofs.Pending.{pending_none, is_next}

@@ -1,7 +1,7 @@
-use Rattle.std.proofs.Common.{◌≡◌, ◌++◌, [], List, Option, None, sym, ◌∙◌, subst, ap}
+use Rattle.std.proofs.Common.{[], List, sym, ◌∙◌, subst}
 use Rattle.ztraces.specs.Deeds.{AtClient}
-use Rattle.zdesks.specs.Desks.{Stands, IsSettled, IsAt, pending, TreePost}
-use Rattle.zdesks.proofs.Pending.{nothing_waits, pending_none, pending_same}
+use Rattle.zdesks.specs.Desks.{Stands, IsSettled, pending, TreePost}
+use Rattle.zdesks.proofs.Pending.{nothing_waits, pending_same}
 use Rattle.zcaller.proofs.caller.Caller.retry.Goals as goal
 
 pub invariant_of-self-then-not-reserve-clause-is_client : goal.invariant_of-self-then-not-reserve-clause-is_client

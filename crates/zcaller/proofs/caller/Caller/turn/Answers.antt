@@ -1,9 +1,8 @@
-use Rattle.std.proofs.Common.{◌≡◌, ◌++◌, [], List, Option, Some, None, sym, ◌∙◌, subst, ap}
+use Rattle.std.proofs.Common.{[], List, Option, None, sym, ◌∙◌, subst}
 use Rattle.zserver_table.specs.declared.process.Process.{Process}
-use Rattle.zclient_table.specs.View.{ClientView}
 use Rattle.ztraces.specs.Deeds.{AtClient}
-use Rattle.zdesks.specs.Desks.{Stands, IsSettled, IsAt, pending, TreePost, TreeStamped}
-use Rattle.zdesks.proofs.Pending.{nothing_waits, pending_none, pending_same}
+use Rattle.zdesks.specs.Desks.{Stands, IsSettled, pending, TreePost, TreeStamped}
+use Rattle.zdesks.proofs.Pending.{nothing_waits, pending_same}
 use Rattle.zcaller.proofs.caller.Caller.turn.Goals as goal
 
 pub invariant_of-self-then-not-reserve-clause-is_client : goal.invariant_of-self-then-not-reserve-clause-is_client

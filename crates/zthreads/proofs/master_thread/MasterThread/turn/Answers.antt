@@ -1,7 +1,7 @@
-use Rattle.std.proofs.Common.{◌≡◌, ◌++◌, [], List, Some, None, sym, ◌∙◌, subst, ap, option_to_list}
+use Rattle.std.proofs.Common.{◌≡◌, ◌++◌, [], List, None, sym, ◌∙◌, subst, ap, option_to_list}
 use Rattle.ztraces.specs.Deeds.{AtMaster}
-use Rattle.zdesks.specs.Desks.{Stands, IsAt, IsSettled, pending, TreePost}
-use Rattle.zdesks.proofs.Pending.{nothing_waits, pending_none, pending_same}
+use Rattle.zdesks.specs.Desks.{Stands, IsSettled, pending, TreePost}
+use Rattle.zdesks.proofs.Pending.{nothing_waits}
 use Rattle.zthreads.proofs.master_thread.MasterThread.turn.Goals as goal
 
 pub invariant_of-self-clause-is_master : goal.invariant_of-self-clause-is_master

@@ -1,4 +1,4 @@
-use Rattle.std.proofs.Common.{◌≡◌, sym, ◌∙◌, subst, None}
+use Rattle.std.proofs.Common.{sym, ◌∙◌, subst, None}
 use Rattle.zdesks.specs.Desks.{Stands, pending}
 use Rattle.zthreads.specs.Threads.{server_standing}
 use Rattle.zdesks.proofs.Pending.{pending_same}

@@ -1,4 +1,4 @@
-use Rattle.std.proofs.Common.{◌≡◌, ◌++◌, ◌∷◌, [], List, ℕ, Option, Some, None, sym, ◌∙◌, subst, ap, max}
+use Rattle.std.proofs.Common.{◌≡◌, [], List, None, sym, ◌∙◌, subst, ap}
 use Rattle.zdesks.specs.Desks.{Stands, IsAt, IsSettled, pending, TreePost}
 use Rattle.ztraces.specs.Deeds.{AtServer, Out, last_post}
 use Rattle.zthreads.specs.Threads.{server_standing}

@@ -1,8 +1,8 @@
-use Rattle.std.proofs.Common.{◌≡◌, ◌++◌, ◌∷◌, [], List, ℕ, Option, Some, None, sym, ◌∙◌, subst, ap, max}
+use Rattle.std.proofs.Common.{[], List, None, sym, ◌∙◌, subst}
 use Rattle.zdesks.specs.Desks.{Stands, IsAt, IsSettled, pending, TreePost}
-use Rattle.ztraces.specs.Deeds.{AtServer, Out, last_post}
+use Rattle.ztraces.specs.Deeds.{AtServer}
 use Rattle.zthreads.specs.Threads.{server_standing}
-use Rattle.zdesks.proofs.Pending.{nothing_waits, pending_none, pending_same}
+use Rattle.zdesks.proofs.Pending.{nothing_waits, pending_same}
 use Rattle.zthreads.proofs.server_thread.ServerThread.turn.Goals as goal
 
 pub invariant_of-self-clause-is_server : goal.invariant_of-self-clause-is_server
