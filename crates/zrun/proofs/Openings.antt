@@ -1,0 +1,32 @@
+-- Where each process stands at the opening.
+use Rattle.std.proofs.Common.{◌≡◌, ◌<◌, ℕ, zero, suc, true, List, [], ◌∷◌, refl, sym, ap, subst, nat_lt, lt-ltb}
+use Rattle.std.specs.Prelude.{All}
+use mathlib.Core.Option.{some, some-injective, some-ne-none}
+use lib.ListN.{get_elem?}
+use Rattle.std.proofs.lemmas.List.Elements.{All-head, All-tail}
+use Rattle.zserver_table.specs.declared.process.Process.TheVariants.{Master, Server, Client}
+use Rattle.zserver_table.specs.Machine.{kept_tree}
+use Rattle.zserver_table.specs.View.{opening_server}
+use Rattle.zmaster_table.specs.View.{opening_master}
+use Rattle.zclient_table.specs.View.{opening_client}
+use Rattle.zworld_model.specs.Events.{is_server}
+use Rattle.ztraces.specs.Deeds.{AtMaster, AtServer, AtClient}
+use Rattle.zdesks.specs.Desks.{Each, opening_of}
+
+pub master_opening : (last clients : ℕ) → opening_of last clients Master ≡ AtMaster (opening_master last clients)
+unfolding opening_of
+master_opening last clients = refl
+
+pub server_opening : (last clients s : ℕ) → is_server s ≡ true → opening_of last clients (Server s) ≡ AtServer (opening_server kept_tree last s)
+unfolding opening_of
+server_opening last clients s is = rw is refl
+
+pub client_opening : (last clients c : ℕ) → c < clients → opening_of last clients (Client c) ≡ AtClient (opening_client last clients c)
+unfolding opening_of
+client_opening last clients c lt = rw (lt-ltb c clients lt) refl
+
+-- what is true of all is true of each
+pub all_each : {X : Type 0} (P : X → Type 0) (xs : List X) → All P xs → Each (λ i x. P x) xs
+all_each P [] all i x at = absurd (some-ne-none x (sym at))
+all_each P (y ∷ ys) all zero x at = subst P (some-injective y x at) (All-head P y ys all)
+all_each P (y ∷ ys) all (suc i) x at = all_each P ys (All-tail P y ys all) i x at

@@ -1,0 +1,15 @@
+use Rattle.std.proofs.Common.{◌≡◌, ◌<◌, ◌≤◌, sym, ap, ◌∙◌, subst}
+use Rattle.zserver_table.specs.declared.limits.TheConstants.{MAX_SERVERS}
+use Rattle.ztraces.specs.Deeds.{AtServer}
+use Rattle.zdesks.specs.Desks.{IsAt, TreeStanding}
+use Rattle.zthreads.proofs.Rows.{server_is}
+use Rattle.zrun.proofs.Openings.{server_opening}
+use Rattle.zrun.proofs.opening.Opening.server.Goals as goal
+
+pub new-requires-clause-at : goal.new-requires-clause-at
+new-requires-clause-at c =
+    let o = c.args.self.now in
+    let s = c.args.id in
+    let number = c.number.ensures in
+    let is = server_is s (subst (λ x. 0 < x) number.same number.some) (subst (λ x. x ≤ MAX_SERVERS) number.same number.small) in
+    subst (λ (s : TreeStanding). IsAt c.new-desk.result s) (server_opening o.last o.clients s is ∙ ap (λ v. AtServer v) (sym c.in_ok-server.ensures)) c.new-desk.ensures.at

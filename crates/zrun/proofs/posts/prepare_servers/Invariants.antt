@@ -1,0 +1,6 @@
+use Rattle.std.proofs.Common.{◌≡◌, ◌+◌, length}
+use Rattle.zrun.specs.Supplies.{left}
+use Rattle.zrun.proofs.posts.prepare_servers.Given as goal
+
+abbrev pub invariant-loop-done : goal.invariant-loop-done
+invariant-loop-done l = (length l.servers.items ≡ l.done) × (left l.supply + l.done ≡ left l.initial.supply)

@@ -1,0 +1,10 @@
+-- What a clause says of a cluster.
+use Rattle.std.specs.Prelude.{ℕ}
+use Rattle.zrun.specs.declared.cluster.Cluster.{Cluster}
+
+-- the last server of its opening chain, and how many clients it has
+abbrev pub last_server : Cluster → ℕ
+last_server c = c.opening.last
+
+abbrev pub client_count : Cluster → ℕ
+client_count c = c.opening.clients

@@ -1,0 +1,4 @@
+pub mod Clients
+pub mod Openings
+pub mod Supplies
+pub mod Clusters

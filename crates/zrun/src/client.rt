@@ -1,0 +1,106 @@
+//! A client, as its caller's thread owns it.
+
+ghost use Rattle.std.specs.Prelude.{◌≡◌, IfErr, IfOk, OnErr, OnOk, Some, max};
+ghost use Rattle.std.specs.Arc.{arc_value};
+ghost use Rattle.zwords.specs.HaltSeats.{IsSeatOf};
+ghost use Rattle.zdesks.specs.Desks.{SameDesk};
+ghost use Rattle.zcaller.specs.Callers.{Began, caller_desk, caller_stamp, IsUncut, Retried, SameCaller, Turned};
+
+use crate::faults::Unanswered;
+use std::alloc::Global;
+use std::sync::Arc;
+use std::thread;
+use zcaller::Caller;
+use zcalls::{Call, CallNumber, Reply};
+use zclient::BeginFault;
+use zpath::Memory;
+use zserver_table::ServerId;
+use ztraces::Stamp;
+use zwords::halts::{Halt, HaltSeat};
+
+/// A client. None of its calls waits.
+#[derive(Drop)]
+pub struct Client {
+    pub(crate) caller: Caller,
+    pub(crate) halt: Arc<Halt, Global>,
+    pub(crate) seat: HaltSeat,
+    ghost own: { IsSeatOf (arc_value halt) seat },
+}
+
+impl Client {
+    ghost use Rattle.zrun.specs.Clients.{caller_of, IsLastTurn};
+
+    /// Begins a call, and answers its number.
+    pub fn begin(&mut self, call: Call) -> Result<CallNumber, BeginFault>
+        ensures began { IfOk result (Began (caller_of self.old) (caller_of self.new) call) }
+        ensures refused { OnErr result (SameCaller (caller_of self.old) (caller_of self.new)) }
+        ensures whole { OnOk result (IsUncut (caller_of self.old) (caller_of self.new)) }
+        ensures same { SameDesk (caller_desk (caller_of self.old)) (caller_desk (caller_of self.new)) }
+    {
+        self.caller.begin(call)
+    }
+
+    /// Takes at most one message, and answers the reply that the client waited for, if the message brings it.
+    pub fn turn(&mut self) -> Option<Reply>
+        ensures turned { Turned (caller_of self.old) (caller_of self.new) result }
+        ensures whole { IsUncut (caller_of self.old) (caller_of self.new) }
+        ensures same { SameDesk (caller_desk (caller_of self.old)) (caller_desk (caller_of self.new)) }
+    {
+        self.caller.turn()
+    }
+
+    /// Sends the call that has no answer yet once more. False where there is none.
+    pub fn retry(&mut self) -> Result<bool, Memory>
+        ensures retried { IfOk result (Retried (caller_of self.old) (caller_of self.new)) }
+        ensures refused { OnErr result (SameCaller (caller_of self.old) (caller_of self.new)) }
+        ensures whole { OnOk result (IsUncut (caller_of self.old) (caller_of self.new)) }
+        ensures same { SameDesk (caller_desk (caller_of self.old)) (caller_desk (caller_of self.new)) }
+    {
+        self.caller.retry()
+    }
+
+    /// Halts a server: once its thread sees it, the server takes nothing more, and the master hears that it is gone.
+    pub fn halt(&mut self, server: ServerId)
+        ensures { caller_of self.new ≡ caller_of self.old }
+    {
+        self.halt.set(&mut self.seat, server.number() as u32);
+    }
+
+    /// The last stamp that it knows.
+    pub fn stamp(&self) -> Stamp
+        ensures { result ≡ caller_stamp (caller_of self.now) }
+    {
+        self.caller.stamp()
+    }
+
+    /// From now on its events are later than this stamp. So what one client saw, another that learns of its stamp can't miss.
+    pub fn learn(&mut self, stamp: Stamp)
+        ensures stamp { caller_stamp (caller_of self.new) ≡ max (caller_stamp (caller_of self.old)) stamp }
+        ensures same { SameCaller (caller_of self.old) (caller_of self.new) }
+    {
+        self.caller.learn(stamp);
+    }
+
+    /// Begins a call and takes at most so many turns for its reply.
+    pub fn call(&mut self, call: Call, turns: u64) -> Result<Reply, Unanswered>
+        ensures reply { IfOk result (λ reply. IsLastTurn (caller_of self.new) reply) }
+        ensures same { SameDesk (caller_desk (caller_of self.old)) (caller_desk (caller_of self.new)) }
+    {
+        let _ = self.begin(call)?;
+        self.wait(turns)
+    }
+
+    /// Takes at most so many turns for the reply of the call that was begun.
+    pub fn wait(&mut self, turns: u64) -> Result<Reply, Unanswered>
+        ensures reply { IfOk result (λ reply. IsLastTurn (caller_of self.new) reply) }
+        ensures same { SameDesk (caller_desk (caller_of self.old)) (caller_desk (caller_of self.new)) }
+    {
+        for _ in 0..turns {
+            if let Some(reply) = self.turn() {
+                return Ok(reply);
+            }
+            thread::yield_now();
+        }
+        Err(Unanswered::NoAnswer)
+    }
+}

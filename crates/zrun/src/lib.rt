@@ -1,0 +1,18 @@
+//! The service in threads: a thread for each server and one for the master, clients that their callers' threads own, and a
+//! cluster that is started and joined. What it hands back when joined are the traces of all, for the audit.
+#![tactic(auto)]
+
+mod client;
+mod cluster;
+mod faults;
+mod gathering;
+mod opening;
+mod posts;
+mod starting;
+mod supply;
+
+pub use client::Client;
+pub use cluster::Cluster;
+pub use faults::{StartFault, Unanswered};
+pub use zconsole::ends::{Closed, Console};
+pub use zthreads::{Gate, Open};

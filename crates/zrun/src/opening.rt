@@ -1,0 +1,105 @@
+//! Where each process stands at the opening.
+
+ghost use Rattle.std.specs.Prelude.{◌≡◌, ◌<◌, ◌≤◌, IfOk};
+ghost use Rattle.ztree.specs.declared.limits.TheConstants.{MAX_CLIENTS};
+ghost use Rattle.zserver_table.specs.Machine.{kept_tree};
+ghost use Rattle.zserver_table.specs.View.{opening_server};
+
+use std::alloc::Global;
+use zcaller::Caller;
+use zcalls::ClientId;
+use zclient::ClientCore;
+use zdesks::{Desk, Stamped};
+use zmaster::Master;
+use zpath::Memory;
+use zrings::ends::{Rx, Tx};
+use zserver::Server;
+use zserver_table::{Process, ServerId};
+use zthreads::{MasterThread, ServerThread};
+
+/// What all processes of a run know of its opening.
+#[derive(Clone, Copy)]
+pub(crate) struct Opening {
+    /// The last server of the chain.
+    pub(crate) last: ServerId,
+    /// How many clients there are.
+    pub(crate) clients: u8,
+    ghost few: { clients ≤ MAX_CLIENTS },
+}
+
+/// The links of one process, by place.
+#[derive(Drop)]
+pub(crate) struct Ends {
+    pub(crate) ins: Vec<Rx<Stamped>>,
+    pub(crate) outs: Vec<Tx<Stamped>>,
+}
+
+impl Opening {
+    ghost use Rattle.zrun.specs.Openings.{AreFresh};
+
+    /// The master.
+    pub(crate) fn master(&self, alloc: Global, ends: Ends) -> MasterThread
+        requires { AreFresh ends }
+    {
+        let Ends { ins, outs } = ends;
+        let desk = Desk::new(alloc, Process::Master, self.last, self.clients, ins, outs);
+        MasterThread::new(desk, Master::new(self.last, self.clients))
+    }
+
+    /// The server of this number: a member of the chain, or a spare one.
+    pub(crate) fn server(
+        &self,
+        alloc: Global,
+        id: ServerId,
+        ends: Ends,
+    ) -> Result<ServerThread, Memory>
+        requires { AreFresh ends }
+    {
+        let _ = id.number();
+        let server = server_at(alloc, id, self.last)?;
+        let Ends { ins, outs } = ends;
+        let desk = Desk::new(
+            alloc,
+            Process::Server(id),
+            self.last,
+            self.clients,
+            ins,
+            outs,
+        );
+        Ok(ServerThread::new(id, desk, server))
+    }
+
+    /// The client of this number.
+    pub(crate) fn caller(&self, alloc: Global, id: ClientId, ends: Ends) -> Caller
+        requires fresh { AreFresh ends }
+        requires known { id < self.now.clients }
+    {
+        let Ends { ins, outs } = ends;
+        let desk = Desk::new(
+            alloc,
+            Process::Client(id),
+            self.last,
+            self.clients,
+            ins,
+            outs,
+        );
+        Caller::new(alloc, id, desk, ClientCore::new(alloc, self.last))
+    }
+}
+
+// The server of this number, where the chain goes up to the last one.
+fn server_at(alloc: Global, id: ServerId, last: ServerId) -> Result<Server, Memory>
+    ensures { IfOk result (λ server. server.view ≡ opening_server kept_tree last id) }
+{
+    let (number, end) = (id.number(), last.number());
+    if number > end {
+        return Ok(Server::spare(alloc));
+    }
+    let pred = ServerId::new(number - 1);
+    let succ = if number == end {
+        None
+    } else {
+        ServerId::new(number + 1)
+    };
+    Server::first(alloc, pred, succ)
+}

@@ -1,0 +1,110 @@
+//! All that a run's threads and clients own, before any thread is started.
+
+ghost use Rattle.std.specs.Prelude.{◌≡◌, ◌≤◌, ◌+◌, IfOk, OnOk, length};
+ghost use Rattle.zserver_table.specs.declared.limits.TheConstants.{MAX_SERVERS};
+ghost use Rattle.zrun.specs.Supplies.{left};
+
+use crate::client::Client;
+use crate::opening::Opening;
+use crate::supply::{HaltPost, Supply};
+use std::alloc::Global;
+use zcalls::ClientId;
+use zconsole::ends::{Console, Inbox};
+use zpath::Memory;
+use zserver_table::{MAX_SERVERS, ServerId};
+use zthreads::{MasterThread, ServerThread};
+
+/// What a server's thread is started with.
+#[derive(Drop)]
+pub(crate) struct ServerPost {
+    pub(crate) id: ServerId,
+    pub(crate) member: ServerThread,
+    pub(crate) halt: HaltPost,
+}
+
+/// What the master's thread is started with.
+#[derive(Drop)]
+pub(crate) struct MasterPost {
+    pub(crate) chief: MasterThread,
+    pub(crate) inbox: Inbox,
+    pub(crate) halt: HaltPost,
+}
+
+/// All of a run.
+#[derive(Drop)]
+pub(crate) struct Posts {
+    pub(crate) master: MasterPost,
+    /// The servers' by number, the last one first.
+    pub(crate) servers: Vec<ServerPost>,
+    /// The clients by number.
+    pub(crate) clients: Vec<Client>,
+    pub(crate) console: Console,
+    /// That of whoever ends the run.
+    pub(crate) halt: HaltPost,
+}
+
+/// All that a run needs, or Memory.
+pub(crate) fn prepare(alloc: Global, opening: &Opening) -> Result<Posts, Memory>
+    ensures servers { IfOk result (λ posts. length posts.servers.items ≡ MAX_SERVERS) }
+    ensures clients { IfOk result (λ posts. length posts.clients.items ≡ opening.now.clients) }
+{
+    let count = 1 + MAX_SERVERS as usize + opening.clients as usize;
+    let mut supply = Supply::new(alloc, count)?;
+    let clients = prepare_clients(alloc, opening, &mut supply)?;
+    let servers = prepare_servers(alloc, opening, &mut supply)?;
+    let (ends, halt) = supply.next()?;
+    let (console, inbox) = Console::open(alloc)?;
+    let chief = opening.master(alloc, ends);
+    Ok(Posts {
+        master: MasterPost { chief, inbox, halt },
+        servers,
+        clients,
+        console,
+        halt: supply.into_last(),
+    })
+}
+
+// The clients, which have the last places.
+fn prepare_clients(
+    alloc: Global,
+    opening: &Opening,
+    supply: &mut Supply,
+) -> Result<Vec<Client>, Memory>
+    requires { opening.now.clients ≤ left supply.old }
+    ensures clients { IfOk result (λ clients. length clients.items ≡ opening.now.clients) }
+    ensures left { OnOk result (left supply.new + opening.now.clients ≡ left supply.old) }
+{
+    let mut clients = Vec::with_capacity(alloc, opening.clients as usize)?;
+    for done in 0..opening.clients {
+        let Some(id) = ClientId::new(opening.clients - 1 - done) else {
+            unreachable!()
+        };
+        let (ends, HaltPost { halt, seat }) = supply.next()?;
+        let caller = opening.caller(alloc, id, ends);
+        clients.push(Client { caller, halt, seat })?;
+    }
+    clients.reverse();
+    Ok(clients)
+}
+
+// The servers, which have the places before them: the last one first.
+fn prepare_servers(
+    alloc: Global,
+    opening: &Opening,
+    supply: &mut Supply,
+) -> Result<Vec<ServerPost>, Memory>
+    requires { MAX_SERVERS ≤ left supply.old }
+    ensures servers { IfOk result (λ servers. length servers.items ≡ MAX_SERVERS) }
+    ensures left { OnOk result (left supply.new + MAX_SERVERS ≡ left supply.old) }
+{
+    let mut servers = Vec::with_capacity(alloc, MAX_SERVERS as usize)?;
+    for done in 0..MAX_SERVERS {
+        let Some(id) = ServerId::new(MAX_SERVERS - done) else {
+            unreachable!()
+        };
+        let (ends, halt) = supply.next()?;
+        let member = opening.server(alloc, id, ends)?;
+        servers.push(ServerPost { id, member, halt })?;
+    }
+    Ok(servers)
+}

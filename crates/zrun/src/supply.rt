@@ -1,0 +1,106 @@
+//! Links and seats, handed out to one process after the other, the last one first.
+
+ghost use Rattle.std.specs.Prelude.{◌≡◌, ◌<◌, ◌+◌, IfOk, OnOk, length, All};
+ghost use Rattle.std.specs.Arc.{arc_value};
+ghost use Rattle.zwords.specs.HaltSeats.{IsSeatOf};
+ghost use Rattle.zmesh.specs.Woven.{AreBlankIns, AreBlankOuts, AreWide};
+
+use crate::opening::Ends;
+use std::alloc::Global;
+use std::sync::Arc;
+use zdesks::Stamped;
+use zmesh::{Mesh, weave};
+use zpath::Memory;
+use zrings::ends::{Rx, Tx};
+use zwords::halts::{Halt, HaltSeat};
+
+/// A seat of the run's halt word.
+#[derive(Drop)]
+pub(crate) struct HaltPost {
+    pub(crate) halt: Arc<Halt, Global>,
+    pub(crate) seat: HaltSeat,
+    ghost own: { IsSeatOf (arc_value halt) seat },
+}
+
+impl HaltPost {
+    /// Ends the run: no thread takes anything more.
+    pub(crate) fn end(&mut self) {
+        self.halt.set(&mut self.seat, 0);
+    }
+}
+
+/// What processes are handed: a link from each to each, and a seat each, with one more for whoever ends the run.
+#[derive(Drop)]
+pub(crate) struct Supply {
+    outs: Vec<Vec<Tx<Stamped>>>,
+    ins: Vec<Vec<Rx<Stamped>>>,
+    width: usize,
+    halt: Arc<Halt, Global>,
+    seats: Vec<HaltSeat>,
+    ghost blank_outs: { AreBlankOuts outs.items },
+    ghost blank_ins: { AreBlankIns ins.items },
+    ghost wide_outs: { AreWide width outs.items },
+    ghost wide_ins: { AreWide width ins.items },
+    ghost own: { All (λ seat. IsSeatOf (arc_value halt) seat) seats.items },
+    ghost pairs: { length ins.items ≡ length outs.items },
+    ghost enough: { length seats.items ≡ length outs.items + 1 },
+}
+
+impl Supply {
+    ghost use Rattle.zrun.specs.Supplies.{left};
+    ghost use Rattle.zrun.specs.Openings.{AreFresh};
+
+    /// For so many processes.
+    pub(crate) fn new(alloc: Global, count: usize) -> Result<Supply, Memory>
+        requires { count < 100 }
+        ensures { IfOk result (λ supply. left supply ≡ count) }
+    {
+        let Mesh { outs, ins } = weave(alloc, count)?;
+        let (halt, seats) = Halt::new(alloc, count + 1)?;
+        let halt = Arc::new(alloc, halt)?;
+        Ok(Supply {
+            outs,
+            ins,
+            width: count,
+            halt,
+            seats,
+        })
+    }
+
+    /// The links and the seat of the next process.
+    pub(crate) fn next(&mut self) -> Result<(Ends, HaltPost), Memory>
+        requires { 0 < left self.old }
+        ensures fresh { IfOk result (λ parts. AreFresh parts.0) }
+        ensures left { OnOk result (left self.new + 1 ≡ left self.old) }
+    {
+        let halt = Arc::try_clone(&self.halt)?;
+        let Some(outs) = self.outs.pop() else {
+            unreachable!()
+        };
+        let Some(ins) = self.ins.pop() else {
+            unreachable!()
+        };
+        let Some(seat) = self.seats.pop() else {
+            unreachable!()
+        };
+        Ok((Ends { ins, outs }, HaltPost { halt, seat }))
+    }
+
+    /// The seat of whoever ends the run.
+    pub(crate) fn into_last(self) -> HaltPost {
+        let Supply {
+            outs,
+            ins,
+            halt,
+            mut seats,
+            ..
+        } = self;
+        drop(outs);
+        drop(ins);
+        let Some(seat) = seats.pop() else {
+            unreachable!()
+        };
+        drop(seats);
+        HaltPost { halt, seat }
+    }
+}
