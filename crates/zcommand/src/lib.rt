@@ -11,5 +11,5 @@ mod words;
 
 pub use fault::WordsFault;
 pub use order::Settings;
-pub use program::{command, refuse};
+pub use program::{command, refuse, tell};
 pub use words::settings;

@@ -64,8 +64,8 @@ pub fn refuse<F: Sink>(fault: WordsFault, faults: &mut F) -> u8
     fault.status()
 }
 
-// Writes a line. Only a fault of the device ends it early.
-fn tell<F: Sink>(faults: &mut F, text: &str)
+/// Writes a line. Only a fault of the device ends it early.
+pub fn tell<F: Sink>(faults: &mut F, text: &str)
     ensures { IsTold (sink_run F.took F.failed faults.old faults.new) text.now }
 {
     let Ok(()) = write_all(faults, text.as_bytes()) else {

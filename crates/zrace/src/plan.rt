@@ -1,0 +1,63 @@
+//! What a race is run with.
+
+ghost use Rattle.std.specs.Prelude.{◌≡◌, ◌<◌, ◌≤◌, IfSome};
+ghost use Rattle.zrace.specs.declared.plan.TheConstants.{MAX_RACERS, MAX_ROUNDS};
+
+use zserver_table::ServerId;
+
+/// The most clients that race: the client 0 stands aside.
+pub const MAX_RACERS: u8 = 31;
+
+/// The most nodes that are raced for.
+pub const MAX_ROUNDS: u16 = 1_000;
+
+/// A race: over a chain of servers, between so many clients, for so many nodes.
+#[derive(Clone, Copy, Debug, PartialEq, Eq)]
+pub struct Race {
+    /// The last server of the chain.
+    pub last: ServerId,
+    /// How many clients race.
+    pub clients: u8,
+    /// How many nodes there are.
+    pub rounds: u16,
+    /// The server that is halted halfway, if one is.
+    pub halt: Option<ServerId>,
+    ghost some_clients: { 0 < clients },
+    ghost few_clients: { clients ≤ MAX_RACERS },
+    ghost some_rounds: { 0 < rounds },
+    ghost few_rounds: { rounds ≤ MAX_ROUNDS },
+}
+
+impl Race {
+    /// The race of these numbers, where 0 halts no server. None where one is out of its range: 1 to 31 clients, 1 to 1,000
+    /// rounds, and to be halted a server of a chain of two and more.
+    pub fn new(last: ServerId, clients: u8, rounds: u16, halt: u8) -> Option<Race>
+        ensures { IfSome result (λ race. (race.last ≡ last) × (race.clients ≡ clients) × (race.rounds ≡ rounds)) }
+    {
+        if clients == 0 || clients > MAX_RACERS {
+            return None;
+        }
+        if rounds == 0 || rounds > MAX_ROUNDS {
+            return None;
+        }
+        let halt = if halt == 0 {
+            None
+        } else {
+            Some(halted(last, halt)?)
+        };
+        Some(Race {
+            last,
+            clients,
+            rounds,
+            halt,
+        })
+    }
+}
+
+// The server that is to be halted, of a chain where another one is left.
+fn halted(last: ServerId, halt: u8) -> Option<ServerId> {
+    if halt > last.number() || last.number() == 1 {
+        return None;
+    }
+    ServerId::new(halt)
+}

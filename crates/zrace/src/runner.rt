@@ -1,0 +1,132 @@
+//! One that races: what its thread does.
+
+ghost use Rattle.std.specs.Prelude.{◌≡◌};
+ghost use Rattle.std.specs.Arc.{arc_value};
+ghost use Rattle.zwords.specs.Passes.{IsPassOf};
+
+use std::alloc::Global;
+use std::sync::Arc;
+use zcalls::{Call, Create, Data, Expected, Kind, Query, Reply, SetData, Update};
+use zpath::Path;
+use zrun::{Client, Unanswered};
+use zserver_table::ServerId;
+use zwords::tickets::{Pass, Tickets};
+
+// a call is asked for again after so many turns, so often
+const TURNS: u64 = 100_000;
+
+const RETRIES: u64 = 1_000;
+// a pass may draw so often
+const DRAWS: u64 = 1 << 32;
+
+/// One that races.
+#[derive(Drop)]
+pub(crate) struct Runner {
+    pub(crate) client: Client,
+    pub(crate) tickets: Arc<Tickets, Global>,
+    pub(crate) pass: Pass,
+    /// The nodes of its tickets, with the version that it saw of each.
+    pub(crate) seen: Vec<(u64, u64)>,
+    ghost own: { IsPassOf (arc_value tickets) pass },
+}
+
+impl Runner {
+    /// Draws until the nodes are all given out, and takes each through its three calls. It ends early where a call has no
+    /// answer.
+    pub(crate) fn run(mut self, alloc: Global, rounds: u64, halt: Option<ServerId>) -> Runner {
+        for _ in 0..rounds {
+            if !self.run_lap(alloc, rounds, &halt) {
+                return self;
+            }
+        }
+        self
+    }
+
+    // Draws, and takes the node through its calls. False where there is none left, or a call has no answer.
+    fn run_lap(&mut self, alloc: Global, rounds: u64, halt: &Option<ServerId>) -> bool {
+        if self.pass.count() >= DRAWS {
+            return false;
+        }
+        let runner = &mut *self;
+        let node = runner.tickets.draw(&mut runner.pass);
+        if node >= rounds {
+            return false;
+        }
+        let halted = if node == rounds / 2 { *halt } else { None };
+        let Some(version) = lap(&mut self.client, alloc, node, halted) else {
+            return false;
+        };
+        match self.seen.push((node, version)) {
+            Ok(()) => true,
+            Err(refused) => {
+                drop(refused);
+                false
+            }
+        }
+    }
+}
+
+// One node: it is created, set once, and asked for. Once it is set, a server may be halted.
+fn lap(client: &mut Client, alloc: Global, node: u64, halted: Option<ServerId>) -> Option<u64> {
+    let created = ask(client, create(alloc, node)?)?;
+    drop(created);
+    let set = ask(client, set(alloc, node)?)?;
+    drop(set);
+    if let Some(server) = halted {
+        client.halt(server);
+    }
+    let reply = ask(client, Call::Query(Query::Exists(path_of(alloc, node)?)))?;
+    match reply {
+        Reply::Exists(stat) => Some(stat.version),
+        other => {
+            drop(other);
+            None
+        }
+    }
+}
+
+fn create(alloc: Global, node: u64) -> Option<Call> {
+    let path = path_of(alloc, node)?;
+    let bytes = no_data(alloc)?;
+    Some(Call::Update(Update::Create(Create {
+        path,
+        kind: Kind::Persistent,
+        bytes,
+    })))
+}
+
+fn set(alloc: Global, node: u64) -> Option<Call> {
+    let path = path_of(alloc, node)?;
+    let bytes = no_data(alloc)?;
+    Some(Call::Update(Update::SetData(SetData {
+        path,
+        bytes,
+        version: Expected::Any,
+    })))
+}
+
+fn path_of(alloc: Global, node: u64) -> Option<Path> {
+    let text = format!(in alloc; "/n{node}").ok()?;
+    Path::parse(alloc, text.as_str()).ok()
+}
+
+fn no_data(alloc: Global) -> Option<Data> {
+    Data::new(Vec::new(alloc)).ok()
+}
+
+// The reply of a call, which is sent again while it has none.
+fn ask(client: &mut Client, call: Call) -> Option<Reply> {
+    match client.call(call, TURNS) {
+        Ok(reply) => return Some(reply),
+        Err(Unanswered::NoAnswer) => {}
+        Err(_) => return None,
+    }
+    for _ in 0..RETRIES {
+        // (where there is no memory to send it again, the turns that follow may still bring the answer)
+        let _ = client.retry();
+        if let Ok(reply) = client.wait(TURNS) {
+            return Some(reply);
+        }
+    }
+    None
+}

@@ -1,0 +1,8 @@
+//! The words `race ..` of the program: what they ask for, and a run of them without its devices.
+#![tactic(auto)]
+
+mod command;
+mod words;
+
+pub use command::race_command;
+pub use words::race_settings;
