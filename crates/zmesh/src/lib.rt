@@ -2,5 +2,7 @@
 #![tactic(auto)]
 
 mod mesh;
+mod telling;
 
 pub use mesh::{Mesh, weave};
+pub use telling::are_told;

@@ -21,8 +21,10 @@ pub struct Mesh<M: Drop> {
 pub fn weave<M: Drop>(alloc: Global, count: usize) -> Result<Mesh<M>, Memory>
     ensures woven { IfOk result (λ mesh.
         IsWoven count (out_rings mesh.outs.items) (in_rings mesh.ins.items)) }
-    ensures blank { IfOk result (λ mesh. AreBlankOuts mesh.outs.items × AreBlankIns mesh.ins.items) }
-    ensures wide { IfOk result (λ mesh. AreWide count mesh.outs.items × AreWide count mesh.ins.items) }
+    ensures blank { IfOk result (λ mesh. AreBlankOuts mesh.outs.items
+        × AreBlankIns mesh.ins.items) }
+    ensures wide { IfOk result (λ mesh. AreWide count mesh.outs.items
+        × AreWide count mesh.ins.items) }
 {
     let mut ins = columns(alloc, count)?;
     let mut outs = Vec::with_capacity(alloc, count)?;

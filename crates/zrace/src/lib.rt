@@ -1,8 +1,10 @@
 //! The race: threads share out nodes by tickets, each with a client of its own, and the run is audited at its end.
 #![tactic(auto)]
 
+mod field;
 mod outcome;
 mod plan;
+mod promise;
 mod racing;
 mod runner;
 

@@ -1,31 +1,38 @@
 //! A race from its start to its audit.
 
-ghost use Rattle.std.specs.Prelude.{◌≡◌, length, All, IfOk};
+ghost use Rattle.std.specs.Prelude.{◌≡◌, ◌≢◌, false, length, All, IfErr, IfOk};
+ghost use Rattle.ztraces.specs.Audit.{is_any_cut};
+ghost use Rattle.ztraces.specs.Lawful.{AreLawful};
+ghost use Rattle.zworld.specs.declared.auditing.faults.AuditFault.TheVariants.{Disorder, Mismatch};
 ghost use Rattle.zserver_table.specs.declared.limits.TheConstants.{MAX_SERVERS};
 ghost use Rattle.std.specs.Arc.{arc_value};
 ghost use Rattle.zwords.specs.Passes.{IsPassOf};
 
+use crate::field::{Field, Room};
 use crate::outcome::Outcome;
 use crate::plan::Race;
-use crate::runner::Runner;
 use std::alloc::Global;
 use std::sync::{Arc, Wait};
-use std::thread;
-use std::thread::{JoinHandle, Threads};
+use std::thread::Threads;
 use zpath::Memory;
-use zrun::{Client, Cluster, Open, StartFault};
+use zrun::{Cluster, Open, StartFault};
 use zserver_table::MAX_SERVERS;
+use ztraces::Traces;
 use zwords::tickets::{Pass, Tickets};
-use zworld::audit;
+use zworld::{AuditFault, audit};
 
-/// Runs a race over real threads, joins them, and audits the run.
+/// Runs a race over real threads, joins them, and audits the run. What the audit finds is never against the run: it is ok, or there
+/// was no memory for it, or a trace is cut.
 pub fn race<R: Threads + Wait + Copy + Send + 'static>(
     rt: R,
     alloc: Global,
     race: &Race,
-) -> Result<Outcome, StartFault> {
+) -> Result<Outcome, StartFault>
+    ensures audit { IfOk result (λ outcome.
+        IfErr outcome.audit (λ fault. (fault ≢ Disorder) × (fault ≢ Mismatch))) }
+{
     let (tickets, passes) = shared_tickets(alloc, race)?;
-    let mut field = Field::new(alloc, race)?;
+    let room = Room::new(alloc, race)?;
     let gates = open_gates(alloc)?;
     let (cluster, console, clients) = Cluster::start(
         rt,
@@ -34,19 +41,28 @@ pub fn race<R: Threads + Wait + Copy + Send + 'static>(
         race.clients + 1,
         gates,
     )?;
+    let mut field = Field::new(room, &clients);
     let started = field.start_all(rt, alloc, race, &tickets, passes, clients);
     field.join_all(&rt);
     let Field { versions, back, .. } = field;
     let traces = cluster.join(&rt, alloc, console, back)?;
     started?;
-    let audit = match audit(alloc, &traces) {
+    let audit = audited(alloc, &traces);
+    Ok(Outcome { versions, audit })
+}
+
+// The audit of traces that are lawful, unless one is cut.
+fn audited(alloc: Global, traces: &Traces) -> Result<(), AuditFault>
+    requires { is_any_cut traces.now ≡ false → ∥ AreLawful traces.now ∥₁ }
+    ensures { IfErr result (λ fault. (fault ≢ Disorder) × (fault ≢ Mismatch)) }
+{
+    match audit(alloc, traces) {
         Ok(history) => {
             drop(history);
             Ok(())
         }
         Err(fault) => Err(fault),
-    };
-    Ok(Outcome { versions, audit })
+    }
 }
 
 // The tickets, and a pass for each that races.
@@ -67,119 +83,4 @@ fn open_gates(alloc: Global) -> Result<Vec<Open>, Memory>
         gates.push(Open)?;
     }
     Ok(gates)
-}
-
-// Those that race, and what came back of them.
-#[derive(Drop)]
-struct Field {
-    handles: Vec<JoinHandle<Runner>>,
-    /// The clients that are not in a thread.
-    back: Vec<Client>,
-    versions: Vec<Option<u64>>,
-}
-
-impl Field {
-    // With room for all.
-    fn new(alloc: Global, race: &Race) -> Result<Field, Memory> {
-        let racers = race.clients as usize;
-        let mut versions = Vec::with_capacity(alloc, race.rounds as usize)?;
-        for _ in 0..race.rounds {
-            versions.push(None)?;
-        }
-        Ok(Field {
-            handles: Vec::with_capacity(alloc, racers)?,
-            back: Vec::with_capacity(alloc, racers + 1)?,
-            versions,
-        })
-    }
-
-    // Starts a thread for each client that a pass is left for, the last ones first; the others stand aside.
-    fn start_all<R: Threads + Wait + Copy + Send + 'static>(
-        &mut self,
-        rt: R,
-        alloc: Global,
-        race: &Race,
-        tickets: &Arc<Tickets, Global>,
-        mut passes: Vec<Pass>,
-        mut clients: Vec<Client>,
-    ) -> Result<(), StartFault>
-        requires { All (λ pass. IsPassOf (arc_value tickets.now) pass) passes.items }
-    {
-        while let Some(client) = clients.pop() {
-            match passes.pop() {
-                Some(pass) => {
-                    let handle = start_runner(rt, alloc, race, tickets, pass, client)?;
-                    keep(&mut self.handles, handle);
-                }
-                None => keep(&mut self.back, client),
-            }
-        }
-        Ok(())
-    }
-
-    // Waits for all threads.
-    fn join_all<R: Threads>(&mut self, rt: &R) {
-        while let Some(handle) = self.handles.pop() {
-            let runner = handle.join(rt);
-            let Runner { client, seen, .. } = runner;
-            note(&mut self.versions, &seen);
-            keep(&mut self.back, client);
-        }
-    }
-}
-
-// Notes each version at its node.
-fn note(versions: &mut Vec<Option<u64>>, seen: &Vec<(u64, u64)>) {
-    for (node, version) in seen {
-        let node = *node as usize;
-        if node < versions.len() {
-            versions[node] = Some(*version);
-        }
-    }
-}
-
-// Puts one more behind the others, for which there is room.
-fn keep<X: Drop>(all: &mut Vec<X>, one: X) {
-    if let Err(refused) = all.push(one) {
-        drop(refused);
-    }
-}
-
-// A thread for one that races.
-fn start_runner<R: Threads + Wait + Copy + Send + 'static>(
-    rt: R,
-    alloc: Global,
-    race: &Race,
-    tickets: &Arc<Tickets, Global>,
-    pass: Pass,
-    client: Client,
-) -> Result<JoinHandle<Runner>, StartFault>
-    requires { IsPassOf (arc_value tickets.now) pass }
-{
-    let runner = runner_of(alloc, race, tickets, pass, client)?;
-    let (rounds, halt) = (race.rounds as u64, race.halt);
-    match thread::spawn(&rt, move || -> Runner { runner.run(alloc, rounds, halt) }) {
-        Ok(handle) => Ok(handle),
-        Err(_) => Err(StartFault::Thread),
-    }
-}
-
-// One that races, with room for what it sees.
-fn runner_of(
-    alloc: Global,
-    race: &Race,
-    tickets: &Arc<Tickets, Global>,
-    pass: Pass,
-    client: Client,
-) -> Result<Runner, Memory>
-    requires { IsPassOf (arc_value tickets.now) pass }
-{
-    let tickets = Arc::try_clone(tickets)?;
-    let seen = Vec::with_capacity(alloc, race.rounds as usize)?;
-    Ok(Runner {
-        client,
-        tickets,
-        pass,
-        seen,
-    })
 }

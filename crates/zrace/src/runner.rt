@@ -3,6 +3,8 @@
 ghost use Rattle.std.specs.Prelude.{◌≡◌};
 ghost use Rattle.std.specs.Arc.{arc_value};
 ghost use Rattle.zwords.specs.Passes.{IsPassOf};
+ghost use Rattle.zdesks.specs.Desks.{SameDesk};
+ghost use Rattle.zrun.specs.Clients.{client_desk};
 
 use std::alloc::Global;
 use std::sync::Arc;
@@ -31,9 +33,13 @@ pub(crate) struct Runner {
 }
 
 impl Runner {
+    ghost use Rattle.zrace.specs.Runners.{runner_desk};
+
     /// Draws until the nodes are all given out, and takes each through its three calls. It ends early where a call has no
     /// answer.
-    pub(crate) fn run(mut self, alloc: Global, rounds: u64, halt: Option<ServerId>) -> Runner {
+    pub(crate) fn run(mut self, alloc: Global, rounds: u64, halt: Option<ServerId>) -> Runner
+        ensures { SameDesk (runner_desk self) (runner_desk result) }
+    {
         for _ in 0..rounds {
             if !self.run_lap(alloc, rounds, &halt) {
                 return self;
@@ -43,7 +49,9 @@ impl Runner {
     }
 
     // Draws, and takes the node through its calls. False where there is none left, or a call has no answer.
-    fn run_lap(&mut self, alloc: Global, rounds: u64, halt: &Option<ServerId>) -> bool {
+    fn run_lap(&mut self, alloc: Global, rounds: u64, halt: &Option<ServerId>) -> bool
+        ensures { SameDesk (runner_desk self.old) (runner_desk self.new) }
+    {
         if self.pass.count() >= DRAWS {
             return false;
         }
@@ -67,7 +75,9 @@ impl Runner {
 }
 
 // One node: it is created, set once, and asked for. Once it is set, a server may be halted.
-fn lap(client: &mut Client, alloc: Global, node: u64, halted: Option<ServerId>) -> Option<u64> {
+fn lap(client: &mut Client, alloc: Global, node: u64, halted: Option<ServerId>) -> Option<u64>
+    ensures { SameDesk (client_desk client.old) (client_desk client.new) }
+{
     let created = ask(client, create(alloc, node)?)?;
     drop(created);
     let set = ask(client, set(alloc, node)?)?;
@@ -115,7 +125,9 @@ fn no_data(alloc: Global) -> Option<Data> {
 }
 
 // The reply of a call, which is sent again while it has none.
-fn ask(client: &mut Client, call: Call) -> Option<Reply> {
+fn ask(client: &mut Client, call: Call) -> Option<Reply>
+    ensures { SameDesk (client_desk client.old) (client_desk client.new) }
+{
     match client.call(call, TURNS) {
         Ok(reply) => return Some(reply),
         Err(Unanswered::NoAnswer) => {}

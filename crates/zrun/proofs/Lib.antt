@@ -1,1 +1,4 @@
 pub mod Openings
+pub mod Desks
+pub mod Leavings
+pub mod Clients

@@ -1,8 +1,7 @@
 -- Where each process stands at the opening.
-use Rattle.std.proofs.Common.{◌≡◌, ◌<◌, ℕ, zero, suc, true, List, [], ◌∷◌, refl, sym, ap, subst, nat_lt, lt-ltb}
+use Rattle.std.proofs.Common.{◌≡◌, ◌<◌, ℕ, zero, suc, true, List, [], ◌∷◌, refl, sym, subst, lt-ltb}
 use Rattle.std.specs.Prelude.{All}
-use mathlib.Core.Option.{some, some-injective, some-ne-none}
-use lib.ListN.{get_elem?}
+use mathlib.Core.Option.{some-injective, some-ne-none}
 use Rattle.std.proofs.lemmas.List.Elements.{All-head, All-tail}
 use Rattle.zserver_table.specs.declared.process.Process.TheVariants.{Master, Server, Client}
 use Rattle.zserver_table.specs.Machine.{kept_tree}

@@ -1,4 +1,7 @@
-pub mod Clients
+pub mod Runs
 pub mod Openings
 pub mod Supplies
+pub mod Clients
+pub mod Posts
+pub mod Handles
 pub mod Clusters

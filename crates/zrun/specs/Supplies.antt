@@ -1,7 +1,30 @@
 -- What a clause says of a supply.
-use Rattle.std.specs.Prelude.{ℕ, length}
+use Rattle.std.specs.Prelude.{◌≡◌, ℕ, List, [], ◌∷◌, ◌++◌, length, map}
+use Rattle.zrings.specs.Ends.{Ring}
+use Rattle.zmesh.specs.Woven.{in_rings, out_rings}
+use Rattle.zdesks.specs.declared.desk.Desk.{Desk}
+use Rattle.zrun.specs.declared.opening.Ends.{Ends}
 use Rattle.zrun.specs.declared.supply.Supply.{Supply}
+use Rattle.zrun.specs.Openings.{in_rings_in, out_rings_in}
+use Rattle.zrun.specs.Runs.{in_rings_of, out_rings_of}
 
 -- for how many processes there is something left
 abbrev pub left : Supply → ℕ
 left s = length s.outs.items
+
+-- the rings that are left
+abbrev pub out_rings_left : Supply → List (List Ring)
+out_rings_left s = out_rings s.outs.items
+
+abbrev pub in_rings_left : Supply → List (List Ring)
+in_rings_left s = in_rings s.ins.items
+
+-- it handed out the last links
+abbrev pub HandsEnds : Supply → Supply → Ends → Type 0
+HandsEnds a b e =
+    (out_rings_left a ≡ out_rings_left b ++ out_rings_in e ∷ []) × (in_rings_left a ≡ in_rings_left b ++ in_rings_in e ∷ [])
+
+-- it handed out the last links, for these desks
+abbrev pub HandsOut : Supply → Supply → List Desk → Type 0
+HandsOut a b desks =
+    (out_rings_left a ≡ out_rings_left b ++ map out_rings_of desks) × (in_rings_left a ≡ in_rings_left b ++ map in_rings_of desks)

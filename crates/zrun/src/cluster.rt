@@ -1,36 +1,47 @@
 //! A cluster, and its join.
 
-ghost use Rattle.std.specs.Prelude.{◌≡◌, ◌≤◌, [], IfOk, length};
-ghost use Rattle.std.specs.Vec.{vec_capacity};
+ghost use Rattle.std.specs.Prelude.{◌≡◌, false, All, IfOk, length};
 ghost use Rattle.zserver_table.specs.declared.limits.TheConstants.{MAX_SERVERS};
+ghost use Rattle.ztraces.specs.Audit.{is_any_cut};
+ghost use Rattle.ztraces.specs.Lawful.{AreLawful};
+ghost use Rattle.zrun.specs.Runs.{IsRun};
+ghost use Rattle.zrun.specs.Handles.{given_desks};
 
 use crate::client::Client;
-use crate::gathering::gather;
+use crate::joining::{join_servers, sort};
 use crate::opening::Opening;
+use crate::promises::{SameMaster, SameServer};
 use crate::supply::HaltPost;
 use std::alloc::Global;
-use std::thread::{JoinHandle, Threads};
+use std::snapshot::Snapshot;
+use std::thread::{PromisedHandle, Threads};
 use zconsole::ends::{Console, Inbox};
+use zgather::gather;
 use zpath::Memory;
 use zserver_table::MAX_SERVERS;
 use zthreads::{MasterThread, ServerThread};
-use ztraces::{Trace, Traces};
+use ztraces::Traces;
 
 /// The threads of a run.
 #[derive(Drop)]
 pub struct Cluster {
     pub(crate) opening: Opening,
     pub(crate) halt: HaltPost,
-    pub(crate) master: JoinHandle<(MasterThread, Inbox)>,
-    pub(crate) servers: Vec<JoinHandle<ServerThread>>,
+    pub(crate) master: PromisedHandle<(MasterThread, Inbox), SameMaster>,
+    pub(crate) servers: Vec<PromisedHandle<ServerThread, SameServer>>,
+    // the clients as they were at the start
+    pub(crate) given: Snapshot<Vec<Client>>,
     ghost all: { length servers.items ≡ MAX_SERVERS },
+    ghost count: { length given.value.items ≡ opening.clients },
+    ghost run: { IsRun opening.last opening.clients (given_desks master servers.items given.value.items) },
 }
 
 impl Cluster {
-    ghost use Rattle.zrun.specs.Clusters.{client_count, last_server};
+    ghost use Rattle.zrun.specs.Clusters.{client_count, given_clients, last_server};
+    ghost use Rattle.zrun.specs.Clients.{AreApart, AreTold, IsOneOf};
 
-    /// Ends all threads, and answers the traces of all processes: those of a client that isn't handed in are cut. Err where
-    /// there is no memory for them; the threads have ended then too.
+    /// Ends all threads, and answers the traces of all processes. They are lawful, unless one is cut: that of a client which isn't
+    /// handed in is. Err where there is no memory for them; the threads have ended then too.
     pub fn join<R: Threads>(
         self,
         rt: &R,
@@ -38,15 +49,21 @@ impl Cluster {
         console: Console,
         clients: Vec<Client>,
     ) -> Result<Traces, Memory>
+        requires own { All (λ client. IsOneOf (given_clients self) client) clients.items }
         ensures last { IfOk result (λ traces. traces.last ≡ last_server self) }
         ensures clients { IfOk result (λ traces. length traces.clients.items ≡ client_count self) }
         ensures servers { IfOk result (λ traces. length traces.servers.items ≡ MAX_SERVERS) }
+        ensures lawful { IfOk result (λ traces.
+            is_any_cut traces ≡ false → ∥ AreLawful traces ∥₁) }
+        ensures told { AreApart clients.items
+            → IfOk result (λ traces. AreTold traces clients.items) }
     {
         let Cluster {
             opening,
             mut halt,
             master,
             servers,
+            given,
         } = self;
         drop(console);
         let Ok(room) = Vec::with_capacity(alloc, MAX_SERVERS as usize) else {
@@ -57,44 +74,17 @@ impl Cluster {
         let (chief, inbox) = master.join(rt);
         drop(inbox);
         let servers = join_servers(rt, servers, room);
-        let clients = gather(alloc, opening.clients, clients)?;
-        let ending = chief.into_ending();
-        Ok(Traces {
-            last: opening.last,
-            master: ending.trace,
-            servers,
-            clients,
-        })
+        let clients = sort(alloc, opening.clients, &given, clients)?;
+        gather(alloc, opening.last, chief.into_ending(), servers, clients)
     }
-}
-
-// The servers' traces, once their threads have ended.
-fn join_servers<R: Threads>(
-    rt: &R,
-    mut servers: Vec<JoinHandle<ServerThread>>,
-    mut traces: Vec<Trace>,
-) -> Vec<Trace>
-    requires servers { length servers.items ≡ MAX_SERVERS }
-    requires none { traces.items ≡ [] }
-    requires room { MAX_SERVERS ≤ vec_capacity traces }
-    ensures { length result.items ≡ MAX_SERVERS }
-{
-    for _ in 0..MAX_SERVERS {
-        let Some(server) = servers.pop() else {
-            unreachable!()
-        };
-        traces.push_reserved(server.join(rt).into_ending().trace);
-    }
-    traces.reverse();
-    traces
 }
 
 /// Ends a run's threads, of which nothing more is wanted.
 pub(crate) fn end_all<R: Threads>(
     rt: &R,
     mut halt: HaltPost,
-    master: JoinHandle<(MasterThread, Inbox)>,
-    servers: Vec<JoinHandle<ServerThread>>,
+    master: PromisedHandle<(MasterThread, Inbox), SameMaster>,
+    servers: Vec<PromisedHandle<ServerThread, SameServer>>,
 ) {
     halt.end();
     drop(master.join(rt));

@@ -5,9 +5,10 @@
 mod client;
 mod cluster;
 mod faults;
-mod gathering;
+mod joining;
 mod opening;
 mod posts;
+mod promises;
 mod starting;
 mod supply;
 

@@ -4,6 +4,10 @@ ghost use Rattle.std.specs.Prelude.{◌≡◌, ◌<◌, ◌≤◌, IfOk};
 ghost use Rattle.ztree.specs.declared.limits.TheConstants.{MAX_CLIENTS};
 ghost use Rattle.zserver_table.specs.Machine.{kept_tree};
 ghost use Rattle.zserver_table.specs.View.{opening_server};
+ghost use Rattle.zserver_table.specs.declared.process.Process.TheVariants as process;
+ghost use Rattle.zdesks.specs.Desks.{IsDeskOf};
+ghost use Rattle.zthreads.specs.Owned.{master_desk, server_desk};
+ghost use Rattle.zcaller.specs.Callers.{caller_desk};
 
 use std::alloc::Global;
 use zcaller::Caller;
@@ -35,11 +39,13 @@ pub(crate) struct Ends {
 }
 
 impl Opening {
-    ghost use Rattle.zrun.specs.Openings.{AreFresh};
+    ghost use Rattle.zrun.specs.Openings.{AreFresh, HasEnds};
 
     /// The master.
     pub(crate) fn master(&self, alloc: Global, ends: Ends) -> MasterThread
         requires { AreFresh ends }
+        ensures desk { IsDeskOf process.Master self.now.last self.now.clients (master_desk result) }
+        ensures ends { HasEnds ends (master_desk result) }
     {
         let Ends { ins, outs } = ends;
         let desk = Desk::new(alloc, Process::Master, self.last, self.clients, ins, outs);
@@ -54,6 +60,9 @@ impl Opening {
         ends: Ends,
     ) -> Result<ServerThread, Memory>
         requires { AreFresh ends }
+        ensures desk { IfOk result (λ server.
+            IsDeskOf (process.Server id) self.now.last self.now.clients (server_desk server)) }
+        ensures ends { IfOk result (λ server. HasEnds ends (server_desk server)) }
     {
         let _ = id.number();
         let server = server_at(alloc, id, self.last)?;
@@ -73,6 +82,8 @@ impl Opening {
     pub(crate) fn caller(&self, alloc: Global, id: ClientId, ends: Ends) -> Caller
         requires fresh { AreFresh ends }
         requires known { id < self.now.clients }
+        ensures desk { IsDeskOf (process.Client id) self.now.last self.now.clients (caller_desk result) }
+        ensures ends { HasEnds ends (caller_desk result) }
     {
         let Ends { ins, outs } = ends;
         let desk = Desk::new(

@@ -1,8 +1,11 @@
 //! All that a run's threads and clients own, before any thread is started.
 
-ghost use Rattle.std.specs.Prelude.{◌≡◌, ◌≤◌, ◌+◌, IfOk, OnOk, length};
+ghost use Rattle.std.specs.Prelude.{◌≡◌, ◌≤◌, ◌+◌, All, IfOk, OnOk, length};
 ghost use Rattle.zserver_table.specs.declared.limits.TheConstants.{MAX_SERVERS};
-ghost use Rattle.zrun.specs.Supplies.{left};
+ghost use Rattle.zrun.specs.Supplies.{HandsOut, left};
+ghost use Rattle.zrun.specs.Clients.{client_desks, IsOneOf};
+ghost use Rattle.zrun.specs.Posts.{desks_in, post_desks};
+ghost use Rattle.zrun.specs.Runs.{AreDesks, IsRun};
 
 use crate::client::Client;
 use crate::opening::Opening;
@@ -47,6 +50,10 @@ pub(crate) struct Posts {
 pub(crate) fn prepare(alloc: Global, opening: &Opening) -> Result<Posts, Memory>
     ensures servers { IfOk result (λ posts. length posts.servers.items ≡ MAX_SERVERS) }
     ensures clients { IfOk result (λ posts. length posts.clients.items ≡ opening.now.clients) }
+    ensures own { IfOk result (λ posts.
+        All (λ client. IsOneOf posts.clients.items client) posts.clients.items) }
+    ensures run { IfOk result (λ posts.
+        IsRun opening.now.last opening.now.clients (desks_in posts)) }
 {
     let count = 1 + MAX_SERVERS as usize + opening.clients as usize;
     let mut supply = Supply::new(alloc, count)?;
@@ -73,6 +80,10 @@ fn prepare_clients(
     requires { opening.now.clients ≤ left supply.old }
     ensures clients { IfOk result (λ clients. length clients.items ≡ opening.now.clients) }
     ensures left { OnOk result (left supply.new + opening.now.clients ≡ left supply.old) }
+    ensures desks { IfOk result (λ clients.
+        AreDesks opening.now.last opening.now.clients 9 (client_desks clients.items)) }
+    ensures rings { IfOk result (λ clients.
+        HandsOut supply.old supply.new (client_desks clients.items)) }
 {
     let mut clients = Vec::with_capacity(alloc, opening.clients as usize)?;
     for done in 0..opening.clients {
@@ -96,6 +107,10 @@ fn prepare_servers(
     requires { MAX_SERVERS ≤ left supply.old }
     ensures servers { IfOk result (λ servers. length servers.items ≡ MAX_SERVERS) }
     ensures left { OnOk result (left supply.new + MAX_SERVERS ≡ left supply.old) }
+    ensures desks { IfOk result (λ servers.
+        AreDesks opening.now.last opening.now.clients 1 (post_desks servers.items)) }
+    ensures rings { IfOk result (λ servers.
+        HandsOut supply.old supply.new (post_desks servers.items)) }
 {
     let mut servers = Vec::with_capacity(alloc, MAX_SERVERS as usize)?;
     for done in 0..MAX_SERVERS {

@@ -1,29 +1,36 @@
 //! The start of a cluster.
 
-ghost use Rattle.std.specs.Prelude.{◌≡◌, ◌≤◌, [], IfOk, length};
+ghost use Rattle.std.specs.Prelude.{◌≡◌, ◌≤◌, [], All, IfOk, length, map};
 ghost use Rattle.std.specs.Vec.{vec_capacity};
 ghost use Rattle.std.specs.Arc.{arc_value};
 ghost use Rattle.zwords.specs.HaltSeats.{IsSeatOf};
 ghost use Rattle.zwords.specs.declared.limits.TheConstants.{LAST_BIT};
 ghost use Rattle.ztree.specs.declared.limits.TheConstants.{MAX_CLIENTS};
 ghost use Rattle.zserver_table.specs.declared.limits.TheConstants.{MAX_SERVERS};
+ghost use Rattle.zdesks.specs.Desks.{SameDesk};
+ghost use Rattle.zthreads.specs.Owned.{master_desk, server_desk};
+ghost use Rattle.zrun.specs.Handles.{given_master, given_server};
+ghost use Rattle.zrun.specs.Posts.{post_desks};
 
 use crate::client::Client;
 use crate::cluster::{Cluster, end_all};
 use crate::faults::StartFault;
 use crate::opening::Opening;
 use crate::posts::{MasterPost, Posts, ServerPost, prepare};
+use crate::promises::{SameMaster, SameServer};
 use crate::supply::HaltPost;
 use std::alloc::Global;
+use std::snapshot::Snapshot;
 use std::sync::Wait;
 use std::thread;
-use std::thread::{JoinHandle, Threads};
+use std::thread::{PromisedHandle, Threads};
 use zconsole::ends::{Console, Inbox};
 use zserver_table::{MAX_SERVERS, ServerId};
 use zthreads::{Gate, MasterThread, ServerThread, preside, serve};
 
 impl Cluster {
-    ghost use Rattle.zrun.specs.Clusters.{client_count, last_server};
+    ghost use Rattle.zrun.specs.Clusters.{client_count, given_clients, last_server};
+    ghost use Rattle.zrun.specs.Clients.{IsOneOf};
 
     /// Starts a thread for each of the eight servers, spare ones among them, and one for the master. The chain is the servers
     /// up to the last one; there are so many clients, which stand in order of number. Each server has the gate of its number.
@@ -38,6 +45,9 @@ impl Cluster {
         requires clients { clients ≤ MAX_CLIENTS }
         requires gates { length gates.items ≡ MAX_SERVERS }
         ensures clients { IfOk result (λ run. length run.2.items ≡ clients) }
+        ensures given { IfOk result (λ run. given_clients run.0 ≡ run.2.items) }
+        ensures own { IfOk result (λ run.
+            All (λ client. IsOneOf (given_clients run.0) client) run.2.items) }
         ensures numbers { IfOk result (λ run.
             (last_server run.0 ≡ last) × (client_count run.0 ≡ clients)) }
     {
@@ -49,6 +59,7 @@ impl Cluster {
             console,
             halt,
         } = prepare(alloc, &opening)?;
+        let given = Snapshot::of(&callers);
         let Ok(threads) = Vec::with_capacity(alloc, MAX_SERVERS as usize) else {
             return Err(StartFault::Memory);
         };
@@ -60,6 +71,7 @@ impl Cluster {
                     halt,
                     master,
                     servers,
+                    given,
                 },
                 console,
                 callers,
@@ -76,16 +88,21 @@ impl Cluster {
 fn start_master<R: Threads + Wait + Copy + Send + 'static>(
     rt: R,
     post: MasterPost,
-) -> Result<JoinHandle<(MasterThread, Inbox)>, StartFault> {
+) -> Result<PromisedHandle<(MasterThread, Inbox), SameMaster>, StartFault>
+    ensures { IfOk result (λ handle. given_master handle ≡ master_desk post.chief) }
+{
     let MasterPost {
         chief,
         inbox,
         halt: HaltPost { halt, seat },
     } = post;
-    match thread::spawn(
+    let promise = SameMaster(Snapshot::of(&chief));
+    match thread::spawn_with(
         &rt,
+        promise,
         move || -> (MasterThread, Inbox)
             requires { IsSeatOf (arc_value halt) seat }
+            ensures { SameDesk (master_desk chief) (master_desk result.0) }
         { preside(&rt, chief, inbox, &halt, seat) },
     ) {
         Ok(handle) => Ok(handle),
@@ -98,17 +115,22 @@ fn start_server<G: Gate + Send + 'static, R: Threads + Wait + Copy + Send + 'sta
     rt: R,
     post: ServerPost,
     gate: G,
-) -> Result<JoinHandle<ServerThread>, StartFault> {
+) -> Result<PromisedHandle<ServerThread, SameServer>, StartFault>
+    ensures { IfOk result (λ handle. given_server handle ≡ server_desk post.member) }
+{
     let ServerPost {
         id,
         member,
         halt: HaltPost { halt, seat },
     } = post;
     let bit = id.number() as u32;
-    match thread::spawn(
+    let promise = SameServer(Snapshot::of(&member));
+    match thread::spawn_with(
         &rt,
+        promise,
         move || -> ServerThread
             requires { IsSeatOf (arc_value halt) seat × (bit ≤ LAST_BIT) }
+            ensures { SameDesk (server_desk member) (server_desk result) }
         { serve(&rt, member, gate, &halt, seat, bit) },
     ) {
         Ok(handle) => Ok(handle),
@@ -121,13 +143,18 @@ fn start_servers<G: Gate + Send + 'static, R: Threads + Wait + Copy + Send + 'st
     rt: R,
     mut posts: Vec<ServerPost>,
     mut gates: Vec<G>,
-    mut started: Vec<JoinHandle<ServerThread>>,
-) -> Result<Vec<JoinHandle<ServerThread>>, (StartFault, Vec<JoinHandle<ServerThread>>)>
+    mut started: Vec<PromisedHandle<ServerThread, SameServer>>,
+) -> Result<
+    Vec<PromisedHandle<ServerThread, SameServer>>,
+    (StartFault, Vec<PromisedHandle<ServerThread, SameServer>>),
+>
     requires posts { length posts.items ≡ MAX_SERVERS }
     requires gates { length gates.items ≡ MAX_SERVERS }
     requires none { started.items ≡ [] }
     requires room { MAX_SERVERS ≤ vec_capacity started }
-    ensures { IfOk result (λ handles. length handles.items ≡ MAX_SERVERS) }
+    ensures count { IfOk result (λ handles. length handles.items ≡ MAX_SERVERS) }
+    ensures given { IfOk result (λ handles. map given_server handles.items
+        ≡ post_desks posts.items) }
 {
     gates.reverse();
     for _ in 0..MAX_SERVERS {

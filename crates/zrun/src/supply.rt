@@ -3,7 +3,7 @@
 ghost use Rattle.std.specs.Prelude.{◌≡◌, ◌<◌, ◌+◌, IfOk, OnOk, length, All};
 ghost use Rattle.std.specs.Arc.{arc_value};
 ghost use Rattle.zwords.specs.HaltSeats.{IsSeatOf};
-ghost use Rattle.zmesh.specs.Woven.{AreBlankIns, AreBlankOuts, AreWide};
+ghost use Rattle.zmesh.specs.Woven.{AreBlankIns, AreBlankOuts, AreWide, IsWoven};
 
 use crate::opening::Ends;
 use std::alloc::Global;
@@ -47,13 +47,15 @@ pub(crate) struct Supply {
 }
 
 impl Supply {
-    ghost use Rattle.zrun.specs.Supplies.{left};
+    ghost use Rattle.zrun.specs.Supplies.{HandsEnds, in_rings_left, left, out_rings_left};
     ghost use Rattle.zrun.specs.Openings.{AreFresh};
 
     /// For so many processes.
     pub(crate) fn new(alloc: Global, count: usize) -> Result<Supply, Memory>
         requires { count < 100 }
-        ensures { IfOk result (λ supply. left supply ≡ count) }
+        ensures left { IfOk result (λ supply. left supply ≡ count) }
+        ensures woven { IfOk result (λ supply.
+            IsWoven count (out_rings_left supply) (in_rings_left supply)) }
     {
         let Mesh { outs, ins } = weave(alloc, count)?;
         let (halt, seats) = Halt::new(alloc, count + 1)?;
@@ -72,6 +74,7 @@ impl Supply {
         requires { 0 < left self.old }
         ensures fresh { IfOk result (λ parts. AreFresh parts.0) }
         ensures left { OnOk result (left self.new + 1 ≡ left self.old) }
+        ensures rings { IfOk result (λ parts. HandsEnds self.old self.new parts.0) }
     {
         let halt = Arc::try_clone(&self.halt)?;
         let Some(outs) = self.outs.pop() else {

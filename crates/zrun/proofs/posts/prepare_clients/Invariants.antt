@@ -1,8 +1,13 @@
-use Rattle.std.proofs.Common.{◌≡◌, ◌+◌, length}
-use Rattle.zrun.specs.Supplies.{left}
+use Rattle.std.proofs.Common.{◌≡◌, ◌+◌, ◌-◌, length, reverse}
+use Rattle.zrun.specs.Clients.{client_desks}
+use Rattle.zrun.specs.Runs.{AreDesks}
+use Rattle.zrun.specs.Supplies.{HandsOut, left}
 use Rattle.zrun.proofs.posts.prepare_clients.Given as goal
 
 abbrev pub invariant-loop-done : goal.invariant-loop-done
 invariant-loop-done l =
+    let opening = l.initial.opening in
     (length l.clients.items ≡ l.done) × (left l.supply + l.done ≡ left l.initial.supply)
-    × (l.opening ≡ l.initial.opening) × (l.done-end ≡ l.initial.opening.clients)
+    × (l.opening ≡ opening) × (l.done-end ≡ opening.clients)
+    × HandsOut l.initial.supply l.supply (client_desks (reverse l.clients.items))
+    × AreDesks opening.last opening.clients (9 + (opening.clients - l.done)) (client_desks (reverse l.clients.items))

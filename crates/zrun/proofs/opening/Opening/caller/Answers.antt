@@ -1,4 +1,4 @@
-use Rattle.std.proofs.Common.{◌≡◌, sym, ap, ◌∙◌, subst}
+use Rattle.std.proofs.Common.{sym, ap, ◌∙◌, subst}
 use Rattle.ztraces.specs.Deeds.{AtClient}
 use Rattle.zdesks.specs.Desks.{IsAt, TreeStanding}
 use Rattle.zrun.proofs.Openings.{client_opening}

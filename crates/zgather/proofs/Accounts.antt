@@ -1,0 +1,96 @@
+-- What the processes left accounts for the traces of the run.
+use Rattle.std.proofs.Common.{◌≡◌, ◌<◌, ℕ, List, [], ◌++◌, length, get_or, refl, sym, ap, subst, ◌∙◌, append-nil, append_assoc}
+use mathlib.Core.Option.{some}
+use lib.ListN.{get_elem?}
+use Rattle.zserver_table.specs.Machine.{kept_tree}
+use Rattle.zserver_table.specs.declared.process.Process.{Process}
+use Rattle.zserver_table.specs.declared.process.Process.TheVariants.{Client}
+use Rattle.zworld_model.specs.World.{opening_world}
+use Rattle.ztraces.specs.declared.trace.Traces.{Traces}
+use Rattle.ztraces.specs.Traces.{client_count, record_of, trace_of}
+use Rattle.ztraces.specs.Deeds.{GoesBy, puts, standing_in, takes, told_by, trace_by}
+use Rattle.ztraces.specs.Lawful.{AreLawful, Begins}
+use Rattle.zlinks.specs.Places.{process_at}
+use Rattle.zrings.specs.declared.ends.Tx.{Tx}
+use Rattle.zrings.specs.declared.ends.Rx.{Rx}
+use Rattle.zrings.specs.Ends.{put_of, taken_of}
+use Rattle.zdesks.specs.declared.desk.Ending.{Ending}
+use Rattle.zdesks.specs.Desks.{IsOutside, opening_of, TreeDeed, TreeStamped}
+use Rattle.zdesks.specs.Endings.{AccountsAtEnd}
+use Rattle.zgather.specs.Left.{self_at}
+use Rattle.zgather.proofs.Elements.{Chosen, chosen_at, element}
+use Rattle.zgather.proofs.Stands.{find, Found, Inside, Outside}
+
+-- the traces tell what was left, and the links tell that what was taken begins what was put
+pub record Tells (last n : ℕ) (t : Traces) (es : List Ending) : Type 0 where
+  pub end : t.last ≡ last
+  pub count : client_count t ≡ n
+  pub events : (p : Process) (i : ℕ) (e : Ending) → p ≡ process_at i → get_elem? es i ≡ some e → trace_of t p ≡ e.trace.events.items
+  pub no_events : (p : Process) → IsOutside p (length es) → trace_of t p ≡ []
+  pub told : (c i : ℕ) (e : Ending) → Client c ≡ process_at i → get_elem? es i ≡ some e → record_of t c ≡ e.seen.items
+  pub none_told : (c : ℕ) → IsOutside (Client c) (length es) → record_of t c ≡ []
+  pub ins : (i : ℕ) (e : Ending) → get_elem? es i ≡ some e → length e.ins.items ≡ length es
+  pub outs : (i : ℕ) (e : Ending) → get_elem? es i ≡ some e → length e.outs.items ≡ length es
+  pub links : (i j : ℕ) (a b : Ending) (tx : Tx TreeStamped) (rx : Rx TreeStamped)
+      → get_elem? es i ≡ some a → get_elem? a.outs.items j ≡ some tx
+      → get_elem? es j ≡ some b → get_elem? b.ins.items i ≡ some rx
+      → Begins (taken_of rx) (put_of tx)
+
+pub begins_so : {A : Type 0} (a b c : List A) → Begins a b → Begins b c → Begins a c
+begins_so a b c x y = (x.0 ++ y.0, y.1 ∙ ap (λ l. l ++ y.0) x.1 ∙ append_assoc a x.0 y.0)
+
+module _ (last n : ℕ) (t : Traces) (es : List Ending) (ds : List (List TreeDeed)) (g : Tells last n t es)
+    (all : Chosen (λ i e d. AccountsAtEnd (self_at last n i) e d) es ds) where
+  mine : (i : ℕ) (e : Ending) → get_elem? es i ≡ some e → AccountsAtEnd (self_at last n i) e (get_or ds i [])
+  mine i e at = chosen_at (λ i e d. AccountsAtEnd (self_at last n i) e d) es ds all i e [] at
+
+  abbrev deeds_in : (p : Process) → Found p (length es) → List TreeDeed
+  deeds_in p (Inside i lt at) = get_or ds i []
+  deeds_in p (Outside out) = []
+
+  goes : (p : Process) (f : Found p (length es)) → GoesBy kept_tree p (standing_in (opening_world kept_tree t.last (client_count t)) p) 0 (deeds_in p f)
+  unfolding opening_of
+  goes p (Inside i lt at) =
+      let e = element es i lt in
+      let went : GoesBy kept_tree (process_at i) (standing_in (opening_world kept_tree last n) (process_at i)) 0 (get_or ds i []) = (mine i e.0 e.1).goes in
+      subst (λ (w : Process × ℕ × ℕ). GoesBy kept_tree w.0 (standing_in (opening_world kept_tree w.1 w.2) w.0) 0 (get_or ds i []))
+      (λ k. (sym at k, sym g.end k, sym g.count k)) went
+  goes p (Outside out) = tt
+
+  traced : (p : Process) (f : Found p (length es)) → trace_by (deeds_in p f) ≡ trace_of t p
+  traced p (Inside i lt at) = let e = element es i lt in (mine i e.0 e.1).traced ∙ sym (g.events p i e.0 at e.1)
+  traced p (Outside out) = sym (g.no_events p out)
+
+  recorded : (c : ℕ) (f : Found (Client c) (length es)) → told_by (deeds_in (Client c) f) ≡ record_of t c
+  recorded c (Inside i lt at) = let e = element es i lt in (mine i e.0 e.1).told ∙ sym (g.told c i e.0 at e.1)
+  recorded c (Outside out) = sym (g.none_told c out)
+
+  linked : (from to : Process) (f : Found from (length es)) (h : Found to (length es)) → Begins (takes from (deeds_in to h)) (puts to (deeds_in from f))
+  linked from to f (Outside out) = (puts to (deeds_in from f), refl)
+  linked from to (Outside out) (Inside j lt at) =
+      let e = element es j lt in
+      let none = (mine j e.0 e.1).others from (subst (λ m. IsOutside from m) (sym (g.ins j e.0 e.1)) out) in
+      ([], sym (append-nil (takes from (get_or ds j [])) ∙ none))
+  linked from to (Inside i lt at) (Inside j lt' at') =
+      let a = element es i lt in
+      let b = element es j lt' in
+      let tx = element a.0.outs.items j (subst (λ m. j < m) (sym (g.outs i a.0 a.1)) lt') in
+      let rx = element b.0.ins.items i (subst (λ m. i < m) (sym (g.ins j b.0 b.1)) lt) in
+      let taken = (mine j b.0 b.1).taken i rx.0 rx.1 in
+      let told = g.links i j a.0 b.0 tx.0 rx.0 a.1 tx.1 b.1 rx.1 in
+      let put = (mine i a.0 a.1).put j tx.0 tx.1 in
+      let so : Begins (takes (process_at i) (get_or ds j [])) (puts (process_at j) (get_or ds i [])) =
+      begins_so _ (taken_of rx.0) _ taken (subst (λ l. Begins (taken_of rx.0) l) put told) in
+      subst (λ (q : Process × Process). Begins (takes q.0 (get_or ds j [])) (puts q.1 (get_or ds i []))) (λ k. (sym at k, sym at' k)) so
+
+  pub accounted : AreLawful t
+  accounted =
+      let there : (p : Process) → Found p (length es) = λ p. find p (length es) in (
+        λ p. deeds_in p (there p),
+        record {
+          goes = λ p. goes p (there p);
+          traced = λ p. traced p (there p);
+          linked = λ from to. linked from to (there from) (there to);
+          recorded = λ c. recorded c (there (Client c));
+        },
+      )

@@ -1,0 +1,4 @@
+pub mod Elements
+pub mod Stands
+pub mod Accounts
+pub mod Whole

@@ -1,0 +1,38 @@
+-- What the processes of a run left: the master, the servers by number, and the clients by number.
+use Rattle.std.specs.Prelude.{ℕ, Bool, ◌||◌, List, ◌∷◌, ◌++◌, length, map}
+use Rattle.std.specs.List.{list_any}
+use Rattle.ztraces.specs.declared.trace.ClientTrace.{ClientTrace}
+use Rattle.zlinks.specs.Places.{process_at}
+use Rattle.zrings.specs.Ends.{ring_of_rx, ring_of_tx}
+use Rattle.zmesh.specs.Woven.{IsWoven}
+use Rattle.zdesks.specs.declared.desk.Ending.{Ending}
+use Rattle.zdesks.specs.Desks.{Each, opening_of, Self}
+use Rattle.zdesks.specs.Endings.{HasEnded}
+
+-- all of them, by place
+abbrev pub by_place : Ending → List Ending → List Ending → List Ending
+by_place master servers clients = master ∷ (servers ++ clients)
+
+-- who stands at a place of a run whose chain ends with that server, with so many clients
+abbrev pub self_at : ℕ → ℕ → ℕ → Self
+self_at last clients i = record { me = process_at i; opening = opening_of last clients (process_at i) }
+
+-- each is what the process of its place left
+abbrev pub AreLeft : ℕ → ℕ → List Ending → Type 0
+AreLeft last clients endings = Each (λ i e. HasEnded (self_at last clients i) e) endings
+
+-- they have the ends of links from each of them to each
+abbrev pub AreWired : List Ending → Type 0
+AreWired endings =
+    IsWoven (length endings) (map (λ (e : Ending). map ring_of_tx e.outs.items) endings)
+    (map (λ (e : Ending). map ring_of_rx e.ins.items) endings)
+
+-- one of their traces is cut
+abbrev pub is_left_cut : Ending → List Ending → List Ending → Bool
+is_left_cut master servers clients =
+    master.trace.is_cut
+    || (list_any (λ (e : Ending). e.trace.is_cut) servers || list_any (λ (e : Ending). e.trace.is_cut) clients)
+
+-- a client's trace and record
+abbrev pub client_trace_of : Ending → ClientTrace
+client_trace_of e = record { trace = e.trace; «record» = e.seen }

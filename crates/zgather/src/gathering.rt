@@ -1,0 +1,71 @@
+//! The traces of a run.
+
+ghost use Rattle.std.specs.Prelude.{◌≡◌, ◌≤◌, false, IfOk, length, map, true};
+ghost use Rattle.ztree.specs.declared.limits.TheConstants.{MAX_CLIENTS};
+ghost use Rattle.zserver_table.specs.declared.limits.TheConstants.{MAX_SERVERS};
+ghost use Rattle.ztraces.specs.Audit.{is_any_cut};
+ghost use Rattle.ztraces.specs.Lawful.{AreLawful};
+ghost use Rattle.zdesks.specs.declared.desk.Ending.{Ending};
+ghost use Rattle.zgather.specs.Left.{AreLeft, AreWired, by_place, client_trace_of, is_left_cut};
+
+use crate::keeping::{is_any_cut, keep, keep_clients, keep_servers};
+use std::alloc::Global;
+use zdesks::Ending;
+use zmesh::{Mesh, are_told};
+use zpath::Memory;
+use zserver_table::ServerId;
+use ztraces::{ClientTrace, Traces};
+
+/// The traces of a run whose chain began with the servers up to the last one, from what its processes left: the master, the
+/// servers by number, and the clients by number. They are lawful, unless one is cut. The master's is cut where a link can't tell
+/// what was put on it.
+pub fn gather(
+    alloc: Global,
+    last: ServerId,
+    master: Ending,
+    servers: Vec<Ending>,
+    clients: Vec<Ending>,
+) -> Result<Traces, Memory>
+    requires servers { length servers.items ≡ MAX_SERVERS }
+    requires clients { length clients.items ≤ MAX_CLIENTS }
+    requires left { AreLeft last (length clients.items) (by_place master servers.items clients.items) }
+    requires wired { is_left_cut master servers.items clients.items ≡ false
+        → AreWired (by_place master servers.items clients.items) }
+    ensures last { IfOk result (λ traces. traces.last ≡ last) }
+    ensures master { IfOk result (λ traces. traces.master.events ≡ master.trace.events) }
+    ensures servers { IfOk result (λ traces. traces.servers.items
+        ≡ map (λ (e : Ending). e.trace) servers.items) }
+    ensures clients { IfOk result (λ traces. traces.clients.items
+        ≡ map client_trace_of clients.items) }
+    ensures lawful { IfOk result (λ traces. is_any_cut traces ≡ false → ∥ AreLawful traces ∥₁) }
+    ensures whole { is_left_cut master servers.items clients.items ≡ true
+        → IfOk result (λ traces. traces.master.is_cut ≡ master.trace.is_cut) }
+{
+    let is_cut = master.trace.is_cut | (is_any_cut(&servers) | is_any_cut(&clients));
+    let count = 1 + servers.len() + clients.len();
+    let outs = Vec::with_capacity(alloc, count)?;
+    let ins = Vec::with_capacity(alloc, count)?;
+    let mut mesh = Mesh { outs, ins };
+    let ClientTrace {
+        trace: mut trace,
+        record,
+    } = keep(&mut mesh, master)?;
+    drop(record);
+    let servers = keep_servers(alloc, &mut mesh, servers)?;
+    let clients = keep_clients(alloc, &mut mesh, clients)?;
+    let is_told = if is_cut {
+        drop(mesh);
+        true
+    } else {
+        are_told(mesh)
+    };
+    if !is_told {
+        trace.is_cut = true;
+    }
+    Ok(Traces {
+        last,
+        master: trace,
+        servers,
+        clients,
+    })
+}

@@ -1,0 +1,29 @@
+-- What was put on each link, and what was taken from it.
+use Rattle.std.specs.Prelude.{◌≡◌, ℕ, List, ◌++◌, map}
+use mathlib.Core.Option.{some}
+use lib.ListN.{get_elem?}
+use Rattle.std.specs.declared.alloc.Global.{Global}
+use Rattle.std.specs.declared.vec.Vec.{Vec}
+use Rattle.zrings.specs.declared.ends.Tx.{Tx}
+use Rattle.zrings.specs.declared.ends.Rx.{Rx}
+use Rattle.zrings.specs.Ends.{put_of, taken_of}
+
+-- what each process put, by the place of the other
+abbrev pub out_lists : {M : Type 0} → List (Vec (Tx M) Global) → List (List (List M))
+out_lists rows = map (λ row. map put_of row.items) rows
+
+-- what each process took, by the place of the other
+abbrev pub in_lists : {M : Type 0} → List (Vec (Rx M) Global) → List (List (List M))
+in_lists columns = map (λ column. map taken_of column.items) columns
+
+-- what the one took from the other begins what the other put to it
+abbrev pub IsToldAt : {M : Type 0} → List (List (List M)) → List (List (List M)) → ℕ → ℕ → Type 0
+IsToldAt {M} outs ins i j =
+    (row column : List (List M)) (put taken : List M)
+    → get_elem? outs i ≡ some row → get_elem? row j ≡ some put
+    → get_elem? ins j ≡ some column → get_elem? column i ≡ some taken
+    → (rest : List M) × (put ≡ taken ++ rest)
+
+-- each took from each the beginning of what the other put to it
+abbrev pub AreTold : {M : Type 0} → List (List (List M)) → List (List (List M)) → Type 0
+AreTold outs ins = (i j : ℕ) → IsToldAt outs ins i j

@@ -1,0 +1,8 @@
+use Rattle.std.proofs.Common.{◌≡◌, length}
+use Rattle.zrace.proofs.field.Field.join_all.Given as goal
+
+abbrev pub invariant-loop-handle : goal.invariant-loop-handle
+invariant-loop-handle g l = l.self.given ≡ l.initial.self.given
+
+abbrev pub decreases-loop-handle : goal.decreases-loop-handle
+decreases-loop-handle g l = length l.self.handles.items

@@ -1,8 +1,0 @@
-use Rattle.std.proofs.Common.{length}
-use Rattle.zrace.proofs.racing.Field.join_all.Given as goal
-
-abbrev pub invariant-loop-handle : goal.invariant-loop-handle
-invariant-loop-handle g l = Unit {0}
-
-abbrev pub decreases-loop-handle : goal.decreases-loop-handle
-decreases-loop-handle g l = length l.self.handles.items

@@ -1,0 +1,37 @@
+use Rattle.std.proofs.Common.{◌≡◌, ◌+◌, ◌-◌, ◌∷◌, suc, length, reverse, refl, sym, ap, subst, ◌∙◌, length-append, arith}
+use Rattle.zcaller.specs.Callers.{caller_desk}
+use Rattle.zrun.specs.Clients.{client_desks}
+use Rattle.zrun.specs.Runs.{AreDesks}
+use Rattle.zrun.specs.Supplies.{HandsOut}
+use Rattle.zrun.proofs.Desks.{client_process, clients_pushed, hands_more, more_desks}
+use Rattle.zrun.proofs.posts.prepare_clients.Goals as goal
+
+pub loop-done-preserved : goal.loop-done-preserved
+loop-done-preserved c =
+    let i = c.loop-done.invariant in
+    let o = c.args.opening.now in
+    let old = c.loop-done.clients.items in
+    let done = c.loop-done.done in
+    let d = caller_desk c.caller-caller.result in
+    let grown = c.in_ok-push.ensures.items in
+    let seen = clients_pushed c.push.new.self.items old _ grown in
+    let before = client_desks (reverse old) in
+    let lt = c.loop-done-test.true in
+    let end = i.3 in
+    let number = c.in-Some.ensures.client in
+    let k = 9 + (o.clients - (done + 1)) in
+    let here : k ≡ 9 + c.in-Some.id = omega (arith, number, lt, end) in
+    let is = c.caller-caller.ensures.desk in
+    let all : AreDesks o.last o.clients k (d ∷ before) =
+    more_desks o.last o.clients k d before (is.0 ∙ client_process k c.in-Some.id here, is.1, is.2)
+    (let next : 9 + (o.clients - done) ≡ suc k = omega (arith, lt, end) in subst (λ m. AreDesks o.last o.clients m before) next i.5) in
+    let handed = hands_more c.args.supply.now c.loop-done.supply c.next.new.self c.in_ok-ends.ends d before i.4 c.in_ok-ends.ensures.rings c.caller-caller.ensures.ends in
+    let less = c.in_ok-ends.ensures.left in
+    let was = i.1 in (
+      ap length grown ∙ length-append old _ ∙ ap (λ n. n + 1) i.0,
+      omega (arith, less, was),
+      refl,
+      refl,
+      subst (λ l. HandsOut c.args.supply.now c.next.new.self l) (sym seen) handed,
+      subst (λ l. AreDesks o.last o.clients k l) (sym seen) all,
+    )

@@ -1,0 +1,29 @@
+-- What the threads of a run were started with.
+use Rattle.std.specs.Prelude.{List, ◌∷◌, ◌++◌, map}
+use Rattle.std.specs.declared.thread.PromisedHandle.{PromisedHandle}
+use Rattle.zconsole.specs.declared.ends.Inbox.{Inbox}
+use Rattle.zdesks.specs.declared.desk.Desk.{Desk}
+use Rattle.zthreads.specs.declared.server_thread.ServerThread.{ServerThread}
+use Rattle.zthreads.specs.declared.master_thread.MasterThread.{MasterThread}
+use Rattle.zthreads.specs.Owned.{master_desk, server_desk}
+use Rattle.zrun.specs.declared.promises.SameServer.{SameServer}
+use Rattle.zrun.specs.declared.promises.SameMaster.{SameMaster}
+use Rattle.zrun.specs.declared.client.Client.{Client}
+use Rattle.zrun.specs.Clients.{client_desks}
+
+abbrev pub ServerHandle : Type 0
+ServerHandle = PromisedHandle ServerThread SameServer
+
+abbrev pub MasterHandle : Type 0
+MasterHandle = PromisedHandle (MasterThread × Inbox) SameMaster
+
+-- the desk of what a thread was started with
+abbrev pub given_server : ServerHandle → Desk
+given_server h = server_desk h.promise.0.value
+
+abbrev pub given_master : MasterHandle → Desk
+given_master h = master_desk h.promise.0.value
+
+-- the desks of all, by place
+abbrev pub given_desks : MasterHandle → List ServerHandle → List Client → List Desk
+given_desks master servers clients = given_master master ∷ (map given_server servers ++ client_desks clients)

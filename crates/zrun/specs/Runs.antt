@@ -1,0 +1,36 @@
+-- The desks of a run, by place, and what they left.
+use Rattle.std.specs.Prelude.{◌≡◌, ◌⊎◌, ℕ, ◌+◌, true, List, [], ◌∷◌, length, map}
+use Rattle.zlinks.specs.Places.{process_at}
+use Rattle.zrings.specs.Ends.{Ring, ring_of_rx, ring_of_tx}
+use Rattle.zmesh.specs.Woven.{IsWoven}
+use Rattle.zdesks.specs.declared.desk.Desk.{Desk}
+use Rattle.zdesks.specs.declared.desk.Ending.{Ending}
+use Rattle.zdesks.specs.Desks.{Each, IsDeskOf, self_of, wires_of}
+use Rattle.zdesks.specs.Endings.{HasEnded, SameWires}
+
+-- the rings on which a process puts, and those from which it takes
+abbrev pub out_rings_of : Desk → List Ring
+out_rings_of d = map ring_of_tx (wires_of d).1
+
+abbrev pub in_rings_of : Desk → List Ring
+in_rings_of d = map ring_of_rx (wires_of d).0
+
+-- they are the desks of the processes from that place on
+abbrev pub AreDesks : ℕ → ℕ → ℕ → List Desk → Type 0
+AreDesks last clients place desks = Each (λ i d. IsDeskOf (process_at (place + i)) last clients d) desks
+
+-- they are the desks of all processes of a run, with a link from each to each
+pub record IsRun (last clients : ℕ) (desks : List Desk) : Type 0 where
+  pub each : AreDesks last clients 0 desks
+  pub wired : IsWoven (length desks) (map out_rings_of desks) (map in_rings_of desks)
+
+-- it is what the desk left, or its trace is cut
+abbrev pub IsLeftBy : Desk → Ending → Type 0
+IsLeftBy d e = (e.trace.is_cut ≡ true) ⊎ (HasEnded (self_of d) e × SameWires d e)
+
+-- each is what the desk of its place left, or its trace is cut
+abbrev pub AreLeftBy : List Desk → List Ending → Type 0
+AreLeftBy [] [] = Unit {0}
+AreLeftBy [] (e ∷ es) = ⊥
+AreLeftBy (d ∷ ds) [] = ⊥
+AreLeftBy (d ∷ ds) (e ∷ es) = IsLeftBy d e × AreLeftBy ds es
