@@ -1,7 +1,10 @@
 -- What a clause says of a client with its desk.
-use Rattle.std.specs.Prelude.{◌≡◌, ◌⊎◌, ◌<◌, ℕ, Bool, true, false, Option, max, is_some}
+use Rattle.std.specs.Prelude.{◌≡◌, ◌⊎◌, ◌<◌, ℕ, Bool, true, false, Option, Some, max, is_some}
 use Rattle.zcalls.specs.declared.call.Call.{Call}
 use Rattle.zcalls.specs.declared.reply.Reply.{Reply}
+use Rattle.zclient_table.specs.declared.begin_fault.BeginFault.{BeginFault}
+use Rattle.zclient_table.specs.declared.begin_fault.BeginFault.TheVariants.{Memory}
+use Rattle.zclient_table.specs.Table.{begin_fault}
 use Rattle.zclient_table.specs.View.{ClientView}
 use Rattle.zserver_table.specs.declared.process.Process.{Process}
 use Rattle.ztraces.specs.Stamps.{next_stamp}
@@ -34,6 +37,11 @@ IsLater a b = is_cut_of b.desk ≡ false → caller_stamp a < stamp_of_desk b.de
 -- the event has the stamp behind all that it knew
 abbrev pub IsNext : Caller → Caller → Type 0
 IsNext a b = stamp_of_desk b.desk ≡ next_stamp (caller_stamp a)
+
+-- why a call isn't begun, by the first test that holds; or want of memory, where the client waits for no call
+abbrev pub MayRefuse : ClientView → BeginFault → Type 0
+MayRefuse v Memory = is_some v.outstanding ≡ false
+MayRefuse v fault = begin_fault v ≡ Some fault
 
 -- it began the call with that number
 abbrev pub Began : Caller → Caller → Call → ℕ → Type 0

@@ -1,6 +1,7 @@
 //! A client begins a call, and sends it again.
 
-ghost use Rattle.std.specs.Prelude.{◌≡◌, ◌<◌, true, [], Option, ℕ, IfOk, OnErr, OnOk, is_some, max};
+ghost use Rattle.std.specs.Prelude.{◌≡◌, ◌<◌, true, [], Option, ℕ, IfErr, IfOk, OnErr, OnOk};
+ghost use Rattle.std.specs.Prelude.{false, is_some, max};
 ghost use Rattle.zserver_table.specs.declared.process.Process.{Process};
 ghost use Rattle.zserver_table.specs.declared.process.Process.TheVariants.{Client};
 ghost use Rattle.zworld_model.specs.declared.history.CallEvent.TheVariants as call_event;
@@ -9,6 +10,7 @@ ghost use Rattle.ztraces.specs.declared.trace.Act.TheVariants as act;
 ghost use Rattle.ztraces.specs.Deeds.{AtClient};
 ghost use Rattle.zdesks.specs.Desks.{HasRoom, IsSettled, pending, process_of, SameBooks, SameDesk};
 ghost use Rattle.zdesks.specs.Desks.{stamp_of_desk, Stands, TreeStamped};
+ghost use Rattle.zcaller.specs.Callers.{MayRefuse};
 ghost use Rattle.zcaller.specs.Steps.{Begins, IsCutForNeed, SendsAgain};
 
 use std::alloc::Global;
@@ -32,9 +34,11 @@ pub(crate) fn begin_at(
     requires settled { IsSettled desk.old }
     requires room { HasRoom desk.old }
     requires next { next < MAX_STAMP → max (stamp_of_desk desk.old) 0 < next }
+    requires free { is_some core.old.outstanding ≡ false }
     ensures at { (t : Option (Process × TreeStamped)) → Stands desk.old (AtClient core.old) t []
         → Stands desk.new (AtClient core.new) t (pending desk.new) }
     ensures begun { IfOk result (Begins id desk.old core.old desk.new core.new call) }
+    ensures fault { IfErr result (MayRefuse core.old) }
     ensures stamp { OnOk result (stamp_of_desk desk.new ≡ next) }
     ensures whole { OnOk result (IsCutForNeed desk.old desk.new) }
     ensures kept { OnErr result (core.new ≡ core.old) }

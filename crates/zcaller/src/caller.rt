@@ -1,6 +1,6 @@
 //! What a caller's thread owns.
 
-ghost use Rattle.std.specs.Prelude.{◌≡◌, IfOk, OnErr, OnOk, max, true};
+ghost use Rattle.std.specs.Prelude.{◌≡◌, IfErr, IfOk, OnErr, OnOk, max, true};
 ghost use Rattle.zserver_table.specs.declared.process.Process.TheVariants.{Client};
 ghost use Rattle.ztraces.specs.Deeds.{AtClient};
 ghost use Rattle.zdesks.specs.Desks.{is_cut_of, IsAt, IsSettled, pending, process_of, SameDesk};
@@ -37,6 +37,7 @@ pub struct Caller {
 impl Caller {
     ghost use Rattle.zcaller.specs.Callers.{Began, IsUncut, Retried, SameCaller, Turned};
     ghost use Rattle.zcaller.specs.Callers.{caller_desk, caller_id, caller_stamp, caller_view};
+    ghost use Rattle.zcaller.specs.Callers.{MayRefuse};
 
     /// The client with a desk that has done nothing.
     pub fn new(alloc: Global, id: ClientId, desk: Desk, core: ClientCore) -> Caller
@@ -57,6 +58,14 @@ impl Caller {
         }
     }
 
+    /// Its number.
+    pub fn id(&self) -> ClientId
+        ensures { result ≡ caller_id self.now }
+    {
+        let Caller { id, .. } = self;
+        *id
+    }
+
     /// The last stamp of its events, or a later one that it was told of.
     pub fn stamp(&self) -> Stamp
         ensures { result ≡ caller_stamp self.now }
@@ -68,15 +77,18 @@ impl Caller {
     pub fn learn(&mut self, stamp: Stamp)
         ensures stamp { caller_stamp self.new ≡ max (caller_stamp self.old) stamp }
         ensures same { SameCaller self.old self.new }
+        ensures desk { caller_desk self.new ≡ caller_desk self.old }
     {
         self.learnt = self.learnt.later(stamp);
     }
 
     /// Begins a call, and answers its number. Busy where one has no answer yet, Exhausted where there are no numbers left, and
     /// Memory where none is found: then nothing is begun.
+    #[tactic(auto, unfolding(zclient_table::specs::Table::begin_fault))]
     pub fn begin(&mut self, call: Call) -> Result<CallNumber, BeginFault>
         ensures same { SameDesk (caller_desk self.old) (caller_desk self.new) }
         ensures began { IfOk result (Began self.old self.new call) }
+        ensures fault { IfErr result (MayRefuse (caller_view self.old)) }
         ensures refused { OnErr result (SameCaller self.old self.new) }
         ensures whole { OnOk result (IsUncut self.old self.new) }
     {
@@ -164,7 +176,8 @@ impl Caller {
         ensures trace { result.1.trace.events.items ≡ trace_of (caller_desk self) }
         ensures seen { result.1.seen.items ≡ seen_of (caller_desk self) }
         ensures cut { is_cut_of (caller_desk self) ≡ true → result.1.trace.is_cut ≡ true }
-        ensures whole { IsSettled (caller_desk self) → result.1.trace.is_cut ≡ is_cut_of (caller_desk self) }
+        ensures whole { IsSettled (caller_desk self)
+            → result.1.trace.is_cut ≡ is_cut_of (caller_desk self) }
     {
         let Caller {
             id,

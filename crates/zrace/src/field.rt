@@ -1,59 +1,52 @@
 //! Those that race, in their threads and out of them.
 
-ghost use Rattle.std.specs.Prelude.{◌≡◌, [], All, IfOk};
+ghost use Rattle.std.specs.Prelude.{◌≡◌, ◌<◌, [], All, IfOk, IfSome};
 ghost use Rattle.std.specs.Arc.{arc_value};
+ghost use Rattle.ztree.specs.declared.limits.TheConstants.{MAX_CLIENTS};
 ghost use Rattle.zwords.specs.Passes.{IsPassOf};
-ghost use Rattle.zrun.specs.Clients.{IsOneOf};
-ghost use Rattle.zrace.specs.Runners.{given_runner, IsKeptBehind, runner_desk};
-ghost use Rattle.zdesks.specs.Desks.{SameDesk};
+ghost use Rattle.zrun.specs.Clients.{BelongsTo, SameClient};
+ghost use Rattle.zrun.specs.Members.{clients_run};
+ghost use Rattle.zrace.specs.Runners.{given_client, IsKeptBehind};
 
 use crate::plan::Race;
-use crate::promise::SameRunner;
-use crate::runner::Runner;
+use crate::runner::{Runner, Seen};
 use std::alloc::Global;
-use std::snapshot::Snapshot;
 use std::sync::{Arc, Wait};
 use std::thread;
 use std::thread::{PromisedHandle, Threads};
+use zcalls::ClientId;
 use zpath::Memory;
-use zrun::{Client, StartFault};
+use zrun::{Client, Clients, HandsBack, StartFault};
 use zwords::tickets::{Pass, Tickets};
 
 /// Room for all that race.
 #[derive(Drop)]
 pub(crate) struct Room {
-    handles: Vec<PromisedHandle<Runner, SameRunner>>,
-    back: Vec<Client>,
+    handles: Vec<PromisedHandle<(Client, Seen), HandsBack>>,
     versions: Vec<Option<u64>>,
     ghost none_runs: { handles.items ≡ [] },
-    ghost none_back: { back.items ≡ [] },
 }
 
 /// Those that race, and what came back of them.
 #[derive(Drop)]
 pub(crate) struct Field {
-    handles: Vec<PromisedHandle<Runner, SameRunner>>,
+    handles: Vec<PromisedHandle<(Client, Seen), HandsBack>>,
     /// The clients that are not in a thread.
-    pub(crate) back: Vec<Client>,
+    pub(crate) clients: Clients,
     /// Each node's version, as far as it is known.
     pub(crate) versions: Vec<Option<u64>>,
-    // the clients as they were at the start
-    pub(crate) given: Snapshot<Vec<Client>>,
-    ghost run: { All (λ handle. IsOneOf given.value.items (given_runner handle)) handles.items },
-    ghost here: { All (λ client. IsOneOf given.value.items client) back.items },
+    ghost own: { All (λ handle. BelongsTo (clients_run clients) (given_client handle)) handles.items },
 }
 
 impl Room {
-    /// Room for the clients of a race, and its nodes.
+    /// Room for the threads of a race, and its nodes.
     pub(crate) fn new(alloc: Global, race: &Race) -> Result<Room, Memory> {
-        let racers = race.clients as usize;
         let mut versions = Vec::with_capacity(alloc, race.rounds as usize)?;
         for _ in 0..race.rounds {
             versions.push(None)?;
         }
         Ok(Room {
-            handles: Vec::with_capacity(alloc, racers)?,
-            back: Vec::with_capacity(alloc, racers + 1)?,
+            handles: Vec::with_capacity(alloc, race.clients as usize)?,
             versions,
         })
     }
@@ -61,24 +54,18 @@ impl Room {
 
 impl Field {
     /// Nobody races yet, of these clients.
-    pub(crate) fn new(room: Room, clients: &Vec<Client>) -> Field
-        ensures { result.given.value ≡ clients.now }
+    pub(crate) fn new(room: Room, clients: Clients) -> Field
+        ensures { result.clients ≡ clients }
     {
-        let given = Snapshot::of(clients);
-        let Room {
-            handles,
-            back,
-            versions,
-        } = room;
+        let Room { handles, versions } = room;
         Field {
             handles,
-            back,
+            clients,
             versions,
-            given,
         }
     }
 
-    /// Starts a thread for each client that a pass is left for, the last ones first; the others stand aside.
+    /// Starts a thread for each client but the first, while there are passes.
     pub(crate) fn start_all<R: Threads + Wait + Copy + Send + 'static>(
         &mut self,
         rt: R,
@@ -86,30 +73,30 @@ impl Field {
         race: &Race,
         tickets: &Arc<Tickets, Global>,
         mut passes: Vec<Pass>,
-        mut clients: Vec<Client>,
     ) -> Result<(), StartFault>
-        requires passes { All (λ pass. IsPassOf (arc_value tickets.now) pass) passes.items }
-        requires own { All (λ client. IsOneOf self.old.given.value.items client) clients.items }
-        ensures { self.new.given ≡ self.old.given }
+        requires { All (λ pass. IsPassOf (arc_value tickets.now) pass) passes.items }
+        ensures { clients_run self.new.clients ≡ clients_run self.old.clients }
     {
-        while let Some(client) = clients.pop() {
-            match passes.pop() {
-                Some(pass) => self.start(rt, alloc, race, tickets, pass, client)?,
-                None => self.keep_client(client),
-            }
+        for number in 0..race.clients {
+            let Some(pass) = passes.pop() else {
+                return Ok(());
+            };
+            let Some(client) = racer(&mut self.clients, number + 1) else {
+                return Ok(());
+            };
+            self.start(rt, alloc, race, tickets, pass, client)?;
         }
         Ok(())
     }
 
     /// Waits for all threads.
     pub(crate) fn join_all<R: Threads>(&mut self, rt: &R)
-        ensures { self.new.given ≡ self.old.given }
+        ensures { clients_run self.new.clients ≡ clients_run self.old.clients }
     {
         while let Some(handle) = self.handles.pop() {
-            let runner = handle.join(rt);
-            let Runner { client, seen, .. } = runner;
+            let (client, seen) = handle.join(rt);
             note(&mut self.versions, &seen);
-            self.keep_client(client);
+            self.clients.put(client);
         }
     }
 
@@ -124,21 +111,24 @@ impl Field {
         client: Client,
     ) -> Result<(), StartFault>
         requires pass { IsPassOf (arc_value tickets.now) pass }
-        requires own { IsOneOf self.old.given.value.items client }
-        ensures { self.new.given ≡ self.old.given }
+        requires own { BelongsTo (clients_run self.old.clients) client }
+        ensures { clients_run self.new.clients ≡ clients_run self.old.clients }
     {
         let handle = start_runner(rt, alloc, race, tickets, pass, client)?;
         keep(&mut self.handles, handle);
         Ok(())
     }
+}
 
-    // One more that isn't in a thread.
-    fn keep_client(&mut self, client: Client)
-        requires { IsOneOf self.old.given.value.items client }
-        ensures given { self.new.given ≡ self.old.given }
-        ensures handles { self.new.handles ≡ self.old.handles }
-    {
-        keep(&mut self.back, client);
+// The client of this number.
+fn racer(clients: &mut Clients, number: u8) -> Option<Client>
+    requires { number < MAX_CLIENTS }
+    ensures run { clients_run clients.new ≡ clients_run clients.old }
+    ensures own { IfSome result (BelongsTo (clients_run clients.old)) }
+{
+    match ClientId::new(number) {
+        Some(id) => clients.take(id),
+        None => unreachable!(),
     }
 }
 
@@ -169,18 +159,18 @@ fn start_runner<R: Threads + Wait + Copy + Send + 'static>(
     tickets: &Arc<Tickets, Global>,
     pass: Pass,
     client: Client,
-) -> Result<PromisedHandle<Runner, SameRunner>, StartFault>
+) -> Result<PromisedHandle<(Client, Seen), HandsBack>, StartFault>
     requires { IsPassOf (arc_value tickets.now) pass }
-    ensures { IfOk result (λ handle. given_runner handle ≡ client) }
+    ensures { IfOk result (λ handle. given_client handle ≡ client) }
 {
+    let promise = HandsBack::of(&client);
     let runner = runner_of(alloc, race, tickets, pass, client)?;
     let (rounds, halt) = (race.rounds as u64, race.halt);
-    let promise = SameRunner(Snapshot::of(&runner));
     match thread::spawn_with(
         &rt,
         promise,
-        move || -> Runner
-            ensures { SameDesk (runner_desk runner) (runner_desk result) }
+        move || -> (Client, Seen)
+            ensures { SameClient runner.client result.0 }
         { runner.run(alloc, rounds, halt) },
     ) {
         Ok(handle) => Ok(handle),

@@ -4,7 +4,6 @@
 mod field;
 mod outcome;
 mod plan;
-mod promise;
 mod racing;
 mod runner;
 

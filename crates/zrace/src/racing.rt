@@ -41,11 +41,15 @@ pub fn race<R: Threads + Wait + Copy + Send + 'static>(
         race.clients + 1,
         gates,
     )?;
-    let mut field = Field::new(room, &clients);
-    let started = field.start_all(rt, alloc, race, &tickets, passes, clients);
+    let mut field = Field::new(room, clients);
+    let started = field.start_all(rt, alloc, race, &tickets, passes);
     field.join_all(&rt);
-    let Field { versions, back, .. } = field;
-    let traces = cluster.join(&rt, alloc, console, back)?;
+    let Field {
+        versions,
+        clients,
+        ..
+    } = field;
+    let traces = cluster.join(&rt, alloc, console, clients)?;
     started?;
     let audit = audited(alloc, &traces);
     Ok(Outcome { versions, audit })

@@ -3,8 +3,7 @@
 ghost use Rattle.std.specs.Prelude.{◌≡◌};
 ghost use Rattle.std.specs.Arc.{arc_value};
 ghost use Rattle.zwords.specs.Passes.{IsPassOf};
-ghost use Rattle.zdesks.specs.Desks.{SameDesk};
-ghost use Rattle.zrun.specs.Clients.{client_desk};
+ghost use Rattle.zrun.specs.Clients.{SameClient};
 
 use std::alloc::Global;
 use std::sync::Arc;
@@ -21,36 +20,42 @@ const RETRIES: u64 = 1_000;
 // a pass may draw so often
 const DRAWS: u64 = 1 << 32;
 
+/// The nodes of tickets, with the version that was seen of each.
+pub(crate) type Seen = Vec<(u64, u64)>;
+
 /// One that races.
 #[derive(Drop)]
 pub(crate) struct Runner {
     pub(crate) client: Client,
     pub(crate) tickets: Arc<Tickets, Global>,
     pub(crate) pass: Pass,
-    /// The nodes of its tickets, with the version that it saw of each.
-    pub(crate) seen: Vec<(u64, u64)>,
+    pub(crate) seen: Seen,
     ghost own: { IsPassOf (arc_value tickets) pass },
 }
 
 impl Runner {
-    ghost use Rattle.zrace.specs.Runners.{runner_desk};
-
     /// Draws until the nodes are all given out, and takes each through its three calls. It ends early where a call has no
-    /// answer.
-    pub(crate) fn run(mut self, alloc: Global, rounds: u64, halt: Option<ServerId>) -> Runner
-        ensures { SameDesk (runner_desk self) (runner_desk result) }
+    /// answer. It hands back its client, and what it saw.
+    pub(crate) fn run(
+        mut self,
+        alloc: Global,
+        rounds: u64,
+        halt: Option<ServerId>,
+    ) -> (Client, Seen)
+        ensures { SameClient self.client result.0 }
     {
         for _ in 0..rounds {
             if !self.run_lap(alloc, rounds, &halt) {
-                return self;
+                break;
             }
         }
-        self
+        let Runner { client, seen, .. } = self;
+        (client, seen)
     }
 
     // Draws, and takes the node through its calls. False where there is none left, or a call has no answer.
     fn run_lap(&mut self, alloc: Global, rounds: u64, halt: &Option<ServerId>) -> bool
-        ensures { SameDesk (runner_desk self.old) (runner_desk self.new) }
+        ensures { SameClient self.old.client self.new.client }
     {
         if self.pass.count() >= DRAWS {
             return false;
@@ -76,7 +81,7 @@ impl Runner {
 
 // One node: it is created, set once, and asked for. Once it is set, a server may be halted.
 fn lap(client: &mut Client, alloc: Global, node: u64, halted: Option<ServerId>) -> Option<u64>
-    ensures { SameDesk (client_desk client.old) (client_desk client.new) }
+    ensures { SameClient client.old client.new }
 {
     let created = ask(client, create(alloc, node)?)?;
     drop(created);
@@ -126,7 +131,7 @@ fn no_data(alloc: Global) -> Option<Data> {
 
 // The reply of a call, which is sent again while it has none.
 fn ask(client: &mut Client, call: Call) -> Option<Reply>
-    ensures { SameDesk (client_desk client.old) (client_desk client.new) }
+    ensures { SameClient client.old client.new }
 {
     match client.call(call, TURNS) {
         Ok(reply) => return Some(reply),

@@ -8,9 +8,10 @@ use Rattle.zlinks.specs.Places.{process_at}
 use Rattle.zgather.proofs.Elements.{element_right}
 use Rattle.zgather.proofs.Stands.{client_here, server_here}
 use Rattle.zthreads.specs.Owned.{server_desk}
-use Rattle.zrun.specs.declared.client.Client as client
+use Rattle.zcaller.specs.Callers.{caller_desk}
+use Rattle.zrun.specs.declared.posts.ClientPost.{ClientPost}
 use Rattle.zrun.specs.declared.posts.ServerPost.{ServerPost}
-use Rattle.zrun.specs.Clients.{client_desk, client_desks}
+use Rattle.zrun.specs.Origins.{client_desks, Run}
 use Rattle.zrun.specs.Posts.{post_desks}
 use Rattle.zrings.specs.Ends.{Ring}
 use Rattle.zmesh.specs.Woven.{in_rings, IsWoven, out_rings}
@@ -33,8 +34,8 @@ pub server_process : (i s : ℕ) → i ≡ s → 0 < s → s ≤ 8 → Server s 
 server_process i s at first few = same_process (Server s) (process_at s) (server_here s first few) ∙ ap process_at (sym at)
 
 -- the desks of what was put behind others, and is seen from behind
-pub clients_pushed : (new old : List client.Client) (c : client.Client) → new ≡ old ++ c ∷ []
-    → client_desks (reverse new) ≡ client_desk c ∷ client_desks (reverse old)
+pub clients_pushed : (new old : Run) (c : ClientPost) → new ≡ old ++ c ∷ []
+    → client_desks (reverse new) ≡ caller_desk c.caller ∷ client_desks (reverse old)
 clients_pushed new old c grown = ap (λ l. client_desks (reverse l)) grown ∙ ap client_desks (reverse_push old c)
 
 pub posts_pushed : (new old : List ServerPost) (p : ServerPost) → new ≡ old ++ p ∷ [] → post_desks new ≡ server_desk p.member ∷ post_desks old

@@ -1,11 +1,8 @@
 -- What desks left.
-use Rattle.std.proofs.Common.{◌≡◌, ◌≢◌, ◌<◌, ◌+◌, ◌||◌, inl, inr, ⊎_elim, ◌≤◌, ◌-◌, ℕ, zero, suc, Bool, true, false, true≢false, List, [], ◌∷◌, ◌++◌, length, map, set, get_or, refl, sym, ap, subst, ◌∙◌, arith}
-use Rattle.std.specs.Prelude.{All}
+use Rattle.std.proofs.Common.{◌≡◌, ◌<◌, ◌+◌, ◌||◌, inl, inr, ℕ, zero, suc, Bool, Option, None, Some, false, true≢false, List, [], ◌∷◌, length, map, get_or, refl, sym, ap, subst, ◌∙◌, arith}
 use Rattle.std.specs.List.{list_any}
-use Rattle.std.proofs.lemmas.List.Elements.{All-head, All-tail}
 use Rattle.std.proofs.lemmas.List.Folds.{list_any-append}
-use Rattle.std.proofs.lemmas.List.{get_or_default}
-use Rattle.atomic_table.proofs.Lists.{at_index}
+use Rattle.std.proofs.lemmas.List.{length-map}
 use mathlib.Core.Option.{some, some-injective, some-ne-none}
 use lib.ListN.{get_elem?}
 use Rattle.zserver_table.specs.declared.process.Process.TheVariants.{Client}
@@ -14,57 +11,36 @@ use Rattle.ztraces.specs.declared.trace.Traces.{Traces}
 use Rattle.zlinks.specs.Places.{process_at}
 use Rattle.zrings.specs.Ends.{Ring, ring_of_rx, ring_of_tx}
 use Rattle.zmesh.specs.Woven.{IsWoven}
+use Rattle.zmesh.proofs.Said.{within}
 use Rattle.zdesks.specs.declared.desk.Desk.{Desk}
 use Rattle.zdesks.specs.declared.desk.Ending.{Ending}
-use Rattle.zdesks.specs.Desks.{Each, IsDeskOf, SameDesk, Self, seen_of, self_of, trace_of}
+use Rattle.zdesks.specs.Desks.{Each, IsDeskOf, SameDesk, Self, self_of}
 use Rattle.zdesks.specs.Endings.{HasEnded, SameWires}
 use Rattle.zdesks.proofs.Endings.{neither, same_self_of}
 use Rattle.zgather.specs.Left.{AreWired, by_place, client_trace_of, is_left_cut, self_at}
-use Rattle.zgather.proofs.Elements.{element_left, element_map, element_or, element_right}
+use Rattle.zgather.proofs.Elements.{element, element_map, element_or}
 use Rattle.zgather.proofs.Stands.{client_at, same_at}
-use Rattle.zgather.proofs.Whole.{below}
 use Rattle.zrun.specs.declared.client.Client as client
-use Rattle.zrun.specs.Clients.{AreApart, client_desk, client_desks, IsKept, IsOneOf, IsTold, number_of}
-use Rattle.zrun.specs.Runs.{AreDesks, AreLeftBy, in_rings_of, IsLeftBy, IsRun, out_rings_of}
+use Rattle.zcaller.specs.Callers.{caller_desk, caller_id}
+use Rattle.zrun.specs.declared.posts.ClientPost.{ClientPost}
+use Rattle.zrun.specs.Origins.{client_desks, desk_wiring, Run}
+use Rattle.zrun.specs.Clients.{AreIn, client_desk, client_wiring, IsLeftIn}
+use Rattle.zrun.specs.Members.{IsTold}
+use Rattle.zrun.specs.Runs.{AreDesks, AreLeftBy, in_rings_of, IsLeftBy, IsRun, out_rings_of, Pairs}
 use Rattle.zrun.proofs.Desks.{first_desk, other_desks}
+use Rattle.zrun.proofs.Still.{wired_alike}
+use Rattle.zrun.proofs.Pairs.{pairs_at, pairs_count, pairs_from}
+
+-- what is at a place, told by its element
+pub element_is : {X : Type 0} (xs : List X) (i : ℕ) (x none : X) → get_elem? xs i ≡ some x → get_or xs i none ≡ x
+element_is [] i x none at = absurd (some-ne-none x (sym at))
+element_is (y ∷ xs) zero x none at = some-injective y x at
+element_is (y ∷ xs) (suc i) x none at = element_is xs i x none at
 
 -- what is left of a desk that was handed back is left by the desk that went
 pub left_by : (a b : Desk) (e : Ending) → SameDesk a b → HasEnded (self_of b) e → SameWires b e → IsLeftBy a e
 left_by a b e same ended wires =
     inr (subst (λ (w : Self). HasEnded w e) (same_self_of a b same) ended, (wires.0 ∙ same.ins, wires.1 ∙ same.outs))
-
-pub left_push : (ds : List Desk) (es : List Ending) (d : Desk) (e : Ending) → AreLeftBy ds es → IsLeftBy d e → AreLeftBy (ds ++ d ∷ []) (es ++ e ∷ [])
-left_push [] [] d e all one = (one, tt)
-left_push [] (x ∷ es) d e all one = absurd all
-left_push (x ∷ ds) [] d e all one = absurd all
-left_push (x ∷ ds) (y ∷ es) d e all one = (all.0, left_push ds es d e all.1 one)
-
-pub left_both : (ds : List Desk) (es : List Ending) (ds' : List Desk) (es' : List Ending) → AreLeftBy ds es → AreLeftBy ds' es' → AreLeftBy (ds ++ ds') (es ++ es')
-left_both [] [] ds' es' one two = two
-left_both [] (x ∷ es) ds' es' one two = absurd one
-left_both (x ∷ ds) [] ds' es' one two = absurd one
-left_both (x ∷ ds) (y ∷ es) ds' es' one two = (one.0, left_both ds es ds' es' one.1 two)
-
-pub left_set : (ds : List Desk) (es : List Ending) (i : ℕ) (d : Desk) (e : Ending) → AreLeftBy ds es → get_elem? ds i ≡ some d → IsLeftBy d e → AreLeftBy ds (set es i e)
-left_set [] [] i d e all at one = tt
-left_set [] (x ∷ es) i d e all at one = absurd all
-left_set (x ∷ ds) [] i d e all at one = absurd all
-left_set (x ∷ ds) (y ∷ es) zero d e all at one = (subst (λ z. IsLeftBy z e) (sym (some-injective x d at)) one, all.1)
-left_set (x ∷ ds) (y ∷ es) (suc i) d e all at one = (all.0, left_set ds es i d e all.1 at one)
-
--- where all are cut, they may be of any desks
-pub left_cut : (ds : List Desk) (es : List Ending) → length ds ≡ length es → All (λ (e : Ending). e.trace.is_cut ≡ true) es → AreLeftBy ds es
-left_cut [] [] same all = tt
-left_cut [] (e ∷ es) same all = absurd (omega (arith, same))
-left_cut (d ∷ ds) [] same all = absurd (omega (arith, same))
-left_cut (d ∷ ds) (e ∷ es) same all =
-    (inl (All-head (λ (e : Ending). e.trace.is_cut ≡ true) e es all), left_cut ds es (omega (arith, same)) (All-tail (λ (e : Ending). e.trace.is_cut ≡ true) e es all))
-
-pub left_count : (ds : List Desk) (es : List Ending) → AreLeftBy ds es → length es ≡ length ds
-left_count [] [] all = refl
-left_count [] (e ∷ es) all = absurd all
-left_count (d ∷ ds) [] all = absurd all
-left_count (d ∷ ds) (e ∷ es) all = ap suc (left_count ds es all.1)
 
 -- who has the desk of a place
 self_is : (last n i : ℕ) (d : Desk) → IsDeskOf (process_at i) last n d → self_of d ≡ self_at last n i
@@ -107,74 +83,59 @@ wired_is last n ds m ss cs is all uncut =
     let test : Ending → Bool = λ e. e.trace.is_cut in
     let none : list_any test (by_place m ss cs) ≡ false = ap (λ b. m.trace.is_cut || b) (list_any-append test ss cs) ∙ uncut in
     let same = same_wires ds (by_place m ss cs) none all in
-    subst (λ (w : ℕ × List (List Ring) × List (List Ring)). IsWoven w.0 w.1 w.2) (λ k. (sym (left_count ds (by_place m ss cs) all) k, same.0 k, same.1 k)) is.wired
+    subst (λ (w : ℕ × List (List Ring) × List (List Ring)). IsWoven w.0 w.1 w.2) (λ k. (sym (pairs_count IsLeftBy ds (by_place m ss cs) all) k, same.0 k, same.1 k)) is.wired
 
 same_number : (i c : ℕ) → Client c ≡ process_at (9 + i) → c ≡ i
 same_number i c at = let here = client_at (9 + i) c (same_at (Client c) (9 + i) at) in omega (arith, here)
 
--- a client's number is its place among those that were given
-number_at : (last n : ℕ) (given : List client.Client) (i : ℕ) (c : client.Client) → AreDesks last n 9 (client_desks given)
-    → get_elem? given i ≡ some c → number_of c ≡ i
-number_at last n given i c each at =
-    same_number i (number_of c) (sym c.caller.is_client ∙ (each i (client_desk c) (element_map client_desk given i c at)).0)
+-- a client's number is its place among those of its run
+pub number_at : (last n : ℕ) (run : Run) → AreDesks last n 9 (client_desks run) → Each (λ i p. caller_id p.caller ≡ i) run
+number_at last n run each i p at =
+    let desk_of : ClientPost → Desk = λ p. caller_desk p.caller in
+    same_number i (caller_id p.caller) (sym p.caller.is_client ∙ (each i (desk_of p) (element_map desk_of run i p at)).0)
 
--- each of those that were given is the one of its number
-pub all_own : (last n : ℕ) (given : List client.Client) → AreDesks last n 9 (client_desks given) → All (λ c. IsOneOf given c) given
-all_own last n given each k d lt =
-    let c = get_or given k d in
-    let at : get_elem? given k ≡ some c = at_index given k c lt (get_or_default given k d c lt) in
-    let number = number_at last n given k c each at in (
-      subst (λ m. m < length given) (sym number) lt,
-      λ was there.
-          let same : c ≡ was = some-injective c was (sym at ∙ ap (λ m. get_elem? given m) (sym number) ∙ there) in
-          subst (λ x. SameDesk (client_desk x) (client_desk c)) same (record { me = refl; last = refl; clients = refl; links = refl; ins = refl; outs = refl }),
-    )
+module _ (run : Run) (places : List (Option client.Client)) (es : List Ending) (many : length places ≡ length run) (own : AreIn run places) (left : Pairs IsLeftIn places es) where
+  abbrev desk_of : ClientPost → Desk
+  desk_of p = caller_desk p.caller
 
-set_here : {X : Type 0} (xs : List X) (i : ℕ) (x : X) → i < length xs → get_elem? (set xs i x) i ≡ some x
-set_here [] i x lt = absurd (omega (arith, lt))
-set_here (y ∷ xs) zero x lt = refl
-set_here (y ∷ xs) (suc i) x lt = set_here xs i x (omega (arith, lt))
+  long : length es ≡ length run
+  long = pairs_count IsLeftIn places es left ∙ many
 
-set_else : {X : Type 0} (xs : List X) (i j : ℕ) (x : X) → j ≢ i → get_elem? (set xs i x) j ≡ get_elem? xs j
-set_else [] i j x ne = refl
-set_else (y ∷ xs) zero zero x ne = absurd (ne refl)
-set_else (y ∷ xs) zero (suc j) x ne = refl
-set_else (y ∷ xs) (suc i) zero x ne = refl
-set_else (y ∷ xs) (suc i) (suc j) x ne = set_else xs i j x (λ e. ne (ap suc e))
+  -- what is left at a place is left by the client that was made there, or is cut
+  left_at : (i : ℕ) (p : ClientPost) (place : Option client.Client) (e : Ending) → get_elem? run i ≡ some p → get_elem? places i ≡ some place
+      → IsLeftIn place e → IsLeftBy (desk_of p) e
+  left_at i p None e at there cut = inl cut
+  left_at i p (Some c) e at there ended =
+      let is = own i (Some c) there c refl in
+      let made = element_map desk_wiring (client_desks run) i (desk_of p) (element_map desk_of run i p at) in
+      let one = subst (λ m. get_elem? (map desk_wiring (client_desks run)) m ≡ some (client_wiring c)) is.1 is.0 in
+      let same = wired_alike (desk_of p) (client_desk c) (some-injective (client_wiring c) (desk_wiring (desk_of p)) (sym one ∙ made)) in
+      left_by (desk_of p) (client_desk c) e same ended.0 ended.1
 
-only : {X : Type 0} (x y : X) (k : ℕ) → get_elem? (x ∷ []) k ≡ some y → (k ≡ 0) × (x ≡ y)
-only x y zero at = (refl, some-injective x y at)
-only x y (suc k) at = absurd (some-ne-none y (sym at))
+  pub clients_left : AreLeftBy (client_desks run) es
+  clients_left = pairs_from IsLeftBy (client_desks run) es (long ∙ sym (length-map run desk_of)) (λ i d e at at'.
+      let lt = within es i e at' in
+      let was = element run i (subst (λ n. i < n) long lt) in
+      let place = element places i (subst (λ n. i < n) (long ∙ sym many) lt) in
+      let same : desk_of was.0 ≡ d = some-injective (desk_of was.0) d (sym (element_map desk_of run i was.0 was.1) ∙ at) in
+      subst (λ x. IsLeftBy x e) same (left_at i was.0 place.0 e was.1 place.1 (pairs_at IsLeftIn places es i place.0 e left place.1 at')))
 
--- one more client is kept, and those before it are still
-pub kept_more : (clients yielded rest : List client.Client) (x : client.Client) (es : List Ending) (i : ℕ) (e : Ending)
-    → clients ≡ yielded ++ (x ∷ rest) → AreApart clients → i < length es → number_of x ≡ i
-    → e.trace.events.items ≡ trace_of (client_desk x) → e.seen.items ≡ seen_of (client_desk x)
-    → Each (λ k c. IsKept es c) yielded → Each (λ k c. IsKept (set es i e) c) (yielded ++ x ∷ [])
-kept_more clients yielded rest x es i e all apart lt number trace seen kept j y at =
-    ⊎_elim
-    (λ (before : j < length yielded).
-    let at_y = sym (element_left yielded (x ∷ []) j before) ∙ at in
-    let old = kept j y at_y in
-    let mine : get_elem? clients (length yielded) ≡ some x = ap (λ l. get_elem? l (length yielded)) all ∙ element_right yielded (x ∷ rest) (length yielded) 0 (omega arith) in
-    let other : get_elem? clients j ≡ some y = ap (λ l. get_elem? l j) all ∙ element_left yielded (x ∷ rest) j before ∙ at_y in
-    let differ : number_of y ≢ i = λ same. absurd (let one = apart j (length yielded) y x other mine (same ∙ sym number) in omega (arith, one, before)) in
-    record { ending = old.ending; at = set_else es i (number_of y) e differ ∙ old.at; trace = old.trace; seen = old.seen })
-    (λ (behind : length yielded ≤ j).
-    let here : j ≡ length yielded + (j - length yielded) = omega (arith, behind) in
-    let is = (only x y (j - length yielded) (sym (element_right yielded (x ∷ []) j (j - length yielded) here) ∙ at)).1 in
-    subst (λ z. IsKept (set es i e) z) is
-    (record { ending = e; at = subst (λ m. get_elem? (set es i e) m ≡ some e) (sym number) (set_here es i e lt); trace = trace; seen = seen }))
-    (below j (length yielded))
+  told_of : (t : Traces) (i : ℕ) (place : Option client.Client) (e : Ending) → t.clients.items ≡ map client_trace_of es → get_elem? es i ≡ some e → IsLeftIn place e → IsTold t i place
+  told_of t i None e is at cut =
+      ap (λ l. get_or (map (λ (x : ClientTrace). x.trace.is_cut) l) i false) is
+      ∙ element_or (λ (x : ClientTrace). x.trace.is_cut) (map client_trace_of es) i (client_trace_of e) false (element_map client_trace_of es i e at) ∙ cut
+  told_of t i (Some c) e is at ended =
+      let there = element_map client_trace_of es i e at in (
+        ap (λ l. get_or (map (λ (x : ClientTrace). x.trace.events.items) l) i []) is
+            ∙ element_or (λ (x : ClientTrace). x.trace.events.items) (map client_trace_of es) i (client_trace_of e) [] there ∙ ended.2,
+        ap (λ l. get_or (map (λ (x : ClientTrace). x.«record».items) l) i []) is
+            ∙ element_or (λ (x : ClientTrace). x.«record».items) (map client_trace_of es) i (client_trace_of e) [] there ∙ ended.3,
+      )
 
--- what is kept of a client stands in the traces
-pub told_by : (t : Traces) (es : List Ending) (c : client.Client) → t.clients.items ≡ map client_trace_of es → IsKept es c → IsTold t c
-told_by t es c is kept =
-    let n = number_of c in
-    let e = kept.ending in
-    let there = element_map client_trace_of es n e kept.at in (
-      ap (λ l. get_or (map (λ (x : ClientTrace). x.trace.events.items) l) n []) is
-          ∙ element_or (λ (x : ClientTrace). x.trace.events.items) (map client_trace_of es) n (client_trace_of e) [] there ∙ kept.trace,
-      ap (λ l. get_or (map (λ (x : ClientTrace). x.«record».items) l) n []) is
-          ∙ element_or (λ (x : ClientTrace). x.«record».items) (map client_trace_of es) n (client_trace_of e) [] there ∙ kept.seen,
-    )
+  -- what each client left stands in the traces
+  pub clients_told : (t : Traces) (i : ℕ) → t.clients.items ≡ map client_trace_of es → i < length run → IsTold t i (get_or places i None)
+  clients_told t i is lt =
+      let e = element es i (subst (λ n. i < n) (sym long) lt) in
+      let place = element places i (subst (λ n. i < n) (sym many) lt) in
+      subst (λ x. IsTold t i x) (sym (element_is places i place.0 None place.1))
+      (told_of t i place.0 e.0 is e.1 (pairs_at IsLeftIn places es i place.0 e.0 left place.1 e.1))

@@ -1,4 +1,6 @@
 pub mod Openings
 pub mod Desks
 pub mod Leavings
-pub mod Clients
+pub mod Still
+pub mod Pairs
+pub mod Places

@@ -1,26 +1,41 @@
 -- What a clause says of a client of a cluster.
-use Rattle.std.specs.Prelude.{◌≡◌, ◌<◌, ℕ, List, Some, length, map}
-use mathlib.Core.Option.{some}
-use lib.ListN.{get_elem?}
+use Rattle.std.specs.Prelude.{◌≡◌, ◌<◌, ℕ, zero, suc, true, List, Option, None, Some}
+use Rattle.zcalls.specs.declared.call.Call.{Call}
 use Rattle.zcalls.specs.declared.reply.Reply.{Reply}
-use Rattle.zserver_table.specs.declared.process.Process.TheVariants as process
-use Rattle.ztraces.specs.declared.trace.Traces.{Traces}
-use Rattle.ztraces.specs.Traces.{record_of, trace_of}
+use Rattle.zclient_table.specs.declared.begin_fault.BeginFault.{BeginFault}
+use Rattle.zclient_table.specs.View.{ClientView}
 use Rattle.zdesks.specs.declared.desk.Desk.{Desk}
 use Rattle.zdesks.specs.declared.desk.Ending.{Ending}
-use Rattle.zdesks.specs.Desks.{Each, SameDesk}
+use Rattle.zdesks.specs.Desks.{Each}
 use Rattle.zdesks.specs.Desks as desk
+use Rattle.zdesks.specs.Endings.{HasEnded, SameWires}
 use Rattle.zcaller.specs.declared.caller.Caller.{Caller}
-use Rattle.zcaller.specs.Callers.{caller_desk, caller_id, Turned}
+use Rattle.zcaller.specs.Callers.{caller_desk, caller_id, Began, MayRefuse, Turned}
 use Rattle.zrun.specs.declared.client.Client.{Client}
+use Rattle.zrun.specs.declared.faults.Unanswered.{Unanswered}
+use Rattle.zrun.specs.Faults.{unanswered_by}
+use Rattle.zrun.specs.Origins.{desk_wiring, IsOneOf, Run, Wiring}
 
 -- what it does, it does as this
 abbrev pub caller_of : Client → Caller
 caller_of c = c.caller
 
--- its last turn gave out this reply
-abbrev pub IsLastTurn : Caller → Reply → Type 0
-IsLastTurn after reply = (before : Caller) × Turned before after (Some reply)
+-- it took so many turns, and none of them gave out a reply
+abbrev pub TurnedInVain : ℕ → Caller → Caller → Type 0
+TurnedInVain zero a b = b ≡ a
+TurnedInVain (suc n) a b = (m : Caller) × TurnedInVain n a m × Turned m b None
+
+-- it took at most so many turns, and the last one gave out this reply
+abbrev pub TurnedUntil : ℕ → Caller → Caller → Reply → Type 0
+TurnedUntil turns a b reply = (n : ℕ) × (n < turns) × (m : Caller) × TurnedInVain n a m × Turned m b (Some reply)
+
+-- why a call has no reply that wasn't begun
+abbrev pub IsRefused : ClientView → Unanswered → Type 0
+IsRefused v fault = (by : BeginFault) × (fault ≡ unanswered_by by) × MayRefuse v by
+
+-- it began the call, and then this was done
+abbrev pub BeganThen : Caller → Call → (Caller → Type 0) → Type 0
+BeganThen a call P = (m : Caller) × (number : ℕ) × Began a m call number × P m
 
 -- its number, and its desk
 abbrev pub number_of : Client → ℕ
@@ -29,29 +44,27 @@ number_of c = caller_id c.caller
 abbrev pub client_desk : Client → Desk
 client_desk c = caller_desk c.caller
 
-abbrev pub client_desks : List Client → List Desk
-client_desks cs = map client_desk cs
+abbrev pub client_wiring : Client → Wiring
+client_wiring c = desk_wiring (client_desk c)
 
--- it is the one of its number among them, after whatever calls
-abbrev pub IsOneOf : List Client → Client → Type 0
-IsOneOf given c =
-    (number_of c < length given) × ((was : Client) → get_elem? given (number_of c) ≡ some was → SameDesk (client_desk was) (client_desk c))
+-- it is a client of that run
+abbrev pub BelongsTo : Run → Client → Type 0
+BelongsTo run c = IsOneOf run (number_of c) (client_wiring c)
 
--- no two have one number
-abbrev pub AreApart : List Client → Type 0
-AreApart cs = (i j : ℕ) (a b : Client) → get_elem? cs i ≡ some a → get_elem? cs j ≡ some b → number_of a ≡ number_of b → i ≡ j
+-- it is the same client, after whatever calls
+pub record SameClient (a b : Client) : Type 0 where
+  pub number : number_of b ≡ number_of a
+  pub wiring : client_wiring b ≡ client_wiring a
 
--- its trace and record are among those that were left, at its number
-pub record IsKept (endings : List Ending) (c : Client) : Type 0 where
-  pub ending : Ending
-  pub at : get_elem? endings (number_of c) ≡ some ending
-  pub trace : ending.trace.events.items ≡ desk.trace_of (client_desk c)
-  pub seen : ending.seen.items ≡ desk.seen_of (client_desk c)
+-- each is at the place of its number, and belongs to the run
+abbrev pub AreIn : Run → List (Option Client) → Type 0
+AreIn run places = Each (λ i place. (c : Client) → place ≡ Some c → BelongsTo run c × (number_of c ≡ i)) places
 
--- its trace and record stand in the traces of the run
-abbrev pub IsTold : Traces → Client → Type 0
-IsTold t c =
-    (trace_of t (process.Client (number_of c)) ≡ desk.trace_of (client_desk c)) × (record_of t (number_of c) ≡ desk.seen_of (client_desk c))
-
-abbrev pub AreTold : Traces → List Client → Type 0
-AreTold t cs = Each (λ i c. IsTold t c) cs
+-- it is what the client left; of one that isn't there the trace is cut
+abbrev pub IsLeftIn : Option Client → Ending → Type 0
+IsLeftIn None e = e.trace.is_cut ≡ true
+IsLeftIn (Some c) e =
+    HasEnded (desk.self_of (client_desk c)) e
+    × SameWires (client_desk c) e
+    × (e.trace.events.items ≡ desk.trace_of (client_desk c))
+    × (e.seen.items ≡ desk.seen_of (client_desk c))

@@ -1,7 +1,7 @@
 -- What a clause says of a cluster.
-use Rattle.std.specs.Prelude.{ℕ, List}
-use Rattle.zrun.specs.declared.client.Client.{Client}
+use Rattle.std.specs.Prelude.{ℕ}
 use Rattle.zrun.specs.declared.cluster.Cluster.{Cluster}
+use Rattle.zrun.specs.Origins.{Run}
 
 -- the last server of its opening chain, and how many clients it has
 abbrev pub last_server : Cluster → ℕ
@@ -10,6 +10,6 @@ last_server c = c.opening.last
 abbrev pub client_count : Cluster → ℕ
 client_count c = c.opening.clients
 
--- the clients that its start gave
-abbrev pub given_clients : Cluster → List Client
-given_clients c = c.given.value.items
+-- the run that it is of
+abbrev pub cluster_run : Cluster → Run
+cluster_run c = c.run.value.items

@@ -8,8 +8,7 @@ use Rattle.zthreads.specs.declared.master_thread.MasterThread.{MasterThread}
 use Rattle.zthreads.specs.Owned.{master_desk, server_desk}
 use Rattle.zrun.specs.declared.promises.SameServer.{SameServer}
 use Rattle.zrun.specs.declared.promises.SameMaster.{SameMaster}
-use Rattle.zrun.specs.declared.client.Client.{Client}
-use Rattle.zrun.specs.Clients.{client_desks}
+use Rattle.zrun.specs.Origins.{client_desks, Run}
 
 abbrev pub ServerHandle : Type 0
 ServerHandle = PromisedHandle ServerThread SameServer
@@ -25,5 +24,5 @@ abbrev pub given_master : MasterHandle → Desk
 given_master h = master_desk h.promise.0.value
 
 -- the desks of all, by place
-abbrev pub given_desks : MasterHandle → List ServerHandle → List Client → List Desk
-given_desks master servers clients = given_master master ∷ (map given_server servers ++ client_desks clients)
+abbrev pub given_desks : MasterHandle → List ServerHandle → Run → List Desk
+given_desks master servers run = given_master master ∷ (map given_server servers ++ client_desks run)

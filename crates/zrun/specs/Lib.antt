@@ -5,3 +5,7 @@ pub mod Clients
 pub mod Posts
 pub mod Handles
 pub mod Clusters
+pub mod Origins
+pub mod Promised
+pub mod Members
+pub mod Faults

@@ -4,7 +4,7 @@ use Rattle.zdesks.specs.declared.desk.Desk.{Desk}
 use Rattle.zthreads.specs.Owned.{master_desk, server_desk}
 use Rattle.zrun.specs.declared.posts.Posts.{Posts}
 use Rattle.zrun.specs.declared.posts.ServerPost.{ServerPost}
-use Rattle.zrun.specs.Clients.{client_desks}
+use Rattle.zrun.specs.Origins.{client_desks, Run}
 
 -- the desks of the servers, the first one first
 abbrev pub post_desks : List ServerPost → List Desk
@@ -12,4 +12,8 @@ post_desks posts = map (λ (p : ServerPost). server_desk p.member) (reverse post
 
 -- all desks, by place
 abbrev pub desks_in : Posts → List Desk
-desks_in p = master_desk p.master.chief ∷ (post_desks p.servers.items ++ client_desks p.clients.items)
+desks_in p = master_desk p.master.chief ∷ (post_desks p.servers.items ++ client_desks p.run.value.items)
+
+-- the run that they are of
+abbrev pub run_in : Posts → Run
+run_in p = p.run.value.items

@@ -28,9 +28,13 @@ pub record IsRun (last clients : ℕ) (desks : List Desk) : Type 0 where
 abbrev pub IsLeftBy : Desk → Ending → Type 0
 IsLeftBy d e = (e.trace.is_cut ≡ true) ⊎ (HasEnded (self_of d) e × SameWires d e)
 
+-- there are as many of the one as of the other, and this is between those at one place
+abbrev pub Pairs : {X Y : Type 0} → (X → Y → Type 0) → List X → List Y → Type 0
+Pairs R [] [] = Unit {0}
+Pairs R [] (y ∷ ys) = ⊥
+Pairs R (x ∷ xs) [] = ⊥
+Pairs R (x ∷ xs) (y ∷ ys) = R x y × Pairs R xs ys
+
 -- each is what the desk of its place left, or its trace is cut
 abbrev pub AreLeftBy : List Desk → List Ending → Type 0
-AreLeftBy [] [] = Unit {0}
-AreLeftBy [] (e ∷ es) = ⊥
-AreLeftBy (d ∷ ds) [] = ⊥
-AreLeftBy (d ∷ ds) (e ∷ es) = IsLeftBy d e × AreLeftBy ds es
+AreLeftBy desks endings = Pairs IsLeftBy desks endings

@@ -1,24 +1,24 @@
 //! A client, as its caller's thread owns it.
 
-ghost use Rattle.std.specs.Prelude.{◌≡◌, IfErr, IfOk, OnErr, OnOk, Some, max};
+ghost use Rattle.std.specs.Prelude.{◌≡◌, ◌≢◌, IfErr, IfOk, OnErr, OnOk, Some, max};
 ghost use Rattle.std.specs.Arc.{arc_value};
 ghost use Rattle.zwords.specs.HaltSeats.{IsSeatOf};
-ghost use Rattle.zdesks.specs.Desks.{SameDesk};
-ghost use Rattle.zcaller.specs.Callers.{Began, caller_desk, caller_stamp, IsUncut, Retried, SameCaller, Turned};
+ghost use Rattle.zcaller.specs.Callers.{Began, caller_stamp, caller_view, IsUncut, MayRefuse};
+ghost use Rattle.zcaller.specs.Callers.{Retried, SameCaller, Turned};
 
 use crate::faults::Unanswered;
 use std::alloc::Global;
 use std::sync::Arc;
 use std::thread;
 use zcaller::Caller;
-use zcalls::{Call, CallNumber, Reply};
+use zcalls::{Call, CallNumber, ClientId, Reply};
 use zclient::BeginFault;
 use zpath::Memory;
 use zserver_table::ServerId;
 use ztraces::Stamp;
 use zwords::halts::{Halt, HaltSeat};
 
-/// A client. None of its calls waits.
+/// A client of one run, which it stays through all calls. None of its calls waits.
 #[derive(Drop)]
 pub struct Client {
     pub(crate) caller: Caller,
@@ -28,14 +28,17 @@ pub struct Client {
 }
 
 impl Client {
-    ghost use Rattle.zrun.specs.Clients.{caller_of, IsLastTurn};
+    ghost use Rattle.zrun.specs.Clients.{BeganThen, caller_of, IsRefused, number_of, SameClient};
+    ghost use Rattle.zrun.specs.Clients.{TurnedInVain, TurnedUntil};
+    ghost use Rattle.zrun.specs.declared.faults.Unanswered.TheVariants.{NoAnswer};
 
     /// Begins a call, and answers its number.
     pub fn begin(&mut self, call: Call) -> Result<CallNumber, BeginFault>
         ensures began { IfOk result (Began (caller_of self.old) (caller_of self.new) call) }
+        ensures fault { IfErr result (MayRefuse (caller_view (caller_of self.old))) }
         ensures refused { OnErr result (SameCaller (caller_of self.old) (caller_of self.new)) }
         ensures whole { OnOk result (IsUncut (caller_of self.old) (caller_of self.new)) }
-        ensures same { SameDesk (caller_desk (caller_of self.old)) (caller_desk (caller_of self.new)) }
+        ensures same { SameClient self.old self.new }
     {
         self.caller.begin(call)
     }
@@ -44,7 +47,7 @@ impl Client {
     pub fn turn(&mut self) -> Option<Reply>
         ensures turned { Turned (caller_of self.old) (caller_of self.new) result }
         ensures whole { IsUncut (caller_of self.old) (caller_of self.new) }
-        ensures same { SameDesk (caller_desk (caller_of self.old)) (caller_desk (caller_of self.new)) }
+        ensures same { SameClient self.old self.new }
     {
         self.caller.turn()
     }
@@ -54,16 +57,24 @@ impl Client {
         ensures retried { IfOk result (Retried (caller_of self.old) (caller_of self.new)) }
         ensures refused { OnErr result (SameCaller (caller_of self.old) (caller_of self.new)) }
         ensures whole { OnOk result (IsUncut (caller_of self.old) (caller_of self.new)) }
-        ensures same { SameDesk (caller_desk (caller_of self.old)) (caller_desk (caller_of self.new)) }
+        ensures same { SameClient self.old self.new }
     {
         self.caller.retry()
     }
 
     /// Halts a server: once its thread sees it, the server takes nothing more, and the master hears that it is gone.
     pub fn halt(&mut self, server: ServerId)
-        ensures { caller_of self.new ≡ caller_of self.old }
+        ensures caller { caller_of self.new ≡ caller_of self.old }
+        ensures same { SameClient self.old self.new }
     {
         self.halt.set(&mut self.seat, server.number() as u32);
+    }
+
+    /// Its number.
+    pub fn id(&self) -> ClientId
+        ensures { result ≡ number_of self.now }
+    {
+        self.caller.id()
     }
 
     /// The last stamp that it knows.
@@ -76,30 +87,40 @@ impl Client {
     /// From now on its events are later than this stamp. So what one client saw, another that learns of its stamp can't miss.
     pub fn learn(&mut self, stamp: Stamp)
         ensures stamp { caller_stamp (caller_of self.new) ≡ max (caller_stamp (caller_of self.old)) stamp }
-        ensures same { SameCaller (caller_of self.old) (caller_of self.new) }
+        ensures idle { SameCaller (caller_of self.old) (caller_of self.new) }
+        ensures same { SameClient self.old self.new }
     {
         self.caller.learn(stamp);
     }
 
     /// Begins a call and takes at most so many turns for its reply.
     pub fn call(&mut self, call: Call, turns: u64) -> Result<Reply, Unanswered>
-        ensures reply { IfOk result (λ reply. IsLastTurn (caller_of self.new) reply) }
-        ensures same { SameDesk (caller_desk (caller_of self.old)) (caller_desk (caller_of self.new)) }
+        ensures reply { IfOk result (λ reply. BeganThen (caller_of self.old) call (λ begun.
+            TurnedUntil turns begun (caller_of self.new) reply)) }
+        ensures unanswered { IfErr result (λ fault. fault ≡ NoAnswer
+            → BeganThen (caller_of self.old) call (λ begun.
+            TurnedInVain turns begun (caller_of self.new))) }
+        ensures refused { IfErr result (λ fault. fault ≢ NoAnswer
+            → IsRefused (caller_view (caller_of self.old)) fault
+            × SameCaller (caller_of self.old) (caller_of self.new)) }
+        ensures same { SameClient self.old self.new }
     {
         let _ = self.begin(call)?;
         self.wait(turns)
     }
 
-    /// Takes at most so many turns for the reply of the call that was begun.
+    /// Takes at most so many turns for the reply of the call that was begun. Its only fault is NoAnswer.
     pub fn wait(&mut self, turns: u64) -> Result<Reply, Unanswered>
-        ensures reply { IfOk result (λ reply. IsLastTurn (caller_of self.new) reply) }
-        ensures same { SameDesk (caller_desk (caller_of self.old)) (caller_desk (caller_of self.new)) }
+        ensures reply { IfOk result (TurnedUntil turns (caller_of self.old) (caller_of self.new)) }
+        ensures unanswered { IfErr result (λ fault. (fault ≡ NoAnswer)
+            × TurnedInVain turns (caller_of self.old) (caller_of self.new)) }
+        ensures same { SameClient self.old self.new }
     {
         for _ in 0..turns {
-            if let Some(reply) = self.turn() {
-                return Ok(reply);
+            match self.turn() {
+                Some(reply) => return Ok(reply),
+                None => thread::yield_now(),
             }
-            thread::yield_now();
         }
         Err(Unanswered::NoAnswer)
     }

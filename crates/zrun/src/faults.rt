@@ -1,5 +1,7 @@
 //! Why there is no cluster, and why a call has no reply.
 
+ghost use Rattle.std.specs.Prelude.{◌≡◌};
+
 use thiserror::Error;
 use zclient::BeginFault;
 use zpath::Memory;
@@ -33,12 +35,20 @@ pub enum Unanswered {
 }
 
 impl From<Memory> for StartFault {
+    ghost use Rattle.zrun.specs.declared.faults.StartFault.TheVariants as fault;
+
+    ghost from_gives = { λ _ given. given ≡ fault.Memory };
+
     fn from(_: Memory) -> StartFault {
         StartFault::Memory
     }
 }
 
 impl From<BeginFault> for Unanswered {
+    ghost use Rattle.zrun.specs.Faults.{unanswered_by};
+
+    ghost from_gives = { λ fault given. given ≡ unanswered_by fault };
+
     fn from(fault: BeginFault) -> Unanswered {
         match fault {
             BeginFault::Busy => Unanswered::Busy,

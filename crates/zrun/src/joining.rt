@@ -1,17 +1,18 @@
 //! What the processes of a run left, once their threads have ended.
 
-ghost use Rattle.std.specs.Prelude.{◌≡◌, ◌≤◌, [], All, IfOk, length, map, true};
+ghost use Rattle.std.specs.Prelude.{◌≡◌, ◌≤◌, [], IfOk, length, map, true};
 ghost use Rattle.std.specs.Vec.{vec_capacity};
 ghost use Rattle.zserver_table.specs.declared.limits.TheConstants.{MAX_SERVERS};
-ghost use Rattle.zdesks.specs.Desks.{Each};
 ghost use Rattle.zrun.specs.Handles.{given_server};
-ghost use Rattle.zrun.specs.Runs.{AreLeftBy};
-ghost use Rattle.zrun.specs.Clients.{AreApart, client_desks, IsKept, IsOneOf};
+ghost use Rattle.zrun.specs.Runs.{AreLeftBy, Pairs};
+ghost use Rattle.zrun.specs.Origins.{client_desks};
+ghost use Rattle.zrun.specs.Clients.{IsLeftIn};
+ghost use Rattle.zrun.specs.Members.{clients_run};
 
 use crate::client::Client;
+use crate::clients::Clients;
 use crate::promises::SameServer;
 use std::alloc::Global;
-use std::snapshot::Snapshot;
 use std::thread::{PromisedHandle, Threads};
 use zdesks::Ending;
 use zpath::Memory;
@@ -37,29 +38,27 @@ pub(crate) fn join_servers<R: Threads>(
 }
 
 /// What the clients left, by number. Of a client that isn't here the trace is cut.
-pub(crate) fn sort(
-    alloc: Global,
-    count: u8,
-    given: &Snapshot<Vec<Client>>,
-    clients: Vec<Client>,
-) -> Result<Vec<Ending>, Memory>
-    requires count { length given.now.value.items ≡ count }
-    requires own { All (λ c. IsOneOf given.now.value.items c) clients.items }
-    ensures count { IfOk result (λ endings. length endings.items ≡ count) }
+pub(crate) fn end_clients(alloc: Global, clients: Clients) -> Result<Vec<Ending>, Memory>
     ensures left { IfOk result (λ endings.
-        AreLeftBy (client_desks given.now.value.items) endings.items) }
-    ensures kept { AreApart clients.items
-        → IfOk result (λ endings. Each (λ i c. IsKept endings.items c) clients.items) }
+        AreLeftBy (client_desks (clients_run clients)) endings.items) }
+    ensures kept { IfOk result (λ endings. Pairs IsLeftIn clients.places.items endings.items) }
 {
-    let mut endings = Vec::with_capacity(alloc, count as usize)?;
-    for _ in 0..count {
-        endings.push(missing(alloc))?;
-    }
-    for client in clients {
-        let (id, ending) = client.caller.into_ending();
-        endings[id.number() as usize] = ending;
+    let Clients { places, .. } = clients;
+    let mut endings = Vec::with_capacity(alloc, places.len())?;
+    for place in places {
+        endings.push(end_client(alloc, place))?;
     }
     Ok(endings)
+}
+
+// What a client left, if it is here.
+fn end_client(alloc: Global, place: Option<Client>) -> Ending
+    ensures { IsLeftIn place result }
+{
+    match place {
+        Some(client) => client.caller.into_ending().1,
+        None => missing(alloc),
+    }
 }
 
 // What is known of a client that isn't here.

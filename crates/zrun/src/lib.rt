@@ -3,6 +3,7 @@
 #![tactic(auto)]
 
 mod client;
+mod clients;
 mod cluster;
 mod faults;
 mod joining;
@@ -13,7 +14,9 @@ mod starting;
 mod supply;
 
 pub use client::Client;
+pub use clients::Clients;
 pub use cluster::Cluster;
 pub use faults::{StartFault, Unanswered};
+pub use promises::HandsBack;
 pub use zconsole::ends::{Closed, Console};
 pub use zthreads::{Gate, Open};

@@ -1,16 +1,19 @@
 //! All that a run's threads and clients own, before any thread is started.
 
-ghost use Rattle.std.specs.Prelude.{◌≡◌, ◌≤◌, ◌+◌, All, IfOk, OnOk, length};
+ghost use Rattle.std.specs.Prelude.{◌≡◌, ◌≤◌, ◌+◌, IfOk, OnOk, length};
 ghost use Rattle.zserver_table.specs.declared.limits.TheConstants.{MAX_SERVERS};
 ghost use Rattle.zrun.specs.Supplies.{HandsOut, left};
-ghost use Rattle.zrun.specs.Clients.{client_desks, IsOneOf};
-ghost use Rattle.zrun.specs.Posts.{desks_in, post_desks};
+ghost use Rattle.zrun.specs.Origins.{client_desks};
+ghost use Rattle.zrun.specs.Members.{clients_run, HasAll};
+ghost use Rattle.zrun.specs.Posts.{desks_in, post_desks, run_in};
 ghost use Rattle.zrun.specs.Runs.{AreDesks, IsRun};
 
-use crate::client::Client;
+use crate::clients::Clients;
 use crate::opening::Opening;
 use crate::supply::{HaltPost, Supply};
 use std::alloc::Global;
+use std::snapshot::Snapshot;
+use zcaller::Caller;
 use zcalls::ClientId;
 use zconsole::ends::{Console, Inbox};
 use zpath::Memory;
@@ -33,14 +36,22 @@ pub(crate) struct MasterPost {
     pub(crate) halt: HaltPost,
 }
 
+/// What a client is made of.
+#[derive(Drop)]
+pub(crate) struct ClientPost {
+    pub(crate) caller: Caller,
+    pub(crate) halt: HaltPost,
+}
+
 /// All of a run.
 #[derive(Drop)]
 pub(crate) struct Posts {
     pub(crate) master: MasterPost,
     /// The servers' by number, the last one first.
     pub(crate) servers: Vec<ServerPost>,
-    /// The clients by number.
-    pub(crate) clients: Vec<Client>,
+    pub(crate) clients: Clients,
+    /// What the clients were made of.
+    pub(crate) run: Snapshot<Vec<ClientPost>>,
     pub(crate) console: Console,
     /// That of whoever ends the run.
     pub(crate) halt: HaltPost,
@@ -49,34 +60,37 @@ pub(crate) struct Posts {
 /// All that a run needs, or Memory.
 pub(crate) fn prepare(alloc: Global, opening: &Opening) -> Result<Posts, Memory>
     ensures servers { IfOk result (λ posts. length posts.servers.items ≡ MAX_SERVERS) }
-    ensures clients { IfOk result (λ posts. length posts.clients.items ≡ opening.now.clients) }
-    ensures own { IfOk result (λ posts.
-        All (λ client. IsOneOf posts.clients.items client) posts.clients.items) }
+    ensures count { IfOk result (λ posts. length (run_in posts) ≡ opening.now.clients) }
+    ensures own { IfOk result (λ posts. clients_run posts.clients ≡ run_in posts) }
+    ensures all { IfOk result (λ posts. HasAll opening.now.clients posts.clients) }
     ensures run { IfOk result (λ posts.
         IsRun opening.now.last opening.now.clients (desks_in posts)) }
 {
     let count = 1 + MAX_SERVERS as usize + opening.clients as usize;
     let mut supply = Supply::new(alloc, count)?;
-    let clients = prepare_clients(alloc, opening, &mut supply)?;
+    let callers = prepare_clients(alloc, opening, &mut supply)?;
     let servers = prepare_servers(alloc, opening, &mut supply)?;
     let (ends, halt) = supply.next()?;
     let (console, inbox) = Console::open(alloc)?;
     let chief = opening.master(alloc, ends);
+    let run = Snapshot::of(&callers);
+    let clients = Clients::new(alloc, callers)?;
     Ok(Posts {
         master: MasterPost { chief, inbox, halt },
         servers,
         clients,
+        run,
         console,
         halt: supply.into_last(),
     })
 }
 
-// The clients, which have the last places.
+// What the clients are made of, which have the last places.
 fn prepare_clients(
     alloc: Global,
     opening: &Opening,
     supply: &mut Supply,
-) -> Result<Vec<Client>, Memory>
+) -> Result<Vec<ClientPost>, Memory>
     requires { opening.now.clients ≤ left supply.old }
     ensures clients { IfOk result (λ clients. length clients.items ≡ opening.now.clients) }
     ensures left { OnOk result (left supply.new + opening.now.clients ≡ left supply.old) }
@@ -90,9 +104,9 @@ fn prepare_clients(
         let Some(id) = ClientId::new(opening.clients - 1 - done) else {
             unreachable!()
         };
-        let (ends, HaltPost { halt, seat }) = supply.next()?;
+        let (ends, halt) = supply.next()?;
         let caller = opening.caller(alloc, id, ends);
-        clients.push(Client { caller, halt, seat })?;
+        clients.push(ClientPost { caller, halt })?;
     }
     clients.reverse();
     Ok(clients)

@@ -1,8 +1,11 @@
 //! What the threads promise of what they hand back.
 
+ghost use Rattle.std.specs.Prelude.{◌≡◌};
 ghost use Rattle.zdesks.specs.Desks.{SameDesk};
 ghost use Rattle.zthreads.specs.Owned.{master_desk, server_desk};
+ghost use Rattle.zrun.specs.Clients.{SameClient};
 
+use crate::client::Client;
 use std::snapshot::Snapshot;
 use std::thread::Promise;
 use zconsole::ends::Inbox;
@@ -22,4 +25,23 @@ pub(crate) struct SameMaster(pub(crate) Snapshot<MasterThread>);
 
 impl Promise<(MasterThread, Inbox)> for SameMaster {
     ghost kept_by = { λ p r. SameDesk (master_desk p.0.value) (master_desk r.0) };
+}
+
+/// The client that comes back is the one that went. A thread that is given a client promises it, with what else it hands back.
+#[derive(Drop)]
+pub struct HandsBack(pub(crate) Snapshot<Client>);
+
+impl HandsBack {
+    ghost use Rattle.zrun.specs.Promised.{promised_client};
+
+    /// The promise to hand back this client.
+    pub fn of(client: &Client) -> HandsBack
+        ensures { promised_client result ≡ client.now }
+    {
+        HandsBack(Snapshot::of(client))
+    }
+}
+
+impl<T> Promise<(Client, T)> for HandsBack {
+    ghost kept_by = { λ p r. SameClient p.0.value r.0 };
 }

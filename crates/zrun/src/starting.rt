@@ -12,7 +12,7 @@ ghost use Rattle.zthreads.specs.Owned.{master_desk, server_desk};
 ghost use Rattle.zrun.specs.Handles.{given_master, given_server};
 ghost use Rattle.zrun.specs.Posts.{post_desks};
 
-use crate::client::Client;
+use crate::clients::Clients;
 use crate::cluster::{Cluster, end_all};
 use crate::faults::StartFault;
 use crate::opening::Opening;
@@ -29,11 +29,11 @@ use zserver_table::{MAX_SERVERS, ServerId};
 use zthreads::{Gate, MasterThread, ServerThread, preside, serve};
 
 impl Cluster {
-    ghost use Rattle.zrun.specs.Clusters.{client_count, given_clients, last_server};
-    ghost use Rattle.zrun.specs.Clients.{IsOneOf};
+    ghost use Rattle.zrun.specs.Clusters.{client_count, cluster_run, last_server};
+    ghost use Rattle.zrun.specs.Members.{clients_run, HasAll};
 
     /// Starts a thread for each of the eight servers, spare ones among them, and one for the master. The chain is the servers
-    /// up to the last one; there are so many clients, which stand in order of number. Each server has the gate of its number.
+    /// up to the last one; there are so many clients, of the numbers from 0 on. Each server has the gate of its number.
     /// At a refusal no thread is left.
     pub fn start<G: Gate + Send + 'static, R: Threads + Wait + Copy + Send + 'static>(
         rt: R,
@@ -41,13 +41,11 @@ impl Cluster {
         last: ServerId,
         clients: u8,
         gates: Vec<G>,
-    ) -> Result<(Cluster, Console, Vec<Client>), StartFault>
+    ) -> Result<(Cluster, Console, Clients), StartFault>
         requires clients { clients ≤ MAX_CLIENTS }
         requires gates { length gates.items ≡ MAX_SERVERS }
-        ensures clients { IfOk result (λ run. length run.2.items ≡ clients) }
-        ensures given { IfOk result (λ run. given_clients run.0 ≡ run.2.items) }
-        ensures own { IfOk result (λ run.
-            All (λ client. IsOneOf (given_clients run.0) client) run.2.items) }
+        ensures all { IfOk result (λ run. HasAll clients run.2) }
+        ensures own { IfOk result (λ run. clients_run run.2 ≡ cluster_run run.0) }
         ensures numbers { IfOk result (λ run.
             (last_server run.0 ≡ last) × (client_count run.0 ≡ clients)) }
     {
@@ -56,10 +54,10 @@ impl Cluster {
             master,
             servers,
             clients: callers,
+            run,
             console,
             halt,
         } = prepare(alloc, &opening)?;
-        let given = Snapshot::of(&callers);
         let Ok(threads) = Vec::with_capacity(alloc, MAX_SERVERS as usize) else {
             return Err(StartFault::Memory);
         };
@@ -71,7 +69,7 @@ impl Cluster {
                     halt,
                     master,
                     servers,
-                    given,
+                    run,
                 },
                 console,
                 callers,

@@ -1,6 +1,5 @@
-use Rattle.zdesks.specs.Desks.{SameDesk}
-use Rattle.zrun.specs.Clients.{client_desk}
+use Rattle.zrun.specs.Clients.{SameClient}
 use Rattle.zrace.proofs.runner.ask.Given as goal
 
 abbrev pub invariant-loop : goal.invariant-loop
-invariant-loop l = SameDesk (client_desk l.fn.client) (client_desk l.client)
+invariant-loop l = SameClient l.fn.client l.client

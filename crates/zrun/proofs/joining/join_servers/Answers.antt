@@ -4,8 +4,9 @@ use Rattle.zthreads.specs.Owned.{server_desk}
 use Rattle.zdesks.specs.declared.desk.Desk.{Desk}
 use Rattle.zdesks.specs.declared.desk.Ending.{Ending}
 use Rattle.zrun.specs.Handles.{given_server}
-use Rattle.zrun.specs.Runs.{AreLeftBy}
-use Rattle.zrun.proofs.Leavings.{left_by, left_push}
+use Rattle.zrun.specs.Runs.{AreLeftBy, IsLeftBy}
+use Rattle.zrun.proofs.Leavings.{left_by}
+use Rattle.zrun.proofs.Pairs.{pairs_push}
 use Rattle.zrun.proofs.joining.join_servers.Goals as goal
 
 pub loop-server-preserved : goal.loop-server-preserved
@@ -24,7 +25,7 @@ loop-server-preserved g c =
     let same = c.push_reserved.ensures.capacity in
     let wide = i.2 in
     let left = left_by (given_server server) (server_desk c.join.result) e c.join.ensures c.into_ending.ensures.ended c.into_ending.ensures.wires in
-    let all = left_push (map given_server yielded) endings (given_server server) e i.3 left in (
+    let all = pairs_push IsLeftBy (map given_server yielded) endings (given_server server) e i.3 left in (
       i.0 ∙ ap (λ l. yielded ++ l) step ∙ sym (append_assoc yielded (server ∷ []) rest),
       omega (arith, longer, shorter, room),
       omega (arith, same, wide),

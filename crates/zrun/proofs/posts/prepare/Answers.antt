@@ -1,11 +1,14 @@
-use Rattle.std.proofs.Common.{◌≡◌, ◌+◌, ◌++◌, ◌∷◌, length, subst, arith}
+use Rattle.std.proofs.Common.{◌≡◌, ◌+◌, ◌++◌, ◌∷◌, length, sym, subst, arith}
+use Rattle.std.specs.declared.vec.Vec.{Vec}
+use Rattle.std.specs.declared.alloc.Global.{Global}
 use Rattle.zthreads.specs.Owned.{master_desk}
-use Rattle.zrun.specs.Clients.{client_desks}
+use Rattle.zrun.specs.declared.posts.ClientPost.{ClientPost}
+use Rattle.zrun.specs.Origins.{client_desks}
 use Rattle.zrun.specs.Posts.{post_desks}
-use Rattle.zrun.specs.Runs.{AreDesks}
+use Rattle.zrun.specs.Runs.{AreDesks, IsRun}
 use Rattle.zrun.specs.Supplies.{left}
 use Rattle.zrun.proofs.Desks.{both_desks, hands_both, hands_more, is_run, more_desks, posts_count}
-use Rattle.zrun.proofs.Leavings.{all_own}
+use Rattle.zrun.proofs.Leavings.{number_at}
 use Rattle.zrun.proofs.posts.prepare.Goals as goal
 
 pub returns-clause-run : goal.returns-clause-run
@@ -13,24 +16,25 @@ returns-clause-run c =
     let o = c.args.opening.now in
     let m = master_desk c.master-chief.result in
     let ss = post_desks c.in_ok-servers.servers.items in
-    let cs = client_desks c.in_ok-clients.clients.items in
+    let cs = client_desks c.in_ok-callers.callers.items in
     let s0 = c.in_ok-supply.supply in
     let s1 = c.prepare_clients.new.supply in
     let s2 = c.prepare_servers.new.supply in
     let s3 = c.next.new.self in
     let all = c.in_ok-supply.ensures.left in
-    let after_clients = c.in_ok-clients.ensures.left in
+    let after_clients = c.in_ok-callers.ensures.left in
     let after_servers = c.in_ok-servers.ensures.left in
     let after_master = c.in_ok-ends.ensures.left in
     let none : left s3 ≡ 0 = omega (arith, all, after_clients, after_servers, after_master) in
-    let handed = hands_more s0 s2 s3 c.in_ok-ends.ends m (ss ++ cs) (hands_both s0 s1 s2 cs ss c.in_ok-clients.ensures.rings c.in_ok-servers.ensures.rings)
+    let handed = hands_more s0 s2 s3 c.in_ok-ends.ends m (ss ++ cs) (hands_both s0 s1 s2 cs ss c.in_ok-callers.ensures.rings c.in_ok-servers.ensures.rings)
     c.in_ok-ends.ensures.rings c.master-chief.ensures.ends in
     let eight = posts_count c.in_ok-servers.servers.items in
     let servers = c.in_ok-servers.ensures.servers in
     let next : 9 ≡ 1 + length ss = omega (arith, eight, servers) in
     let desks = more_desks o.last o.clients 0 m (ss ++ cs) c.master-chief.ensures.desk
-    (both_desks o.last o.clients 1 ss cs c.in_ok-servers.ensures.desks (subst (λ k. AreDesks o.last o.clients k cs) next c.in_ok-clients.ensures.desks)) in
-    is_run o.last o.clients _ s0 s3 (m ∷ (ss ++ cs)) c.in_ok-supply.ensures.woven none handed desks
+    (both_desks o.last o.clients 1 ss cs c.in_ok-servers.ensures.desks (subst (λ k. AreDesks o.last o.clients k cs) next c.in_ok-callers.ensures.desks)) in
+    subst (λ (v : Vec ClientPost Global). IsRun o.last o.clients (m ∷ (ss ++ client_desks v.items))) (sym c.of-run.ensures)
+    (is_run o.last o.clients _ s0 s3 (m ∷ (ss ++ cs)) c.in_ok-supply.ensures.woven none handed desks)
 
-pub returns-clause-own : goal.returns-clause-own
-returns-clause-own c = all_own c.args.opening.now.last c.args.opening.now.clients c.in_ok-clients.clients.items c.in_ok-clients.ensures.desks
+pub new-requires-2 : goal.new-requires-2
+new-requires-2 c = number_at c.args.opening.now.last c.args.opening.now.clients c.in_ok-callers.callers.items c.in_ok-callers.ensures.desks

@@ -1,6 +1,6 @@
 use Rattle.std.proofs.Common.{◌≡◌, ◌+◌, ◌-◌, ◌∷◌, suc, length, reverse, refl, sym, ap, subst, ◌∙◌, length-append, arith}
 use Rattle.zcaller.specs.Callers.{caller_desk}
-use Rattle.zrun.specs.Clients.{client_desks}
+use Rattle.zrun.specs.Origins.{client_desks}
 use Rattle.zrun.specs.Runs.{AreDesks}
 use Rattle.zrun.specs.Supplies.{HandsOut}
 use Rattle.zrun.proofs.Desks.{client_process, clients_pushed, hands_more, more_desks}

@@ -1,5 +1,5 @@
 use Rattle.std.proofs.Common.{◌≡◌, ◌+◌, ◌-◌, length, reverse}
-use Rattle.zrun.specs.Clients.{client_desks}
+use Rattle.zrun.specs.Origins.{client_desks}
 use Rattle.zrun.specs.Runs.{AreDesks}
 use Rattle.zrun.specs.Supplies.{HandsOut, left}
 use Rattle.zrun.proofs.posts.prepare_clients.Given as goal

@@ -1,26 +1,27 @@
-use Rattle.std.proofs.Common.{Some}
+use Rattle.std.proofs.Common.{Some, sym, subst}
+use Rattle.std.specs.Prelude.{All}
 use Rattle.std.proofs.lemmas.List.Elements.{All-pop}
-use Rattle.std.specs.declared.thread.PromisedHandle.{PromisedHandle}
-use Rattle.zrun.specs.Clients.{IsOneOf}
-use Rattle.zrun.proofs.Clients.{still_one}
-use Rattle.zrace.specs.declared.runner.Runner.{Runner}
-use Rattle.zrace.specs.declared.promise.SameRunner.{SameRunner}
-use Rattle.zrace.specs.Runners.{given_runner}
+use Rattle.zrun.specs.Clients.{BelongsTo}
+use Rattle.zrun.specs.Members.{clients_run}
+use Rattle.zrun.specs.Origins.{Run}
+use Rattle.zrun.proofs.Still.{still_belongs}
+use Rattle.zrace.specs.Runners.{given_client, Handle}
 use Rattle.zrace.proofs.field.Field.join_all.Goals as goal
+
+pub put-requires : goal.put-requires
+put-requires g c =
+    let field = c.loop-handle.self in
+    let run = clients_run field.clients in
+    let handle = c.in-Some.handle in
+    still_belongs run (given_client handle) c.join-client.result.0
+    (All-pop (λ (h : Handle). BelongsTo run (given_client h)) field.handles.items c.pop.new.self.items (Some handle) c.in-Some.ensures.items field.own).1
+    c.join-client.ensures
 
 pub invariant_of-self : goal.invariant_of-self
 invariant_of-self g c =
     let field = c.loop-handle.self in
+    let left = c.pop.new.self.items in
     record {
-      run = (All-pop (λ (h : PromisedHandle Runner SameRunner). IsOneOf field.given.value.items (given_runner h)) field.handles.items c.pop.new.self.items (Some c.in-Some.handle)
-          c.in-Some.ensures.items field.run).0;
-      here = field.here;
+      own = subst (λ (run : Run). All (λ (h : Handle). BelongsTo run (given_client h)) left) (sym c.put.ensures.run)
+          (All-pop (λ (h : Handle). BelongsTo (clients_run field.clients) (given_client h)) field.handles.items left (Some c.in-Some.handle) c.in-Some.ensures.items field.own).0;
     }
-
-pub keep_client-requires : goal.keep_client-requires
-keep_client-requires g c =
-    let field = c.loop-handle.self in
-    still_one field.given.value.items (given_runner c.in-Some.handle) c.join-runner.result.client
-    (All-pop (λ (h : PromisedHandle Runner SameRunner). IsOneOf field.given.value.items (given_runner h)) field.handles.items c.pop.new.self.items (Some c.in-Some.handle)
-    c.in-Some.ensures.items field.run).1
-    c.join-runner.ensures

@@ -1,6 +1,5 @@
-use Rattle.zdesks.specs.Desks.{SameDesk}
-use Rattle.zrace.specs.Runners.{runner_desk}
+use Rattle.zrun.specs.Clients.{SameClient}
 use Rattle.zrace.proofs.runner.Runner.run.Given as goal
 
 abbrev pub invariant-loop : goal.invariant-loop
-invariant-loop l = SameDesk (runner_desk l.fn.self) (runner_desk l.self)
+invariant-loop l = SameClient l.fn.self.client l.self.client

@@ -1,0 +1,10 @@
+-- Why a call has no reply, where it wasn't begun.
+use Rattle.zclient_table.specs.declared.begin_fault.BeginFault.{BeginFault}
+use Rattle.zclient_table.specs.declared.begin_fault.BeginFault.TheVariants as begin_fault
+use Rattle.zrun.specs.declared.faults.Unanswered.{Unanswered}
+use Rattle.zrun.specs.declared.faults.Unanswered.TheVariants.{Busy, Exhausted, Memory}
+
+abbrev pub unanswered_by : BeginFault → Unanswered
+unanswered_by begin_fault.Busy = Busy
+unanswered_by begin_fault.Memory = Memory
+unanswered_by begin_fault.Exhausted = Exhausted

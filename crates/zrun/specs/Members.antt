@@ -1,0 +1,35 @@
+-- What a clause says of the clients of a run.
+use Rattle.std.specs.Prelude.{◌≡◌, ◌<◌, ℕ, Bool, true, false, Option, None, Some, IsSome, get_or, map}
+use Rattle.zserver_table.specs.declared.process.Process.TheVariants as process
+use Rattle.ztraces.specs.declared.trace.ClientTrace.{ClientTrace}
+use Rattle.ztraces.specs.declared.trace.Traces.{Traces}
+use Rattle.ztraces.specs.Traces.{record_of, trace_of}
+use Rattle.zdesks.specs.Desks as desk
+use Rattle.zrun.specs.declared.client.Client.{Client}
+use Rattle.zrun.specs.declared.clients.Clients.{Clients}
+use Rattle.zrun.specs.Origins.{Run}
+use Rattle.zrun.specs.Clients.{client_desk}
+
+-- the client of that number, if it is there
+abbrev pub client_at : Clients → ℕ → Option Client
+client_at cs i = get_or cs.places.items i None
+
+-- the run that they belong to
+abbrev pub clients_run : Clients → Run
+clients_run cs = cs.run.value.items
+
+-- all of the first numbers are there
+abbrev pub HasAll : ℕ → Clients → Type 0
+HasAll n cs = (i : ℕ) → i < n → IsSome (client_at cs i)
+
+-- whether a client's trace is cut
+abbrev pub is_cut_client : Traces → ℕ → Bool
+is_cut_client t i = get_or (map (λ (c : ClientTrace). c.trace.is_cut) t.clients.items) i false
+
+-- the client's trace and record stand in the traces of the run; of one that isn't there the trace is cut
+abbrev pub IsTold : Traces → ℕ → Option Client → Type 0
+IsTold t i None = is_cut_client t i ≡ true
+IsTold t i (Some c) = (trace_of t (process.Client i) ≡ desk.trace_of (client_desk c)) × (record_of t i ≡ desk.seen_of (client_desk c))
+
+abbrev pub AreTold : ℕ → Traces → Clients → Type 0
+AreTold n t cs = (i : ℕ) → i < n → IsTold t i (client_at cs i)

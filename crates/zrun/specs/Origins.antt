@@ -1,0 +1,42 @@
+-- Who a client is, and of which run.
+use Rattle.std.specs.Prelude.{◌≡◌, ℕ, List, map}
+use mathlib.Core.Option.{some}
+use lib.ListN.{get_elem?}
+use Rattle.zserver_table.specs.declared.process.Process.{Process}
+use Rattle.zrings.specs.Ends.{Ring}
+use Rattle.zdesks.specs.declared.desk.Desk.{Desk}
+use Rattle.zdesks.specs.Desks.{link_count, process_of}
+use Rattle.zcaller.specs.Callers.{caller_desk}
+use Rattle.zrun.specs.declared.posts.ClientPost.{ClientPost}
+use Rattle.zrun.specs.Runs.{in_rings_of, out_rings_of}
+
+-- who a process is, in which run, and on which rings it takes and puts: no call changes it
+pub record Wiring : Type 0 where
+  pub me : Process
+  pub last : ℕ
+  pub clients : ℕ
+  pub links : ℕ
+  pub ins : List Ring
+  pub outs : List Ring
+
+abbrev pub desk_wiring : Desk → Wiring
+desk_wiring d = record {
+  me = process_of d;
+  last = d.last;
+  clients = d.clients;
+  links = link_count d;
+  ins = in_rings_of d;
+  outs = out_rings_of d;
+}
+
+-- a run, told by its clients
+abbrev pub Run : Type 0
+Run = List ClientPost
+
+-- the desks that they were made with
+abbrev pub client_desks : Run → List Desk
+client_desks run = map (λ (p : ClientPost). caller_desk p.caller) run
+
+-- the client of that number is the one with this wiring
+abbrev pub IsOneOf : Run → ℕ → Wiring → Type 0
+IsOneOf run number wiring = get_elem? (map desk_wiring (client_desks run)) number ≡ some wiring

@@ -1,0 +1,81 @@
+//! The clients of a run, by number.
+
+ghost use Rattle.std.specs.Prelude.{◌≡◌, ◌≢◌, ◌<◌, ℕ, IfOk, IfSome, None, Some, length};
+ghost use Rattle.zcaller.specs.Callers.{caller_id};
+ghost use Rattle.zdesks.specs.Desks.{Each};
+ghost use Rattle.zrun.specs.Clients.{AreIn, BelongsTo, number_of};
+
+use crate::client::Client;
+use crate::posts::ClientPost;
+use crate::supply::HaltPost;
+use std::alloc::Global;
+use std::snapshot::Snapshot;
+use zcalls::ClientId;
+use zpath::Memory;
+
+/// The clients of one run that are not handed out. Each belongs into the place of its number.
+#[derive(Drop)]
+pub struct Clients {
+    pub(crate) places: Vec<Option<Client>>,
+    // the clients as they were made
+    pub(crate) run: Snapshot<Vec<ClientPost>>,
+    ghost many: { length places.items ≡ length run.value.items },
+    ghost own: { AreIn run.value.items places.items },
+}
+
+impl Clients {
+    ghost use Rattle.zrun.specs.Members.{client_at, clients_run, HasAll};
+
+    /// All clients of a run.
+    pub(crate) fn new(alloc: Global, posts: Vec<ClientPost>) -> Result<Clients, Memory>
+        requires { Each (λ i p. caller_id p.caller ≡ i) posts.items }
+        ensures run { IfOk result (λ clients. clients_run clients ≡ posts.items) }
+        ensures all { IfOk result (λ clients. HasAll (length posts.items) clients) }
+    {
+        let run = Snapshot::of(&posts);
+        let mut places = Vec::with_capacity(alloc, posts.len())?;
+        for post in posts {
+            places.push(Some(introduce(post)))?;
+        }
+        Ok(Clients { places, run })
+    }
+
+    /// Hands out the client of this number, if it is here.
+    pub fn take(&mut self, id: ClientId) -> Option<Client>
+        ensures found { result ≡ client_at self.old id }
+        ensures own { IfSome result (λ client.
+            BelongsTo (clients_run self.old) client × (number_of client ≡ id)) }
+        ensures gone { client_at self.new id ≡ None }
+        ensures others { (i : ℕ) → i ≢ id → client_at self.new i ≡ client_at self.old i }
+        ensures run { clients_run self.new ≡ clients_run self.old }
+    {
+        let place = id.number() as usize;
+        if place >= self.places.len() {
+            return None;
+        }
+        self.places[place].take()
+    }
+
+    /// Puts a client back into its place.
+    pub fn put(&mut self, client: Client)
+        requires { BelongsTo (clients_run self.old) client }
+        ensures back { client_at self.new (number_of client) ≡ Some client }
+        ensures others { (i : ℕ) → i ≢ number_of client
+            → client_at self.new i ≡ client_at self.old i }
+        ensures run { clients_run self.new ≡ clients_run self.old }
+    {
+        let place = client.id().number() as usize;
+        self.places[place] = Some(client);
+    }
+}
+
+// The client that is made of this.
+fn introduce(post: ClientPost) -> Client
+    ensures { result.caller ≡ post.caller }
+{
+    let ClientPost {
+        caller,
+        halt: HaltPost { halt, seat },
+    } = post;
+    Client { caller, halt, seat }
+}
