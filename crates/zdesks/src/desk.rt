@@ -74,7 +74,8 @@ impl Desk {
         ensures wires { wires_of result ≡ (ins.items, outs.items) }
         ensures settled { IsSettled result }
         ensures whole { is_cut_of result ≡ false }
-        ensures blank { (trace_of result ≡ []) × (seen_of result ≡ []) × (stamp_of_desk result ≡ 0) }
+        ensures blank { (trace_of result ≡ []) × (seen_of result ≡ [])
+            × (stamp_of_desk result ≡ 0) }
     {
         Desk {
             me,
@@ -92,10 +93,24 @@ impl Desk {
         }
     }
 
-    /// What it leaves. Its trace is cut also where something that an event put is on no link.
+    /// What it leaves, once all is put that the last event put. Its trace is cut also where there is no memory for that.
     pub fn into_ending(mut self) -> Ending
-        ensures ended { (s : TreeStanding) (t : Option (Process × TreeStamped)) → Stands self s t (pending self)
-            → HasEnded (self_of self) result }
+        ensures ended { (s : TreeStanding) (t : Option (Process × TreeStamped))
+            → Stands self s t (pending self) → HasEnded (self_of self) result }
+        ensures wires { SameWires self result }
+        ensures trace { result.trace.events.items ≡ trace_of self }
+        ensures seen { result.seen.items ≡ seen_of self }
+        ensures cut { is_cut_of self ≡ true → result.trace.is_cut ≡ true }
+        ensures whole { IsSettled self → result.trace.is_cut ≡ is_cut_of self }
+    {
+        let _ = self.settle();
+        self.leave()
+    }
+
+    // What it leaves. Its trace is cut also where something that an event put is on no link.
+    fn leave(mut self) -> Ending
+        ensures ended { (s : TreeStanding) (t : Option (Process × TreeStamped))
+            → Stands self s t (pending self) → HasEnded (self_of self) result }
         ensures wires { SameWires self result }
         ensures trace { result.trace.events.items ≡ trace_of self }
         ensures seen { result.seen.items ≡ seen_of self }

@@ -17,6 +17,7 @@ impl Desk {
         ensures stands { (s : TreeStanding) (t : Option (Process × TreeStamped))
             → Stands self.old s t (pending self.old) → Stands self.new s t (pending self.new) }
         ensures all { IsTrue result → IsSettled self.new }
+        ensures settled { IsSettled self.old → IsSettled self.new }
         ensures same { SameDesk self.old self.new }
         ensures books { SameBooks self.old self.new }
     {

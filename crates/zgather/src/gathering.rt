@@ -28,7 +28,8 @@ pub fn gather(
 ) -> Result<Traces, Memory>
     requires servers { length servers.items ≡ MAX_SERVERS }
     requires clients { length clients.items ≤ MAX_CLIENTS }
-    requires left { AreLeft last (length clients.items) (by_place master servers.items clients.items) }
+    requires left { AreLeft last (length clients.items)
+        (by_place master servers.items clients.items) }
     requires wired { is_left_cut master servers.items clients.items ≡ false
         → AreWired (by_place master servers.items clients.items) }
     ensures last { IfOk result (λ traces. traces.last ≡ last) }
@@ -37,7 +38,8 @@ pub fn gather(
         ≡ map (λ (e : Ending). e.trace) servers.items) }
     ensures clients { IfOk result (λ traces. traces.clients.items
         ≡ map client_trace_of clients.items) }
-    ensures lawful { IfOk result (λ traces. is_any_cut traces ≡ false → ∥ AreLawful traces ∥₁) }
+    ensures lawful { IfOk result (λ traces.
+        is_any_cut traces ≡ false → ∥ AreLawful traces ∥₁) }
     ensures whole { is_left_cut master servers.items clients.items ≡ true
         → IfOk result (λ traces. traces.master.is_cut ≡ master.trace.is_cut) }
 {

@@ -1,1 +1,2 @@
 pub mod Runners
+pub mod Ranges

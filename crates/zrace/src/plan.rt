@@ -1,6 +1,6 @@
 //! What a race is run with.
 
-ghost use Rattle.std.specs.Prelude.{◌≡◌, ◌<◌, ◌≤◌, IfSome};
+ghost use Rattle.std.specs.Prelude.{◌≡◌, ◌<◌, ◌≤◌, IfNone, IfSome};
 ghost use Rattle.zrace.specs.declared.plan.TheConstants.{MAX_RACERS, MAX_ROUNDS};
 
 use zserver_table::ServerId;
@@ -29,10 +29,15 @@ pub struct Race {
 }
 
 impl Race {
+    ghost use Rattle.zrace.specs.Ranges.{AreInRange, halted_server};
+
     /// The race of these numbers, where 0 halts no server. None where one is out of its range: 1 to 31 clients, 1 to 1,000
     /// rounds, and to be halted a server of a chain of two and more.
     pub fn new(last: ServerId, clients: u8, rounds: u16, halt: u8) -> Option<Race>
-        ensures { IfSome result (λ race. (race.last ≡ last) × (race.clients ≡ clients) × (race.rounds ≡ rounds)) }
+        ensures known { IfSome result (λ _. AreInRange last clients rounds halt) }
+        ensures refused { IfNone result (AreInRange last clients rounds halt → ⊥) }
+        ensures same { IfSome result (λ race. (race.last ≡ last) × (race.clients ≡ clients)
+            × (race.rounds ≡ rounds) × (race.halt ≡ halted_server halt)) }
     {
         if clients == 0 || clients > MAX_RACERS {
             return None;
@@ -55,7 +60,11 @@ impl Race {
 }
 
 // The server that is to be halted, of a chain where another one is left.
-fn halted(last: ServerId, halt: u8) -> Option<ServerId> {
+fn halted(last: ServerId, halt: u8) -> Option<ServerId>
+    requires { 0 < halt }
+    ensures known { IfSome result (λ server. (server ≡ halt) × (halt ≤ last) × (1 < last)) }
+    ensures refused { IfNone result ((halt ≤ last) × (1 < last) → ⊥) }
+{
     if halt > last.number() || last.number() == 1 {
         return None;
     }

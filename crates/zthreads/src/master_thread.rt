@@ -89,7 +89,8 @@ impl MasterThread {
         ensures wires { SameWires (master_desk self) result }
         ensures trace { result.trace.events.items ≡ trace_of (master_desk self) }
         ensures cut { is_cut_of (master_desk self) ≡ true → result.trace.is_cut ≡ true }
-        ensures whole { IsSettled (master_desk self) → result.trace.is_cut ≡ is_cut_of (master_desk self) }
+        ensures whole { IsSettled (master_desk self)
+            → result.trace.is_cut ≡ is_cut_of (master_desk self) }
     {
         let MasterThread { desk, master } = self;
         drop(master);
@@ -123,7 +124,8 @@ fn admit(desk: &mut Desk, master: &mut Master, server: ServerId)
     requires me { process_of desk.old ≡ process.Master }
     requires settled { IsSettled desk.old }
     requires room { MAX_POSTS ≤ room_of desk.old }
-    ensures at { Stands desk.old (AtMaster master.old) None [] → IsAt desk.new (AtMaster master.new) }
+    ensures at { Stands desk.old (AtMaster master.old) None []
+        → IsAt desk.new (AtMaster master.new) }
     ensures same { SameDesk desk.old desk.new }
 {
     let _ = server.number();

@@ -100,7 +100,8 @@ impl ServerThread {
         ensures wires { SameWires (server_desk self) result }
         ensures trace { result.trace.events.items ≡ trace_of (server_desk self) }
         ensures cut { is_cut_of (server_desk self) ≡ true → result.trace.is_cut ≡ true }
-        ensures whole { IsSettled (server_desk self) → result.trace.is_cut ≡ is_cut_of (server_desk self) }
+        ensures whole { IsSettled (server_desk self)
+            → result.trace.is_cut ≡ is_cut_of (server_desk self) }
     {
         let ServerThread { desk, server, .. } = self;
         drop(server);

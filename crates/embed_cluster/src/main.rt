@@ -1,0 +1,143 @@
+//! A cluster in a program: two threads with a client each, of which the second can't miss what the first one wrote, while a
+//! server joins and another one is halted.
+#![tactic(auto)]
+
+ghost use Rattle.std.specs.Prelude.{◌≡◌, IfOk, length};
+ghost use Rattle.zserver_table.specs.declared.limits.TheConstants.{MAX_SERVERS};
+ghost use Rattle.zrun.specs.Clients.{SameClient};
+ghost use Rattle.zrun.specs.Members.{clients_run};
+
+use std::alloc::Global;
+use std::io::Write;
+use std::process::ExitCode;
+use std::sync::Wait;
+use std::thread;
+use std::thread::Threads;
+use zcalls::{Call, ClientId, Create, Data, Kind, Query, Reply, Update};
+use zpath::{Memory, Path};
+use zrun::{Client, Clients, Cluster, HandsBack};
+use zserver_table::{MAX_SERVERS, ServerId};
+use zthreads::Open;
+use zworld::audit;
+
+// A call is asked for again after so many turns, so often.
+const TURNS: u64 = 100_000;
+
+const RETRIES: u64 = 1_000;
+
+fn main(rt: HostRuntime) -> ExitCode {
+    match run(rt, rt.alloc()) {
+        Some(events) if events == 4 => {
+            let told = rt.stdout().write_all(b"audit ok, 4 events\n");
+            if told.is_ok() { ExitCode::SUCCESS } else { ExitCode::FAILURE }
+        }
+        _ => ExitCode::FAILURE,
+    }
+}
+
+// Starts a chain of two servers, uses it, ends it, and answers how many events the audit found.
+fn run<R: Threads + Wait + Copy + Send + 'static>(rt: R, alloc: Global) -> Option<usize> {
+    let last = ServerId::new(2)?;
+    let gates = open_gates(alloc).ok()?;
+    let (cluster, mut console, mut clients) = Cluster::start(rt, alloc, last, 2, gates).ok()?;
+    let is_ordered = match ServerId::new(3) {
+        Some(server) => console.join(&rt, server).is_ok(),
+        None => false,
+    };
+    let is_found = write_and_read(rt, alloc, &mut clients);
+    let traces = cluster.join(&rt, alloc, console, clients).ok()?;
+    if !is_ordered || is_found != Some(true) {
+        return None;
+    }
+    let history = audit(alloc, &traces).ok()?;
+    Some(history.len())
+}
+
+// The first client writes on a thread of its own. The second one learns of its stamp, and reads: whether it finds what was written.
+#[tactic(auto, using(zrun::proofs::Still::still_belongs))]
+fn write_and_read<R: Threads>(rt: R, alloc: Global, clients: &mut Clients) -> Option<bool>
+    ensures { clients_run clients.new ≡ clients_run clients.old }
+{
+    let writer = clients.take(ClientId::new(0)?)?;
+    let promise = HandsBack::of(&writer);
+    let Ok(handle) = thread::spawn_with(
+        &rt,
+        promise,
+        move || -> (Client, bool)
+            ensures { SameClient writer result.0 }
+        { write(writer, alloc) },
+    ) else {
+        return None;
+    };
+    let (writer, is_written) = handle.join(&rt);
+    let stamp = writer.stamp();
+    clients.put(writer);
+    let mut reader = clients.take(ClientId::new(1)?)?;
+    reader.learn(stamp);
+    let is_found = read(&mut reader, alloc);
+    clients.put(reader);
+    Some(is_written && is_found)
+}
+
+// Creates the node, and halts the first server.
+fn write(mut client: Client, alloc: Global) -> (Client, bool)
+    ensures { SameClient client result.0 }
+{
+    let is_written = match create(alloc) {
+        Some(call) => ask(&mut client, call).is_some(),
+        None => false,
+    };
+    if let Some(server) = ServerId::new(1) {
+        client.halt(server);
+    }
+    (client, is_written)
+}
+
+// Whether there is the node.
+fn read(client: &mut Client, alloc: Global) -> bool
+    ensures { SameClient client.old client.new }
+{
+    match exists(alloc) {
+        Some(call) => matches!(&ask(client, call), Some(Reply::Exists(_))),
+        None => false,
+    }
+}
+
+// The reply of a call, which is sent again while it has none.
+fn ask(client: &mut Client, call: Call) -> Option<Reply>
+    ensures { SameClient client.old client.new }
+{
+    if let Ok(reply) = client.call(call, TURNS) {
+        return Some(reply);
+    }
+    for _ in 0..RETRIES {
+        let _ = client.retry();
+        if let Ok(reply) = client.wait(TURNS) {
+            return Some(reply);
+        }
+    }
+    None
+}
+
+fn create(alloc: Global) -> Option<Call> {
+    Some(Call::Update(Update::Create(Create {
+        path: Path::parse(alloc, "/config").ok()?,
+        kind: Kind::Persistent,
+        bytes: Data::empty(alloc),
+    })))
+}
+
+fn exists(alloc: Global) -> Option<Call> {
+    Some(Call::Query(Query::Exists(Path::parse(alloc, "/config").ok()?)))
+}
+
+// A gate for each server, which lets all pass.
+fn open_gates(alloc: Global) -> Result<Vec<Open>, Memory>
+    ensures { IfOk result (λ gates. length gates.items ≡ MAX_SERVERS) }
+{
+    let mut gates = Vec::with_capacity(alloc, MAX_SERVERS as usize)?;
+    for _ in 0..MAX_SERVERS {
+        gates.push(Open)?;
+    }
+    Ok(gates)
+}

@@ -1,0 +1,59 @@
+//! Calls, and how they are asked for.
+
+ghost use Rattle.zrun.specs.Clients.{SameClient};
+
+use std::alloc::Global;
+use zcalls::{Call, Create, Data, Expected, Kind, Query, Reply, SetData, Update};
+use zpath::Path;
+use zrun::{Client, Unanswered};
+
+/// A call takes so many turns at a time.
+pub const TURNS: u64 = 100_000;
+
+const RETRIES: u64 = 1_000;
+
+/// A create of a persistent node without data.
+pub fn create(alloc: Global, path: &str) -> Option<Call> {
+    Some(Call::Update(Update::Create(Create {
+        path: Path::parse(alloc, path).ok()?,
+        kind: Kind::Persistent,
+        bytes: Data::empty(alloc),
+    })))
+}
+
+/// A set to empty data, of whatever version.
+pub fn set(alloc: Global, path: &str) -> Option<Call> {
+    Some(Call::Update(Update::SetData(SetData {
+        path: Path::parse(alloc, path).ok()?,
+        bytes: Data::empty(alloc),
+        version: Expected::Any,
+    })))
+}
+
+/// Whether there is such a node, and its stat.
+pub fn exists(alloc: Global, path: &str) -> Option<Call> {
+    Some(Call::Query(Query::Exists(Path::parse(alloc, path).ok()?)))
+}
+
+/// A node's data.
+pub fn get(alloc: Global, path: &str) -> Option<Call> {
+    Some(Call::Query(Query::GetData(Path::parse(alloc, path).ok()?)))
+}
+
+/// The reply of a call, which is sent again while it has none.
+pub fn ask(client: &mut Client, call: Call) -> Option<Reply>
+    ensures { SameClient client.old client.new }
+{
+    match client.call(call, TURNS) {
+        Ok(reply) => return Some(reply),
+        Err(Unanswered::NoAnswer) => {}
+        Err(_) => return None,
+    }
+    for _ in 0..RETRIES {
+        let _ = client.retry();
+        if let Ok(reply) = client.wait(TURNS) {
+            return Some(reply);
+        }
+    }
+    None
+}
