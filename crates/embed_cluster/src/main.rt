@@ -29,7 +29,11 @@ fn main(rt: HostRuntime) -> ExitCode {
     match run(rt, rt.alloc()) {
         Some(events) if events == 4 => {
             let told = rt.stdout().write_all(b"audit ok, 4 events\n");
-            if told.is_ok() { ExitCode::SUCCESS } else { ExitCode::FAILURE }
+            if told.is_ok() {
+                ExitCode::SUCCESS
+            } else {
+                ExitCode::FAILURE
+            }
         }
         _ => ExitCode::FAILURE,
     }
@@ -44,7 +48,7 @@ fn run<R: Threads + Wait + Copy + Send + 'static>(rt: R, alloc: Global) -> Optio
         Some(server) => console.join(&rt, server).is_ok(),
         None => false,
     };
-    let is_found = write_and_read(rt, alloc, &mut clients);
+    let is_found = write_and_read(&rt, alloc, &mut clients);
     let traces = cluster.join(&rt, alloc, console, clients).ok()?;
     if !is_ordered || is_found != Some(true) {
         return None;
@@ -55,13 +59,13 @@ fn run<R: Threads + Wait + Copy + Send + 'static>(rt: R, alloc: Global) -> Optio
 
 // The first client writes on a thread of its own. The second one learns of its stamp, and reads: whether it finds what was written.
 #[tactic(auto, using(zrun::proofs::Still::still_belongs))]
-fn write_and_read<R: Threads>(rt: R, alloc: Global, clients: &mut Clients) -> Option<bool>
+fn write_and_read<R: Threads>(rt: &R, alloc: Global, clients: &mut Clients) -> Option<bool>
     ensures { clients_run clients.new ≡ clients_run clients.old }
 {
     let writer = clients.take(ClientId::new(0)?)?;
     let promise = HandsBack::of(&writer);
     let Ok(handle) = thread::spawn_with(
-        &rt,
+        rt,
         promise,
         move || -> (Client, bool)
             ensures { SameClient writer result.0 }
@@ -69,7 +73,7 @@ fn write_and_read<R: Threads>(rt: R, alloc: Global, clients: &mut Clients) -> Op
     ) else {
         return None;
     };
-    let (writer, is_written) = handle.join(&rt);
+    let (writer, is_written) = handle.join(rt);
     let stamp = writer.stamp();
     clients.put(writer);
     let mut reader = clients.take(ClientId::new(1)?)?;

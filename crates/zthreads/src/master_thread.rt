@@ -44,10 +44,11 @@ impl MasterThread {
         self.desk.links()
     }
 
-    /// Moves what waits into the rings.
+    /// Puts what the last event put, and moves what waits into the rings: so none of it waits for the message that is taken next.
     pub fn flush(&mut self)
         ensures same { SameDesk (master_desk self.old) (master_desk self.new) }
     {
+        let _ = self.desk.settle();
         self.desk.flush();
     }
 

@@ -50,10 +50,11 @@ impl ServerThread {
         self.desk.links()
     }
 
-    /// Moves what waits into the rings.
+    /// Puts what the last event put, and moves what waits into the rings: so none of it waits for the message that is taken next.
     pub fn flush(&mut self)
         ensures same { SameDesk (server_desk self.old) (server_desk self.new) }
     {
+        let _ = self.desk.settle();
         self.desk.flush();
     }
 
