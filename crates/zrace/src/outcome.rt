@@ -1,6 +1,6 @@
 //! What came of a race.
 
-ghost use Rattle.std.specs.Prelude.{IsOk, IsTrue};
+ghost use Rattle.std.specs.Prelude.{All, IsErr, IsFalse, IsOk, IsSome, IsTrue};
 
 use std::alloc::{AllocError, Global};
 use zworld::AuditFault;
@@ -17,13 +17,15 @@ pub struct Outcome {
 impl Outcome {
     /// Whether each node was answered, and the audit is ok.
     pub fn is_good(&self) -> bool
-        ensures audit { IsTrue result → IsOk self.now.audit }
+        ensures good { IsTrue result → All IsSome self.now.versions.items × IsOk self.now.audit }
+        ensures bad { IsFalse result → All IsSome self.now.versions.items → IsErr self.now.audit }
     {
-        let mut answered = true;
-        for version in &self.versions {
-            answered &= version.is_some();
+        for node in 0..self.versions.len() {
+            if self.versions[node].is_none() {
+                return false;
+            }
         }
-        answered & self.audit.is_ok()
+        self.audit.is_ok()
     }
 
     /// The line of a node.
