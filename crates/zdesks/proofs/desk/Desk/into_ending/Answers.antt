@@ -1,4 +1,4 @@
-use Rattle.std.proofs.Common.{sym, subst, ◌∙◌}
+use Rattle.std.proofs.Common.{subst}
 use Rattle.zdesks.specs.Desks.{Self}
 use Rattle.zdesks.specs.Endings.{HasEnded}
 use Rattle.zdesks.proofs.Endings.{same_self_of}
