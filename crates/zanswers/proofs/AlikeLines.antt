@@ -47,8 +47,8 @@ try_in : (s : Service) (w : ServiceWorld) (event : Event) → IsAlike s.world w
     → Like (with_try kept_tree s event) (with_try kept_tree (record s { world = w }) event)
 try_in s w event alike =
     let t : Service = record s { world = w } in
-    let here : Event = read s.world event (next_outcome s.outcomes) in
-    let there : Event = read w event (next_outcome s.outcomes) in
+    let here : Event = read kept_tree s.world event (next_outcome s.outcomes) in
+    let there : Event = read kept_tree w event (next_outcome s.outcomes) in
     let same : here ≡ there = read_alike kept_tree s.world w event (next_outcome s.outcomes) alike in
     let done : Like (with_event kept_tree s here) (with_event kept_tree t there) =
     subst (λ e. Like (with_event kept_tree s here) (with_event kept_tree t e)) same

@@ -87,7 +87,7 @@ stepped_counted : (old new : Held) (event : Event) (did : Did) (history : Histor
     → new.master.clients ≡ old.master.clients
 stepped_counted old new event did history stepped =
     ap (λ (w : World (KeptState Tree)). w.master.clients) (stepped.leads []).rest
-    ∙ happens_counted kept_tree (world_of old []) (read (world_of old []) event (outcome_of did))
+    ∙ happens_counted kept_tree (world_of old []) (read kept_tree (world_of old []) event (outcome_of did))
 
 pub settled_counted : (old new : Held) (limit : ℕ) (settled : Settled) (told : List Outcome) (history : History) → HasSettled old new limit settled told history
     → new.master.clients ≡ old.master.clients

@@ -40,16 +40,16 @@ opposite false false e = absurd (true≢false (sym e))
 
 -- an event that is tried, where it is enabled, and where it isn't
 pub tried_on : (w : ServiceWorld) (outcomes : List Outcome) (event : Event) → is_enabled w event ≡ true
-    → after_try (script_state w outcomes) event ≡ with_event kept_tree (opening_settling w 1 outcomes) (read w event (next_outcome outcomes))
+    → after_try (script_state w outcomes) event ≡ with_event kept_tree (opening_settling w 1 outcomes) (read kept_tree w event (next_outcome outcomes))
 tried_on w outcomes event on =
     let opening : Settling (KeptState Tree) = opening_settling w 1 outcomes in
-    ap (λ b. if b then with_event kept_tree opening (read w event (next_outcome outcomes)) else opening) on
+    ap (λ b. if b then with_event kept_tree opening (read kept_tree w event (next_outcome outcomes)) else opening) on
 
 tried_off : (w : ServiceWorld) (outcomes : List Outcome) (event : Event) → is_enabled w event ≡ false
     → after_try (script_state w outcomes) event ≡ opening_settling w 1 outcomes
 tried_off w outcomes event off =
     let opening : Settling (KeptState Tree) = opening_settling w 1 outcomes in
-    ap (λ b. if b then with_event kept_tree opening (read w event (next_outcome outcomes)) else opening) off
+    ap (λ b. if b then with_event kept_tree opening (read kept_tree w event (next_outcome outcomes)) else opening) off
 
 -- the outcomes that are met at an event
 abbrev pub told_of : Did → List Outcome

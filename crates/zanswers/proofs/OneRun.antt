@@ -45,7 +45,7 @@ tried_leads : (s : ScriptState) (event : Event) → LeadsFrom s.world (after_try
 tried_leads s event =
     let opening = opening_settling s.world 1 s.outcomes in
     of_choice (LeadsFrom s.world) (nat_lt 0 1 && is_enabled s.world event)
-    (with_event kept_tree opening (read s.world event (next_outcome s.outcomes))) opening refl refl
+    (with_event kept_tree opening (read kept_tree s.world event (next_outcome s.outcomes))) opening refl refl
 
 -- settling behind events
 settled_leads : (w : ServiceWorld) (before : Settling (KeptState Tree)) → LeadsFrom w before → LeadsFrom w (after_settling before)

@@ -10,7 +10,7 @@ ghost use Rattle.zclient.specs.Core.{IsBeginFault, IsResend};
 use crate::post::send_call;
 use std::alloc::Global;
 use std::marker::Model;
-use zcalls::{Call, CallNumber, Reply};
+use zcalls::{Call, CallNumber, MAX_CALL_NUMBER, Reply};
 use zclient_table::BeginFault;
 use zout::Out;
 use zpath::Memory;
@@ -78,6 +78,20 @@ impl ClientCore {
     {
         let (number, _) = self.outstanding.as_ref()?;
         Some(*number)
+    }
+
+    /// Why it can't begin a call now: `Busy`, or `Exhausted`.
+    #[tactic(auto, unfolding(zclient_table::specs::Table::begin_fault))]
+    pub fn begin_fault(&self) -> Option<BeginFault>
+        ensures { result ≡ begin_fault self.now }
+    {
+        if self.outstanding.is_some() {
+            return Some(BeginFault::Busy);
+        }
+        if self.number.number() >= MAX_CALL_NUMBER {
+            return Some(BeginFault::Exhausted);
+        }
+        None
     }
 
     /// Begins a call, and answers its number. All growth is made before anything is put or changed.
@@ -162,13 +176,13 @@ impl ClientCore {
         ensures allowed { OnOk result (begin_fault self.now ≡ None) }
         ensures fault { IfErr result (IsBeginFault self.now) }
     {
-        if self.outstanding.is_some() {
-            return Err(BeginFault::Busy);
+        if let Some(fault) = self.begin_fault() {
+            return Err(fault);
         }
-        let Some(number) = CallNumber::new(self.number.number() + 1) else {
-            return Err(BeginFault::Exhausted);
-        };
-        Ok(number)
+        match CallNumber::new(self.number.number() + 1) {
+            Some(number) => Ok(number),
+            None => unreachable!(),
+        }
     }
 
     // From now on it waits for this call.

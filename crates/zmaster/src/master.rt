@@ -65,6 +65,13 @@ impl Master {
         let _ = self.known.count();
     }
 
+    /// Why a server can't join now.
+    pub fn join_fault(&self, server: ServerId) -> Option<JoinFault>
+        ensures { result ≡ join_fault self.now server }
+    {
+        self.known.join_fault(&server)
+    }
+
     /// Lets a server join behind the last of the chain, or says why it can't. It takes no memory.
     pub fn join<T: Drop>(&mut self, server: ServerId, out: &mut Out<T>) -> Result<(), JoinFault>
         requires { MAX_POSTS ≤ out.old.room }

@@ -15,7 +15,7 @@ use Rattle.zclient_table.specs.declared.begin_fault.BeginFault.{BeginFault}
 use Rattle.zworld_model.specs.declared.event.Event.TheVariants as event
 use Rattle.zworld_model.specs.declared.history.CallEvent.TheVariants as call_event
 use Rattle.zworld_model.specs.History.{History}
-use Rattle.zworld_model.specs.Events.{client_does}
+use Rattle.zworld_model.specs.Events.{client_does, is_enabled}
 use Rattle.zworld_model.specs.Alike.{IsAlike}
 use Rattle.zprocesses.specs.declared.did.Did.TheVariants as became
 use Rattle.zprocesses.specs.declared.did.IdleCause.TheVariants as cause
@@ -92,6 +92,30 @@ pub not_retried : (held : Held) (c : ℕ) → is_some (get_or held.clients c nob
     → HasStepped held held (event.Retry c) (became.Idle cause.Nothing) []
 not_retried held c waits = idle_stepped held (event.Retry c) cause.Nothing waits refl
 
+-- a client's core is the one that was looked at
+core_at : (clients : List ClientView) (c place : ℕ) (was : ClientView) → place ≡ c → place < length clients → was ≡ get_or clients place was
+    → get_or clients c nobody ≡ was
+core_at clients c place was at inside read =
+    get_or_default clients c nobody was (subst (λ (k : ℕ). k < length clients) at inside) ∙ ap (λ k. get_or clients k was) (sym at) ∙ sym read
+
+-- a call can begin, by what its client's core says
+pub begin_enabled : (old held : Held) (c place : ℕ) (call : Call) (was : ClientView)
+    → held ≡ old → place ≡ c → place < length held.clients → was ≡ get_or held.clients place was → c < held.master.clients → begin_fault was ≡ None
+    → is_enabled (world_of old []) (event.Begin c call) ≡ true
+begin_enabled old held c place call was same at inside read one free =
+    let here = core_at held.clients c place was at inside read in
+    subst (λ (o : Held). is_enabled (world_of o []) (event.Begin c call) ≡ true) same
+    (ap (λ b. b && is_none (begin_fault (get_or held.clients c nobody))) (lt-ltb c held.master.clients one)
+    ∙ ap (λ v. is_none (begin_fault v)) here ∙ ap is_none free)
+
+-- or can't
+pub begin_refused : (old held : Held) (c place : ℕ) (call : Call) (was : ClientView) (fault : BeginFault)
+    → held ≡ old → place ≡ c → place < length held.clients → was ≡ get_or held.clients place was → begin_fault was ≡ Some fault
+    → HasStepped old old (event.Begin c call) (became.Idle (cause.Begin fault)) []
+begin_refused old held c place call was fault same at inside read refused =
+    subst (λ (o : Held). HasStepped o o (event.Begin c call) (became.Idle (cause.Begin fault)) []) same
+    (not_begun held c call fault (ap begin_fault (core_at held.clients c place was at inside read) ∙ refused))
+
 -- a call began, by what its client's core says
 pub begin_done : (old held : Held) (c place : ℕ) (call : Call) (number : ℕ) (was view : ClientView) (before after : List (Post (KeptState Tree))) (now : List MemberView) (rows : Rows)
     → held ≡ old → place ≡ c → place < length held.clients → was ≡ get_or held.clients place was → before ≡ [] → c < held.master.clients
@@ -101,8 +125,7 @@ pub begin_done : (old held : Held) (c place : ℕ) (call : Call) (number : ℕ) 
     → HasStepped old (record held { clients = set held.clients place view; links = rows }) (event.Begin c call) became.Done (call_event.Begin c number call ∷ [])
 begin_done old held c place call number was view before after now rows same at inside read silent one counted is puts free value done =
     let within : c < length held.clients = subst (λ (k : ℕ). k < length held.clients) at inside in
-    let here : get_or held.clients c nobody ≡ was =
-    get_or_default held.clients c nobody was within ∙ ap (λ k. get_or held.clients k was) (sym at) ∙ sym read in
+    let here : get_or held.clients c nobody ≡ was = core_at held.clients c place was at inside read in
     let step : ClientView → ClientView × List (Post (KeptState Tree)) = λ v. begin_step v call in
     subst (λ (o : Held). HasStepped o (record held { clients = set held.clients place view; links = rows }) (event.Begin c call) became.Done (call_event.Begin c number call ∷ [])) same
     (subst (λ (k : ℕ). HasStepped held (record held { clients = set held.clients k view; links = rows }) (event.Begin c call) became.Done (call_event.Begin c number call ∷ [])) (sym at)
@@ -129,20 +152,25 @@ pub retry_done : (old held : Held) (c place : ℕ) (was : ClientView) (before af
     → HasStepped old (record held { links = rows }) (event.Retry c) became.Done []
 retry_done old held c place was before after now rows number same at inside read silent asked some puts value done =
     let within : c < length held.clients = subst (λ (k : ℕ). k < length held.clients) at inside in
-    let here : get_or held.clients c nobody ≡ was =
-    get_or_default held.clients c nobody was within ∙ ap (λ k. get_or held.clients k was) (sym at) ∙ sym read in
+    let here : get_or held.clients c nobody ≡ was = core_at held.clients c place was at inside read in
     subst (λ (o : Held). HasStepped o (record held { links = rows }) (event.Retry c) became.Done []) same
     (retried held c after rows (ap (λ (v : ClientView). is_some v.outstanding) here ∙ waits_by was.outstanding (ap is_none (sym asked) ∙ some)) within
     (puts ∙ ap (λ ps. ps ++ retry_posts was) silent ∙ ap retry_posts (sym here))
     (subst (λ (ms : List MemberView). IsPosted ms held.links (Client c) after rows) value done))
+
+pub retry_enabled : (old held : Held) (c place : ℕ) (was : ClientView) (number : Option ℕ)
+    → held ≡ old → place ≡ c → place < length held.clients → was ≡ get_or held.clients place was
+    → number ≡ option_map (λ waits. waits.0) was.outstanding → is_none number ≡ false
+    → is_enabled (world_of old []) (event.Retry c) ≡ true
+retry_enabled old held c place was number same at inside read asked some =
+    subst (λ (o : Held). is_enabled (world_of o []) (event.Retry c) ≡ true) same
+    (ap (λ (v : ClientView). is_some v.outstanding) (core_at held.clients c place was at inside read) ∙ waits_by was.outstanding (ap is_none (sym asked) ∙ some))
 
 pub retry_idle : (old held : Held) (c place : ℕ) (was : ClientView) (number : Option ℕ)
     → held ≡ old → place ≡ c → place < length held.clients → was ≡ get_or held.clients place was
     → number ≡ option_map (λ waits. waits.0) was.outstanding → is_none number ≡ true
     → HasStepped old old (event.Retry c) (became.Idle cause.Nothing) []
 retry_idle old held c place was number same at inside read asked none =
-    let within : c < length held.clients = subst (λ (k : ℕ). k < length held.clients) at inside in
-    let here : get_or held.clients c nobody ≡ was =
-    get_or_default held.clients c nobody was within ∙ ap (λ k. get_or held.clients k was) (sym at) ∙ sym read in
+    let here : get_or held.clients c nobody ≡ was = core_at held.clients c place was at inside read in
     subst (λ (o : Held). HasStepped o o (event.Retry c) (became.Idle cause.Nothing) []) same
     (not_retried held c (ap (λ (v : ClientView). is_some v.outstanding) here ∙ waits_not_by was.outstanding (ap is_none (sym asked) ∙ none)))

@@ -9,6 +9,7 @@ use Rattle.zserver_table.specs.declared.message.Message.TheVariants as message
 use Rattle.zserver_table.specs.declared.process.Process.{Process}
 use Rattle.zserver_table.specs.declared.process.Process.TheVariants.{Master, Server, Client}
 use Rattle.zserver_table.specs.Machine.{kept_tree}
+use Rattle.zserver_table.specs.Memory.{is_query, may_be_unheard, may_stop}
 use Rattle.zserver_table.specs.View.{MessageOf}
 use Rattle.zworld_model.specs.declared.event.Event.TheVariants as event
 use Rattle.zworld_model.specs.declared.outcome.Outcome.TheVariants as outcome
@@ -16,9 +17,10 @@ use Rattle.zworld_model.specs.History.{History}
 use Rattle.zworld_model.specs.Links.{is_same, messages_to, without_front}
 use Rattle.zworld_model.specs.World.{World}
 use Rattle.zworld_model.specs.Events.{is_request, has_failed, is_enabled, is_server, happens, acts, front_step, process_step}
-use Rattle.zworld_model.specs.Reading.{is_query, read}
+use Rattle.zworld_model.specs.Reading.{is_fitting, read}
 use Rattle.zworld_model.specs.Alike.{IsAlike}
 use Rattle.zworld_model.proofs.Alike.{alike_itself, alike_through}
+use Rattle.zworld_model.proofs.Tests.{both}
 use Rattle.zprocesses.specs.declared.did.Did.TheVariants as became
 use Rattle.zprocesses.specs.declared.did.IdleCause.TheVariants as cause
 use Rattle.zprocesses.specs.Held.{Held, is_gone, member_at, world_of}
@@ -76,17 +78,19 @@ module _ (old : Held) (from : Process) (s : ℕ) (front : MessageOf (KeptState T
 
   -- the server didn't hear the query
   pub unheard : (mid : Held) → ((history : History) → world_of mid history ≡ without (world_of old history) from (Server s))
-      → is_query front ≡ true → HasStepped old mid (event.Take from (Server s)) became.Unheard []
-  unheard mid popped query =
+      → may_be_unheard kept_tree ((world_of old []).servers s) from front ≡ true → HasStepped old mid (event.Take from (Server s)) became.Unheard []
+  unheard mid popped wants =
       let w = world_of old [] in
-      let reads : read w (event.Take from (Server s)) outcome.Unheard ≡ event.Ignore from (Server s) =
-      rw (enabled, there, query) refl in
+      let fits : is_fitting kept_tree w (event.Take from (Server s)) outcome.Unheard ≡ true = rw (enabled, there) wants in
+      let reads : read kept_tree w (event.Take from (Server s)) outcome.Unheard ≡ event.Ignore from (Server s) =
+      ap (λ b. if b then event.Ignore from (Server s) else event.Take from (Server s)) fits in
+      let query : is_query front ≡ true = (both _ _ wants).0 in
       let request : is_enabled w (event.Ignore from (Server s)) ≡ true = rw (there, query_is_request front query, alive) refl in
       record {
         idle = not_idle _ enabled;
         same = λ idle. absurd (true≢false (sym idle));
         caused = λ why is. let never : ⊥ = cc in absurd never;
-        fits = rw (enabled, there) query;
+        fits = fits;
         leads = λ history.
             subst (λ e. IsAlike (happens kept_tree (world_of old history) e) (world_of mid (history ++ []))) (sym reads)
             (subst (λ v. IsAlike v (world_of mid (history ++ []))) (sym (happens_so (world_of old history) (event.Ignore from (Server s)) request))
@@ -122,17 +126,19 @@ module _ (old : Held) (from : Process) (s : ℕ) (front : MessageOf (KeptState T
 
   -- the server stopped at it
   pub stopped : (mid new : Held) → is_server s ≡ true → ((history : History) → world_of mid history ≡ without (world_of old history) from (Server s))
-      → is_query front ≡ false → ((history : History) → IsAlike (acts kept_tree (world_of mid history) (event.Fail s)) (world_of new history))
+      → may_stop kept_tree ((world_of old []).servers s) from front ≡ true → ((history : History) → IsAlike (acts kept_tree (world_of mid history) (event.Fail s)) (world_of new history))
       → HasStepped old new (event.Take from (Server s)) became.Stopped []
-  stopped mid new one popped query given =
+  stopped mid new one popped wants given =
       let w = world_of old [] in
-      let reads : read w (event.Take from (Server s)) outcome.Stopped ≡ event.Fail s = rw (enabled, there, query) refl in
+      let fits : is_fitting kept_tree w (event.Take from (Server s)) outcome.Stopped ≡ true = rw (enabled, there) wants in
+      let reads : read kept_tree w (event.Take from (Server s)) outcome.Stopped ≡ event.Fail s =
+      ap (λ b. if b then event.Fail s else event.Take from (Server s)) fits in
       let fails : is_enabled w (event.Fail s) ≡ true = rw (one, alive) refl in
       record {
         idle = not_idle _ enabled;
         same = λ idle. absurd (true≢false (sym idle));
         caused = λ why is. let never : ⊥ = cc in absurd never;
-        fits = rw (enabled, there, query) refl;
+        fits = fits;
         leads = λ history.
             subst (λ e. IsAlike (happens kept_tree (world_of old history) e) (world_of new (history ++ []))) (sym reads)
             (subst (λ v. IsAlike v (world_of new (history ++ []))) (sym (happens_so (world_of old history) (event.Fail s) fails))

@@ -10,6 +10,7 @@ use Rattle.zserver_table.specs.declared.message.Message.TheVariants as message
 use Rattle.zserver_table.specs.declared.process.Process.{Process}
 use Rattle.zserver_table.specs.declared.process.Process.TheVariants.{Master, Server, Client}
 use Rattle.zserver_table.specs.Machine.{kept_tree}
+use Rattle.zserver_table.specs.Memory.{may_be_unheard, may_stop}
 use Rattle.zserver_table.specs.View.{ServerView, Transfer, MessageOf, Post, spare}
 use Rattle.zclient_table.specs.View.{ClientView}
 use Rattle.zclient_table.specs.Table.{ClientResult, client_step, answer_row, config_row, is_waiting_for}
@@ -23,7 +24,6 @@ use Rattle.zworld_model.specs.History.{History}
 use Rattle.zworld_model.specs.Links.{is_same, messages_to}
 use Rattle.zworld_model.specs.World.{at}
 use Rattle.zworld_model.specs.Events.{has_failed, is_server, acts, process_step, server_does, client_does, with_answer}
-use Rattle.zworld_model.specs.Reading.{is_query, read}
 use Rattle.zworld_model.specs.Alike.{IsAlike}
 use Rattle.zlinks.specs.Places.{links_of, without_receiver}
 use Rattle.zprocesses.specs.declared.answer.Answer.{Answer}
@@ -207,18 +207,25 @@ acted_given old held from s place m was member before after now rows same is ins
     subst (λ (o : Held). IsGiven o from (Server s) m [] (record held { members = set held.members place member; links = rows })) same
     (given_to_server held from s place m member view.0 rows is inside (ap (λ (x : MemberView). x.view) here ∙ view.1) had.0 posts)
 
+-- a test that a member's view passes is passed by the world's view of that server
+wants_there : (old held : Held) (s : ℕ) (view : TreeView) (test : TreeView → Bool) → held ≡ old → (member_at held.members s).view ≡ Some view
+    → test view ≡ true → test ((world_of old []).servers s) ≡ true
+wants_there old held s view test same is passed =
+    subst (λ (o : Held). test (view_of (member_at o.members s)) ≡ true) same
+    (ap (λ o. test (elim o [ None ↦ spare | Some v ↦ v ])) is ∙ passed)
+
 -- a server that didn't hear
 pub unheard_given : (old held : Held) (from : Process) (s place : ℕ) (m : MessageOf (KeptState Tree)) (was member : MemberView) (before after : List (Post (KeptState Tree)))
     → held ≡ old → s ≡ place + 1 → place < length held.members → was ≡ get_or held.members place was → is_lost old.members (Server s) ≡ false
     → ((view : TreeView) → was.view ≡ Some view → HasTaken was view from m outcome.Unheard member before after)
-    → (record held { members = set held.members place member } ≡ old) × (is_query m ≡ true)
+    → (record held { members = set held.members place member } ≡ old) × (may_be_unheard kept_tree ((world_of old []).servers s) from m ≡ true)
 unheard_given old held from s place m was member before after same is inside read alive took =
     let here = member_was held.members s place was is inside read in
     let lives : is_gone was ≡ false = ap is_gone (sym here) ∙ ap (λ (h : Held). is_gone (member_at h.members s)) same ∙ alive in
     let view = has_view was lives in
     let had = took view.0 view.1 in
     let list : set held.members place member ≡ held.members = ap (λ x. set held.members place x) (had.0 ∙ read) ∙ set-get_or held.members place was in
-    (ap (λ (ms : List MemberView). record held { members = ms }) list ∙ same, had.1)
+    (ap (λ (ms : List MemberView). record held { members = ms }) list ∙ same, wants_there old held s view.0 (λ v. may_be_unheard kept_tree v from m) same (ap (λ (x : MemberView). x.view) here ∙ view.1) had.1)
 
 -- a server that stopped
 pub stopped_given : (old held : Held) (from : Process) (s place : ℕ) (m : MessageOf (KeptState Tree)) (was member : MemberView) (before after : List (Post (KeptState Tree))) (rows : Rows)
@@ -226,14 +233,14 @@ pub stopped_given : (old held : Held) (from : Process) (s place : ℕ) (m : Mess
     → ((view : TreeView) → was.view ≡ Some view → HasTaken was view from m outcome.Stopped member before after)
     → ((p q : Process) → links_of rows p q ≡ without_receiver (links_of held.links) (Server s) p q)
     → is_server s ≡ true
-    → (is_server s ≡ true) × (is_query m ≡ false) × ((history : History) → IsAlike (acts kept_tree (world_of old history) (event.Fail s)) (world_of (record held { members = set held.members place member; links = rows }) history))
+    → (is_server s ≡ true) × (may_stop kept_tree ((world_of old []).servers s) from m ≡ true) × ((history : History) → IsAlike (acts kept_tree (world_of old history) (event.Fail s)) (world_of (record held { members = set held.members place member; links = rows }) history))
 stopped_given old held from s place m was member before after rows same is inside read alive took cleared one =
     let here = member_was held.members s place was is inside read in
     let lives : is_gone was ≡ false = ap is_gone (sym here) ∙ ap (λ (h : Held). is_gone (member_at h.members s)) same ∙ alive in
     let view = has_view was lives in
     let had = took view.0 view.1 in (
       one,
-      had.1,
+      wants_there old held s view.0 (λ v. may_stop kept_tree v from m) same (ap (λ (x : MemberView). x.view) here ∙ view.1) had.1,
       λ history.
           subst (λ (o : Held). IsAlike (acts kept_tree (world_of o history) (event.Fail s)) (world_of (record held { members = set held.members place member; links = rows }) history)) same
           (subst (λ (x : MemberView). IsAlike (acts kept_tree (world_of held history) (event.Fail s)) (world_of (record held { members = set held.members place x; links = rows }) history)) (sym had.0)

@@ -10,11 +10,11 @@ use Rattle.zserver_table.specs.Machine.{kept_tree}
 use Rattle.zworld_model.specs.declared.event.Event.{Event}
 use Rattle.zworld_model.specs.declared.event.Event.TheVariants.{Begin, Retry, Take, Ignore, Fail, Join}
 use Rattle.zworld_model.specs.declared.outcome.Outcome.{Outcome}
-use Rattle.zworld_model.specs.declared.outcome.Outcome.TheVariants.{Acted}
+use Rattle.zworld_model.specs.declared.outcome.Outcome.TheVariants.{Acted, Stopped, Unheard}
 use Rattle.zworld_model.specs.History.{History}
 use Rattle.zworld_model.specs.World.{World}
 use Rattle.zworld_model.specs.Events.{is_enabled, happens, acts}
-use Rattle.zworld_model.specs.Reading.{read_delivery, read}
+use Rattle.zworld_model.specs.Reading.{is_fitting, read, reading_by}
 use Rattle.zworld_model.specs.Alike.{IsAlike}
 use Rattle.zworld_model.proofs.Alike.{alike_itself}
 use Rattle.zprocesses.specs.declared.did.Did.{Did}
@@ -32,36 +32,43 @@ enabled_anyway held history (Ignore from to) = refl
 enabled_anyway held history (Fail s) = refl
 enabled_anyway held history (Join s) = refl
 
--- a delivery that the taker acted on reads as itself
-delivery_acted : (from : Process) (s : ℕ) (query : Bool) → read_delivery from s query Acted ≡ Take from (Server s)
-delivery_acted from s true = refl
-delivery_acted from s false = refl
-
-same_if : {A : Type 0} (b : Bool) (x y : A) → x ≡ y → (if b then x else y) ≡ y
-same_if true x y same = same
-same_if false x y same = refl
-
--- and so does every event
-pub read_acted : (w : World (KeptState Tree)) (event : Event) → read w event Acted ≡ event
+-- an event at which the taker acted reads as itself
+pub read_acted : (w : World (KeptState Tree)) (event : Event) → read kept_tree w event Acted ≡ event
 read_acted w (Begin c call) = refl
 read_acted w (Retry c) = refl
 read_acted w (Take from Master) = refl
-read_acted w (Take from (Server s)) = same_if (is_enabled w (Take from (Server s))) _ (Take from (Server s)) (delivery_acted from s _)
+read_acted w (Take from (Server s)) = refl
 read_acted w (Take from (Client c)) = refl
 read_acted w (Ignore from to) = refl
 read_acted w (Fail s) = refl
 read_acted w (Join s) = refl
 
--- how an event reads doesn't hang on the history either
-pub read_anyway : (held : Held) (history : History) (event : Event) (outcome : Outcome) → read (world_of held history) event outcome ≡ read (world_of held []) event outcome
-read_anyway held history (Begin c call) outcome = refl
-read_anyway held history (Retry c) outcome = refl
-read_anyway held history (Take from Master) outcome = refl
-read_anyway held history (Take from (Server s)) outcome = refl
-read_anyway held history (Take from (Client c)) outcome = refl
-read_anyway held history (Ignore from to) outcome = refl
-read_anyway held history (Fail s) outcome = refl
-read_anyway held history (Join s) outcome = refl
+-- what outcomes an event can have doesn't hang on the history either
+pub fitting_anyway : (held : Held) (history : History) (event : Event) (outcome : Outcome)
+    → is_fitting kept_tree (world_of held history) event outcome ≡ is_fitting kept_tree (world_of held []) event outcome
+fitting_anyway held history event Acted = refl
+fitting_anyway held history (Begin c call) Stopped = refl
+fitting_anyway held history (Retry c) Stopped = refl
+fitting_anyway held history (Take from Master) Stopped = refl
+fitting_anyway held history (Take from (Server s)) Stopped = refl
+fitting_anyway held history (Take from (Client c)) Stopped = refl
+fitting_anyway held history (Ignore from to) Stopped = refl
+fitting_anyway held history (Fail s) Stopped = refl
+fitting_anyway held history (Join s) Stopped = refl
+fitting_anyway held history (Begin c call) Unheard = refl
+fitting_anyway held history (Retry c) Unheard = refl
+fitting_anyway held history (Take from Master) Unheard = refl
+fitting_anyway held history (Take from (Server s)) Unheard = refl
+fitting_anyway held history (Take from (Client c)) Unheard = refl
+fitting_anyway held history (Ignore from to) Unheard = refl
+fitting_anyway held history (Fail s) Unheard = refl
+fitting_anyway held history (Join s) Unheard = refl
+
+-- nor does how it reads
+pub read_anyway : (held : Held) (history : History) (event : Event) (outcome : Outcome)
+    → read kept_tree (world_of held history) event outcome ≡ read kept_tree (world_of held []) event outcome
+read_anyway held history event outcome =
+    ap (λ b. if b then reading_by event outcome else event) (fitting_anyway held history event outcome)
 
 -- an event that isn't enabled, or is
 pub happens_not : (w : World (KeptState Tree)) (event : Event) → is_enabled w event ≡ false → happens kept_tree w event ≡ w

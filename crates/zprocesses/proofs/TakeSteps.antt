@@ -4,7 +4,10 @@ use Rattle.ztree.specs.Tree.{Tree}
 use Rattle.zcalls.specs.Kept.{KeptState}
 use Rattle.zserver_table.specs.declared.process.Process.{Process}
 use Rattle.zserver_table.specs.declared.process.Process.TheVariants.{Server}
+use Rattle.zserver_table.specs.Machine.{kept_tree}
+use Rattle.zserver_table.specs.Memory.{may_be_unheard, may_stop}
 use Rattle.zserver_table.specs.View.{MessageOf}
+use Rattle.zserver.specs.Server.{TreeView}
 use Rattle.zworld_model.specs.declared.event.Event.TheVariants as event
 use Rattle.zworld_model.specs.World.{World}
 use Rattle.zworld_model.specs.Events.{has_failed}
@@ -12,7 +15,7 @@ use Rattle.zprocesses.specs.declared.answer.Answer.{Answer}
 use Rattle.zprocesses.specs.declared.did.Did.{Did}
 use Rattle.zprocesses.specs.declared.did.Did.TheVariants as became
 use Rattle.zprocesses.specs.declared.did.IdleCause.TheVariants as cause
-use Rattle.zprocesses.specs.Held.{Held, MemberView}
+use Rattle.zprocesses.specs.Held.{Held, MemberView, world_of}
 use Rattle.zprocesses.proofs.Posting.{lost_is}
 use Rattle.zprocesses.specs.Steps.{HasStepped, answer_events}
 use Rattle.zprocesses.specs.support.Posting.{is_lost}
@@ -38,6 +41,12 @@ module _ (old : Held) (from to : Process) (answers : List Answer) where
   says_given mid new front after told did alive popped more given is =
       subst (λ (d : Did). Says old new from to answers after d) (sym is) (told, more, taken old from to front popped.0 popped.1 alive mid new (answer_events told) popped.2 given)
 
+-- a server's view is the same before a front was taken
+wants_before : (old mid : Held) (from : Process) (s : ℕ) (front : MessageOf (KeptState Tree)) (test : TreeView → Bool)
+    → HasPopped old from (Server s) (Some front) mid → test ((world_of mid []).servers s) ≡ true → test ((world_of old []).servers s) ≡ true
+wants_before old mid from s front test popped passed =
+    subst (λ (w : World (KeptState Tree)). test (w.servers s) ≡ true) (popped.2 []) passed
+
 -- at a server
 pub says_at_server : (old mid new : Held) (from : Process) (s : ℕ) (front : MessageOf (KeptState Tree)) (answers : List Answer) (did : Did)
     → is_lost old.members (Server s) ≡ false → HasPopped old from (Server s) (Some front) mid → IsGivenToServer mid from s front new did
@@ -47,9 +56,9 @@ says_at_server old mid new from s front answers became.Done alive popped given =
 says_at_server old mid new from s front answers (became.Idle why) alive popped given = absurd given
 says_at_server old mid new from s front answers became.Unheard alive popped given =
     subst (λ (h : Held). Says old h from (Server s) answers answers became.Unheard) (sym given.0)
-    ([], sym (append-nil answers), unheard old from s front popped.0 popped.1 alive mid popped.2 given.1)
+    ([], sym (append-nil answers), unheard old from s front popped.0 popped.1 alive mid popped.2 (wants_before old mid from s front (λ v. may_be_unheard kept_tree v from front) popped given.1))
 says_at_server old mid new from s front answers became.Stopped alive popped given =
-    ([], sym (append-nil answers), stopped old from s front popped.0 popped.1 alive mid new given.0 popped.2 given.1 given.2)
+    ([], sym (append-nil answers), stopped old from s front popped.0 popped.1 alive mid new given.0 popped.2 (wants_before old mid from s front (λ v. may_stop kept_tree v from front) popped given.1) given.2)
 
 -- who hadn't failed before a front was taken hasn't after it
 pub popped_alive : (old mid : Held) (from to : Process) (front : MessageOf (KeptState Tree)) → HasPopped old from to (Some front) mid

@@ -158,7 +158,7 @@ module _ (old new : Held) (event : Event) (did : Did) (given : List Answer) (ste
       let later = world_of new (history ++ answer_events given) in
       let off : is_enabled (world_of old history) event ≡ false =
       enabled_at history 0 [] (opening_settling (world_of old history) 0 []) (record { alike = alike_itself (world_of old history); remaining = refl; coming = refl }) ∙ ap not idle in
-      let reads : read (world_of old []) event (outcome_of did) ≡ event = ap (read (world_of old []) event) (idle_acted idle) ∙ read_acted (world_of old []) event in
+      let reads : read kept_tree (world_of old []) event (outcome_of did) ≡ event = ap (read kept_tree (world_of old []) event) (idle_acted idle) ∙ read_acted (world_of old []) event in
       subst (λ w. IsAlike w later) (happens_not (world_of old history) event off)
       (subst (λ e. IsAlike (happens kept_tree (world_of old history) e) later) reads (stepped.leads history))
 
@@ -170,18 +170,18 @@ module _ (old new : Held) (event : Event) (did : Did) (given : List Answer) (ste
       let now = world_of old history in
       let on : is_enabled s.world event ≡ true = enabled_at history more (outcome ∷ outcomes) s stands ∙ ap not active in
       let may : nat_lt 0 s.left ≡ true = ap (nat_lt 0) stands.remaining ∙ lt-ltb 0 more some in
-      let reads : read s.world event outcome ≡ read (world_of old []) event outcome = read_alike kept_tree s.world now event outcome stands.alike ∙ read_anyway old history event outcome in
-      let next : TreeSettling = with_event kept_tree s (read s.world event outcome) in (
+      let reads : read kept_tree s.world event outcome ≡ read kept_tree (world_of old []) event outcome = read_alike kept_tree s.world now event outcome stands.alike ∙ read_anyway old history event outcome in
+      let next : TreeSettling = with_event kept_tree s (read kept_tree s.world event outcome) in (
         next,
         record {
-          alike = alike_through _ _ _ (stay_alike kept_tree s.world now (read s.world event outcome ∷ []) stands.alike)
+          alike = alike_through _ _ _ (stay_alike kept_tree s.world now (read kept_tree s.world event outcome ∷ []) stands.alike)
               (subst (λ e. IsAlike (happens kept_tree now e) (world_of new (history ++ answer_events given))) (sym reads) (stepped.leads history));
           remaining = ap (λ n. n - 1) stands.remaining;
           coming = ap (drop 1) stands.coming;
         },
-        ap (λ b. if b && is_enabled s.world event then with_event kept_tree s (read s.world event (next_outcome s.outcomes)) else s) may
-            ∙ ap (λ b. if b then with_event kept_tree s (read s.world event (next_outcome s.outcomes)) else s) on
-            ∙ ap (λ os. with_event kept_tree s (read s.world event (next_outcome os))) stands.coming,
+        ap (λ b. if b && is_enabled s.world event then with_event kept_tree s (read kept_tree s.world event (next_outcome s.outcomes)) else s) may
+            ∙ ap (λ b. if b then with_event kept_tree s (read kept_tree s.world event (next_outcome s.outcomes)) else s) on
+            ∙ ap (λ os. with_event kept_tree s (read kept_tree s.world event (next_outcome os))) stands.coming,
       )
 
   pub stepped_tries : (left after : ℕ) (before answers : List Answer) → 0 < left → after ≡ (if is_idle did then left else left - 1) → answers ≡ before ++ given

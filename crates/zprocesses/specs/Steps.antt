@@ -60,9 +60,9 @@ pub record HasStepped (old new : Held) (event : Event) (did : Did) (told : Histo
   pub same : is_idle did ≡ true → new ≡ old
   pub caused : (why : IdleCause) → did ≡ became.Idle why → IsCause old event why
   -- the event can have the outcome
-  pub fits : is_fitting (world_of old []) event (outcome_of did) ≡ true
+  pub fits : is_fitting kept_tree (world_of old []) event (outcome_of did) ≡ true
   -- it is the event of the definition, read by its outcome
-  pub leads : Leads old (read (world_of old []) event (outcome_of did)) told new
+  pub leads : Leads old (read kept_tree (world_of old []) event (outcome_of did)) told new
 
 -- a call was to begin: it began with a number, or was idle for a cause
 abbrev pub HasBegun : Held → Held → ℕ → Call → Begun → Type 0

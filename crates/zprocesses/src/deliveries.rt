@@ -1,11 +1,11 @@
 //! Messages that are delivered, and requests that are lost.
 
-ghost use Rattle.std.specs.Prelude.{◌≡◌, ◌++◌, [], List, false, IfOk, OnErr, OnOk};
+ghost use Rattle.std.specs.Prelude.{◌≡◌, ◌++◌, [], List, true, false, IfOk, OnErr, OnOk};
 ghost use Rattle.zworld_model.specs.declared.event.Event.TheVariants.{Take, Ignore};
 ghost use Rattle.zserver_table.specs.declared.process.Process.TheVariants.{Master, Server, Client};
 ghost use Rattle.zprocesses.specs.declared.answer.Answer.{Answer};
 ghost use Rattle.zprocesses.specs.Steps.{HasStepped, answer_events};
-ghost use Rattle.zworld_model.specs.Events.{front_is, is_request};
+ghost use Rattle.zworld_model.specs.Events.{front_is, is_enabled, is_request};
 ghost use Rattle.zprocesses.specs.declared.did.Did.TheVariants.{Done};
 ghost use Rattle.zprocesses.specs.Held.{world_of};
 ghost use Rattle.zprocesses.specs.support.Posting.{is_lost};
@@ -34,6 +34,7 @@ impl Assembly {
             × (answers.new.items ≡ answers.old.items ++ told)
             × HasStepped self.old self.new (Take from to) did (answer_events told)) }
         ensures silent { OnErr result (answers.new.items ≡ answers.old.items) }
+        ensures needed { OnErr result (is_enabled (world_of self.old []) (Take from to) ≡ true) }
     {
         if is_lost(&self.members, &to) {
             return Ok(Did::Idle(IdleCause::Nothing));

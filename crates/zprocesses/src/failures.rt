@@ -1,7 +1,9 @@
 //! Servers that fail, and servers that join.
 
-ghost use Rattle.std.specs.Prelude.{[], IfOk};
+ghost use Rattle.std.specs.Prelude.{◌≡◌, true, [], IfOk, OnErr};
 ghost use Rattle.zworld_model.specs.declared.event.Event.TheVariants.{Fail, Join};
+ghost use Rattle.zworld_model.specs.Events.{is_enabled};
+ghost use Rattle.zprocesses.specs.Held.{world_of};
 ghost use Rattle.zprocesses.specs.Steps.{HasStepped};
 
 use crate::assembly::Assembly;
@@ -27,8 +29,13 @@ impl Assembly {
 
     /// A server is asked to join behind the tail.
     pub(crate) fn join(&mut self, server: ServerId) -> Result<Did, Memory>
-        ensures { IfOk result (λ did. HasStepped self.old self.new (Join server) did []) }
+        ensures stepped { IfOk result
+            (λ did. HasStepped self.old self.new (Join server) did []) }
+        ensures needed { OnErr result (is_enabled (world_of self.old []) (Join server) ≡ true) }
     {
+        if let Some(fault) = self.master.join_fault(server) {
+            return Ok(Did::Idle(IdleCause::Join(fault)));
+        }
         self.out.reserve(MAX_POSTS)?;
         match self.master.join(server, &mut self.out) {
             Ok(()) => {

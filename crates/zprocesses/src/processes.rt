@@ -1,19 +1,22 @@
 //! All processes, as their owner sees them.
 
-ghost use Rattle.std.specs.Prelude.{◌≡◌, ◌≤◌, ◌++◌, [], List, true, false, IfOk, IsErr, OnErr, OnOk};
+ghost use Rattle.std.specs.Prelude.{◌≡◌, ◌≤◌, ◌++◌, [], List, true, false, IfNone, IfOk, IfSome, IsErr, OnErr, OnOk};
 ghost use Rattle.std.specs.Option.{option_map};
 ghost use Rattle.zserver_table.specs.Machine.{kept_tree};
 ghost use Rattle.ztree.specs.declared.limits.TheConstants.{MAX_CLIENTS};
 ghost use Rattle.zworld_model.specs.World.{opening_world};
-ghost use Rattle.zworld_model.specs.declared.event.Event.TheVariants.{Retry, Take, Ignore, Fail, Join};
+ghost use Rattle.zworld_model.specs.declared.event.Event.TheVariants.{Begin, Retry, Take, Ignore, Fail, Join};
 ghost use Rattle.zworld_model.specs.declared.outcome.Outcome.{Outcome};
 ghost use Rattle.zprocesses.specs.declared.answer.Answer.{Answer};
+ghost use Rattle.zcalls.specs.declared.call.Call.{Call};
+ghost use Rattle.zworld_model.specs.Events.{is_enabled};
+ghost use Rattle.zprocesses.specs.declared.did.Begun.TheVariants.{Idle};
 ghost use Rattle.zprocesses.specs.Held.{world_of};
 ghost use Rattle.zprocesses.specs.Steps.{HasBegun, HasStepped, HasSettled, answer_events};
 
 use crate::answer::Answer;
 use crate::assembly::Assembly;
-use crate::did::{Begun, Did};
+use crate::did::{Begun, Did, IdleCause};
 use std::alloc::Global;
 use std::marker::Model;
 use zcalls::{Call, CallNumber, ClientId};
@@ -72,11 +75,23 @@ impl Processes {
         self.assembly.outstanding(client)
     }
 
+    /// Why a client can't begin a call now.
+    pub fn begin_cause(&self, client: ClientId) -> Option<IdleCause>
+        ensures can { IfNone result ((call : Call)
+            → is_enabled (world_of self.now.held []) (Begin client call) ≡ true) }
+        ensures cannot { IfSome result (λ why. (call : Call)
+            → HasBegun self.now.held self.now.held client call (Idle why)) }
+    {
+        self.assembly.begin_cause(client)
+    }
+
     /// A client begins a call.
     pub fn begin(&mut self, client: ClientId, call: Call) -> Result<Begun, Memory>
         ensures begun { IfOk result (HasBegun self.old.held self.new.held client call) }
         ensures sound { OnOk result ((self.old.is_broken ≡ false) × (self.new.is_broken ≡ false)) }
         ensures broken { OnErr result (self.new.is_broken ≡ true) }
+        ensures needed { self.old.is_broken ≡ false
+            → OnErr result (is_enabled (world_of self.old.held []) (Begin client call) ≡ true) }
         ensures stays { self.old.is_broken ≡ true → IsErr result }
     {
         if self.is_broken {
@@ -94,6 +109,8 @@ impl Processes {
             (λ did. HasStepped self.old.held self.new.held (Retry client) did []) }
         ensures sound { OnOk result ((self.old.is_broken ≡ false) × (self.new.is_broken ≡ false)) }
         ensures broken { OnErr result (self.new.is_broken ≡ true) }
+        ensures needed { self.old.is_broken ≡ false
+            → OnErr result (is_enabled (world_of self.old.held []) (Retry client) ≡ true) }
         ensures stays { self.old.is_broken ≡ true → IsErr result }
     {
         if self.is_broken {
@@ -118,6 +135,8 @@ impl Processes {
         ensures silent { OnErr result (answers.new.items ≡ answers.old.items) }
         ensures sound { OnOk result ((self.old.is_broken ≡ false) × (self.new.is_broken ≡ false)) }
         ensures broken { OnErr result (self.new.is_broken ≡ true) }
+        ensures needed { self.old.is_broken ≡ false
+            → OnErr result (is_enabled (world_of self.old.held []) (Take from to) ≡ true) }
         ensures stays { self.old.is_broken ≡ true → IsErr result }
     {
         if self.is_broken {
@@ -164,6 +183,8 @@ impl Processes {
             (λ did. HasStepped self.old.held self.new.held (Join server) did []) }
         ensures sound { OnOk result ((self.old.is_broken ≡ false) × (self.new.is_broken ≡ false)) }
         ensures broken { OnErr result (self.new.is_broken ≡ true) }
+        ensures needed { self.old.is_broken ≡ false
+            → OnErr result (is_enabled (world_of self.old.held []) (Join server) ≡ true) }
         ensures stays { self.old.is_broken ≡ true → IsErr result }
     {
         if self.is_broken {

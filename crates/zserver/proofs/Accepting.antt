@@ -8,6 +8,7 @@ use Rattle.zcalls.specs.Kept.{KeptState}
 use Rattle.zcalls.proofs.Among.{test}
 use Rattle.zserver_table.specs.declared.limits.TheConstants.{MAX_LOG_NUMBER}
 use Rattle.zserver_table.specs.Machine.{kept_tree}
+use Rattle.zserver_table.specs.Memory.{grows_by}
 use Rattle.zserver_table.specs.View.{Neighbour, Post}
 use Rattle.zserver_table.specs.Table.{ack_posts, answer_posts, forward_post, accept_result}
 use Rattle.zserver.specs.Server.{TreeView}
@@ -114,3 +115,21 @@ process_row v w n entry reply next none did =
     let same : v ≡ record v { succ = None } = ap (λ s. record v { succ = s }) none in
     processes v.last n v.sent v.pred entry w reply v.machine (ap next_number (sym same) ∙ next) (did ∙ ap (λ k. applied_result k entry) same)
     ∙ ap (λ k. accept_row k n entry) (sym same)
+
+-- the next entry makes the log longer
+longer : (last n : ℕ) (sent : List (ℕ × Entry)) (pred : Option Neighbour) (entry : Entry) (machine : Option (KeptState Tree)) (succ : Option Neighbour)
+    → next_number (record { machine = machine; last = last; sent = sent; pred = pred; succ = succ }) ≡ Some n
+    → grows_by (record { machine = machine; last = last; sent = sent; pred = pred; succ = succ }) (accept_row (record { machine = machine; last = last; sent = sent; pred = pred; succ = succ }) n entry) ≡ true
+unfolding next_number accept_row accept_result
+longer last n sent pred entry None succ next = let never : ⊥ = cc in absurd never
+longer last n sent pred entry (Some m) None next =
+    let number = (is_next last sent pred (Some m) None n next).number in
+    let less : nat_lt last n ≡ true = grind (arith, nat_tests, number) in
+    rw less refl
+longer last n sent pred entry (Some m) (Some t) next =
+    let number = (is_next last sent pred (Some m) (Some t) n next).number in
+    let less : nat_lt last n ≡ true = grind (arith, nat_tests, number) in
+    rw less refl
+
+pub accept_grows : (v : TreeView) (n : ℕ) (entry : Entry) → next_number v ≡ Some n → grows_by v (accept_row v n entry) ≡ true
+accept_grows v n entry next = longer v.last n v.sent v.pred entry v.machine v.succ next

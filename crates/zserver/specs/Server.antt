@@ -1,15 +1,13 @@
 -- A server as its owner sees it: its view of the server table, and whether it has stopped for want of memory.
 -- Van Renesse and Schneider, "Chain Replication for Supporting High Throughput and Availability" (OSDI 2004),
 -- section 2: servers are fail-stop, and a request may be ignored.
-use Rattle.std.specs.Prelude.{◌≡◌, ℕ, Bool, true, false, Option}
+use Rattle.std.specs.Prelude.{ℕ, Bool, false, Option}
 use Rattle.std.specs.Option.{option_map}
 use Rattle.ztree.specs.Tree.{Tree}
 use Rattle.zcalls.specs.Kept.{KeptState}
-use Rattle.zserver_table.specs.declared.message.Message.TheVariants as message
 use Rattle.zserver_table.specs.declared.process.Process.{Process}
-use Rattle.zserver_table.specs.declared.process.Process.TheVariants.{Client}
 use Rattle.zserver_table.specs.Machine.{kept_tree}
-use Rattle.zserver_table.specs.View.{ServerView, MessageOf, Neighbour, is_tail}
+use Rattle.zserver_table.specs.View.{ServerView, MessageOf, Neighbour}
 use Rattle.zserver_table.specs.Table.{ServerResult, no_effect, server_step}
 use Rattle.zserver.specs.declared.taken.Taken.{Taken}
 use Rattle.zserver.specs.declared.taken.Taken.TheVariants.{Acted, Unheard}
@@ -39,13 +37,3 @@ first_neighbour s = option_map (λ s. (s, 0)) s
 abbrev pub taken_result : Taken → TreeView → Process → TreeMessage → ServerResult (KeptState Tree)
 taken_result Acted v from m = server_step kept_tree v from m
 taken_result Unheard v from m = no_effect v
-
--- a server may do nothing for such a message: a client's query, where it is a tail
-abbrev pub MayBeUnheard : TreeView → Process → TreeMessage → Type 0
-MayBeUnheard v (Client c) (message.Query number query) = is_tail v ≡ true
-MayBeUnheard v from other = ⊥
-
--- a server may stop at such a message: at every one but a query
-abbrev pub MayStop : TreeMessage → Type 0
-MayStop (message.Query number query) = ⊥
-MayStop other = Unit {0}

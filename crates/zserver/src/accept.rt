@@ -3,6 +3,7 @@
 ghost use Rattle.std.specs.Prelude.{◌≡◌, ◌+◌, ◌<◌, ◌≤◌, ◌==◌, None, Some, ◌++◌, ◌∷◌, [], true, is_some, is_none, if◌then◌else◌, IfOk, OnErr, OnOk};
 ghost use Rattle.zserver_table.specs.declared.limits.TheConstants.{MAX_LOG_NUMBER};
 ghost use Rattle.zserver_table.specs.Machine.{kept_tree};
+ghost use Rattle.zserver_table.specs.Memory.{grows_by};
 ghost use Rattle.zserver_table.specs.View.{Neighbour};
 ghost use Rattle.zserver_table.specs.Table.{answer_posts, forward_post, is_neighbour, submit_row, update_row};
 ghost use Rattle.zout.specs.Posts.{Puts};
@@ -26,6 +27,8 @@ impl Replica {
         ensures puts { OnOk result (Puts out.old out.new
             (submit_row kept_tree self.old entry.client entry.number entry.update).1) }
         ensures silent { OnErr result (out.new.posts ≡ out.old.posts) }
+        ensures grows { OnErr result (grows_by self.old
+            (submit_row kept_tree self.old entry.client entry.number entry.update) ≡ true) }
     {
         match self.number_at_head() {
             Some(n) => self.accept(n, entry, out),
@@ -51,6 +54,8 @@ impl Replica {
         ensures puts { OnOk result
             (Puts out.old out.new (update_row kept_tree self.old from epoch n entry).1) }
         ensures silent { OnErr result (out.new.posts ≡ out.old.posts) }
+        ensures grows { OnErr result
+            (grows_by self.old (update_row kept_tree self.old from epoch n entry) ≡ true) }
     {
         match self.number_below(&from, &epoch) {
             Some(next) if next.number() == n.number() => self.accept(n, entry, out),
@@ -98,6 +103,7 @@ impl Replica {
         ensures next { OnOk result (self.new ≡ (accept_row self.old n entry).0) }
         ensures puts { OnOk result (Puts out.old out.new (accept_row self.old n entry).1) }
         ensures silent { OnErr result (out.new.posts ≡ out.old.posts) }
+        ensures grows { grows_by self.old (accept_row self.old n entry) ≡ true }
     {
         if self.succ.is_some() {
             self.forward(n, entry, out)

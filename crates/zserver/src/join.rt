@@ -1,9 +1,10 @@
 //! The state of a server handed to one that has none.
 
-ghost use Rattle.std.specs.Prelude.{◌≡◌, ◌∷◌, [], OnErr, OnOk};
+ghost use Rattle.std.specs.Prelude.{◌≡◌, ◌∷◌, true, [], OnErr, OnOk};
 ghost use Rattle.zserver_table.specs.declared.message.Message.TheVariants as message;
 ghost use Rattle.zserver_table.specs.declared.process.Process.TheVariants as process;
 ghost use Rattle.zout.specs.Posts.{Puts};
+ghost use Rattle.zserver_table.specs.Memory.{grows_by};
 ghost use Rattle.zserver_table.specs.Table.{snapshot_row};
 
 use crate::neighbour::{Neighbour, is_neighbour};
@@ -29,6 +30,8 @@ impl Replica {
         ensures puts { OnOk result
             (Puts out.old out.new (snapshot_row self.old from epoch snapshot).1) }
         ensures silent { OnErr result (out.new.posts ≡ out.old.posts) }
+        ensures grows { OnErr result
+            (grows_by self.old (snapshot_row self.old from epoch snapshot) ≡ true) }
     {
         if self.machine.is_some() || !is_neighbour(&self.pred, &from, &epoch) {
             drop(snapshot);

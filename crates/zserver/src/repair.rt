@@ -1,12 +1,13 @@
 //! The rows in which acknowledgements go up the chain, and in which a server hears of its neighbours.
 
-ghost use Rattle.std.specs.Prelude.{◌≡◌, [], OnErr, OnOk};
+ghost use Rattle.std.specs.Prelude.{◌≡◌, true, [], OnErr, OnOk};
 ghost use Rattle.zout.specs.Posts.{Puts};
+ghost use Rattle.zserver_table.specs.Memory.{grows_by};
 ghost use Rattle.zserver_table.specs.Table.{ack_row, new_pred_row, new_succ_row, become_head_row, become_tail_row};
 
 use crate::join::hand_over;
 use crate::neighbour::{Neighbour, is_neighbour};
-use crate::replica::{Replica, put_ack};
+use crate::replica::{Replica, acknowledge};
 use crate::sent::{send_above, take_out};
 use crate::snapshot::Snapshot;
 use zout::Out;
@@ -27,13 +28,14 @@ impl Replica {
         ensures puts { OnOk result
             (Puts out.old out.new (ack_row self.old from epoch n).1) }
         ensures silent { OnErr result (out.new.posts ≡ out.old.posts) }
+        ensures grows { OnErr result
+            (grows_by self.old (ack_row self.old from epoch n) ≡ true) }
     {
         if !is_neighbour(&self.succ, &from, &epoch) {
             return Ok(());
         }
-        out.reserve(1)?;
+        acknowledge(&self.pred, n, out)?;
         take_out(&mut self.sent, n);
-        put_ack(&self.pred, n, out);
         Ok(())
     }
 
@@ -49,6 +51,7 @@ impl Replica {
         ensures puts { OnOk result
             (Puts out.old out.new (new_pred_row self.old epoch pred).1) }
         ensures silent { OnErr result (out.new.posts ≡ out.old.posts) }
+        ensures grows { OnErr result (grows_by self.old (new_pred_row self.old epoch pred) ≡ true) }
     {
         out.reserve(1)?;
         out.put_reserved(Process::Master, Message::Have(epoch, self.last()));
@@ -69,6 +72,8 @@ impl Replica {
         ensures puts { OnOk result
             (Puts out.old out.new (new_succ_row self.old epoch succ last).1) }
         ensures silent { OnErr result (out.new.posts ≡ out.old.posts) }
+        ensures grows { OnErr result
+            (grows_by self.old (new_succ_row self.old epoch succ last) ≡ true) }
     {
         let Some(machine) = &self.machine else {
             return Ok(());
@@ -97,13 +102,13 @@ impl Replica {
         ensures next { OnOk result (self.new ≡ (become_tail_row self.old).0) }
         ensures puts { OnOk result (Puts out.old out.new (become_tail_row self.old).1) }
         ensures silent { OnErr result (out.new.posts ≡ out.old.posts) }
+        ensures grows { OnErr result (grows_by self.old (become_tail_row self.old) ≡ true) }
     {
-        out.reserve(1)?;
+        if let Some(last) = self.last() {
+            acknowledge(&self.pred, last, out)?;
+        }
         self.sent.clear();
         self.succ = None;
-        if let Some(last) = self.last() {
-            put_ack(&self.pred, last, out);
-        }
         Ok(())
     }
 }

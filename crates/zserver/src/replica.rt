@@ -1,6 +1,6 @@
 //! What a server knows.
 
-ghost use Rattle.std.specs.Prelude.{◌≡◌, ◌<◌, IfOk};
+ghost use Rattle.std.specs.Prelude.{◌≡◌, ◌<◌, true, is_some, IfOk, OnErr, OnOk};
 ghost use Rattle.zserver_table.specs.Machine.{kept_tree};
 ghost use Rattle.zserver_table.specs.View.{member, spare};
 ghost use Rattle.zout.specs.Posts.{Puts};
@@ -89,6 +89,23 @@ impl Replica {
             None => None,
         }
     }
+}
+
+/// Acknowledges the entries up to this number, where there is a predecessor: it makes room for that first.
+pub(crate) fn acknowledge(
+    pred: &Option<Neighbour>,
+    n: LogNumber,
+    out: &mut Out<Snapshot>,
+) -> Result<(), Memory>
+    ensures puts { OnOk result (Puts out.old out.new (ack_posts pred.now n)) }
+    ensures silent { OnErr result (out.new.posts ≡ out.old.posts) }
+    ensures told { OnErr result (is_some pred.now ≡ true) }
+{
+    if pred.is_some() {
+        out.reserve(1)?;
+        put_ack(pred, n, out);
+    }
+    Ok(())
 }
 
 /// Acknowledges the entries up to this number, where there is a predecessor.

@@ -2,7 +2,7 @@
 
 ghost use Rattle.std.specs.Prelude.{◌≡◌, true};
 ghost use Rattle.zserver_table.specs.Machine.{kept_tree};
-ghost use Rattle.zserver_table.specs.View.{is_tail};
+ghost use Rattle.zserver_table.specs.Memory.{grows_by};
 ghost use Rattle.zout.specs.Posts.{Puts};
 ghost use Rattle.zserver_table.specs.Table.{query_row};
 ghost use Rattle.zserver.specs.declared.taken.Taken.TheVariants.{Acted, Unheard};
@@ -28,7 +28,8 @@ impl Replica {
         ensures puts { result ≡ Acted → Puts out.old out.new
             (query_row kept_tree self.now client.now number query.now).1 }
         ensures silent { result ≡ Unheard → out.new.posts ≡ out.old.posts }
-        ensures tail { result ≡ Unheard → is_tail self.now ≡ true }
+        ensures grows { result ≡ Unheard
+            → grows_by self.now (query_row kept_tree self.now client.now number query.now) ≡ true }
     {
         if self.succ.is_some() {
             return Taken::Acted;

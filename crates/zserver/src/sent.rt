@@ -1,6 +1,6 @@
 //! The entries that were forwarded, and that the tail may not have processed.
 
-ghost use Rattle.std.specs.Prelude.{◌≡◌, ◌≤◌, length, map, IfOk, OnErr, OnOk};
+ghost use Rattle.std.specs.Prelude.{◌≡◌, ◌<◌, ◌≤◌, length, map, IfOk, OnErr, OnOk};
 ghost use Rattle.zout.specs.Posts.{Puts};
 ghost use Rattle.zserver_table.specs.Table.{entries_above, forward_post};
 
@@ -23,13 +23,14 @@ pub(crate) fn take_out(sent: &mut Sent, n: LogNumber)
     sent.retain(|e| n.number() < e.0.number());
 }
 
-/// Copies of the entries above this number.
+/// Copies of the entries above this number. It wants memory only where there are some.
 fn copies_above(
     alloc: Global,
     sent: &[(LogNumber, Entry)],
     n: LogNumber,
 ) -> Result<VecDeque<(LogNumber, Entry)>, Memory>
-    ensures { IfOk result (λ copies. copies.items ≡ entries_above n sent.now) }
+    ensures copies { IfOk result (λ copies. copies.items ≡ entries_above n sent.now) }
+    ensures some { OnErr result (0 < length (entries_above n sent.now)) }
 {
     let mut copies = VecDeque::new(alloc);
     for e in sent {
@@ -65,6 +66,7 @@ pub(crate) fn send_above(
     ensures puts { OnOk result
         (Puts out.old out.new (map (forward_post succ.now) (entries_above n sent.now))) }
     ensures silent { OnErr result (out.new.posts ≡ out.old.posts) }
+    ensures some { OnErr result (0 < length (entries_above n sent.now)) }
 {
     let entries = copies_above(alloc, sent, n)?;
     let Ok(()) = out.reserve(entries.len()) else {

@@ -2,10 +2,11 @@
 
 ghost use Rattle.std.specs.Prelude.{◌≡◌, ◌⊎◌, true, false, IfOk, IsErr, OnErr, OnOk};
 ghost use Rattle.zserver_table.specs.Machine.{kept_tree};
+ghost use Rattle.zserver_table.specs.Memory.{may_be_unheard, may_stop};
 ghost use Rattle.zserver_table.specs.View.{member, spare};
 ghost use Rattle.zout.specs.Posts.{Puts};
 ghost use Rattle.zserver.specs.declared.taken.Taken.TheVariants.{Unheard};
-ghost use Rattle.zserver.specs.Server.{first_neighbour, MayBeUnheard, MayStop, running, taken_result};
+ghost use Rattle.zserver.specs.Server.{first_neighbour, running, taken_result};
 
 use crate::replica::Replica;
 use crate::snapshot::Snapshot;
@@ -74,7 +75,8 @@ impl Server {
     }
 
     /// Takes a message. Where there is no memory for what the table says, the server stops, and its
-    /// state is let go; a query is ignored then.
+    /// state is let go; a query is ignored then. It wants memory only where it grows: for a longer log,
+    /// or for what it puts.
     pub fn take(
         &mut self,
         from: Process,
@@ -88,11 +90,12 @@ impl Server {
         ensures puts { IfOk result
             (λ taken. Puts out.old out.new (taken_result taken self.old.view from message).1) }
         ensures unheard { IfOk result
-            (λ taken. taken ≡ Unheard → MayBeUnheard self.old.view from message) }
+            (λ taken. taken ≡ Unheard → may_be_unheard kept_tree self.old.view from message ≡ true) }
         ensures stopped { OnErr result (self.new.is_stopped ≡ true) }
         ensures silent { OnErr result (out.new.posts ≡ out.old.posts) }
         ensures stays { self.old.is_stopped ≡ true → IsErr result }
-        ensures query { OnErr result ((self.old.is_stopped ≡ true) ⊎ MayStop message) }
+        ensures grows { OnErr result ((self.old.is_stopped ≡ true)
+            ⊎ (may_stop kept_tree self.old.view from message ≡ true)) }
     {
         if self.is_stopped {
             drop(message);

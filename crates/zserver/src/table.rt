@@ -1,12 +1,13 @@
 //! The server table.
 
-ghost use Rattle.std.specs.Prelude.{◌≡◌, IfOk, OnErr, OnOk};
+ghost use Rattle.std.specs.Prelude.{◌≡◌, true, IfOk, OnErr, OnOk};
 ghost use Rattle.zserver_table.specs.declared.process.Process.TheVariants as process;
 ghost use Rattle.zserver_table.specs.Machine.{kept_tree};
+ghost use Rattle.zserver_table.specs.Memory.{may_be_unheard, may_stop};
 ghost use Rattle.zserver_table.specs.Table.{server_step};
 ghost use Rattle.zout.specs.Posts.{Puts};
 ghost use Rattle.zserver.specs.declared.taken.Taken.TheVariants.{Unheard};
-ghost use Rattle.zserver.specs.Server.{MayBeUnheard, MayStop, taken_result};
+ghost use Rattle.zserver.specs.Server.{taken_result};
 
 use crate::replica::Replica;
 use crate::snapshot::Snapshot;
@@ -30,9 +31,9 @@ impl Replica {
         ensures puts { IfOk result
             (λ taken. Puts out.old out.new (taken_result taken self.old from.now message).1) }
         ensures unheard { IfOk result
-            (λ taken. taken ≡ Unheard → MayBeUnheard self.old from.now message) }
+            (λ taken. taken ≡ Unheard → may_be_unheard kept_tree self.old from.now message ≡ true) }
         ensures silent { OnErr result (out.new.posts ≡ out.old.posts) }
-        ensures query { OnErr result (MayStop message) }
+        ensures grows { OnErr result (may_stop kept_tree self.old from.now message ≡ true) }
     {
         match from {
             Process::Client(client) => self.take_call(client, message, out),
@@ -60,9 +61,10 @@ impl Replica {
         ensures puts { IfOk result (λ taken. Puts out.old out.new
             (taken_result taken self.old (process.Client client.now) message).1) }
         ensures unheard { IfOk result (λ taken. taken ≡ Unheard
-            → MayBeUnheard self.old (process.Client client.now) message) }
+            → may_be_unheard kept_tree self.old (process.Client client.now) message ≡ true) }
         ensures silent { OnErr result (out.new.posts ≡ out.old.posts) }
-        ensures query { OnErr result (MayStop message) }
+        ensures grows { OnErr result
+            (may_stop kept_tree self.old (process.Client client.now) message ≡ true) }
     {
         match message {
             Message::Submit(number, update) => {
@@ -101,7 +103,8 @@ impl Replica {
         ensures puts { OnOk result (Puts out.old out.new
             (server_step kept_tree self.old (process.Server server.now) message).1) }
         ensures silent { OnErr result (out.new.posts ≡ out.old.posts) }
-        ensures query { OnErr result (MayStop message) }
+        ensures grows { OnErr result
+            (may_stop kept_tree self.old (process.Server server.now) message ≡ true) }
     {
         match message {
             Message::Update(epoch, n, entry) => self.update(*server, epoch, n, entry, out),
@@ -126,7 +129,7 @@ impl Replica {
         ensures puts { OnOk result
             (Puts out.old out.new (server_step kept_tree self.old process.Master message).1) }
         ensures silent { OnErr result (out.new.posts ≡ out.old.posts) }
-        ensures query { OnErr result (MayStop message) }
+        ensures grows { OnErr result (may_stop kept_tree self.old process.Master message ≡ true) }
     {
         match message {
             Message::NewPred(epoch, pred) => self.new_pred(epoch, pred, out),

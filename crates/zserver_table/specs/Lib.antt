@@ -1,5 +1,6 @@
 pub mod Machine
 pub mod View
 pub mod Table
+pub mod Memory
 pub mod Laws
 pub mod support

@@ -7,6 +7,7 @@ ghost use Rattle.zserver_table.specs.Laws.{is_answer};
 ghost use Rattle.zserver_table.specs.declared.message.Message.TheVariants as message;
 ghost use Rattle.zserver_table.specs.declared.process.Process.TheVariants.{Master, Server, Client};
 ghost use Rattle.zserver_table.specs.Machine.{replay, log_of};
+ghost use Rattle.zserver_table.specs.Memory.{may_be_unheard, may_stop};
 ghost use Rattle.zserver_table.specs.View.{spare, member, opening_server, is_initialised, is_head};
 ghost use Rattle.zserver_table.specs.View.{is_tail};
 ghost use Rattle.zserver_table.specs.Table.{server_step};
@@ -188,6 +189,46 @@ pub fn log_replies_as_its_machine()
           record (on_log (call 11 ∷ call 12 ∷ [])) { sent = (2, call 12) ∷ [] },
           (Server 3, message.Update 5 2 (call 12)) ∷ [],
         ) }
+{}
+
+/// At which messages a server may want memory, and stop: those that make its log longer, or at which it puts
+/// something.
+pub fn servers_stop_where_they_grow()
+    ensures next_entry { may_stop counting_machine middle (Server 1) (message.Update 4 8 (call 18))
+        ≡ true }
+    ensures entry_without_reply { may_stop counting_machine single (Client 5)
+        (message.Submit 0 update) ≡ true }
+    ensures entry_beyond_the_next { may_stop counting_machine middle (Server 1)
+        (message.Update 4 9 (call 19)) ≡ false }
+    ensures ack_goes_up { may_stop counting_machine middle (Server 3) (message.Ack 5 6) ≡ true }
+    ensures ack_ends_at_the_head { may_stop counting_machine head (Server 3) (message.Ack 5 7)
+        ≡ false }
+    ensures snapshot { may_stop counting_machine joining_server (Server 1)
+        (message.Snapshot 4 nine) ≡ true }
+    ensures snapshot_of_old_epoch { may_stop counting_machine joining_server (Server 1)
+        (message.Snapshot 3 nine) ≡ false }
+    ensures new_pred { may_stop counting_machine spare Master (message.NewPred 8 2) ≡ true }
+    ensures new_succ_lacks_one { may_stop counting_machine middle Master
+        (message.NewSucc 8 4 (Some 6)) ≡ true }
+    ensures new_succ_lacks_nothing { may_stop counting_machine middle Master
+        (message.NewSucc 8 4 (Some 7)) ≡ false }
+    ensures becomes_head { may_stop counting_machine middle Master (message.BecomeHead 8)
+        ≡ false }
+    ensures becomes_tail { may_stop counting_machine middle Master (message.BecomeTail 8) ≡ true }
+    ensures becomes_head_and_tail { may_stop counting_machine head Master (message.BecomeTail 8)
+        ≡ false }
+{}
+
+/// Where there is no memory for a query, it is lost at a tail, and no server stops at it.
+pub fn queries_are_lost_at_a_tail()
+    ensures unheard { may_be_unheard counting_machine tail (Client 5) (message.Query 18 query)
+        ≡ true }
+    ensures heard_by_others { may_be_unheard counting_machine middle (Client 5)
+        (message.Query 18 query) ≡ false }
+    ensures update_is_heard { may_be_unheard counting_machine single (Client 5)
+        (message.Submit 18 update) ≡ false }
+    ensures stops_nobody { may_stop counting_machine tail (Client 5) (message.Query 18 query)
+        ≡ false }
 {}
 
 /// Which messages answer a call.

@@ -4,38 +4,34 @@ use Rattle.std.proofs.lemmas.Bool.Decides.{nat_tests}
 use Rattle.ztree.specs.Tree.{Tree}
 use Rattle.zcalls.specs.Kept.{KeptState}
 use Rattle.zserver_table.specs.declared.limits.TheConstants.{MAX_SERVERS}
-use Rattle.zserver_table.specs.declared.message.Message.TheVariants as message
 use Rattle.zserver_table.specs.declared.process.Process.{Process}
 use Rattle.zserver_table.specs.declared.process.Process.TheVariants.{Client}
 use Rattle.zserver_table.specs.declared.process.Process.TheVariants as process
+use Rattle.zserver_table.specs.Machine.{kept_tree}
+use Rattle.zserver_table.specs.Memory.{may_be_unheard}
 use Rattle.zserver_table.specs.View.{Transfer}
 use Rattle.zmaster_table.specs.declared.join_fault.JoinFault.{JoinFault}
 use Rattle.zmaster_table.specs.View.{MasterView}
 use Rattle.zmaster_table.specs.Table.{join_fault, join_step, master_step}
-use Rattle.zserver.specs.Server.{TreeView, TreeMessage, MayBeUnheard, taken_result}
+use Rattle.zserver.specs.Server.{TreeView, TreeMessage, taken_result}
 use Rattle.zserver.specs.declared.taken.Taken.{Taken}
 use Rattle.zserver.specs.declared.taken.Taken.TheVariants as taken
 use Rattle.zworld_model.specs.Events.{is_server}
-use Rattle.zworld_model.specs.Reading.{is_query}
 use Rattle.zworld_model.specs.declared.outcome.Outcome.TheVariants as outcome
 use Rattle.ztraces.specs.declared.trace.Act.TheVariants.{Took, Halted, Joined}
 use Rattle.ztraces.specs.Deeds.{AtServer, AtMaster, Out, last_post, ServerTakes, ServerIgnores, ServerStops, ServerHalts, MasterTakes, MasterJoins, MasterRefuses}
 use Rattle.zdesks.specs.Desks.{IsEvent}
 use Rattle.zthreads.specs.Threads.{IsServer, outcome_of}
 
-unheard_query : (v : TreeView) (from : Process) (m : TreeMessage) → MayBeUnheard v from m → is_query m ≡ true
-unheard_query v (Client c) (message.Query number query) h = refl
-unheard_query v from m h = absurd h
-
 module _ (me : Process) (last : ℕ) (v : TreeView) (is : IsServer me) where
   pub server_takes : (from : Process) (stamp n : ℕ) (m : TreeMessage) (t : Taken)
-      → (t ≡ taken.Unheard → MayBeUnheard v from m) → n ≡ max last stamp + 1
+      → (t ≡ taken.Unheard → may_be_unheard kept_tree v from m ≡ true) → n ≡ max last stamp + 1
       → IsEvent me last (AtServer v) (Some (from, (stamp, m))) (Took from (outcome_of t)) n (AtServer (taken_result t v from m).0) (taken_result t v from m).1 []
   server_takes from stamp n m taken.Acted unheard e =
       record { row = rw is.1 (ServerTakes is.0 v from (stamp, m)); from = λ p. refl; at = rw is.1 e }
   server_takes from stamp n m taken.Unheard unheard e =
       record {
-        row = rw is.1 (ServerIgnores is.0 v from (stamp, m) (unheard_query v from m (unheard refl)));
+        row = rw is.1 (ServerIgnores is.0 v from (stamp, m) (unheard refl));
         from = λ p. refl;
         at = rw is.1 e;
       }

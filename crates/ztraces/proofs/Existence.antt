@@ -1,5 +1,5 @@
 -- Every traces have a merge: of the events that are left the one that comes first, until none is left.
-use Rattle.std.proofs.Common.{◌≡◌, ◌<◌, ◌≤◌, ℕ, zero, suc, ◌+◌, List, [], ◌∷◌, ◌++◌, Option, Some, None, length, get_or, set, replicate, sym, ◌∙◌, subst, arith}
+use Rattle.std.proofs.Common.{◌≡◌, ◌<◌, ◌≤◌, ℕ, zero, suc, ◌+◌, List, [], ◌∷◌, ◌++◌, Option, Some, None, length, get_or, set, replicate, ◌∙◌, subst, arith}
 use Rattle.std.proofs.lemmas.List.{length-replicate, length-set}
 use Rattle.ztraces.specs.declared.trace.Traces.{Traces}
 use Rattle.ztraces.specs.Traces.{Step, trace_of, Merges, IsMerge}

@@ -19,6 +19,7 @@ use Rattle.zmaster_table.proofs.Cases.{master_case}
 use Rattle.std.specs.List.{last_or}
 use Rattle.zclient_table.specs.View.{ClientView}
 use Rattle.zclient_table.specs.Table as client
+use Rattle.zworld_model.proofs.Tests.{both}
 use Rattle.zworld_model.specs.declared.event.Event.TheVariants as event
 use Rattle.zworld_model.specs.declared.history.CallEvent.TheVariants as call_event
 use Rattle.zworld_model.specs.declared.outcome.Outcome.TheVariants.{Acted, Stopped, Unheard}
@@ -26,7 +27,7 @@ use Rattle.zworld_model.specs.History.{History}
 use Rattle.zworld_model.specs.Links.{Links, is_same, messages_to, put, without_front}
 use Rattle.zworld_model.specs.World.{World, at}
 use Rattle.zworld_model.specs.Events.{is_server, has_failed, is_enabled, happens, process_step, client_does, with_answer, acts, is_request}
-use Rattle.zworld_model.specs.Reading.{is_query}
+use Rattle.zserver_table.specs.Memory.{is_query}
 use Rattle.ztraces.specs.declared.trace.Act.{Act}
 use Rattle.ztraces.specs.declared.trace.Act.TheVariants.{Took, Began, Retried, Joined, Halted}
 use Rattle.ztraces.specs.Deeds.{Stamped, Standing, AtMaster, AtServer, AtClient, Out, standing_in, answer_told, last_post, Row, MasterTakes, ServerTakes, ClientTakes, ServerIgnores, ServerStops, ServerHalts, MasterJoins, MasterRefuses, ClientBegins, ClientRetries}
@@ -411,7 +412,7 @@ module _ {M : Type 0} (machine : Does M) (w : World M) where
       (delivered from (Client c) m.1 arrives.0 _ _ _ arrives.1 refl (client_takes c from m.1 there))
   row_happens _ _ _ _ _ _ _ (ServerIgnores s v from m query) is arrives =
       let (alive, same) = server_view (is_server s && not (w.failed s)) (w.servers s) v is in
-      server_ignores s v from m.1 arrives.0 is (both_are _ _ alive).1 query arrives.1
+      server_ignores s v from m.1 arrives.0 is (both_are _ _ alive).1 (both _ _ query).0 arrives.1
   row_happens _ _ _ _ _ _ _ (ServerStops s v from m) is arrives =
       let (alive, same) = server_view (is_server s && not (w.failed s)) (w.servers s) v is in
       server_fails s (Took from Stopped) (both_are _ _ alive).0 (both_are _ _ alive).1 refl

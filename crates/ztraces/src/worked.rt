@@ -21,8 +21,8 @@ ghost use Rattle.ztraces.specs.Audit.{is_any_cut};
 ghost use Rattle.ztraces.specs.support.TraceRows.{s1, c0, write, read, opening, event_at, step_of, tick};
 ghost use Rattle.ztraces.specs.support.TraceRows.{tick_of, both_at_1, written_and_read, seen};
 ghost use Rattle.ztraces.specs.support.TraceRows.{after_steps, mended, opening_of_three};
-ghost use Rattle.ztraces.specs.support.TraceRows.{server_with, request, answer, client_deeds};
-ghost use Rattle.ztraces.specs.support.TraceRows.{server_deeds};
+ghost use Rattle.ztraces.specs.support.TraceRows.{server_with, old_tail, request, asked, answer};
+ghost use Rattle.ztraces.specs.support.TraceRows.{client_deeds, server_deeds};
 
 /// The event that an act stands for; an act of another kind of process stands for none.
 pub fn acts_are_events()
@@ -144,6 +144,10 @@ pub fn servers_end_by_their_rows()
         ((Master, message.Gone) ∷ []) [] }
     ensures hears_an_update { Row counting_machine s1 (AtServer (server_with 0)) (Took c0 Unheard)
         (Some (1, request)) (AtServer (server_with 0)) [] [] → ⊥ }
+    ensures ignores { Row counting_machine s1 (AtServer (server_with 0)) (Took c0 Unheard)
+        (Some (1, asked)) (AtServer (server_with 0)) [] [] }
+    ensures ignores_at_no_tail { Row counting_machine s1 (AtServer old_tail) (Took c0 Unheard)
+        (Some (1, asked)) (AtServer old_tail) [] [] → ⊥ }
     ensures nothing_follows { (last : ℕ) (d : Deed ℕ)
         → GoesBy counting_machine s1 Out last (d ∷ []) → ⊥ }
     ensures server_9 { standing_in opening (Server 9) ≡ Out }

@@ -12,7 +12,7 @@ use Rattle.zworld_model.specs.declared.outcome.Outcome.TheVariants.{Acted, Stopp
 use Rattle.zworld_model.specs.History.{History}
 use Rattle.zworld_model.specs.World.{World, opening_world}
 use Rattle.zworld_model.specs.Events.{is_server, is_enabled, happens, run}
-use Rattle.zworld_model.specs.Reading.{read, read_all, is_fitting}
+use Rattle.zworld_model.specs.Reading.{read, read_all}
 use Rattle.zworld_model.specs.Alike.{IsAlike}
 use Rattle.zworld_model.specs.PlainTree.{IsExplained}
 use Rattle.zworld_model.specs.Laws.{world_after}
@@ -28,31 +28,11 @@ use Rattle.zprocesses.specs.declared.answer.Answer.{Answer}
 use Rattle.zprocesses.specs.declared.did.Begun.{Begun}
 use Rattle.zprocesses.specs.declared.did.Begun.TheVariants as begun
 use Rattle.zprocesses.specs.Held.{Held, world_of}
-use Rattle.zprocesses.proofs.Steps.{enabled_anyway, read_anyway}
+use Rattle.zprocesses.proofs.Steps.{enabled_anyway, fitting_anyway, read_anyway}
 use Rattle.zprocesses.specs.Steps.{HasStepped, HasBegun, outcome_of, answer_events, is_idle}
 use Rattle.zworld.specs.support.Course.{CourseView, GoesBy, did_of, told_of}
 use Rattle.zworld.specs.support.Past.{HasPast, LeadRead}
 use Rattle.zworld.specs.Steps.{WorldView, HasHappened, HasRun, HasBegunToRun}
-
--- what outcomes an event can have doesn't ask for the history
-same_fitting : (held : Held) (history : History) (event : Event) (outcome : Outcome) → is_fitting (world_of held history) event outcome ≡ is_fitting (world_of held []) event outcome
-same_fitting held history event Acted = refl
-same_fitting held history (Begin c call) Stopped = refl
-same_fitting held history (Retry c) Stopped = refl
-same_fitting held history (Take from Master) Stopped = refl
-same_fitting held history (Take from (Server s)) Stopped = refl
-same_fitting held history (Take from (Client c)) Stopped = refl
-same_fitting held history (Ignore from to) Stopped = refl
-same_fitting held history (Fail s) Stopped = refl
-same_fitting held history (Join s) Stopped = refl
-same_fitting held history (Begin c call) Unheard = refl
-same_fitting held history (Retry c) Unheard = refl
-same_fitting held history (Take from Master) Unheard = refl
-same_fitting held history (Take from (Server s)) Unheard = refl
-same_fitting held history (Take from (Client c)) Unheard = refl
-same_fitting held history (Ignore from to) Unheard = refl
-same_fitting held history (Fail s) Unheard = refl
-same_fitting held history (Join s) Unheard = refl
 
 -- an event of the processes is one of the world, from any history
 pub happened : (old new : CourseView) (event : Event) (did : Did) → GoesBy old new event did
@@ -62,8 +42,8 @@ happened old new event did (told, after, stepped) =
     let reads = sym (read_anyway old.held old.history event (outcome_of did)) in
     record {
       idle = stepped.idle ∙ ap not (sym (enabled_anyway old.held old.history event));
-      fits = same_fitting old.held old.history event (outcome_of did) ∙ stepped.fits;
-      leads = subst (λ h. IsAlike (happens kept_tree (world_of old.held old.history) (read (world_of old.held old.history) event (outcome_of did))) (world_of new.held h)) (sym after)
+      fits = fitting_anyway old.held old.history event (outcome_of did) ∙ stepped.fits;
+      leads = subst (λ h. IsAlike (happens kept_tree (world_of old.held old.history) (read kept_tree (world_of old.held old.history) event (outcome_of did))) (world_of new.held h)) (sym after)
           (subst (λ e. IsAlike (happens kept_tree (world_of old.held old.history) e) (world_of new.held (old.history ++ told))) reads leads);
     }
 
@@ -102,7 +82,7 @@ goes_on held next history later events past leads =
 pub past_goes_on : (old new : CourseView) (event : Event) (did : Did) → HasPast false old.held old.history → GoesBy old new event did
     → HasPast false new.held new.history
 past_goes_on old new event did past goes =
-    goes_on old.held new.held old.history new.history (read (world_of old.held old.history) event (outcome_of did) ∷ []) past (happened old new event did goes).leads
+    goes_on old.held new.held old.history new.history (read kept_tree (world_of old.held old.history) event (outcome_of did) ∷ []) past (happened old new event did goes).leads
 
 -- where memory is refused, the history is still that of the past
 pub past_stays : (is_broken : Bool) (held next : Held) (history later : History) → HasPast is_broken held history → later ≡ history → HasPast true next later
@@ -141,7 +121,7 @@ lead_more v u w [] event did alike has =
     let reads = sym (read_alike kept_tree v u event (outcome_of did) alike) in (
       outcome_of did,
       w,
-      alike_through _ _ _ (stay_alike kept_tree v u (read v event (outcome_of did) ∷ []) alike)
+      alike_through _ _ _ (stay_alike kept_tree v u (read kept_tree v event (outcome_of did) ∷ []) alike)
           (subst (λ e. IsAlike (happens kept_tree u e) w) reads has.leads),
       alike_itself w,
     )
@@ -156,18 +136,18 @@ all_read_alike v w (event ∷ events) [] alike =
 all_read_alike v w (event ∷ events) (outcome ∷ outcomes) alike =
     let same = read_alike kept_tree v w event outcome alike in
     ap (λ e. e ∷ read_all kept_tree (happens kept_tree v e) events outcomes) same
-    ∙ ap (λ es. read w event outcome ∷ es)
-    (all_read_alike (happens kept_tree v (read w event outcome)) (happens kept_tree w (read w event outcome)) events outcomes (stay_alike kept_tree v w (read w event outcome ∷ []) alike))
+    ∙ ap (λ es. read kept_tree w event outcome ∷ es)
+    (all_read_alike (happens kept_tree v (read kept_tree w event outcome)) (happens kept_tree w (read kept_tree w event outcome)) events outcomes (stay_alike kept_tree v w (read kept_tree w event outcome ∷ []) alike))
 
 -- events that lead to a world one after the other are read so
 pub has_run : (v w : World (KeptState Tree)) (events : List Event) → LeadRead v events w → HasRun v events w
 has_run v w [] alike = ([], ([], refl), alike)
 has_run v w (event ∷ events) (outcome, u, one, more) =
     let rest = has_run u w events more in
-    let next = happens kept_tree v (read v event outcome) in
+    let next = happens kept_tree v (read kept_tree v event outcome) in
     let same = all_read_alike next u events rest.1.0 one ∙ rest.1.1 in (
-      read v event outcome ∷ rest.0,
-      (outcome ∷ rest.1.0, ap (λ es. read v event outcome ∷ es) same),
+      read kept_tree v event outcome ∷ rest.0,
+      (outcome ∷ rest.1.0, ap (λ es. read kept_tree v event outcome ∷ es) same),
       alike_through _ _ _ (stay_alike kept_tree next u rest.0 one) rest.2,
     )
 
@@ -208,7 +188,7 @@ told_by_taking old new held event became none answers empty (told, all, stepped)
     )
 
 -- an event that isn't enabled reads as itself
-read_idle : (w : World (KeptState Tree)) (event : Event) → is_enabled w event ≡ false → read w event Acted ≡ event
+read_idle : (w : World (KeptState Tree)) (event : Event) → is_enabled w event ≡ false → read kept_tree w event Acted ≡ event
 read_idle w (Begin c call) idle = refl
 read_idle w (Retry c) idle = refl
 read_idle w (Take from Master) idle = refl
@@ -233,8 +213,8 @@ pub unchanged : (old new : CourseView) (event : Event) (became : Did) → GoesBy
 unchanged old new event became (told, after, stepped) idle =
     let w = world_of old.held [] in
     let off : is_enabled w event ≡ false = not-true _ (sym stepped.idle ∙ idle) in
-    let reads : read w event (outcome_of became) ≡ event = ap (read w event) (acted_idle became idle) ∙ read_idle w event off in
-    let stays : happens kept_tree w (read w event (outcome_of became)) ≡ w = ap (happens kept_tree w) reads ∙ nothing_happens w event off in
+    let reads : read kept_tree w event (outcome_of became) ≡ event = ap (read kept_tree w event) (acted_idle became idle) ∙ read_idle w event off in
+    let stays : happens kept_tree w (read kept_tree w event (outcome_of became)) ≡ w = ap (happens kept_tree w) reads ∙ nothing_happens w event off in
     let none : told ≡ [] = same_history _ _ (stepped.leads []) ∙ ap (λ (x : World (KeptState Tree)). x.history) stays in
     let history : new.history ≡ old.history = after ∙ ap (λ xs. old.history ++ xs) none ∙ append-nil old.history in
     rw (stepped.same idle, history) refl

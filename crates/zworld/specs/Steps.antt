@@ -8,7 +8,7 @@ use Rattle.zcalls.specs.Kept.{KeptState}
 use Rattle.zserver_table.specs.Machine.{kept_tree}
 use Rattle.zserver_table.specs.declared.process.Process.{Process}
 use Rattle.zworld_model.specs.declared.event.Event.{Event}
-use Rattle.zworld_model.specs.declared.event.Event.TheVariants.{Take}
+use Rattle.zworld_model.specs.declared.event.Event.TheVariants.{Take, Ignore, Fail}
 use Rattle.zworld_model.specs.declared.outcome.Outcome.{Outcome}
 use Rattle.zworld_model.specs.declared.settled.Settled.{Settled}
 use Rattle.zworld_model.specs.History.{History}
@@ -36,9 +36,15 @@ pub record HasHappened (v : World (KeptState Tree)) (event : Event) (did : Did) 
   -- it is idle exactly where it wasn't enabled
   pub idle : is_idle did ≡ not (is_enabled v event)
   -- it can have the outcome that is answered
-  pub fits : is_fitting v event (outcome_of did) ≡ true
+  pub fits : is_fitting kept_tree v event (outcome_of did) ≡ true
   -- it is the event of the definition, read by that outcome
-  pub leads : IsAlike (happens kept_tree v (read v event (outcome_of did))) w
+  pub leads : IsAlike (happens kept_tree v (read kept_tree v event (outcome_of did))) w
+
+-- an event can want memory: it is enabled, and it is neither a failure nor the loss of a request
+abbrev pub can_want_memory : World (KeptState Tree) → Event → Bool
+can_want_memory w (Fail s) = false
+can_want_memory w (Ignore from to) = false
+can_want_memory w event = is_enabled w event
 
 -- events led from one world to another, by some reading of them
 abbrev pub HasRun : World (KeptState Tree) → List Event → World (KeptState Tree) → Type 0

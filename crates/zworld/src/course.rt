@@ -1,13 +1,15 @@
 //! The processes, and the history that they make.
 
-ghost use Rattle.std.specs.Prelude.{◌≡◌, ◌<◌, ◌≤◌, ◌++◌, [], IfOk, IsOk, OnErr, OnOk};
+ghost use Rattle.std.specs.Prelude.{◌≡◌, ◌<◌, ◌≤◌, ◌++◌, [], true, false, length, IfOk, IsOk, OnErr, OnOk};
 ghost use Rattle.std.specs.Vec.{vec_len, vec_capacity};
 ghost use Rattle.ztree.specs.declared.limits.TheConstants.{MAX_CLIENTS};
 ghost use Rattle.zserver_table.specs.Machine.{kept_tree};
 ghost use Rattle.zworld_model.specs.World.{opening_world};
 ghost use Rattle.zworld_model.specs.declared.event.Event.TheVariants.{Begin, Take};
+ghost use Rattle.zworld_model.specs.Events.{is_enabled};
 ghost use Rattle.zprocesses.specs.Held.{world_of};
 ghost use Rattle.zprocesses.specs.Steps.{answer_events};
+ghost use Rattle.zworld.specs.Steps.{can_want_memory};
 ghost use Rattle.zworld.specs.support.Course.{GoesBy, SettlesBy, did_of, told_of};
 
 use crate::answered::answered;
@@ -37,6 +39,7 @@ impl Model for Course {
 
     ghost view = { λ course. record {
       held = course.processes.held;
+      is_broken = course.processes.is_broken;
       history = course.history.items;
     } };
 }
@@ -106,6 +109,7 @@ impl Course {
         ensures opening { IfOk result (λ course.
             world_of course.held [] ≡ opening_world kept_tree last clients) }
         ensures history { IfOk result (λ course. course.history ≡ []) }
+        ensures sound { IfOk result (λ course. course.is_broken ≡ false) }
     {
         Ok(Course {
             alloc,
@@ -132,6 +136,9 @@ impl Course {
     pub(crate) fn step(&mut self, event: Event) -> Result<Did, Memory>
         ensures goes { IfOk result (λ did. GoesBy self.old self.new event did) }
         ensures stays { OnErr result (self.new.history ≡ self.old.history) }
+        ensures sound { self.old.is_broken ≡ false → OnOk result (self.new.is_broken ≡ false) }
+        ensures needed { self.old.is_broken ≡ false
+            → OnErr result (can_want_memory (world_of self.old.held []) event ≡ true) }
     {
         match event {
             Event::Begin(client, call) => self.begin(client, call),
@@ -143,11 +150,18 @@ impl Course {
         }
     }
 
-    // A call begins. The room to tell of it comes first.
+    // A call begins, where it can. The room to tell of it comes first.
     fn begin(&mut self, client: ClientId, call: Call) -> Result<Did, Memory>
         ensures goes { IfOk result (λ did. GoesBy self.old self.new (Begin client call) did) }
         ensures stays { OnErr result (self.new.history ≡ self.old.history) }
+        ensures sound { self.old.is_broken ≡ false → OnOk result (self.new.is_broken ≡ false) }
+        ensures needed { OnErr result
+            (is_enabled (world_of self.old.held []) (Begin client call) ≡ true) }
     {
+        if let Some(cause) = self.processes.begin_cause(client) {
+            drop(call);
+            return Ok(Did::Idle(cause));
+        }
         let (call, told) = with_copy(&mut self.history, self.alloc, call)?;
         let begun = self.processes.begin(client, call);
         let did = tell_begun(&mut self.history, client, told, begun)?;
@@ -158,6 +172,9 @@ impl Course {
     fn take(&mut self, from: Process, to: Process) -> Result<Did, Memory>
         ensures goes { IfOk result (λ did. GoesBy self.old self.new (Take from to) did) }
         ensures stays { OnErr result (self.new.history ≡ self.old.history) }
+        ensures sound { self.old.is_broken ≡ false → OnOk result (self.new.is_broken ≡ false) }
+        ensures needed { self.old.is_broken ≡ false
+            → OnErr result (is_enabled (world_of self.old.held []) (Take from to) ≡ true) }
     {
         let mut answers = Vec::new(self.alloc);
         let did = self.processes.take(from, to, &mut answers)?;
@@ -169,6 +186,7 @@ impl Course {
     pub(crate) fn settle(&mut self, limit: usize) -> Result<Settled, Memory>
         ensures settles { IfOk result (SettlesBy self.old self.new limit) }
         ensures stays { OnErr result (self.new.history ≡ self.old.history) }
+        ensures sound { OnOk result (self.new.is_broken ≡ false) }
     {
         let mut answers = Vec::new(self.alloc);
         let settled = self.processes.settle(limit, &mut answers)?;
@@ -179,10 +197,16 @@ impl Course {
     // Tells of the answers, of all or of none.
     fn tell(&mut self, answers: Vec<Answer>) -> Result<(), Memory>
         ensures held { self.new.held ≡ self.old.held }
+        ensures same { self.new.is_broken ≡ self.old.is_broken }
+        ensures some { OnErr result (0 < length answers.items) }
         ensures told { OnOk result (self.new.history
             ≡ self.old.history ++ answer_events answers.items) }
         ensures stays { OnErr result (self.new.history ≡ self.old.history) }
     {
+        if answers.is_empty() {
+            drop(answers);
+            return Ok(());
+        }
         let mut told = answered(self.alloc, answers)?;
         self.history.append(&mut told)?;
         Ok(())

@@ -9,7 +9,8 @@ ghost use Rattle.zworld_model.specs.declared.settled.Settled.TheVariants.{Quiet}
 ghost use Rattle.zprocesses.specs.declared.did.Did.TheVariants.{Idle};
 ghost use Rattle.zprocesses.specs.declared.did.IdleCause.{IdleCause};
 ghost use Rattle.zprocesses.specs.Steps.{IsCause, is_idle};
-ghost use Rattle.zworld.specs.Steps.{HasBegunToRun, HasHappened, HasRun, HasSettled, IsAtRest, world_in};
+ghost use Rattle.zworld.specs.Steps.{HasBegunToRun, HasHappened, HasRun, HasSettled, IsAtRest};
+ghost use Rattle.zworld.specs.Steps.{can_want_memory, world_in};
 
 use crate::course::Course;
 use std::alloc::Global;
@@ -36,6 +37,7 @@ impl Model for World {
 
     ghost coded = { coded_world };
 
+    ghost use Rattle.std.specs.Prelude.{◌≡◌, false};
     ghost use Rattle.zworld.specs.support.Past.{HasPast};
 
     ghost view = { λ w. record {
@@ -44,7 +46,8 @@ impl Model for World {
       is_broken = w.is_broken;
     } };
 
-    ghost invariant = { λ w. HasPast w.is_broken w.course.held w.course.history };
+    ghost invariant = { λ w. HasPast w.is_broken w.course.held w.course.history
+        × (w.is_broken ≡ false → w.course.is_broken ≡ false) };
 }
 
 impl World {
@@ -79,7 +82,8 @@ impl World {
         self.course.into_history()
     }
 
-    /// Does one event, and says what became of it.
+    /// Does one event, and says what became of it. Want of memory is met, for the first time, only at an event that is
+    /// enabled, and never at a failure or at the loss of a request.
     pub fn step(&mut self, event: Event) -> Result<Did, Memory>
         ensures happened { IfOk result (λ did.
             HasHappened (world_in self.old) event did (world_in self.new)) }
@@ -91,6 +95,8 @@ impl World {
         ensures sound { OnOk result ((self.old.is_broken ≡ false) × (self.new.is_broken ≡ false)) }
         ensures broken { OnErr result (self.new.is_broken ≡ true) }
         ensures stays { self.old.is_broken ≡ true → IsErr result }
+        ensures needed { self.old.is_broken ≡ false
+            → OnErr result (can_want_memory (world_in self.old) event ≡ true) }
     {
         if self.is_broken {
             drop(event);

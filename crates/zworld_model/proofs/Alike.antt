@@ -17,7 +17,8 @@ use Rattle.zworld_model.specs.World.{World, at}
 use Rattle.zworld_model.specs.Events.{front_is, is_request, has_failed, is_enabled, with_answer, server_does, client_does, process_step, front_step, acts, happens, run}
 use Rattle.zworld_model.specs.declared.outcome.Outcome.{Outcome}
 use Rattle.zworld_model.specs.declared.outcome.Outcome.TheVariants.{Acted, Stopped, Unheard}
-use Rattle.zworld_model.specs.Reading.{is_query, read_delivery, is_delivery, is_fitting, read}
+use Rattle.zserver_table.specs.Memory.{may_be_unheard, may_stop}
+use Rattle.zworld_model.specs.Reading.{is_delivery, is_fitting, reading_by, read}
 use Rattle.zworld_model.specs.Alike.{IsAlike}
 
 -- the links agree where it matters in the world
@@ -181,23 +182,9 @@ alike_through {M} u v w first second = record {
   links = λ from to alive. first.links from to alive ∙ second.links from to (sym (same_failed u v first to) ∙ alive);
 }
 
--- a choice of equal things, where its test passes in both
-same_choice : {A : Type 0} (b c : Bool) (x y z : A) → b ≡ c → (b ≡ true → x ≡ y) → (if b then x else z) ≡ (if c then y else z)
-same_choice true true x y z same equal = equal refl
-same_choice false false x y z same equal = refl
-same_choice true false x y z same equal = absurd (true≢false same)
-same_choice false true x y z same equal = absurd (true≢false (sym same))
-
 -- an enabled delivery has one front in both
 same_link : {M : Type 0} (v w : World M) → IsAlike v w → (from to : Process) → is_enabled v (Take from to) ≡ true → v.links from to ≡ w.links from to
 same_link v w alike from to enabled = alike.links from to (not_failed _ (has_failed v to) enabled)
-
--- an event reads alike
-pub read_alike : {M : Type 0} (machine : Does M) (v w : World M) (event : Event) (outcome : Outcome) → IsAlike v w → read v event outcome ≡ read w event outcome
-read_alike machine v w (Take from (Server s)) outcome alike =
-    same_choice _ _ _ _ (Take from (Server s)) (have_the_same_enabled machine v w (Take from (Server s)) alike)
-    (λ enabled. ap (λ link. read_delivery from s (front_is is_query link) outcome) (same_link v w alike from (Server s) enabled))
-read_alike machine v w event outcome alike = refl
 
 -- both tests of a delivery
 same_both : (b c x y : Bool) → b ≡ c → (b ≡ true → x ≡ y) → (b && x) ≡ (c && y)
@@ -206,14 +193,28 @@ same_both false false x y same equal = refl
 same_both true false x y same equal = absurd (true≢false same)
 same_both false true x y same equal = absurd (true≢false (sym same))
 
-delivery_alike : {M : Type 0} (machine : Does M) (v w : World M) (event : Event) (test : MessageOf M → Bool) → IsAlike v w → is_delivery v event test ≡ is_delivery w event test
+-- a delivery to a server that lives is to the same view
+same_view : {M : Type 0} (v w : World M) → IsAlike v w → (from : Process) (s : ℕ) → is_enabled v (Take from (Server s)) ≡ true → v.servers s ≡ w.servers s
+same_view v w alike from s enabled = alike.servers s (not_failed _ (v.failed s) enabled)
+
+delivery_alike : {M : Type 0} (machine : Does M) (v w : World M) (event : Event) (test : ServerView M → Process → MessageOf M → Bool)
+    → IsAlike v w → is_delivery v event test ≡ is_delivery w event test
 delivery_alike machine v w (Take from (Server s)) test alike =
     same_both _ _ _ _ (have_the_same_enabled machine v w (Take from (Server s)) alike)
-    (λ enabled. ap (front_is test) (same_link v w alike from (Server s) enabled))
+    (λ enabled.
+    ap (λ view. front_is (test view from) (v.links from (Server s))) (same_view v w alike from s enabled)
+    ∙ ap (front_is (test (w.servers s) from)) (same_link v w alike from (Server s) enabled))
 delivery_alike machine v w event test alike = refl
 
--- and can have the same outcomes
-pub outcomes_alike : {M : Type 0} (machine : Does M) (v w : World M) (event : Event) (outcome : Outcome) → IsAlike v w → is_fitting v event outcome ≡ is_fitting w event outcome
+-- an event can have the same outcomes in both
+pub outcomes_alike : {M : Type 0} (machine : Does M) (v w : World M) (event : Event) (outcome : Outcome)
+    → IsAlike v w → is_fitting machine v event outcome ≡ is_fitting machine w event outcome
 outcomes_alike machine v w event Acted alike = refl
-outcomes_alike machine v w event Stopped alike = delivery_alike machine v w event (λ message. not (is_query message)) alike
-outcomes_alike machine v w event Unheard alike = delivery_alike machine v w event is_query alike
+outcomes_alike machine v w event Stopped alike = delivery_alike machine v w event (may_stop machine) alike
+outcomes_alike machine v w event Unheard alike = delivery_alike machine v w event (may_be_unheard machine) alike
+
+-- and reads alike
+pub read_alike : {M : Type 0} (machine : Does M) (v w : World M) (event : Event) (outcome : Outcome)
+    → IsAlike v w → read machine v event outcome ≡ read machine w event outcome
+read_alike machine v w event outcome alike =
+    ap (λ b. if b then reading_by event outcome else event) (outcomes_alike machine v w event outcome alike)

@@ -21,7 +21,7 @@ use Rattle.zworld_model.specs.World.{World, opening_world}
 use Rattle.zworld_model.specs.Events.{is_server, is_enabled, process_step, front_step, acts, happens, run, with_answer, client_does}
 use Rattle.zworld_model.specs.Laws.{world_after, EpochsAreFew}
 use Rattle.zworld_model.specs.support.Within.{IsServer}
-use Rattle.zworld_model.proofs.Fitting.{both}
+use Rattle.zworld_model.proofs.Tests.{both}
 use Rattle.zworld_model.proofs.Visited.{at_least_one, at_most, after_within}
 
 -- an answer that is told is nothing to the master

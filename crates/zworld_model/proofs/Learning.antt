@@ -20,11 +20,11 @@ module _ {M : Type 0} (machine : Does M) where
   pub done_is_learnt : DoneIsLearnt machine
   done_is_learnt whole from learnt s event outcome done goes rest =
       ap whole (append_assoc learnt (outcome ∷ []) rest) ∙ goes (outcome ∷ rest)
-      ∙ ap from (chosen (is_done s event) (with_event machine (record s { outcomes = outcome ∷ rest }) (read s.world event outcome)) (record s { outcomes = outcome ∷ rest }) done)
+      ∙ ap from (chosen (is_done s event) (with_event machine (record s { outcomes = outcome ∷ rest }) (read machine s.world event outcome)) (record s { outcomes = outcome ∷ rest }) done)
 
   pub idle_is_passed : IdleIsPassed machine
   idle_is_passed whole from learnt s event idle goes rest =
-      goes rest ∙ ap from (unchosen (is_done s event) (with_event machine (record s { outcomes = rest }) (read s.world event (next_outcome rest))) (record s { outcomes = rest }) idle)
+      goes rest ∙ ap from (unchosen (is_done s event) (with_event machine (record s { outcomes = rest }) (read machine s.world event (next_outcome rest))) (record s { outcomes = rest }) idle)
 
   pub pass_begins : PassBegins machine
   pass_begins whole from learnt s deliveries more not_over goes rest =
@@ -38,4 +38,4 @@ module _ {M : Type 0} (machine : Does M) where
   pub reading_is_learnt : ReadingIsLearnt machine
   reading_is_learnt whole learnt readings w event events outcome goes rest =
       ap whole (append_assoc learnt (outcome ∷ []) rest) ∙ goes (outcome ∷ rest)
-      ∙ sym (append_assoc readings (read w event outcome ∷ []) (read_all machine (happens machine w (read w event outcome)) events rest))
+      ∙ sym (append_assoc readings (read machine w event outcome ∷ []) (read_all machine (happens machine w (read machine w event outcome)) events rest))

@@ -8,6 +8,7 @@ pub mod Settling
 pub mod LogWorlds
 pub mod FirstUpdate
 pub mod Learning
+pub mod Tests
 pub mod Fitting
 pub mod WithinTables
 pub mod Within

@@ -57,7 +57,7 @@ module _ {M : Type 0} (machine : Does M) where
 
   -- the next event as it is read
   abbrev as_read : Settling M → Event → Event
-  as_read s event = read s.world event (next_outcome s.outcomes)
+  as_read s event = read machine s.world event (next_outcome s.outcomes)
 
   -- a tried event is done, where one more may be, or nothing is
   either : (P : Settling M → Type 0) (s : Settling M) (event : Event) → (0 < s.left → P (with_event machine s (as_read s event))) → P s → P (with_try machine s event)

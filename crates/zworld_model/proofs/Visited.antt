@@ -18,7 +18,7 @@ use Rattle.zworld_model.specs.Events.{is_server, is_enabled}
 use Rattle.zworld_model.specs.Settle.{processes, deliveries}
 use Rattle.zworld_model.specs.Laws.{world_after, settling_of, LinksAreVisited, QuietIsQuiet}
 use Rattle.zworld_model.specs.support.Within.{is_process, IsServer, IsNear, IsNamed, IsViewWithin, IsMemberWithin, IsWithin}
-use Rattle.zworld_model.proofs.Fitting.{both}
+use Rattle.zworld_model.proofs.Tests.{both}
 use Rattle.zworld_model.proofs.Within.{run_within}
 use Rattle.zworld_model.proofs.Settling.{settling_is_a_run, quiet_has_nothing_to_take}
 

@@ -32,11 +32,12 @@ StayAlike = (v w : World (KeptState Tree)) (events : List Event) → IsAlike v w
 
 -- an event reads alike in worlds that are alike, and can have the same outcomes
 abbrev pub ReadAlike : Type 0
-ReadAlike = (v w : World (KeptState Tree)) (event : Event) (outcome : Outcome) → IsAlike v w → read v event outcome ≡ read w event outcome
+ReadAlike = (v w : World (KeptState Tree)) (event : Event) (outcome : Outcome) → IsAlike v w → read kept_tree v event outcome ≡ read kept_tree w event outcome
 
 abbrev pub HaveTheSameOutcomes : Type 0
 HaveTheSameOutcomes =
-    (v w : World (KeptState Tree)) (event : Event) (outcome : Outcome) → IsAlike v w → is_fitting v event outcome ≡ is_fitting w event outcome
+    (v w : World (KeptState Tree)) (event : Event) (outcome : Outcome) → IsAlike v w
+    → is_fitting kept_tree v event outcome ≡ is_fitting kept_tree w event outcome
 
 -- a world is like itself, and what is like a world that is like a third one is like that one
 abbrev pub AreAlikeThemselves : Type 0

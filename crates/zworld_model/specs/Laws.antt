@@ -6,15 +6,13 @@ use Rattle.zcalls.specs.Kept.{KeptState}
 use Rattle.zcalls.specs.Lists.{Among}
 use Rattle.zserver_table.specs.Machine.{kept_tree}
 use Rattle.zworld_model.specs.declared.outcome.Outcome.{Outcome}
-use Rattle.zworld_model.specs.declared.outcome.Outcome.TheVariants.{Stopped, Unheard}
 use Rattle.zworld_model.specs.declared.settled.Settled.TheVariants.{Quiet}
 use Rattle.zworld_model.specs.declared.event.Event.{Event}
-use Rattle.zworld_model.specs.declared.event.Event.TheVariants.{Take, Ignore, Fail}
+use Rattle.zworld_model.specs.declared.event.Event.TheVariants.{Take}
 use Rattle.zserver_table.specs.declared.limits.TheConstants.{MAX_SERVERS}
 use Rattle.zserver_table.specs.declared.process.Process.{Process}
-use Rattle.zserver_table.specs.declared.process.Process.TheVariants.{Server}
 use Rattle.zworld_model.specs.World.{World, opening_world}
-use Rattle.zworld_model.specs.Reading.{read, is_fitting}
+use Rattle.zworld_model.specs.Reading.{read, reading_by, is_fitting}
 use Rattle.zworld_model.specs.Events.{is_server, is_enabled, run}
 use Rattle.zworld_model.specs.Settle.{Settling, settle, settling_end, deliveries}
 
@@ -41,16 +39,11 @@ QuietHasNothingToTake =
     → settling_end (settling_of w limit outcomes) ≡ Quiet
     → list_any (is_enabled (settling_of w limit outcomes).world) (deliveries w.master.clients) ≡ false
 
--- what an event reads as, by an outcome
-abbrev pub reading_by : Event → Outcome → Event
-reading_by (Take from (Server s)) Stopped = Fail s
-reading_by (Take from (Server s)) Unheard = Ignore from (Server s)
-reading_by event outcome = event
-
 -- where an outcome fits, the event reads as it says
 abbrev pub FittingOutcomesAreRead : Type 0
 FittingOutcomesAreRead =
-    (w : World (KeptState Tree)) (event : Event) (outcome : Outcome) → is_fitting w event outcome ≡ true → read w event outcome ≡ reading_by event outcome
+    (w : World (KeptState Tree)) (event : Event) (outcome : Outcome)
+    → is_fitting kept_tree w event outcome ≡ true → read kept_tree w event outcome ≡ reading_by event outcome
 
 -- the world after events, from the opening with so many servers and clients
 abbrev pub world_after : ℕ → ℕ → List Event → World (KeptState Tree)

@@ -57,7 +57,7 @@ with_event machine s event =
 -- an event is done, as it is read, if it is enabled and one more may be done
 abbrev pub with_try : {M : Type 0} → Does M → Settling M → Event → Settling M
 with_try machine s event =
-    if nat_lt 0 s.left && is_enabled s.world event then with_event machine s (read s.world event (next_outcome s.outcomes)) else s
+    if nat_lt 0 s.left && is_enabled s.world event then with_event machine s (read machine s.world event (next_outcome s.outcomes)) else s
 
 -- events in turn, each tried when its turn comes
 abbrev pub with_tries : {M : Type 0} → Does M → Settling M → List Event → Settling M

@@ -6,13 +6,13 @@ use Rattle.zserver_table.specs.declared.message.Message.TheVariants as message
 use Rattle.zserver_table.specs.declared.process.Process.{Process}
 use Rattle.zserver_table.specs.declared.process.Process.TheVariants.{Server}
 use Rattle.zserver_table.specs.Machine.{kept_tree}
+use Rattle.zserver_table.specs.Memory.{may_be_unheard, may_stop}
 use Rattle.zserver_table.specs.View.{MessageOf}
 use Rattle.zworld_model.specs.declared.event.Event.TheVariants.{Fail}
 use Rattle.zworld_model.specs.History.{History}
 use Rattle.zworld_model.specs.Links.{without_front}
 use Rattle.zworld_model.specs.World.{World}
 use Rattle.zworld_model.specs.Events.{is_server, process_step, acts}
-use Rattle.zworld_model.specs.Reading.{is_query}
 use Rattle.zworld_model.specs.Alike.{IsAlike}
 use Rattle.zcalls.specs.declared.reply.Reply.{Reply}
 use Rattle.zprocesses.specs.declared.answer.Answer.{Answer}
@@ -51,6 +51,8 @@ IsGiven old from to message told new =
 abbrev pub IsGivenToServer : Held → Process → ℕ → MessageOf (KeptState Tree) → Held → Did → Type 0
 IsGivenToServer old from s message new did.Done = IsGiven old from (Server s) message [] new
 IsGivenToServer old from s message new (did.Idle why) = ⊥
-IsGivenToServer old from s message new did.Unheard = (new ≡ old) × (is_query message ≡ true)
+IsGivenToServer old from s message new did.Unheard =
+    (new ≡ old) × (may_be_unheard kept_tree ((world_of old []).servers s) from message ≡ true)
 IsGivenToServer old from s message new did.Stopped =
-    (is_server s ≡ true) × (is_query message ≡ false) × ((history : History) → IsAlike (acts kept_tree (world_of old history) (Fail s)) (world_of new history))
+    (is_server s ≡ true) × (may_stop kept_tree ((world_of old []).servers s) from message ≡ true)
+    × ((history : History) → IsAlike (acts kept_tree (world_of old history) (Fail s)) (world_of new history))

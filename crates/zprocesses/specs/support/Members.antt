@@ -7,11 +7,11 @@ use Rattle.ztree.specs.Tree.{Tree}
 use Rattle.zcalls.specs.Kept.{KeptState}
 use Rattle.zserver_table.specs.declared.process.Process.{Process}
 use Rattle.zserver_table.specs.Machine.{kept_tree}
+use Rattle.zserver_table.specs.Memory.{may_be_unheard, may_stop}
 use Rattle.zserver_table.specs.View.{ServerView, MessageOf, Post}
 use Rattle.zserver_table.specs.Table.{server_step}
 use Rattle.zworld_model.specs.declared.outcome.Outcome.{Outcome}
 use Rattle.zworld_model.specs.declared.outcome.Outcome.TheVariants.{Acted, Stopped, Unheard}
-use Rattle.zworld_model.specs.Reading.{is_query}
 use Rattle.zprocesses.specs.Held.{MemberView, gone_member}
 
 -- a member that had this view took a message, with this outcome; so it is now, and this was put before and after
@@ -19,8 +19,10 @@ abbrev pub HasTaken : MemberView → ServerView (KeptState Tree) → Process →
     → List (Post (KeptState Tree)) → List (Post (KeptState Tree)) → Type 0
 HasTaken old view from message Acted new before after =
     (new.view ≡ Some (server_step kept_tree view from message).0) × (after ≡ before ++ (server_step kept_tree view from message).1)
-HasTaken old view from message Stopped new before after = (new ≡ gone_member) × (is_query message ≡ false) × (after ≡ before)
-HasTaken old view from message Unheard new before after = (new ≡ old) × (is_query message ≡ true) × (after ≡ before)
+HasTaken old view from message Stopped new before after =
+    (new ≡ gone_member) × (may_stop kept_tree view from message ≡ true) × (after ≡ before)
+HasTaken old view from message Unheard new before after =
+    (new ≡ old) × (may_be_unheard kept_tree view from message ≡ true) × (after ≡ before)
 
 -- there are all members and all clients, and nothing waits to be put on links
 abbrev pub IsFull : List MemberView → List ClientView → List (Post (KeptState Tree)) → Type 0

@@ -17,7 +17,7 @@ use Rattle.ztraces.specs.declared.trace.Act.{Act}
 use Rattle.ztraces.specs.declared.trace.Act.TheVariants.{Took, Began, Retried, Joined, Halted}
 use Rattle.ztraces.specs.declared.trace.TraceEvent.{TraceEvent}
 use Rattle.ztraces.specs.Traces.{Step, events_of, at_process}
-use Rattle.ztraces.specs.Deeds.{Deed, Standing, AtServer, AtClient}
+use Rattle.ztraces.specs.Deeds.{Deed, AtServer, AtClient}
 
 -- the processes, the two calls, and the opening
 abbrev pub s1 : Process
@@ -108,12 +108,19 @@ waiting_client = record (idle_client 1) { outstanding = Some (1, write) }
 abbrev pub server_with : ℕ → ServerView ℕ
 server_with entries = record { machine = Some entries; last = entries; sent = []; pred = None; succ = None }
 
--- the request and the answer
+-- a server that has a successor now
+abbrev pub old_tail : ServerView ℕ
+old_tail = record (server_with 0) { succ = Some (2, 0) }
+
+-- the request and the answer, and a query
 abbrev pub request : MessageOf ℕ
 request = message.Submit 1 update
 
 abbrev pub answer : MessageOf ℕ
 answer = message.Answer 1 (number_reply 1)
+
+abbrev pub asked : MessageOf ℕ
+asked = message.Query 1 query
 
 -- what the client and the server do at the write
 abbrev pub client_deeds : List (Deed ℕ)

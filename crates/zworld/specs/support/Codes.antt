@@ -10,7 +10,9 @@ use Rattle.zworld.specs.Steps.{WorldView}
 
 -- how the processes with their history are stored
 abbrev pub coded_course : Coded CourseView
-coded_course = code_by (Held × History) (coded× coded_held (coded_list call_event.the_row.coded)) (λ c. (c.held, c.history)) (λ p. record { held = p.0; history = p.1 }) (λ _. refl)
+coded_course =
+    code_by (Held × (Bool × History)) (coded× coded_held (coded× coded_bool (coded_list call_event.the_row.coded)))
+    (λ c. (c.held, (c.is_broken, c.history))) (λ p. record { held = p.0; is_broken = p.1.0; history = p.1.1 }) (λ _. refl)
 
 -- how a world is stored
 abbrev pub coded_world : Coded WorldView

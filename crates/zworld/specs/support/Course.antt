@@ -1,5 +1,5 @@
 -- What the processes with their history do, in the words of the processes.
-use Rattle.std.specs.Prelude.{◌≡◌, ℕ, List, [], ◌∷◌, ◌++◌}
+use Rattle.std.specs.Prelude.{◌≡◌, ℕ, Bool, List, [], ◌∷◌, ◌++◌}
 use Rattle.zcalls.specs.declared.call.Call.{Call}
 use Rattle.zworld_model.specs.declared.event.Event.{Event}
 use Rattle.zworld_model.specs.declared.history.CallEvent.TheVariants as call_event
@@ -13,9 +13,10 @@ use Rattle.zprocesses.specs.declared.did.Begun.TheVariants as begun
 use Rattle.zprocesses.specs.Held.{Held}
 use Rattle.zprocesses.specs.Steps.{HasStepped, HasSettled}
 
--- all processes, and what callers saw
+-- all processes, whether they met want of memory, and what callers saw
 pub record CourseView : Type 0 where
   pub held : Held
+  pub is_broken : Bool
   pub history : History
 
 -- an event was done, and the history goes on with what it told

@@ -26,4 +26,4 @@ pub record HasPast (is_broken : Bool) (held : Held) (history : History) : Type 0
 abbrev pub LeadRead : World (KeptState Tree) → List Event → World (KeptState Tree) → Type 0
 LeadRead v [] w = IsAlike v w
 LeadRead v (event ∷ events) w =
-    (outcome : Outcome) × (u : World (KeptState Tree)) × IsAlike (happens kept_tree v (read v event outcome)) u × LeadRead u events w
+    (outcome : Outcome) × (u : World (KeptState Tree)) × IsAlike (happens kept_tree v (read kept_tree v event outcome)) u × LeadRead u events w

@@ -24,7 +24,7 @@ DoneIsLearnt {M} machine =
     (whole : List Outcome → Settling M) (from : Settling M → Settling M) (learnt : List Outcome) (s : Settling M) (event : Event)
     (outcome : Outcome)
     → is_done s event ≡ true → GoesOn whole (λ t. from (with_try machine t event)) learnt s
-    → GoesOn whole from (learnt ++ outcome ∷ []) (with_event machine s (read s.world event outcome))
+    → GoesOn whole from (learnt ++ outcome ∷ []) (with_event machine s (read machine s.world event outcome))
 
 -- of an event that isn't done nothing is learnt
 abbrev pub IdleIsPassed : {M : Type 0} → Does M → Type 0
@@ -59,5 +59,5 @@ ReadingIsLearnt {M} machine =
     (whole : List Outcome → List Event) (learnt : List Outcome) (readings : List Event) (w : World M) (event : Event)
     (events : List Event) (outcome : Outcome)
     → ReadsOn machine whole learnt readings w (event ∷ events)
-    → ReadsOn machine whole (learnt ++ outcome ∷ []) (readings ++ read w event outcome ∷ [])
-    (happens machine w (read w event outcome)) events
+    → ReadsOn machine whole (learnt ++ outcome ∷ []) (readings ++ read machine w event outcome ∷ [])
+    (happens machine w (read machine w event outcome)) events

@@ -7,7 +7,7 @@ use Rattle.zworld_model.specs.declared.outcome.Outcome.{Outcome}
 use Rattle.zworld_model.specs.Reading.{read_all}
 use Rattle.zworld_model.specs.Settle.{Settling, settle}
 use Rattle.zworld_model.specs.support.Counter.{Counting, counting_machine, create, exists}
-use Rattle.zworld_model.specs.support.RunRows.{after, s1, s2, s3, c0, c1}
+use Rattle.zworld_model.specs.support.RunRows.{after, m, s1, s2, s3, c0, c1}
 
 -- settling after events, with a limit, and what becomes of its events
 abbrev pub settled_after : ℕ → List Event → ℕ → List Outcome → Settling Counting
@@ -45,3 +45,11 @@ lost_request = Begin 1 create ∷ Ignore c1 s1 ∷ []
 -- the state is lost with its only server, while another one joins; then a client asks
 abbrev pub lost_state : List Event
 lost_state = Join 2 ∷ Fail 1 ∷ Begin 1 exists ∷ []
+
+-- the head of two servers fails, and the master tells the other one
+abbrev pub new_head : List Event
+new_head = Fail 1 ∷ Take s1 m ∷ []
+
+-- a server joins behind the only one, which is no tail any more when a client's query reaches it
+abbrev pub query_at_old_tail : List Event
+query_at_old_tail = Join 2 ∷ Take m s2 ∷ Take s2 m ∷ Take m s1 ∷ Begin 1 exists ∷ []

@@ -1,18 +1,18 @@
 //! Worked runs of settling and of readings.
 
-ghost use Rattle.std.specs.Prelude.{◌≡◌, true, false, [], ◌∷◌, Some, take};
+ghost use Rattle.std.specs.Prelude.{◌≡◌, true, false, [], ◌∷◌, ◌++◌, Some, take};
 ghost use Rattle.zmaster_table.specs.declared.join_fault.JoinFault.TheVariants.{Lost};
 ghost use Rattle.zmaster_table.specs.Table.{join_fault};
 ghost use Rattle.zworld_model.specs.declared.event.Event.TheVariants.{Begin, Retry, Take, Ignore, Fail};
 ghost use Rattle.zworld_model.specs.declared.history.CallEvent.TheVariants as saw;
 ghost use Rattle.zworld_model.specs.declared.settled.Settled.TheVariants.{Quiet, Limit};
-ghost use Rattle.zworld_model.specs.support.Counter.{create, exists, name_reply};
+ghost use Rattle.zworld_model.specs.support.Counter.{counting_machine, create, exists, name_reply};
 ghost use Rattle.zworld_model.specs.declared.outcome.Outcome.TheVariants.{Acted, Stopped, Unheard};
 ghost use Rattle.zworld_model.specs.Reading.{is_fitting};
 ghost use Rattle.zworld_model.specs.Settle.{settling_end};
-ghost use Rattle.zworld_model.specs.support.RunRows.{after, m, s1, c0, c1};
+ghost use Rattle.zworld_model.specs.support.RunRows.{after, m, s1, s2, c0, c1};
 ghost use Rattle.zworld_model.specs.support.SettleRows.{settled_after, read_after, two_begin, two_settle};
-ghost use Rattle.zworld_model.specs.support.SettleRows.{lost_request, lost_state};
+ghost use Rattle.zworld_model.specs.support.SettleRows.{lost_request, lost_state, new_head, query_at_old_tail};
 
 /// The order of the deliveries: link by link, one message from each that has one when its turn comes, pass after pass.
 pub fn settling_goes_link_by_link()
@@ -65,21 +65,30 @@ pub fn events_are_read()
     ensures client_does_not_stop { read_after 1 (Begin 1 create ∷ Take c1 s1 ∷ Take s1 c1 ∷ [])
         (Stopped ∷ Acted ∷ Stopped ∷ [])
         ≡ Begin 1 create ∷ Take c1 s1 ∷ Take s1 c1 ∷ [] }
+    ensures new_head_goes_on { read_after 2 (new_head ++ Take m s2 ∷ [])
+        (Acted ∷ Acted ∷ Stopped ∷ []) ≡ new_head ++ Take m s2 ∷ [] }
 {}
 
-/// Which outcomes fit: a server can stop at all but a query, and a query alone is unheard, where they can be taken.
+/// Which outcomes fit: a server can stop at a message that makes it grow, but for a query, and a query alone is unheard, at
+/// a tail, where they can be taken.
 pub fn outcomes_fit()
-    ensures all_act { is_fitting (after 1 []) (Take c1 s1) Acted ≡ true }
-    ensures update_stops { is_fitting (after 1 (Begin 1 create ∷ [])) (Take c1 s1) Stopped ≡ true }
-    ensures update_is_heard { is_fitting (after 1 (Begin 1 create ∷ [])) (Take c1 s1) Unheard
+    ensures all_act { is_fitting counting_machine (after 1 []) (Take c1 s1) Acted ≡ true }
+    ensures update_stops { is_fitting counting_machine (after 1 (Begin 1 create ∷ []))
+        (Take c1 s1) Stopped ≡ true }
+    ensures update_is_heard { is_fitting counting_machine (after 1 (Begin 1 create ∷ []))
+        (Take c1 s1) Unheard ≡ false }
+    ensures query_stops_nobody { is_fitting counting_machine (after 1 (Begin 1 exists ∷ []))
+        (Take c1 s1) Stopped ≡ false }
+    ensures query_is_unheard { is_fitting counting_machine (after 1 (Begin 1 exists ∷ []))
+        (Take c1 s1) Unheard ≡ true }
+    ensures nothing_to_stop_at { is_fitting counting_machine (after 1 []) (Take c1 s1) Stopped
         ≡ false }
-    ensures query_stops_nobody { is_fitting (after 1 (Begin 1 exists ∷ [])) (Take c1 s1) Stopped
+    ensures retry_does_not_stop { is_fitting counting_machine (after 1 (Begin 1 create ∷ []))
+        (Retry 1) Stopped ≡ false }
+    ensures new_head_goes_on { is_fitting counting_machine (after 2 new_head) (Take m s2) Stopped
         ≡ false }
-    ensures query_is_unheard { is_fitting (after 1 (Begin 1 exists ∷ [])) (Take c1 s1) Unheard
-        ≡ true }
-    ensures nothing_to_stop_at { is_fitting (after 1 []) (Take c1 s1) Stopped ≡ false }
-    ensures retry_does_not_stop { is_fitting (after 1 (Begin 1 create ∷ [])) (Retry 1) Stopped
-        ≡ false }
+    ensures query_elsewhere_is_heard { is_fitting counting_machine (after 1 query_at_old_tail)
+        (Take c1 s1) Unheard ≡ false }
 {}
 
 /// Settling where memory is refused: a server that stops doesn't take its message, and an unheard query is asked again.

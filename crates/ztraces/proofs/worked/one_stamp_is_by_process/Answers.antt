@@ -1,4 +1,4 @@
-use Rattle.std.proofs.Common.{◌≡◌, true, false, refl, sym, ◌∙◌, List, [], ◌∷◌}
+use Rattle.std.proofs.Common.{◌≡◌, true, false, refl, List, [], ◌∷◌}
 use Rattle.ztraces.specs.declared.trace.TraceEvent.{TraceEvent}
 use Rattle.ztraces.specs.support.TraceRows.{s1, c0, tick}
 use Rattle.ztraces.proofs.worked.one_stamp_is_by_process.Goals as goal

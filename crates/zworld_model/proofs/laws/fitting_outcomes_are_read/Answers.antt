@@ -1,5 +1,6 @@
+use Rattle.zserver_table.specs.Machine.{kept_tree}
 use Rattle.zworld_model.proofs.Fitting.{fitting_is_read}
 use Rattle.zworld_model.proofs.laws.fitting_outcomes_are_read.Goals as goal
 
 pub returns : goal.returns
-returns c = fitting_is_read
+returns c = fitting_is_read kept_tree

@@ -15,5 +15,5 @@ returns-then-left-eq0 c answers =
 pub returns : goal.returns
 returns c answers =
     let some : 0 < c.args.left = omega (arith, c.if-left-eq0.false) in
-    stepped_tries c.args.self.now c.retry.new.self (Retry c.args.client) c.in_ok-did.did [] c.in_ok-did.ensures
+    stepped_tries c.args.self.now c.retry.new.self (Retry c.args.client) c.in_ok-did.did [] c.in_ok-did.ensures.stepped
     c.args.left c.left_after.result answers answers some c.left_after.ensures (sym (append-nil answers))

@@ -11,4 +11,5 @@ returns c = record {
   query_stops_nobody = refl;
   nothing_to_stop_at = refl;
   client_does_not_stop = refl;
+  new_head_goes_on = refl;
 }

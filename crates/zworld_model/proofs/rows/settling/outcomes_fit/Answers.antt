@@ -12,4 +12,6 @@ returns c = record {
   query_is_unheard = refl;
   nothing_to_stop_at = refl;
   retry_does_not_stop = refl;
+  new_head_goes_on = refl;
+  query_elsewhere_is_heard = refl;
 }
