@@ -1,6 +1,8 @@
 -- Of lawful traces that aren't cut nothing but want of memory is found.
 use Rattle.std.proofs.Common.{◌≡◌, ℕ, true, false, refl, sym, ap, ◌∙◌, subst}
 use Rattle.std.specs.Prelude.{Result, Ok, Err, IfOk}
+use mathlib.Core.Logic.{∥∥₁_elim}
+use mathlib.Core.HLevel.{⊥_prop}
 use Rattle.zpath.specs.declared.memory.Memory as zpath_memory
 use Rattle.zserver_table.specs.Machine.{kept_tree}
 use Rattle.zworld.specs.Steps.{WorldView, world_in}
@@ -18,12 +20,12 @@ use Rattle.zworld.specs.declared.auditing.faults.AuditFault.{AuditFault}
 use Rattle.zworld.specs.declared.auditing.faults.AuditFault.TheVariants.{Cut, Disorder, Mismatch, Memory}
 
 pub only_memory : (t : Traces) (fault : AuditFault) → (fault ≡ Cut → is_any_cut t ≡ true) → (fault ≡ Disorder → IsDisordered t) → (fault ≡ Mismatch → IsMismatched t)
-    → AreLawful t → is_any_cut t ≡ false → fault ≡ Memory
+    → ∥ AreLawful t ∥₁ → is_any_cut t ≡ false → fault ≡ Memory
 only_memory t Cut cut disorder mismatch lawful whole =
     let both : true ≡ false = sym (cut refl) ∙ whole in
     absurd (cc both)
-only_memory t Disorder cut disorder mismatch lawful whole = absurd (lawful_not_disordered t lawful (disorder refl))
-only_memory t Mismatch cut disorder mismatch lawful whole = absurd (lawful_not_mismatched t lawful (mismatch refl))
+only_memory t Disorder cut disorder mismatch lawful whole = absurd (∥∥₁_elim lawful ⊥_prop (λ l. lawful_not_disordered t l (disorder refl)))
+only_memory t Mismatch cut disorder mismatch lawful whole = absurd (∥∥₁_elim lawful ⊥_prop (λ l. lawful_not_mismatched t l (mismatch refl)))
 only_memory t Memory cut disorder mismatch lawful whole = refl
 
 pub alike_where_same : (v w : World (KeptState Tree)) → w ≡ v → IsAlike v w

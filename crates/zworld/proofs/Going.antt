@@ -1,14 +1,13 @@
 -- From the words of the processes to those of the world, and how a past goes on.
-use Rattle.std.proofs.Common.{◌≡◌, ℕ, Bool, true, false, not, List, [], ◌∷◌, ◌++◌, refl, sym, ap, ◌∙◌, subst, true≢false}
+use Rattle.std.proofs.Common.{◌≡◌, ◌<◌, ℕ, Bool, true, false, not, List, [], ◌∷◌, ◌++◌, length, arith, refl, sym, ap, ◌∙◌, subst, true≢false}
 use Rattle.std.proofs.lemmas.List.{append-nil}
 use Rattle.ztree.specs.Tree.{Tree}
 use Rattle.zcalls.specs.Kept.{KeptState}
 use Rattle.zserver_table.specs.Machine.{kept_tree}
-use Rattle.zserver_table.specs.declared.process.Process.TheVariants.{Master, Server, Client}
 use Rattle.zworld_model.specs.declared.event.Event.{Event}
 use Rattle.zworld_model.specs.declared.event.Event.TheVariants.{Begin, Retry, Take, Ignore, Fail, Join}
 use Rattle.zworld_model.specs.declared.outcome.Outcome.{Outcome}
-use Rattle.zworld_model.specs.declared.outcome.Outcome.TheVariants.{Acted, Stopped, Unheard}
+use Rattle.zworld_model.specs.declared.outcome.Outcome.TheVariants.{Acted}
 use Rattle.zworld_model.specs.History.{History}
 use Rattle.zworld_model.specs.World.{World, opening_world}
 use Rattle.zworld_model.specs.Events.{is_server, is_enabled, happens, run}
@@ -18,7 +17,7 @@ use Rattle.zworld_model.specs.PlainTree.{IsExplained}
 use Rattle.zworld_model.specs.Laws.{world_after}
 use Rattle.zworld_model.proofs.Alike.{stay_alike, alike_itself, alike_through, read_alike}
 use Rattle.zorder.proofs.Headline.{every_history_is_explained}
-use Rattle.std.specs.Prelude.{Result, Ok, Err, IfOk, IsOk, OnErr, is_err}
+use Rattle.std.specs.Prelude.{Result, Ok, Err, IfOk, IsOk, OnErr, OnOk, is_err}
 use Rattle.zpath.specs.declared.memory.Memory.{Memory}
 use Rattle.zcalls.specs.declared.call.Call.{Call}
 use Rattle.zworld_model.specs.declared.history.CallEvent.TheVariants as call_event
@@ -28,11 +27,11 @@ use Rattle.zprocesses.specs.declared.answer.Answer.{Answer}
 use Rattle.zprocesses.specs.declared.did.Begun.{Begun}
 use Rattle.zprocesses.specs.declared.did.Begun.TheVariants as begun
 use Rattle.zprocesses.specs.Held.{Held, world_of}
-use Rattle.zprocesses.proofs.Steps.{enabled_anyway, fitting_anyway, read_anyway}
+use Rattle.zprocesses.proofs.Steps.{enabled_anyway, fitting_anyway, read_anyway, read_acted, happens_not}
 use Rattle.zprocesses.specs.Steps.{HasStepped, HasBegun, outcome_of, answer_events, is_idle}
 use Rattle.zworld.specs.support.Course.{CourseView, GoesBy, did_of, told_of}
 use Rattle.zworld.specs.support.Past.{HasPast, LeadRead}
-use Rattle.zworld.specs.Steps.{WorldView, HasHappened, HasRun, HasBegunToRun}
+use Rattle.zworld.specs.Steps.{WorldView, HasHappened, HasRun, HasBegunToRun, can_want_memory}
 
 -- an event of the processes is one of the world, from any history
 pub happened : (old new : CourseView) (event : Event) (did : Did) → GoesBy old new event did
@@ -187,41 +186,49 @@ told_by_taking old new held event became none answers empty (told, all, stepped)
       subst (λ h. HasStepped old.held h event became (answer_events told)) (sym same) stepped,
     )
 
--- an event that isn't enabled reads as itself
-read_idle : (w : World (KeptState Tree)) (event : Event) → is_enabled w event ≡ false → read kept_tree w event Acted ≡ event
-read_idle w (Begin c call) idle = refl
-read_idle w (Retry c) idle = refl
-read_idle w (Take from Master) idle = refl
-read_idle w (Take from (Server s)) idle = rw idle refl
-read_idle w (Take from (Client c)) idle = refl
-read_idle w (Ignore from to) idle = refl
-read_idle w (Fail s) idle = refl
-read_idle w (Join s) idle = refl
-
--- and nothing happens
-nothing_happens : (w : World (KeptState Tree)) (event : Event) → is_enabled w event ≡ false → happens kept_tree w event ≡ w
-nothing_happens w event idle = rw idle refl
-
 acted_idle : (became : Did) → is_idle became ≡ true → outcome_of became ≡ Acted
 acted_idle (deed.Idle cause) idle = refl
 acted_idle deed.Done idle = absurd (true≢false (sym idle))
 acted_idle deed.Unheard idle = absurd (true≢false (sym idle))
 acted_idle deed.Stopped idle = absurd (true≢false (sym idle))
 
+-- an event that isn't enabled tells nothing
+tells_nothing : (held next : Held) (event : Event) (became : Did) (told : History) → HasStepped held next event became told
+    → is_enabled (world_of held []) event ≡ false → told ≡ []
+tells_nothing held next event became told stepped off =
+    let w = world_of held [] in
+    let acted = acted_idle became (stepped.idle ∙ ap not off) in
+    let reads : read kept_tree w event (outcome_of became) ≡ event = ap (read kept_tree w event) acted ∙ read_acted w event in
+    same_history _ _ (stepped.leads []) ∙ ap (λ (x : World (KeptState Tree)). x.history) (ap (happens kept_tree w) reads ∙ happens_not w event off)
+
 -- an idle event leaves the processes and the history
-pub unchanged : (old new : CourseView) (event : Event) (became : Did) → GoesBy old new event became → is_idle became ≡ true → new ≡ old
+pub unchanged : (old new : CourseView) (event : Event) (became : Did) → GoesBy old new event became → is_idle became ≡ true
+    → (new.held ≡ old.held) × (new.history ≡ old.history)
 unchanged old new event became (told, after, stepped) idle =
-    let w = world_of old.held [] in
-    let off : is_enabled w event ≡ false = not-true _ (sym stepped.idle ∙ idle) in
-    let reads : read kept_tree w event (outcome_of became) ≡ event = ap (read kept_tree w event) (acted_idle became idle) ∙ read_idle w event off in
-    let stays : happens kept_tree w (read kept_tree w event (outcome_of became)) ≡ w = ap (happens kept_tree w) reads ∙ nothing_happens w event off in
-    let none : told ≡ [] = same_history _ _ (stepped.leads []) ∙ ap (λ (x : World (KeptState Tree)). x.history) stays in
-    let history : new.history ≡ old.history = after ∙ ap (λ xs. old.history ++ xs) none ∙ append-nil old.history in
-    rw (stepped.same idle, history) refl
+    let none = tells_nothing old.held new.held event became told stepped (not-true _ (sym stepped.idle ∙ idle)) in
+    (stepped.same idle, after ∙ ap (λ xs. old.history ++ xs) none ∙ append-nil old.history)
   where
     not-true : (b : Bool) → not b ≡ true → b ≡ false
     not-true false is = refl
     not-true true is = absurd (true≢false (sym is))
+
+-- a delivery that handed out answers was enabled
+pub answering_is_enabled : (held next : Held) (event : Event) (became : Did) (none answers : List Answer) → none ≡ []
+    → ((told : List Answer) × (answers ≡ none ++ told) × HasStepped held next event became (answer_events told))
+    → 0 < length answers → is_enabled (world_of held []) event ≡ true
+answering_is_enabled held next event became none answers empty (told, all, stepped) some = either _ refl
+  where
+    no-answers : (xs : List Answer) → answer_events xs ≡ [] → xs ≡ []
+    no-answers [] is = refl
+    no-answers (x ∷ xs) is = absurd (let never : ⊥ = cc in never)
+
+    either : (b : Bool) → is_enabled (world_of held []) event ≡ b → is_enabled (world_of held []) event ≡ true
+    either true is = is
+    either false off =
+        let nothing : told ≡ [] = no-answers told (tells_nothing held next event became (answer_events told) stepped off) in
+        let is : answers ≡ [] = all ∙ ap (λ xs. xs ++ told) empty ∙ nothing in
+        let never : 0 < 0 = subst (λ (xs : List Answer). 0 < length xs) is some in
+        absurd (let no : ⊥ = grind (arith, never) in no)
 
 -- a world of processes, with their history
 abbrev pub the_world : CourseView → Bool → WorldView
@@ -231,7 +238,8 @@ the_world course broken = record { held = course.held; history = course.history;
 pub same_world : (r : Result Did Memory) (old new : CourseView) (event : Event) (is_broken : Bool) → is_broken ≡ is_err r
     → IfOk r (λ did. GoesBy old new event did)
     → IfOk r (λ did. is_idle did ≡ true → the_world new is_broken ≡ the_world old false)
-same_world (Ok did) old new event is_broken is goes = λ idle. rw (unchanged old new event did goes idle, is) refl
+same_world (Ok did) old new event is_broken is goes =
+    λ idle. let same = unchanged old new event did goes idle in rw (same.0, same.1, is) refl
 same_world (Err memory) old new event is_broken is goes = tt
 
 -- a call that was to begin, where it is told of
@@ -248,3 +256,23 @@ begun_is_told (Err memory) old new client call told became same has ok after = a
 pub on_err : {A E : Type 0} {Q : Type 0} (r : Result A E) → Q → OnErr r Q
 on_err (Ok x) q = tt
 on_err (Err e) q = q
+
+-- what holds where a call answered holds where it wasn't refused
+pub on_ok : {A E : Type 0} {Q : Type 0} (r : Result A E) → OnOk r Q → is_err r ≡ false → Q
+on_ok (Ok x) q is = q
+on_ok (Err e) q is = absurd (true≢false is)
+
+-- whether an event can want memory doesn't hang on the history
+can_anyway : (held : Held) (history : History) (event : Event) → can_want_memory (world_of held history) event ≡ can_want_memory (world_of held []) event
+can_anyway held history (Fail s) = refl
+can_anyway held history (Ignore from to) = refl
+can_anyway held history (Begin c call) = enabled_anyway held history (Begin c call)
+can_anyway held history (Retry c) = enabled_anyway held history (Retry c)
+can_anyway held history (Take from to) = enabled_anyway held history (Take from to)
+can_anyway held history (Join s) = enabled_anyway held history (Join s)
+
+-- so nor does what is said of an event that was refused
+pub needed_anyway : (r : Result Did Memory) (held : Held) (history : History) (event : Event)
+    → OnErr r (can_want_memory (world_of held []) event ≡ true) → OnErr r (can_want_memory (world_of held history) event ≡ true)
+needed_anyway (Ok did) held history event needed = tt
+needed_anyway (Err memory) held history event needed = can_anyway held history event ∙ needed

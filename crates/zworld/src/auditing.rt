@@ -77,7 +77,7 @@ pub fn audit(alloc: Global, traces: &Traces) -> Result<Vec<CallEvent>, AuditFaul
         → result ≡ Err Disorder }
     ensures disorder { IfErr result (λ fault. fault ≡ Disorder → IsDisordered traces.now) }
     ensures mismatch { IfErr result (λ fault. fault ≡ Mismatch → IsMismatched traces.now) }
-    ensures complete { AreLawful traces.now → is_any_cut traces.now ≡ false
+    ensures complete { ∥ AreLawful traces.now ∥₁ → is_any_cut traces.now ≡ false
         → IfErr result (λ fault. fault ≡ Memory) }
 {
     match examined(alloc, traces) {

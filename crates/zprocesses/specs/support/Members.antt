@@ -1,5 +1,5 @@
 -- What a member says of a message.
-use Rattle.std.specs.Prelude.{◌≡◌, true, false, Some, List, [], ◌++◌, length}
+use Rattle.std.specs.Prelude.{◌≡◌, true, Some, List, [], ◌++◌, length}
 use Rattle.ztree.specs.declared.limits.TheConstants.{MAX_CLIENTS}
 use Rattle.zserver_table.specs.declared.limits.TheConstants.{MAX_SERVERS}
 use Rattle.zclient_table.specs.View.{ClientView}

@@ -15,7 +15,7 @@ invariant_of-result c =
     let some = subst (λ n. 0 < n) same c.number.ensures.some in
     let few = subst (λ n. n ≤ MAX_SERVERS) same c.number.ensures.small in
     let opens : is_server c.args.last ≡ true = grind (arith, nat_tests, some, few) in
-    past_begins course.held course.history c.args.last c.args.clients opens c.in_ok-new.ensures.history c.in_ok-new.ensures.opening
+    (past_begins course.held course.history c.args.last c.args.clients opens c.in_ok-new.ensures.history c.in_ok-new.ensures.opening, λ whole. c.in_ok-new.ensures.sound)
 
 pub returns-clause-world : goal.returns-clause-world
 returns-clause-world c =

@@ -9,7 +9,7 @@ use Rattle.zworld.proofs.world.World.run.Goals as goal
 pub returns-then-self-clause-explained : goal.returns-then-self-clause-explained
 returns-then-self-clause-explained c =
     subst (λ (v : WorldView). IsExplained v.history) c.self.view_is
-    (past_is_explained c.self.inside.is_broken c.self.inside.course.held c.self.inside.course.history c.self.invariant)
+    (past_is_explained c.self.inside.is_broken c.self.inside.course.held c.self.inside.course.history c.self.invariant.0)
 
 pub loop-event-init : goal.loop-event-init
 loop-event-init c = (
@@ -18,7 +18,7 @@ loop-event-init c = (
   alike_itself (world_in c.args.self.now),
   subst (λ (v : WorldView). v.is_broken ≡ false) c.self.view_is c.if-self.false,
   subst (λ (v : WorldView). IsExplained v.history) c.self.view_is
-      (past_is_explained c.self.inside.is_broken c.self.inside.course.held c.self.inside.course.history c.self.invariant),
+      (past_is_explained c.self.inside.is_broken c.self.inside.course.held c.self.inside.course.history c.self.invariant.0),
 )
 
 pub loop-event-preserved : goal.loop-event-preserved
