@@ -89,8 +89,8 @@ pub(crate) fn hear_or_keep(
     requires front { front.old ≡ None }
     ensures at { Stands desk.old (AtClient core.old) (Some (from, (stamp, message))) []
         → Stands desk.new (AtClient core.new) front.new (pending desk.new) }
-    ensures heard { HeardOrNothing id desk.old core.old desk.new core.new result from (stamp, message)
-        next }
+    ensures heard { HeardOrNothing id desk.old core.old desk.new core.new
+        result from (stamp, message) next }
     ensures whole { IsCutForNeed desk.old desk.new }
     ensures same { SameDesk desk.old desk.new }
 {

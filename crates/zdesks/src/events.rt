@@ -46,20 +46,21 @@ impl Desk {
     /// Enters an event into the trace, and what the caller saw of it into the record. Where its stamp is the last one, or there
     /// is no room for it, the trace is cut.
     pub fn enter(&mut self, act: Act, stamp: Stamp, told: Option<CallEvent>)
-        ensures stands { (s s' : TreeStanding) (t : Option (Process × TreeStamped)) (posts : List TreePost)
-            → Stands self.old s t []
+        ensures stands { (s s' : TreeStanding) (t : Option (Process × TreeStamped))
+            (posts : List TreePost) → Stands self.old s t []
             → (stamp < MAX_STAMP
             → IsEvent self.old.me self.old.stamp s t act stamp s' posts (option_to_list told))
             → Stands self.new s' None posts }
-        ensures beside { (s s' : TreeStanding) (t : Option (Process × TreeStamped)) (posts : List TreePost)
-            → Stands self.old s t []
+        ensures beside { (s s' : TreeStanding) (t : Option (Process × TreeStamped))
+            (posts : List TreePost) → Stands self.old s t []
             → (stamp < MAX_STAMP
             → IsEvent self.old.me self.old.stamp s None act stamp s' posts (option_to_list told))
             → Stands self.new s' t posts }
         ensures entered { self.new.is_cut ≡ false
-            → HasEntered self.old self.new (record { stamp = stamp; act = act }) (option_to_list told) }
-        ensures whole { HasRoom self.old → length (trace_of self.old) < MAX_EVENTS → stamp < MAX_STAMP
-            → self.new.is_cut ≡ self.old.is_cut }
+            → HasEntered self.old self.new
+            (record { stamp = stamp; act = act }) (option_to_list told) }
+        ensures whole { HasRoom self.old → length (trace_of self.old) < MAX_EVENTS
+            → stamp < MAX_STAMP → self.new.is_cut ≡ self.old.is_cut }
         ensures stamp { self.new.stamp ≡ stamp }
         ensures rest { (self.new.held ≡ self.old.held) × (self.new.out ≡ self.old.out) }
         ensures same { SameDesk self.old self.new }
@@ -89,8 +90,8 @@ impl Desk {
 
     // Enters what the caller saw into the record.
     fn tell(&mut self, told: Option<CallEvent>)
-        ensures stands { (s : TreeStanding) (t : Option (Process × TreeStamped)) (posts : List TreePost)
-            → StandsToTell self.old (option_to_list told) s t posts
+        ensures stands { (s : TreeStanding) (t : Option (Process × TreeStamped))
+            (posts : List TreePost) → StandsToTell self.old (option_to_list told) s t posts
             → Stands self.new s t posts }
         ensures rest { (self.new.held ≡ self.old.held) × (self.new.out ≡ self.old.out) }
         ensures same { SameDesk self.old self.new }

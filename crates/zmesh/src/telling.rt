@@ -9,7 +9,8 @@ use zrings::ends::{Rx, Tx, told};
 
 /// Whether each link tells that what was taken from it begins what was put on it. False where one can't tell.
 pub fn are_told<M: Drop>(mesh: Mesh<M>) -> bool
-    requires { IsWoven (length mesh.outs.items) (out_rings mesh.outs.items) (in_rings mesh.ins.items) }
+    requires { IsWoven (length mesh.outs.items)
+        (out_rings mesh.outs.items) (in_rings mesh.ins.items) }
     ensures { IsTrue result → AreTold (out_lists mesh.outs.items) (in_lists mesh.ins.items) }
 {
     let Mesh { mut outs, mut ins } = mesh;
@@ -31,7 +32,8 @@ fn is_told<M: Drop>(
     from: usize,
     to: usize,
 ) -> bool
-    requires woven { IsWoven (length outs.old.items) (out_rings outs.old.items) (in_rings ins.old.items) }
+    requires woven { IsWoven (length outs.old.items)
+        (out_rings outs.old.items) (in_rings ins.old.items) }
     requires from { from < length outs.old.items }
     requires to { to < length outs.old.items }
     ensures outs { out_lists outs.new.items ≡ out_lists outs.old.items }

@@ -86,7 +86,8 @@ impl Client {
 
     /// From now on its events are later than this stamp. So what one client saw, another that learns of its stamp can't miss.
     pub fn learn(&mut self, stamp: Stamp)
-        ensures stamp { caller_stamp (caller_of self.new) ≡ max (caller_stamp (caller_of self.old)) stamp }
+        ensures stamp { caller_stamp (caller_of self.new)
+            ≡ max (caller_stamp (caller_of self.old)) stamp }
         ensures idle { SameCaller (caller_of self.old) (caller_of self.new) }
         ensures same { SameClient self.old self.new }
     {

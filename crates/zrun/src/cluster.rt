@@ -34,7 +34,8 @@ pub struct Cluster {
     pub(crate) run: Snapshot<Vec<ClientPost>>,
     ghost all: { length servers.items ≡ MAX_SERVERS },
     ghost count: { length run.value.items ≡ opening.clients },
-    ghost wired: { IsRun opening.last opening.clients (given_desks master servers.items run.value.items) },
+    ghost wired: { IsRun opening.last opening.clients
+        (given_desks master servers.items run.value.items) },
 }
 
 impl Cluster {

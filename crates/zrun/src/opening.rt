@@ -82,7 +82,8 @@ impl Opening {
     pub(crate) fn caller(&self, alloc: Global, id: ClientId, ends: Ends) -> Caller
         requires fresh { AreFresh ends }
         requires known { id < self.now.clients }
-        ensures desk { IsDeskOf (process.Client id) self.now.last self.now.clients (caller_desk result) }
+        ensures desk { IsDeskOf (process.Client id)
+            self.now.last self.now.clients (caller_desk result) }
         ensures ends { HasEnds ends (caller_desk result) }
     {
         let Ends { ins, outs } = ends;

@@ -89,8 +89,8 @@ impl Server {
             (λ taken. self.new.view ≡ (taken_result taken self.old.view from message).0) }
         ensures puts { IfOk result
             (λ taken. Puts out.old out.new (taken_result taken self.old.view from message).1) }
-        ensures unheard { IfOk result
-            (λ taken. taken ≡ Unheard → may_be_unheard kept_tree self.old.view from message ≡ true) }
+        ensures unheard { IfOk result (λ taken. taken ≡ Unheard
+            → may_be_unheard kept_tree self.old.view from message ≡ true) }
         ensures stopped { OnErr result (self.new.is_stopped ≡ true) }
         ensures silent { OnErr result (out.new.posts ≡ out.old.posts) }
         ensures stays { self.old.is_stopped ≡ true → IsErr result }

@@ -85,10 +85,12 @@ pub fn written_and_read_is_a_run()
         (step_of c0 1 (Began read) ∷ step_of s1 2 (Took c0 Unheard) ∷ [])
         ≡ true }
     ensures ignored_twice { are_in_place counting_machine opening
-        (step_of c0 1 (Began read) ∷ step_of s1 2 (Took c0 Unheard) ∷ step_of s1 3 (Took c0 Unheard) ∷ [])
+        (step_of c0 1 (Began read) ∷ step_of s1 2 (Took c0 Unheard)
+        ∷ step_of s1 3 (Took c0 Unheard) ∷ [])
         ≡ false }
     ensures stopped { are_in_place counting_machine opening
-        (step_of c0 1 (Began write) ∷ step_of s1 2 (Took c0 Stopped) ∷ step_of s1 3 (Took c0 Acted) ∷ [])
+        (step_of c0 1 (Began write) ∷ step_of s1 2 (Took c0 Stopped)
+        ∷ step_of s1 3 (Took c0 Acted) ∷ [])
         ≡ false }
 {}
 

@@ -92,7 +92,8 @@ impl Tickets {
     /// the word came back.
     pub fn close(self, mut passes: Vec<Pass>) -> Option<u64>
         requires { All (λ p. IsPassOf self p) passes.items }
-        ensures each { IfSome result (λ n. EachOnce n (λ x. times x (tickets_of_all passes.items))) }
+        ensures each { IfSome result (λ n.
+            EachOnce n (λ x. times x (tickets_of_all passes.items))) }
         ensures all { IfSome result (λ _. length passes.items ≡ passes_of self) }
         ensures none { IfNone result (length passes.items ≢ passes_of self) }
     {

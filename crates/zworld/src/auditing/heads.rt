@@ -28,7 +28,8 @@ pub(crate) fn put_head(
     ensures heap { OnOk result
         (KeepsHeap head_cmp (heap_items heads.old) (heap_items heads.new)) }
     ensures put { OnOk result ((f : ℕ × ℕ → ℕ) → count_of f (heap_items heads.new)
-        ≡ count_at f place (head_at traces.now read.now place) + count_of f (heap_items heads.old)) }
+        ≡ count_at f place (head_at traces.now read.now place)
+        + count_of f (heap_items heads.old)) }
 {
     if let Some(stamp) = head_of(traces, read, place) {
         heads.push(Reverse((stamp, place)))?;

@@ -30,7 +30,8 @@ fn replay_next(
 ) -> Result<bool, AuditFault>
     requires read { length read.old ≡ place_count traces.now }
     requires heap { IsHeap head_cmp (heap_items heads.old) }
-    requires heads { HoldsHeads traces.now read.old (place_count traces.now) (heap_items heads.old) }
+    requires heads { HoldsHeads traces.now read.old
+        (place_count traces.now) (heap_items heads.old) }
     requires replayed { HasReplayed traces.now read.old (world_in world.old) }
     ensures same { length read.new ≡ length read.old }
     ensures heap { OnOk result (IsHeap head_cmp (heap_items heads.new)) }
