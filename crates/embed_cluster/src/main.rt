@@ -2,8 +2,7 @@
 //! server joins and another one is halted.
 #![tactic(auto)]
 
-ghost use Rattle.std.specs.Prelude.{◌≡◌, IfOk, length};
-ghost use Rattle.zserver_table.specs.declared.limits.TheConstants.{MAX_SERVERS};
+ghost use Rattle.std.specs.Prelude.{◌≡◌};
 ghost use Rattle.zrun.specs.Clients.{SameClient};
 ghost use Rattle.zrun.specs.Members.{clients_run};
 
@@ -14,16 +13,16 @@ use std::sync::Wait;
 use std::thread;
 use std::thread::Threads;
 use zcalls::{Call, ClientId, Create, Data, Kind, Query, Reply, Update};
-use zpath::{Memory, Path};
-use zrun::{Client, Clients, Cluster, HandsBack};
-use zserver_table::{MAX_SERVERS, ServerId};
-use zthreads::Open;
+use zpath::Path;
+use zrun::{Client, Clients, Cluster, HandsBack, Patience, open_gates};
+use zserver_table::ServerId;
 use zworld::audit;
 
-// A call is asked for again after so many turns, so often.
-const TURNS: u64 = 100_000;
-
-const RETRIES: u64 = 1_000;
+// How long an answer is waited for.
+const PATIENCE: Patience = Patience {
+    turns: 100_000,
+    retries: 1_000,
+};
 
 fn main(rt: HostRuntime) -> ExitCode {
     match run(rt, rt.alloc()) {
@@ -88,7 +87,7 @@ fn write(mut client: Client, alloc: Global) -> (Client, bool)
     ensures { SameClient client result.0 }
 {
     let is_written = match create(alloc) {
-        Some(call) => ask(&mut client, call).is_some(),
+        Some(call) => client.ask(call, PATIENCE).is_ok(),
         None => false,
     };
     if let Some(server) = ServerId::new(1) {
@@ -102,25 +101,9 @@ fn read(client: &mut Client, alloc: Global) -> bool
     ensures { SameClient client.old client.new }
 {
     match exists(alloc) {
-        Some(call) => matches!(&ask(client, call), Some(Reply::Exists(_))),
+        Some(call) => matches!(&client.ask(call, PATIENCE), Ok(Reply::Exists(_))),
         None => false,
     }
-}
-
-// The reply of a call, which is sent again while it has none.
-fn ask(client: &mut Client, call: Call) -> Option<Reply>
-    ensures { SameClient client.old client.new }
-{
-    if let Ok(reply) = client.call(call, TURNS) {
-        return Some(reply);
-    }
-    for _ in 0..RETRIES {
-        let _ = client.retry();
-        if let Ok(reply) = client.wait(TURNS) {
-            return Some(reply);
-        }
-    }
-    None
 }
 
 fn create(alloc: Global) -> Option<Call> {
@@ -133,15 +116,4 @@ fn create(alloc: Global) -> Option<Call> {
 
 fn exists(alloc: Global) -> Option<Call> {
     Some(Call::Query(Query::Exists(Path::parse(alloc, "/config").ok()?)))
-}
-
-// A gate for each server, which lets all pass.
-fn open_gates(alloc: Global) -> Result<Vec<Open>, Memory>
-    ensures { IfOk result (λ gates. length gates.items ≡ MAX_SERVERS) }
-{
-    let mut gates = Vec::with_capacity(alloc, MAX_SERVERS as usize)?;
-    for _ in 0..MAX_SERVERS {
-        gates.push(Open)?;
-    }
-    Ok(gates)
 }

@@ -13,3 +13,7 @@ text-status_2 BadWords e = refl
 pub text-status_1 : (fault : WordsFault) → words_fault_status fault ≡ 1 → words_fault_text fault ≡ play_fault_text play.Memory
 text-status_1 Memory e = refl
 text-status_1 BadWords e = absurd (omega (arith, e))
+
+pub bad-status_2 : (fault : WordsFault) → words_fault_status fault ≡ 2 → fault ≡ BadWords
+bad-status_2 Memory e = absurd (omega (arith, e))
+bad-status_2 BadWords e = refl

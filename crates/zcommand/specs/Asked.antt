@@ -1,20 +1,18 @@
--- What a program's words ask for, by what the parser of its command line tells of them: this project's own profile.
-use Rattle.std.specs.Prelude.{ℕ, ◌&&◌, nat_le, if◌then◌else◌, Option, None, Some, Result, Ok, Err}
-use Rattle.clap.specs.declared.error.kind.ErrorKind.{ErrorKind}
-use Rattle.clap.specs.declared.error.kind.ErrorKind.TheVariants.{OutOfMemory}
+-- What a program's words ask for, by the number that they give: this project's own profile.
+use Rattle.std.specs.Prelude.{ℕ, ◌&&◌, nat_le, if◌then◌else◌, List, [], ◌∷◌, codes, Option, Some, Result, Ok, Err}
 use Rattle.zserver_table.specs.declared.limits.TheConstants.{MAX_SERVERS}
+use Rattle.zoptions.specs.Asked.{asked_of}
 use Rattle.zcommand.specs.declared.order.Settings.{Settings}
 use Rattle.zcommand.specs.declared.order.Settings.TheVariants.{Script}
 use Rattle.zcommand.specs.declared.fault.WordsFault.{WordsFault}
-use Rattle.zcommand.specs.declared.fault.WordsFault.TheVariants.{Memory, BadWords}
+use Rattle.zcommand.specs.declared.fault.WordsFault.TheVariants.{BadWords}
 
--- A number of servers that was given asks for a script over exactly these, where a chain may begin with so many.
-abbrev pub settings_of : Option ℕ → Result Settings WordsFault
-settings_of None = Err BadWords
-settings_of (Some servers) =
+-- A number that was given asks for a script over exactly so many servers, where a chain may begin with so many.
+abbrev pub settings_of : Option (List ℕ) → Result Settings WordsFault
+settings_of (Some (servers ∷ [])) =
     if nat_le 1 servers && nat_le servers MAX_SERVERS then Ok (Script servers) else Err BadWords
+settings_of _ = Err BadWords
 
--- Why words were not understood: want of memory, and nothing else, is Memory.
-abbrev pub fault_of_parse : ErrorKind → WordsFault
-fault_of_parse OutOfMemory = Memory
-fault_of_parse _ = BadWords
+-- What the words ask for: `script`, over the number of servers that they give, or over 1.
+unfoldable pub settings_asked : List (List ℕ) → Result Settings WordsFault
+settings_asked words = settings_of (asked_of (codes "script") ((codes "servers", codes "1") ∷ []) words)

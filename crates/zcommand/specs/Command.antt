@@ -1,21 +1,30 @@
--- What a run of the program comes to, told by what its devices did.
-use Rattle.std.specs.Prelude.{ℕ, ◌⊎◌, List, [], ◌∷◌, ◌++◌}
+-- What a run of the program comes to, told by its words and by what its devices did.
+use Rattle.std.specs.Prelude.{ℕ, ◌≡◌, ◌⊎◌, List, [], ◌∷◌, ◌++◌, Ok}
 use Rattle.zdevices.specs.Device.{SourceRun, SinkRun, Failed, TookBeginning}
-use Rattle.zscript.specs.Outcome.{IsPlayed, IsCutBy, play_fault_text}
+use Rattle.zscript.specs.Outcome.{IsPlayed, IsCutBy, IsIdle, play_fault_text}
 use Rattle.zscript.specs.Servers.{IsServers}
 use Rattle.zscript.specs.declared.fault.PlayFault.{PlayFault}
+use Rattle.zscript.specs.declared.fault.PlayFault.TheVariants.{Memory}
+use Rattle.zcommand.specs.declared.order.Settings.TheVariants.{Script}
+use Rattle.zcommand.specs.Asked.{settings_asked}
 
 -- A line went to a device; or a beginning of it, and the device failed.
 abbrev pub IsTold : SinkRun → List ℕ → Type 0
 IsTold faults line =
     faults.took (line ++ 10 ∷ []) ⊎ (TookBeginning faults.took (line ++ 10 ∷ []) × Failed faults.failed)
 
--- Every line was played, by a chain of some number of servers.
-abbrev pub IsPlayedBySome : SourceRun → SinkRun → Type 0
-IsPlayedBySome source sink = (servers : ℕ) × IsServers servers × IsPlayed servers source sink
+-- The words ask for a script over exactly so many servers.
+abbrev pub AskForServers : List (List ℕ) → ℕ → Type 0
+AskForServers words servers = IsServers servers × (settings_asked words ≡ Ok (Script servers))
 
--- A fault ended the run of some number of servers, and was told.
-abbrev pub IsCutAndTold : SourceRun → SinkRun → SinkRun → Type 0
-IsCutAndTold source sink faults =
-    (servers : ℕ) × IsServers servers × (fault : PlayFault) × IsCutBy servers source sink fault
-    × IsTold faults (play_fault_text fault)
+-- Every line was played, by a chain of exactly the servers that the words ask for.
+abbrev pub IsPlayedAsAsked : List (List ℕ) → SourceRun → SinkRun → Type 0
+IsPlayedAsAsked words source sink = (servers : ℕ) × AskForServers words servers × IsPlayed servers source sink
+
+-- A fault ended the run of exactly the servers that the words ask for, and was told; or for want of memory the words were not
+-- read: nothing was read or written, and this was told.
+abbrev pub IsCutAndTold : List (List ℕ) → SourceRun → SinkRun → SinkRun → Type 0
+IsCutAndTold words source sink faults =
+    ((servers : ℕ) × AskForServers words servers × (fault : PlayFault) × IsCutBy servers source sink fault
+    × IsTold faults (play_fault_text fault))
+    ⊎ (IsIdle source sink × source.failed 0 × sink.failed 0 × IsTold faults (play_fault_text Memory))

@@ -7,6 +7,7 @@
 mod fault;
 mod order;
 mod program;
+pub mod rows;
 mod words;
 
 pub use fault::WordsFault;

@@ -1,9 +1,11 @@
 //! A run of the program, without its devices.
 
-ghost use Rattle.std.specs.Prelude.{◌≡◌, ◌≤◌, [], codes};
+ghost use Rattle.std.specs.Prelude.{◌≡◌, ◌≤◌, [], codes, Err};
+ghost use Rattle.zoptions.specs.Asked.{texts_of};
 ghost use Rattle.zdevices.specs.Device.{source_run, sink_run};
 ghost use Rattle.zcommand.specs.Words.{words_fault_text, words_fault_status};
-ghost use Rattle.zcommand.specs.Command.{IsTold, IsPlayedBySome, IsCutAndTold};
+ghost use Rattle.zcommand.specs.Asked.{settings_asked};
+ghost use Rattle.zcommand.specs.Command.{IsTold, IsPlayedAsAsked, IsCutAndTold};
 
 use crate::fault::WordsFault;
 use crate::order::Settings;
@@ -24,19 +26,20 @@ pub fn command<S: Source, K: Sink, F: Sink>(
 ) -> u8
     ensures status { result ≤ 2 }
 
-    // All was played, and nothing was said.
-    ensures played { result ≡ 0 → IsPlayedBySome
+    // All was played, by the servers that the words ask for, and nothing was said.
+    ensures played { result ≡ 0 → IsPlayedAsAsked (texts_of words.now)
         (source_run S.gave S.failed S.has_ended source.old source.new)
         (sink_run K.took K.failed sink.old sink.new) }
     ensures silent { result ≡ 0 → F.took faults.old [] faults.new }
 
     // A fault ended the run, and was told.
-    ensures cut { result ≡ 1 → IsCutAndTold
+    ensures cut { result ≡ 1 → IsCutAndTold (texts_of words.now)
         (source_run S.gave S.failed S.has_ended source.old source.new)
         (sink_run K.took K.failed sink.old sink.new)
         (sink_run F.took F.failed faults.old faults.new) }
 
-    // The words are not understood, and nothing was read or written.
+    // The words are bad, and nothing was read or written.
+    ensures bad { result ≡ 2 → settings_asked (texts_of words.now) ≡ Err WordsFault.BadWords }
     ensures idle { result ≡ 2 → (source.new ≡ source.old) × (sink.new ≡ sink.old) }
     ensures refused { result ≡ 2 → IsTold
         (sink_run F.took F.failed faults.old faults.new) (codes "zk: bad words") }

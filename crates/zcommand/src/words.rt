@@ -1,67 +1,52 @@
 //! A program's words.
 
-ghost use Rattle.std.specs.Prelude.{◌≡◌, ℕ, IfOk};
+ghost use Rattle.std.specs.Prelude.{◌≡◌, ◌⊎◌, ℕ, Err, IfErr, IfOk, Ok, Some};
+ghost use Rattle.zoptions.specs.Asked.{texts_of};
 ghost use Rattle.zscript.specs.Servers.{IsServers};
-ghost use Rattle.zcommand.specs.Asked.{settings_of, fault_of_parse};
+ghost use Rattle.zcommand.specs.Asked.{settings_asked, settings_of};
 
 use crate::fault::WordsFault;
 use crate::order::Settings;
-use clap::error::ErrorKind;
-use clap::{Arg, Command, value_parser};
-use std::alloc::{AllocError, Global};
+use std::alloc::Global;
+use zoptions::{NumberOption, numbers_asked};
 use zscript::Servers;
 use zserver_table::MAX_SERVERS;
+
+// The option of a script.
+static SCRIPT_OPTIONS: [NumberOption; 1] = [NumberOption {
+    name: "servers",
+    default: "1",
+}];
 
 /// Reads `NAME script [--servers N]`, where N is 1 to `MAX_SERVERS`, and 1 if it is not given.
 ///
 /// All else is `BadWords`, a request for help too. `Memory` comes only where memory runs out.
 pub fn settings<'a>(alloc: Global, words: &'a [&'a str]) -> Result<Settings, WordsFault>
-    ensures { IfOk result (λ settings. (servers : ℕ) × IsServers servers
-        × (settings ≡ Settings.Script servers)) }
-{
-    let Ok(command) = command_line(alloc) else {
-        return Err(WordsFault::Memory);
-    };
-    let matches = match command.try_get_matches_from(words) {
-        Ok(matches) => matches,
-        Err(error) => return Err(parse_fault(error.kind())),
-    };
-    let Some(("script", script)) = matches.subcommand() else {
-        return Err(WordsFault::BadWords);
-    };
-    asked(script.get_one::<u8>("servers"))
-}
-
-// What a script over so many servers asks for: none stands where the words give no number.
-fn asked(servers: Option<u8>) -> Result<Settings, WordsFault>
-    ensures exact { result ≡ settings_of servers }
+    ensures ok { IfOk result (λ settings. settings_asked (texts_of words.now) ≡ Ok settings) }
+    ensures err { IfErr result (λ fault. (fault ≡ WordsFault.Memory)
+        ⊎ (settings_asked (texts_of words.now) ≡ Err fault)) }
     ensures few { IfOk result (λ settings. (servers : ℕ) × IsServers servers
         × (settings ≡ Settings.Script servers)) }
 {
-    match servers {
-        Some(count) if (1..=MAX_SERVERS).contains(&count) => {
+    match numbers_asked(alloc, "script", SCRIPT_OPTIONS.as_slice(), words)? {
+        Some(numbers) => asked(&numbers),
+        None => Err(WordsFault::BadWords),
+    }
+}
+
+// What a script of these numbers asks for.
+fn asked(numbers: &[u16]) -> Result<Settings, WordsFault>
+    ensures exact { result ≡ settings_of (Some numbers.now) }
+    ensures few { IfOk result (λ settings. (servers : ℕ) × IsServers servers
+        × (settings ≡ Settings.Script servers)) }
+{
+    let [number] = numbers else {
+        return Err(WordsFault::BadWords);
+    };
+    match u8::try_from(*number) {
+        Ok(count) if (1..=MAX_SERVERS).contains(&count) => {
             Ok(Settings::Script(Servers::new(count)))
         }
         _ => Err(WordsFault::BadWords),
     }
-}
-
-// Why words were not understood: want of memory is told apart from all else.
-fn parse_fault(kind: ErrorKind) -> WordsFault
-    ensures { result ≡ fault_of_parse kind }
-{
-    match kind {
-        ErrorKind::OutOfMemory => WordsFault::Memory,
-        _ => WordsFault::BadWords,
-    }
-}
-
-// The command line that this program understands.
-fn command_line<'a>(alloc: Global) -> Result<Command<'a>, AllocError> {
-    let servers = Arg::new(alloc, "servers")
-        .long("servers")
-        .value_parser(value_parser!(u8))
-        .default_value("1");
-    let script = Command::new(alloc, "script").arg(servers)?;
-    Command::new(alloc, "zk").subcommand(script)
 }

@@ -1,6 +1,6 @@
 //! Those that race, in their threads and out of them.
 
-ghost use Rattle.std.specs.Prelude.{◌≡◌, ◌<◌, [], All, IfOk, IfSome};
+ghost use Rattle.std.specs.Prelude.{◌≡◌, ◌<◌, [], All, IfOk, IfSome, length};
 ghost use Rattle.std.specs.Arc.{arc_value};
 ghost use Rattle.ztree.specs.declared.limits.TheConstants.{MAX_CLIENTS};
 ghost use Rattle.zwords.specs.Passes.{IsPassOf};
@@ -35,12 +35,15 @@ pub(crate) struct Field {
     pub(crate) clients: Clients,
     /// Each node's version, as far as it is known.
     pub(crate) versions: Vec<Option<u64>>,
-    ghost own: { All (λ handle. BelongsTo (clients_run clients) (given_client handle)) handles.items },
+    ghost own: { All (λ handle.
+        BelongsTo (clients_run clients) (given_client handle)) handles.items },
 }
 
 impl Room {
     /// Room for the threads of a race, and its nodes.
-    pub(crate) fn new(alloc: Global, race: &Race) -> Result<Room, Memory> {
+    pub(crate) fn new(alloc: Global, race: &Race) -> Result<Room, Memory>
+        ensures { IfOk result (λ room. length room.versions.items ≡ race.now.rounds) }
+    {
         let mut versions = Vec::with_capacity(alloc, race.rounds as usize)?;
         for _ in 0..race.rounds {
             versions.push(None)?;
@@ -55,7 +58,8 @@ impl Room {
 impl Field {
     /// Nobody races yet, of these clients.
     pub(crate) fn new(room: Room, clients: Clients) -> Field
-        ensures { result.clients ≡ clients }
+        ensures clients { result.clients ≡ clients }
+        ensures versions { result.versions ≡ room.versions }
     {
         let Room { handles, versions } = room;
         Field {
@@ -75,7 +79,8 @@ impl Field {
         mut passes: Vec<Pass>,
     ) -> Result<(), StartFault>
         requires { All (λ pass. IsPassOf (arc_value tickets.now) pass) passes.items }
-        ensures { clients_run self.new.clients ≡ clients_run self.old.clients }
+        ensures clients { clients_run self.new.clients ≡ clients_run self.old.clients }
+        ensures versions { self.new.versions ≡ self.old.versions }
     {
         for number in 0..race.clients {
             let Some(pass) = passes.pop() else {
@@ -91,7 +96,8 @@ impl Field {
 
     /// Waits for all threads.
     pub(crate) fn join_all<R: Threads>(&mut self, rt: &R)
-        ensures { clients_run self.new.clients ≡ clients_run self.old.clients }
+        ensures clients { clients_run self.new.clients ≡ clients_run self.old.clients }
+        ensures nodes { length self.new.versions.items ≡ length self.old.versions.items }
     {
         while let Some(handle) = self.handles.pop() {
             let (client, seen) = handle.join(rt);
@@ -112,7 +118,8 @@ impl Field {
     ) -> Result<(), StartFault>
         requires pass { IsPassOf (arc_value tickets.now) pass }
         requires own { BelongsTo (clients_run self.old.clients) client }
-        ensures { clients_run self.new.clients ≡ clients_run self.old.clients }
+        ensures clients { clients_run self.new.clients ≡ clients_run self.old.clients }
+        ensures versions { self.new.versions ≡ self.old.versions }
     {
         let handle = start_runner(rt, alloc, race, tickets, pass, client)?;
         keep(&mut self.handles, handle);
@@ -133,7 +140,9 @@ fn racer(clients: &mut Clients, number: u8) -> Option<Client>
 }
 
 // Notes each version at its node.
-fn note(versions: &mut Vec<Option<u64>>, seen: &Vec<(u64, u64)>) {
+fn note(versions: &mut Vec<Option<u64>>, seen: &Vec<(u64, u64)>)
+    ensures { length versions.new.items ≡ length versions.old.items }
+{
     for (node, version) in seen {
         let node = *node as usize;
         if node < versions.len() {

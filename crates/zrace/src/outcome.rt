@@ -1,6 +1,7 @@
 //! What came of a race.
 
-ghost use Rattle.std.specs.Prelude.{All, IsErr, IsFalse, IsOk, IsSome, IsTrue};
+ghost use Rattle.std.specs.Prelude.{◌≡◌, ◌++◌, All, IfOk, IsErr, IsFalse, IsOk, IsSome, IsTrue, OnOk, string_bytes};
+ghost use Rattle.zrace.specs.Text.{audit_line, node_line, outcome_text};
 
 use std::alloc::{AllocError, Global};
 use zworld::AuditFault;
@@ -28,24 +29,35 @@ impl Outcome {
         self.audit.is_ok()
     }
 
-    /// The line of a node.
-    pub fn node_line(&self, alloc: Global, node: usize) -> Result<String, AllocError> {
-        let version = if node < self.versions.len() {
-            self.versions[node]
-        } else {
-            None
-        };
-        match version {
-            Some(version) => format!(in alloc; "node /n{node} version {version}\n"),
-            None => format!(in alloc; "node /n{node} unanswered\n"),
+    /// A line for each node, in the order of their numbers, and the audit's.
+    pub fn text(&self, alloc: Global) -> Result<String, AllocError>
+        ensures { IfOk result (λ text. string_bytes text ≡ outcome_text self.now) }
+    {
+        let mut text = String::new(alloc);
+        for node in 0..self.versions.len() {
+            write_node(&mut text, node, self.versions[node])?;
         }
+        write_verdict(&mut text, &self.audit)?;
+        Ok(text)
     }
+}
 
-    /// The audit's line.
-    pub fn audit_line(&self, alloc: Global) -> Result<String, AllocError> {
-        match &self.audit {
-            Ok(()) => format!(in alloc; "audit ok\n"),
-            Err(fault) => format!(in alloc; "audit {fault}\n"),
-        }
+// Writes the line of a node.
+fn write_node(text: &mut String, node: usize, seen: Option<u64>) -> Result<(), AllocError>
+    ensures { OnOk result (string_bytes text.new ≡ string_bytes text.old ++ node_line node seen) }
+{
+    match seen {
+        Some(version) => write!(text, "node /n{node} version {version}\n"),
+        None => write!(text, "node /n{node} unanswered\n"),
+    }
+}
+
+// Writes the line of the audit.
+fn write_verdict(text: &mut String, audit: &Result<(), AuditFault>) -> Result<(), AllocError>
+    ensures { OnOk result (string_bytes text.new ≡ string_bytes text.old ++ audit_line audit.now) }
+{
+    match audit {
+        Ok(()) => text.push_str("audit ok\n"),
+        Err(fault) => write!(text, "audit {fault}\n"),
     }
 }

@@ -4,7 +4,6 @@ ghost use Rattle.std.specs.Prelude.{◌≡◌, ◌≢◌, false, length, All, If
 ghost use Rattle.ztraces.specs.Audit.{is_any_cut};
 ghost use Rattle.ztraces.specs.Lawful.{AreLawful};
 ghost use Rattle.zworld.specs.declared.auditing.faults.AuditFault.TheVariants.{Disorder, Mismatch};
-ghost use Rattle.zserver_table.specs.declared.limits.TheConstants.{MAX_SERVERS};
 ghost use Rattle.std.specs.Arc.{arc_value};
 ghost use Rattle.zwords.specs.Passes.{IsPassOf};
 
@@ -15,8 +14,7 @@ use std::alloc::Global;
 use std::sync::{Arc, Wait};
 use std::thread::Threads;
 use zpath::Memory;
-use zrun::{Cluster, Open, StartFault};
-use zserver_table::MAX_SERVERS;
+use zrun::{Cluster, StartFault, open_gates};
 use ztraces::Traces;
 use zwords::tickets::{Pass, Tickets};
 use zworld::{AuditFault, audit};
@@ -28,6 +26,7 @@ pub fn race<R: Threads + Wait + Copy + Send + 'static>(
     alloc: Global,
     race: &Race,
 ) -> Result<Outcome, StartFault>
+    ensures nodes { IfOk result (λ outcome. length outcome.versions.items ≡ race.now.rounds) }
     ensures audit { IfOk result (λ outcome.
         IfErr outcome.audit (λ fault. (fault ≢ Disorder) × (fault ≢ Mismatch))) }
 {
@@ -76,15 +75,4 @@ fn shared_tickets(alloc: Global, race: &Race) -> Result<(Arc<Tickets, Global>, V
 {
     let (tickets, passes) = Tickets::new(alloc, race.clients as usize)?;
     Ok((Arc::new(alloc, tickets)?, passes))
-}
-
-// A gate for each server, which lets all pass.
-fn open_gates(alloc: Global) -> Result<Vec<Open>, Memory>
-    ensures { IfOk result (λ gates. length gates.items ≡ MAX_SERVERS) }
-{
-    let mut gates = Vec::with_capacity(alloc, MAX_SERVERS as usize)?;
-    for _ in 0..MAX_SERVERS {
-        gates.push(Open)?;
-    }
-    Ok(gates)
 }

@@ -9,14 +9,16 @@ use std::alloc::Global;
 use std::sync::Arc;
 use zcalls::{Call, Create, Data, Expected, Kind, Query, Reply, SetData, Update};
 use zpath::Path;
-use zrun::{Client, Unanswered};
+use zrun::{Client, Patience};
 use zserver_table::ServerId;
 use zwords::tickets::{Pass, Tickets};
 
-// a call is asked for again after so many turns, so often
-const TURNS: u64 = 100_000;
+// how long an answer is waited for: no race comes near the end of it
+const PATIENCE: Patience = Patience {
+    turns: 100_000,
+    retries: 1_000,
+};
 
-const RETRIES: u64 = 1_000;
 // a pass may draw so often
 const DRAWS: u64 = 1 << 32;
 
@@ -83,14 +85,15 @@ impl Runner {
 fn lap(client: &mut Client, alloc: Global, node: u64, halted: Option<ServerId>) -> Option<u64>
     ensures { SameClient client.old client.new }
 {
-    let created = ask(client, create(alloc, node)?)?;
+    let created = client.ask(create(alloc, node)?, PATIENCE).ok()?;
     drop(created);
-    let set = ask(client, set(alloc, node)?)?;
+    let set = client.ask(set(alloc, node)?, PATIENCE).ok()?;
     drop(set);
     if let Some(server) = halted {
         client.halt(server);
     }
-    let reply = ask(client, Call::Query(Query::Exists(path_of(alloc, node)?)))?;
+    let exists = Call::Query(Query::Exists(path_of(alloc, node)?));
+    let reply = client.ask(exists, PATIENCE).ok()?;
     match reply {
         Reply::Exists(stat) => Some(stat.version),
         other => {
@@ -127,23 +130,4 @@ fn path_of(alloc: Global, node: u64) -> Option<Path> {
 
 fn no_data(alloc: Global) -> Option<Data> {
     Data::new(Vec::new(alloc)).ok()
-}
-
-// The reply of a call, which is sent again while it has none.
-fn ask(client: &mut Client, call: Call) -> Option<Reply>
-    ensures { SameClient client.old client.new }
-{
-    match client.call(call, TURNS) {
-        Ok(reply) => return Some(reply),
-        Err(Unanswered::NoAnswer) => {}
-        Err(_) => return None,
-    }
-    for _ in 0..RETRIES {
-        // (where there is no memory to send it again, the turns that follow may still bring the answer)
-        let _ = client.retry();
-        if let Ok(reply) = client.wait(TURNS) {
-            return Some(reply);
-        }
-    }
-    None
 }

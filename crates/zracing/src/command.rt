@@ -3,6 +3,10 @@
 ghost use Rattle.std.specs.Prelude.{◌≡◌, ◌≤◌, [], codes};
 ghost use Rattle.zdevices.specs.Device.{sink_run};
 ghost use Rattle.zcommand.specs.Command.{IsTold};
+ghost use Rattle.zoptions.specs.Asked.{texts_of};
+ghost use Rattle.zrace.specs.declared.plan.Race.{Race};
+ghost use Rattle.zracing.specs.Asked.{IsRaceAsked};
+ghost use Rattle.zracing.specs.Run.{IsGoodRace, IsNotGood};
 
 use crate::words::race_settings;
 use std::alloc::Global;
@@ -10,7 +14,7 @@ use std::sync::Wait;
 use std::thread::Threads;
 use zcommand::{WordsFault, refuse, tell};
 use zdevices::{Sink, write_all};
-use zrace::{Outcome, StartFault, race};
+use zrace::{StartFault, race};
 
 /// Runs the race that the words ask for, writes its lines to `sink`, says of a fault on `faults` what it is, and answers the
 /// exit status.
@@ -25,7 +29,19 @@ pub fn race_command<R: Threads + Wait + Copy + Send + 'static, K: Sink, F: Sink>
     faults: &mut F,
 ) -> u8
     ensures status { result ≤ 2 }
+
+    // Each node of the race that the words ask for was answered, the audit is ok, and nothing was said.
+    ensures good { result ≡ 0 → IsGoodRace (texts_of words.now)
+        (sink_run K.took K.failed sink.old sink.new) }
     ensures silent { result ≡ 0 → F.took faults.old [] faults.new }
+
+    // There was no race, or its lines were not written, or it isn't good.
+    ensures not_good { result ≡ 1 → IsNotGood (texts_of words.now)
+        (sink_run K.took K.failed sink.old sink.new)
+        (sink_run F.took F.failed faults.old faults.new) }
+
+    // The words are bad, and nothing was written.
+    ensures bad { result ≡ 2 → (race : Race) → IsRaceAsked (texts_of words.now) race → ⊥ }
     ensures idle { result ≡ 2 → sink.new ≡ sink.old }
     ensures refused { result ≡ 2 → IsTold
         (sink_run F.took F.failed faults.old faults.new) (codes "zk: bad words") }
@@ -42,41 +58,12 @@ pub fn race_command<R: Threads + Wait + Copy + Send + 'static, K: Sink, F: Sink>
             return 1;
         }
     };
-    match write_lines(alloc, &outcome, sink) {
-        Written::All => if outcome.is_good() { 0 } else { 1 },
-        Written::DeviceFailed => {
-            tell(faults, "zk: write failed");
-            1
-        }
-        Written::NoMemory => {
-            tell(faults, "zk: memory");
-            1
-        }
-    }
-}
-
-// How the lines went out.
-enum Written {
-    All,
-    DeviceFailed,
-    NoMemory,
-}
-
-// Writes a line for each node, and the audit's.
-fn write_lines<K: Sink>(alloc: Global, outcome: &Outcome, sink: &mut K) -> Written {
-    for node in 0..outcome.versions.len() {
-        let Ok(line) = outcome.node_line(alloc, node) else {
-            return Written::NoMemory;
-        };
-        if write_all(sink, line.as_bytes()).is_err() {
-            return Written::DeviceFailed;
-        }
-    }
-    let Ok(line) = outcome.audit_line(alloc) else {
-        return Written::NoMemory;
+    let Ok(text) = outcome.text(alloc) else {
+        return refuse(WordsFault::Memory, faults);
     };
-    match write_all(sink, line.as_bytes()) {
-        Ok(()) => Written::All,
-        Err(_) => Written::DeviceFailed,
+    if write_all(sink, text.as_bytes()).is_err() {
+        tell(faults, "zk: write failed");
+        return 1;
     }
+    if outcome.is_good() { 0 } else { 1 }
 }

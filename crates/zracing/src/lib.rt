@@ -2,6 +2,7 @@
 #![tactic(auto)]
 
 mod command;
+pub mod rows;
 mod words;
 
 pub use command::race_command;

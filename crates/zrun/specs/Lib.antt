@@ -9,3 +9,4 @@ pub mod Origins
 pub mod Promised
 pub mod Members
 pub mod Faults
+pub mod Asked

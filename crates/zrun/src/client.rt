@@ -7,6 +7,7 @@ ghost use Rattle.zcaller.specs.Callers.{Began, caller_stamp, caller_view, IsUncu
 ghost use Rattle.zcaller.specs.Callers.{Retried, SameCaller, Turned};
 
 use crate::faults::Unanswered;
+use crate::patience::Patience;
 use std::alloc::Global;
 use std::sync::Arc;
 use std::thread;
@@ -30,6 +31,7 @@ pub struct Client {
 impl Client {
     ghost use Rattle.zrun.specs.Clients.{BeganThen, caller_of, IsRefused, number_of, SameClient};
     ghost use Rattle.zrun.specs.Clients.{TurnedInVain, TurnedUntil};
+    ghost use Rattle.zrun.specs.Asked.{AskedInVain, AskedUntil, InsistedInVain, InsistedUntil, SentAgain};
     ghost use Rattle.zrun.specs.declared.faults.Unanswered.TheVariants.{NoAnswer};
 
     /// Begins a call, and answers its number.
@@ -108,6 +110,54 @@ impl Client {
     {
         let _ = self.begin(call)?;
         self.wait(turns)
+    }
+
+    /// Begins a call, and waits for its reply. While it has none the call is sent again, the same, so that it acts once.
+    pub fn ask(&mut self, call: Call, patience: Patience) -> Result<Reply, Unanswered>
+        ensures reply { IfOk result (λ reply. BeganThen (caller_of self.old) call (λ begun.
+            AskedUntil patience begun (caller_of self.new) reply)) }
+        ensures unanswered { IfErr result (λ fault. fault ≡ NoAnswer
+            → BeganThen (caller_of self.old) call (λ begun.
+            AskedInVain patience begun (caller_of self.new))) }
+        ensures refused { IfErr result (λ fault. fault ≢ NoAnswer
+            → IsRefused (caller_view (caller_of self.old)) fault
+            × SameCaller (caller_of self.old) (caller_of self.new)) }
+        ensures same { SameClient self.old self.new }
+    {
+        let _ = self.begin(call)?;
+        if let Ok(reply) = self.wait(patience.turns) {
+            return Ok(reply);
+        }
+        self.insist(patience)
+    }
+
+    // Sends the call again, and waits, while it has no reply.
+    fn insist(&mut self, patience: Patience) -> Result<Reply, Unanswered>
+        ensures reply { IfOk result
+            (InsistedUntil patience (caller_of self.old) (caller_of self.new)) }
+        ensures unanswered { IfErr result (λ fault. (fault ≡ NoAnswer)
+            × InsistedInVain patience.turns patience.retries
+            (caller_of self.old) (caller_of self.new)) }
+        ensures same { SameClient self.old self.new }
+    {
+        for _ in 0..patience.retries {
+            self.send_again();
+            if let Ok(reply) = self.wait(patience.turns) {
+                return Ok(reply);
+            }
+        }
+        Err(Unanswered::NoAnswer)
+    }
+
+    // Sends the call again, if there is memory for it: the turns that follow may bring its answer even so.
+    fn send_again(&mut self)
+        ensures sent { SentAgain (caller_of self.old) (caller_of self.new) }
+        ensures same { SameClient self.old self.new }
+    {
+        match self.retry() {
+            Ok(_) => {}
+            Err(Memory) => {}
+        }
     }
 
     /// Takes at most so many turns for the reply of the call that was begun. Its only fault is NoAnswer.

@@ -5,12 +5,13 @@ ghost use Rattle.zrun.specs.Clients.{SameClient};
 use std::alloc::Global;
 use zcalls::{Call, Create, Data, Expected, Kind, Query, Reply, SetData, Update};
 use zpath::Path;
-use zrun::{Client, Unanswered};
+use zrun::{Client, Patience};
 
-/// A call takes so many turns at a time.
-pub const TURNS: u64 = 100_000;
-
-const RETRIES: u64 = 1_000;
+// How long an answer is waited for: no test comes near the end of it.
+const PATIENCE: Patience = Patience {
+    turns: 100_000,
+    retries: 1_000,
+};
 
 /// A create of a persistent node without data.
 pub fn create(alloc: Global, path: &str) -> Option<Call> {
@@ -44,16 +45,5 @@ pub fn get(alloc: Global, path: &str) -> Option<Call> {
 pub fn ask(client: &mut Client, call: Call) -> Option<Reply>
     ensures { SameClient client.old client.new }
 {
-    match client.call(call, TURNS) {
-        Ok(reply) => return Some(reply),
-        Err(Unanswered::NoAnswer) => {}
-        Err(_) => return None,
-    }
-    for _ in 0..RETRIES {
-        let _ = client.retry();
-        if let Ok(reply) = client.wait(TURNS) {
-            return Some(reply);
-        }
-    }
-    None
+    client.ask(call, PATIENCE).ok()
 }

@@ -1,6 +1,5 @@
-use Rattle.std.proofs.Common.{ℕ, List, inr, sym, subst, ◌∙◌, arith}
+use Rattle.std.proofs.Common.{ℕ, List, inr, sym, subst, ◌∙◌}
 use Rattle.zdevices.specs.Device.{sink_run}
-use Rattle.zscript.specs.declared.fault.PlayFault.TheVariants.{Memory}
 use Rattle.zcommand.specs.Command.{IsTold}
 use Rattle.zcommand.proofs.Told.{text-status_1, text-status_2}
 use Rattle.zcommand.proofs.program.command.Goals as goal
@@ -11,17 +10,12 @@ returns-in-Err-clause-refused g c = λ two.
     (text-status_2 c.in-Err.fault (sym c.refuse.ensures.status ∙ two))
     c.refuse.ensures.told
 
--- where there is no memory for the words, nothing was read and nothing written, whatever the count
+-- where there is no memory for the words, nothing was read and nothing written
 pub returns-in-Err-clause-cut : goal.returns-in-Err-clause-cut
-returns-in-Err-clause-cut g c = λ one. (
-  1,
-  (omega arith, omega arith),
-  Memory,
-  (
-    inr (g.met.S.Source.gave_nothing c.args.source.now, g.met.K.Sink.took_nothing c.args.sink.now),
-    g.met.S.Source.failed_never c.args.source.now,
-    g.met.K.Sink.failed_never c.args.sink.now,
-  ),
+returns-in-Err-clause-cut g c = λ one. inr (
+  (g.met.S.Source.gave_nothing c.args.source.now, g.met.K.Sink.took_nothing c.args.sink.now),
+  g.met.S.Source.failed_never c.args.source.now,
+  g.met.K.Sink.failed_never c.args.sink.now,
   subst (λ (text : List ℕ). IsTold (sink_run g.F.Sink.took g.F.Sink.failed c.args.faults.now c.refuse.new.faults) text)
       (text-status_1 c.in-Err.fault (sym c.refuse.ensures.status ∙ one))
       c.refuse.ensures.told,

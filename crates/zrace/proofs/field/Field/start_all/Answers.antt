@@ -10,6 +10,7 @@ loop-number-preserved g c =
     let i = c.loop-number.invariant in (
       (All-pop (λ (pass : Pass). IsPassOf (arc_value c.args.tickets.now) pass) c.loop-number.passes.items c.pop.new.self.items (Some c.in-Some.pass)
           c.in-Some.ensures.items i.0).0,
-      c.start.ensures ∙ c.racer.ensures.run ∙ i.1,
+      c.start.ensures.clients ∙ c.racer.ensures.run ∙ i.1,
+      c.start.ensures.versions ∙ i.2,
       refl,
     )

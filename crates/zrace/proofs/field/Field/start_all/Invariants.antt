@@ -9,4 +9,5 @@ abbrev pub invariant-loop-number : goal.invariant-loop-number
 invariant-loop-number g l =
     All (λ pass. IsPassOf (arc_value l.tickets) pass) l.passes.items
     × (clients_run l.self.clients ≡ clients_run l.initial.self.clients)
+    × (l.self.versions ≡ l.initial.self.versions)
     × (l.race ≡ l.initial.race)

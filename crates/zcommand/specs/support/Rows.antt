@@ -1,0 +1,10 @@
+-- Worked words.
+use Rattle.std.specs.Prelude.{ℕ, ◌==◌, List, Result}
+use Rattle.std.specs.List.{slice_split}
+use Rattle.zcommand.specs.declared.order.Settings.{Settings}
+use Rattle.zcommand.specs.declared.fault.WordsFault.{WordsFault}
+use Rattle.zcommand.specs.Asked.{settings_asked}
+
+-- What a text's words, between spaces, ask for.
+abbrev pub text_asked : List ℕ → Result Settings WordsFault
+text_asked text = settings_asked (slice_split (λ byte. byte == 0x20) text)

@@ -1,0 +1,18 @@
+//! Worked rows of the definitions: each clause is one, and the bodies do nothing.
+
+ghost use Rattle.std.specs.Prelude.{◌≡◌, codes, Err, Ok};
+ghost use Rattle.zcommand.specs.support.Rows.{text_asked};
+
+use crate::fault::WordsFault;
+use crate::order::Settings;
+
+/// Words of the program, between spaces, and how many servers they ask for.
+pub fn words_ask_for_servers()
+    ensures none { text_asked (codes "zk script") ≡ Ok (Settings.Script 1) }
+    ensures three { text_asked (codes "zk script --servers 3") ≡ Ok (Settings.Script 3) }
+    ensures most { text_asked (codes "zk script --servers=8") ≡ Ok (Settings.Script 8) }
+    ensures too_few { text_asked (codes "zk script --servers 0") ≡ Err WordsFault.BadWords }
+    ensures too_many { text_asked (codes "zk script --servers 9") ≡ Err WordsFault.BadWords }
+    ensures a_byte_more { text_asked (codes "zk script --servers 257") ≡ Err WordsFault.BadWords }
+    ensures nothing { text_asked (codes "zk") ≡ Err WordsFault.BadWords }
+{}

@@ -1,0 +1,2 @@
+-- What serves worked rows alone.
+pub mod Rows

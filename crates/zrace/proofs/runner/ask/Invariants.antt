@@ -1,5 +1,0 @@
-use Rattle.zrun.specs.Clients.{SameClient}
-use Rattle.zrace.proofs.runner.ask.Given as goal
-
-abbrev pub invariant-loop : goal.invariant-loop
-invariant-loop l = SameClient l.fn.client l.client

@@ -1,0 +1,15 @@
+use Rattle.std.proofs.Common.{◌≡◌, ◌+◌, suc, subst, ◌∙◌, arith}
+use Rattle.zrun.specs.Asked.{InsistedInVain}
+use Rattle.zrun.proofs.client.Client.insist.Goals as goal
+
+pub loop-preserved : goal.loop-preserved
+loop-preserved c =
+    let n = c.loop.counter in
+    let up : suc n ≡ n + 1 = omega arith in
+    let sent = c.send_again.ensures in
+    let waited = c.wait.ensures.same in
+    let same = c.loop.invariant.0 in (
+      record { wiring = waited.wiring ∙ sent.same.wiring ∙ same.wiring; number = waited.number ∙ sent.same.number ∙ same.number },
+      subst (λ k. InsistedInVain c.args.patience.turns k c.args.self.now.caller c.wait.new.self.caller) up
+          (c.loop.self.caller, c.send_again.new.self.caller, c.loop.invariant.1, sent.sent, c.in_default.ensures.unanswered.1),
+    )

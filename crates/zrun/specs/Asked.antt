@@ -1,0 +1,34 @@
+-- What a clause says of a call that is sent again while it has no reply.
+use Rattle.std.specs.Prelude.{◌≡◌, ◌<◌, ◌⊎◌, ℕ, zero, suc, true}
+use Rattle.zcalls.specs.declared.reply.Reply.{Reply}
+use Rattle.zcaller.specs.declared.caller.Caller.{Caller}
+use Rattle.zcaller.specs.Callers.{Retried, SameCaller}
+use Rattle.zrun.specs.declared.patience.Patience.{Patience}
+use Rattle.zrun.specs.Clients.{TurnedInVain, TurnedUntil}
+
+-- it sent the call again, or had no memory for that
+abbrev pub SentAgain : Caller → Caller → Type 0
+SentAgain a b = Retried a b true ⊎ SameCaller a b
+
+-- so many times it sent the call again and took so many turns, and none of them gave out a reply
+abbrev pub InsistedInVain : ℕ → ℕ → Caller → Caller → Type 0
+InsistedInVain turns zero a b = b ≡ a
+InsistedInVain turns (suc n) a b =
+    (m sent : Caller) × InsistedInVain turns n a m × SentAgain m sent × TurnedInVain turns sent b
+
+-- it did so in vain, fewer times than it may, and once more, which gave out this reply
+abbrev pub InsistedUntil : Patience → Caller → Caller → Reply → Type 0
+InsistedUntil patience a b reply =
+    (n : ℕ) × (n < patience.retries) × (m sent : Caller) × InsistedInVain patience.turns n a m
+    × SentAgain m sent × TurnedUntil patience.turns sent b reply
+
+-- it took its turns, and sent the call again as often as it may, and none of them gave out a reply
+abbrev pub AskedInVain : Patience → Caller → Caller → Type 0
+AskedInVain patience a b =
+    (m : Caller) × TurnedInVain patience.turns a m × InsistedInVain patience.turns patience.retries m b
+
+-- one of them gave out this reply
+abbrev pub AskedUntil : Patience → Caller → Caller → Reply → Type 0
+AskedUntil patience a b reply =
+    TurnedUntil patience.turns a b reply
+    ⊎ ((m : Caller) × TurnedInVain patience.turns a m × InsistedUntil patience m b reply)
