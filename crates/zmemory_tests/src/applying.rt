@@ -1,32 +1,31 @@
 //! A machine that meets want of memory in `apply` answers `Memory` for good.
 
-use crate::ended::{Ended, tell};
 use crate::machines::{acts, can_be_copied, first_entry, machine, second_entry};
 use crate::values::{create, multi};
 use std::alloc::Global;
 use zcalls::{Entry, Query, Update};
 use zops::Machine;
 use zpath::{Memory, Path};
+use zstories::Ended;
 
-#[test]
-fn applies_a_create(rt: HostRuntime) {
-    tell(&rt, is_second(rt.alloc(), create(rt.alloc(), "/a/b")));
+/// A create.
+pub(crate) fn create_is_applied(alloc: Global) -> Ended {
+    is_second(alloc, create(alloc, "/a/b"))
 }
 
-#[test]
-fn applies_a_multi(rt: HostRuntime) {
-    tell(&rt, is_second(rt.alloc(), multi(rt.alloc(), "/b")));
+/// A multi.
+pub(crate) fn multi_is_applied(alloc: Global) -> Ended {
+    is_second(alloc, multi(alloc, "/b"))
 }
 
-#[test]
-fn applies_an_open(rt: HostRuntime) {
-    tell(&rt, is_second(rt.alloc(), Ok(Update::Open(5))));
+/// An open.
+pub(crate) fn open_is_applied(alloc: Global) -> Ended {
+    is_second(alloc, Ok(Update::Open(5)))
 }
 
-// The reply that is kept for client 1 is given once more, which makes a copy.
-#[test]
-fn applies_a_retry(rt: HostRuntime) {
-    tell(&rt, is_applied(rt.alloc(), first_entry(Update::Tick)));
+/// The reply that is kept for client 1 is given once more, which makes a copy.
+pub(crate) fn retry_is_applied(alloc: Global) -> Ended {
+    is_applied(alloc, first_entry(Update::Tick))
 }
 
 fn is_second(alloc: Global, update: Result<Update, Memory>) -> Ended {

@@ -1,34 +1,24 @@
 //! A machine that meets want of memory in `ask` or `copy` is what it was.
 
-use crate::ended::{Ended, tell};
 use crate::machines::{can_be_copied, machine};
 use crate::values::path;
 use std::alloc::Global;
 use zcalls::{Query, Reply};
 use zops::Machine;
 use zpath::{Memory, Path};
+use zstories::Ended;
 
-#[test]
-fn asks_for_data(rt: HostRuntime) {
-    tell(&rt, data_is_told(rt.alloc()));
-}
-
-#[test]
-fn asks_for_children(rt: HostRuntime) {
-    let query = Query::GetChildren(Path::root(rt.alloc()));
-    tell(&rt, is_told(rt.alloc(), query));
-}
-
-#[test]
-fn copies_a_machine(rt: HostRuntime) {
-    tell(&rt, machine_is_copied(rt.alloc()));
-}
-
-fn data_is_told(alloc: Global) -> Ended {
+/// It is asked for data.
+pub(crate) fn data_is_told(alloc: Global) -> Ended {
     match path(alloc, "/a") {
         Ok(path) => is_told(alloc, Query::GetData(path)),
         Err(Memory) => Ended::NotBegun,
     }
+}
+
+/// It is asked for the names beneath the root.
+pub(crate) fn children_are_told(alloc: Global) -> Ended {
+    is_told(alloc, Query::GetChildren(Path::root(alloc)))
 }
 
 fn is_told(alloc: Global, query: Query) -> Ended {
@@ -71,7 +61,8 @@ fn is_of_a(reply: Reply) -> bool {
     is_so
 }
 
-fn machine_is_copied(alloc: Global) -> Ended {
+/// It is copied.
+pub(crate) fn machine_is_copied(alloc: Global) -> Ended {
     match machine(alloc) {
         Ok(machine) => {
             let ended = is_copied(&machine);

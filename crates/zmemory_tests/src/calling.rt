@@ -1,6 +1,5 @@
 //! A client that finds no memory to send its call: nothing is put, and it knows what it knew.
 
-use crate::ended::{Ended, tell};
 use crate::taking::has_put;
 use crate::values::{create, path};
 use std::alloc::Global;
@@ -10,38 +9,21 @@ use zliterals::{epoch, server};
 use zout::Out;
 use zpath::Memory;
 use zserver_table::{Message, Process};
+use zstories::Ended;
 
 // What a client puts: no Snapshot is among it.
 type Outbox = Out<()>;
 
-#[test]
-fn begins_an_update(rt: HostRuntime) {
-    tell(&rt, update_begins(rt.alloc()));
-}
-
-#[test]
-fn begins_a_query(rt: HostRuntime) {
-    tell(&rt, query_begins(rt.alloc()));
-}
-
-#[test]
-fn takes_a_config(rt: HostRuntime) {
-    tell(&rt, waiting(rt.alloc(), Act::Hears));
-}
-
-#[test]
-fn retries(rt: HostRuntime) {
-    tell(&rt, waiting(rt.alloc(), Act::Sends));
-}
-
-fn update_begins(alloc: Global) -> Ended {
+/// It begins an update.
+pub(crate) fn update_begins(alloc: Global) -> Ended {
     match create(alloc, "/a") {
         Ok(update) => begins(alloc, Call::Update(update)),
         Err(Memory) => Ended::NotBegun,
     }
 }
 
-fn query_begins(alloc: Global) -> Ended {
+/// It begins a query.
+pub(crate) fn query_begins(alloc: Global) -> Ended {
     match path(alloc, "/a") {
         Ok(path) => begins(alloc, Call::Query(Query::GetData(path))),
         Err(Memory) => Ended::NotBegun,
@@ -77,6 +59,16 @@ fn begins_a_tick(core: &mut ClientCore, out: &mut Outbox) -> bool {
         Ok(number) => number.number() == 1,
         Err(_) => false,
     }
+}
+
+/// It hears of another head and tail, while it waits.
+pub(crate) fn config_is_taken(alloc: Global) -> Ended {
+    waiting(alloc, Act::Hears)
+}
+
+/// It sends the call that it waits for once more.
+pub(crate) fn call_is_retried(alloc: Global) -> Ended {
+    waiting(alloc, Act::Sends)
 }
 
 // What a client does while it waits for its first call.

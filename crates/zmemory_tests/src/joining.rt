@@ -1,29 +1,16 @@
 //! A join: the whole state is handed over, and taken.
 
-use crate::ended::{Ended, tell};
-use crate::story::{Story, Word, hears, hears_at, told};
+use crate::story::{Word, hears, hears_at};
 use crate::taking::{acts, takes};
 use std::alloc::Global;
 use zliterals::{epoch, server};
 use zout::Out;
 use zserver::{Server, Snapshot};
 use zserver_table::{Message, Process};
+use zstories::Ended;
 
-// A server that is a chain alone, and has one entry, hears that server 2 joins behind it.
-const HANDS_OVER: Story = (0, 0, Some(Word::Submit), Word::JoinedBy);
-
-#[test]
-fn hands_its_state_over(rt: HostRuntime) {
-    tell(&rt, told(rt.alloc(), &HANDS_OVER));
-}
-
-#[test]
-fn takes_a_snapshot(rt: HostRuntime) {
-    tell(&rt, is_taken_over(rt.alloc()));
-}
-
-// A spare server whose predecessor is server 1 takes what that one hands over.
-fn is_taken_over(alloc: Global) -> Ended {
+/// A spare server whose predecessor is server 1 takes what that one hands over.
+pub(crate) fn snapshot_is_taken(alloc: Global) -> Ended {
     let Some(snapshot) = handed_over(alloc) else {
         return Ended::NotBegun;
     };

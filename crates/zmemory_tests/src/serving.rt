@@ -1,10 +1,8 @@
-//! Requests of clients and entries of the log, at each place in the chain.
+//! A query at a tail.
 
 ghost use Rattle.std.specs.Prelude.{◌≤◌};
 ghost use Rattle.zcalls.specs.declared.limits.TheConstants.{MAX_CALL_NUMBER};
 
-use crate::ended::{Ended, tell};
-use crate::story::{Story, Word, told};
 use crate::taking::{acts, has_put};
 use std::alloc::Global;
 use zcalls::Query;
@@ -13,48 +11,10 @@ use zout::Out;
 use zpath::{Memory, Path};
 use zserver::{Server, Snapshot, Stopped, Taken};
 use zserver_table::{Message, Process};
+use zstories::Ended;
 
-const SUBMIT_AT_THE_HEAD: Story = (0, 2, None, Word::Submit);
-
-const SUBMIT_AT_THE_ONLY_ONE: Story = (0, 0, None, Word::Submit);
-
-const UPDATE_IN_THE_MIDDLE: Story = (1, 3, None, Word::Update);
-
-const UPDATE_AT_THE_TAIL: Story = (1, 0, None, Word::Update);
-
-const ACK: Story = (1, 3, Some(Word::Tick), Word::Ack);
-
-#[test]
-fn takes_a_submit_at_the_head(rt: HostRuntime) {
-    tell(&rt, told(rt.alloc(), &SUBMIT_AT_THE_HEAD));
-}
-
-#[test]
-fn takes_a_submit_at_the_only_one(rt: HostRuntime) {
-    tell(&rt, told(rt.alloc(), &SUBMIT_AT_THE_ONLY_ONE));
-}
-
-#[test]
-fn takes_an_update_in_the_middle(rt: HostRuntime) {
-    tell(&rt, told(rt.alloc(), &UPDATE_IN_THE_MIDDLE));
-}
-
-#[test]
-fn takes_an_update_at_the_tail(rt: HostRuntime) {
-    tell(&rt, told(rt.alloc(), &UPDATE_AT_THE_TAIL));
-}
-
-#[test]
-fn takes_an_ack(rt: HostRuntime) {
-    tell(&rt, told(rt.alloc(), &ACK));
-}
-
-#[test]
-fn takes_a_query(rt: HostRuntime) {
-    tell(&rt, query_is_taken(rt.alloc()));
-}
-
-fn query_is_taken(alloc: Global) -> Ended {
+/// A query at a tail.
+pub(crate) fn query_is_taken(alloc: Global) -> Ended {
     match Server::first(alloc, None, None) {
         Ok(mut tail) => {
             let mut out = Out::new(alloc);

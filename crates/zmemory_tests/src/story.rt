@@ -1,6 +1,5 @@
 //! Stories of a server of the opening chain: what it takes, and what it took before.
 
-use crate::ended::Ended;
 use crate::machines::first_entry;
 use crate::taking::{acts, takes};
 use crate::values::create;
@@ -11,10 +10,11 @@ use zout::Out;
 use zpath::Memory;
 use zserver::{Server, Snapshot};
 use zserver_table::{Message, Process, ServerId};
+use zstories::Ended;
 
 /// A server takes a message: its predecessor and its successor in the opening chain, 0 for none, what it took
 /// before, and the message.
-pub(crate) type Story = (u8, u8, Option<Word>, Word);
+pub(crate) type Taking = (u8, u8, Option<Word>, Word);
 
 /// A message.
 #[derive(Clone, Copy)]
@@ -38,7 +38,7 @@ pub(crate) enum Word {
 }
 
 /// How a story ends.
-pub(crate) fn told(alloc: Global, story: &Story) -> Ended {
+pub(crate) fn told(alloc: Global, story: &Taking) -> Ended {
     let (pred, succ, before, word) = *story;
     let first = Server::first(alloc, ServerId::new(pred), ServerId::new(succ));
     let Ok(mut server) = first else {

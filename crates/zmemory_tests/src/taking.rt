@@ -1,11 +1,11 @@
 //! A server takes a message: it acts, or it has stopped for good and put nothing.
 
-use crate::ended::Ended;
 use std::alloc::Global;
 use zliterals::epoch;
 use zout::Out;
 use zserver::{Server, Snapshot, Stopped, Taken};
 use zserver_table::{Message, Process};
+use zstories::Ended;
 
 /// Hands a server a message, with nothing put before; whether it acted.
 pub(crate) fn acts(

@@ -10,16 +10,16 @@ use zserver_table::{Process, ServerId};
 #[derive(Clone, Copy)]
 pub enum Move {
     Begin,
+    Retry,
     Take(u8, u8),
     Fail(u8),
     Join(u8),
 }
 
-/// A base list: the last server of its opening chain, the last one that can fail, and the events.
+/// A base list: the last server of its opening chain, and the events.
 #[derive(Drop)]
 pub struct Base {
     pub last: u8,
-    pub mortal: u8,
     pub moves: Vec<Move>,
 }
 
@@ -59,7 +59,6 @@ pub fn joining(alloc: Global) -> Result<Base, Trouble> {
     ];
     Ok(Base {
         last: 3,
-        mortal: 4,
         moves: moves.to_vec(alloc)?,
     })
 }
@@ -79,7 +78,34 @@ pub fn repaired(alloc: Global, last: u8) -> Result<Base, Trouble> {
     ];
     Ok(Base {
         last,
-        mortal: last,
+        moves: moves.to_vec(alloc)?,
+    })
+}
+
+/// A call is asked for four times, all are forwarded, the second server fails, and the chain is mended: four entries are owed.
+pub fn owing(alloc: Global) -> Result<Base, Trouble> {
+    let moves = [
+        Move::Begin,
+        Move::Retry,
+        Move::Retry,
+        Move::Retry,
+        Move::Take(CLIENT, 1),
+        Move::Take(CLIENT, 1),
+        Move::Take(CLIENT, 1),
+        Move::Take(CLIENT, 1),
+        Move::Fail(2),
+        Move::Take(2, 0),
+        Move::Take(0, 3),
+        Move::Take(3, 0),
+        Move::Take(0, 1),
+        Move::Take(1, 3),
+        Move::Take(1, 3),
+        Move::Take(1, 3),
+        Move::Take(1, 3),
+        Move::Take(3, CLIENT),
+    ];
+    Ok(Base {
+        last: 3,
         moves: moves.to_vec(alloc)?,
     })
 }

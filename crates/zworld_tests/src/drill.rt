@@ -1,10 +1,11 @@
 //! The drill of one base list.
 
 use crate::asking::{creates, has_made, has_one_child, is_answered, lists, settles};
-use crate::base::{Base, Move, process, server};
+use crate::base::{Base, Move, client, process, server};
 use crate::trouble::Trouble;
 use std::alloc::Global;
 use zcalls::Kind;
+use zserver_table::MAX_SERVERS;
 use zworld::World;
 use zworld_model::Event;
 
@@ -18,13 +19,15 @@ pub struct Counts {
 /// A failure: before the event at that place, or at the end.
 type Failure = (usize, u8);
 
-/// Runs the list with each failure, and with each pair of them.
+/// Runs the list with each failure, and with each two of them: two at one place come in both orders.
 pub fn drilled(alloc: Global, base: &Base, counts: &mut Counts) -> Result<(), Trouble> {
     let failures = failures(alloc, base)?;
-    for (at, &first) in failures.iter().enumerate() {
+    for &first in &failures {
         note(drill(alloc, base, &[first])?, counts);
-        for &second in &failures[at..] {
-            note(drill(alloc, base, &[first, second])?, counts);
+        for &second in &failures {
+            if first.0 <= second.0 {
+                note(drill(alloc, base, &[first, second])?, counts);
+            }
         }
     }
     Ok(())
@@ -37,11 +40,11 @@ fn note(lives: bool, counts: &mut Counts) {
     }
 }
 
-// Each server at each place.
+// Each server at each place, the spare ones among them.
 fn failures(alloc: Global, base: &Base) -> Result<Vec<Failure>, Trouble> {
     let mut all = Vec::new(alloc);
     for place in 0..=base.moves.len() {
-        for number in 1..=base.mortal {
+        for number in 1..=MAX_SERVERS {
             all.push((place, number))?;
         }
     }
@@ -63,8 +66,7 @@ fn drill_in(
     base: &Base,
     failures: &[Failure],
 ) -> Result<bool, Trouble> {
-    world.step(creates(alloc, "/q", Kind::Persistent)?)?;
-    settles(world)?;
+    prepares(alloc, world)?;
     world.run(events(alloc, base, failures)?)?;
     settles(world)?;
     if !lives(base, failures) {
@@ -72,6 +74,16 @@ fn drill_in(
     }
     is_well(alloc, world)?;
     Ok(true)
+}
+
+// Ten nodes stand beforehand, and the parent.
+fn prepares(alloc: Global, world: &mut World) -> Result<(), Trouble> {
+    for _ in 0..10 {
+        world.step(creates(alloc, "/n-", Kind::PersistentSequential)?)?;
+        settles(world)?;
+    }
+    world.step(creates(alloc, "/q", Kind::Persistent)?)?;
+    settles(world)
 }
 
 // All is answered, the parent has one child, and can have another.
@@ -132,6 +144,7 @@ fn fail_at(events: &mut Vec<Event>, failures: &[Failure], place: usize) -> Resul
 fn event(alloc: Global, each: Move) -> Result<Event, Trouble> {
     match each {
         Move::Begin => creates(alloc, "/q/n-", Kind::PersistentSequential),
+        Move::Retry => Ok(Event::Retry(client()?)),
         Move::Take(from, to) => Ok(Event::Take(process(from)?, process(to)?)),
         Move::Fail(number) => Ok(Event::Fail(server(number)?)),
         Move::Join(number) => Ok(Event::Join(server(number)?)),

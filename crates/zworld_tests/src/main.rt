@@ -1,5 +1,5 @@
-//! Failures everywhere: each base list of events is run with each failure of a server at each place, and with each
-//! pair of such failures, each through one `World::run`; then `World::settle` settles it. Where a server of the opening
+//! Failures everywhere: each base list of events is run with each failure of a server at each place, spare ones among them, and with
+//! each two of these, at one place in both orders, each through one `World::run`; then `World::settle` settles it. Where a server of the opening
 //! chain lives, the state lives: then every call is answered, an update has acted once, and another one is answered.
 #![tactic(auto)]
 
@@ -8,7 +8,7 @@ mod base;
 mod drill;
 mod trouble;
 
-use base::{Base, joining, repaired};
+use base::{Base, joining, owing, repaired};
 use drill::{Counts, drilled};
 use std::alloc::Global;
 use std::io;
@@ -21,12 +21,13 @@ fn main(rt: HostRuntime) -> io::Result<()> {
     }
 }
 
-// The three base lists.
+// The four base lists.
 fn all(alloc: Global) -> Result<Counts, Trouble> {
     let mut counts = Counts::default();
     drills(alloc, joining(alloc)?, &mut counts)?;
     drills(alloc, repaired(alloc, 3)?, &mut counts)?;
     drills(alloc, repaired(alloc, 4)?, &mut counts)?;
+    drills(alloc, owing(alloc)?, &mut counts)?;
     Ok(counts)
 }
 

@@ -1,0 +1,119 @@
+//! The stories, by name.
+
+use crate::applying::{create_is_applied, multi_is_applied, open_is_applied, retry_is_applied};
+use crate::asking::{children_are_told, data_is_told, machine_is_copied};
+use crate::calling::{call_is_retried, config_is_taken, query_begins, update_begins};
+use crate::joining::snapshot_is_taken;
+use crate::marking::mark_is_set;
+use crate::parsing::path_is_parsed;
+use crate::serving::query_is_taken;
+use crate::story::{Taking, Word, told};
+use std::alloc::Global;
+use std::io;
+use std::io::Print;
+use zstories::{Ended, tell, tell_end};
+
+// What is refused memory.
+#[derive(Clone, Copy)]
+enum Story {
+    Parse,
+    Mark,
+    ApplyCreate,
+    ApplyMulti,
+    ApplyOpen,
+    ApplyRetry,
+    AskData,
+    AskChildren,
+    Copy,
+    Take(Taking),
+    TakeQuery,
+    TakeSnapshot,
+    BeginUpdate,
+    BeginQuery,
+    Config,
+    Retry,
+}
+
+// A server's neighbours, what it took before, and what it takes.
+const STORIES: &[(&str, Story)] = &[
+    ("a path is parsed", Story::Parse),
+    ("a store sets a mark", Story::Mark),
+    ("a machine applies a create", Story::ApplyCreate),
+    ("a machine applies a multi", Story::ApplyMulti),
+    ("a machine applies an open", Story::ApplyOpen),
+    ("a machine applies a call again", Story::ApplyRetry),
+    ("a machine is asked for data", Story::AskData),
+    ("a machine is asked for children", Story::AskChildren),
+    ("a machine is copied", Story::Copy),
+    (
+        "the head takes a submit",
+        Story::Take((0, 2, None, Word::Submit)),
+    ),
+    (
+        "the only server takes a submit",
+        Story::Take((0, 0, None, Word::Submit)),
+    ),
+    (
+        "a server between takes an update",
+        Story::Take((1, 3, None, Word::Update)),
+    ),
+    (
+        "the tail takes an update",
+        Story::Take((1, 0, None, Word::Update)),
+    ),
+    (
+        "a server takes an ack",
+        Story::Take((1, 3, Some(Word::Tick), Word::Ack)),
+    ),
+    ("the tail takes a query", Story::TakeQuery),
+    (
+        "a server takes a new predecessor",
+        Story::Take((1, 3, Some(Word::Update), Word::NewPred)),
+    ),
+    (
+        "a server takes a new successor",
+        Story::Take((1, 3, Some(Word::Update), Word::NewSucc)),
+    ),
+    (
+        "a server becomes the tail",
+        Story::Take((1, 3, Some(Word::Update), Word::BecomeTail)),
+    ),
+    (
+        "a server hands its state over",
+        Story::Take((0, 0, Some(Word::Submit), Word::JoinedBy)),
+    ),
+    ("a server takes a snapshot", Story::TakeSnapshot),
+    ("a client begins an update", Story::BeginUpdate),
+    ("a client begins a query", Story::BeginQuery),
+    ("a client takes a config", Story::Config),
+    ("a client asks again", Story::Retry),
+];
+
+/// Tells all, one after the other, and that they have ended.
+pub(crate) fn tell_all(rt: &impl Print, alloc: Global) -> io::Result<()> {
+    for (name, story) in STORIES {
+        tell(rt, name, ended(alloc, *story))?;
+    }
+    tell_end(rt, alloc)
+}
+
+fn ended(alloc: Global, story: Story) -> Ended {
+    match story {
+        Story::Parse => path_is_parsed(alloc),
+        Story::Mark => mark_is_set(alloc),
+        Story::ApplyCreate => create_is_applied(alloc),
+        Story::ApplyMulti => multi_is_applied(alloc),
+        Story::ApplyOpen => open_is_applied(alloc),
+        Story::ApplyRetry => retry_is_applied(alloc),
+        Story::AskData => data_is_told(alloc),
+        Story::AskChildren => children_are_told(alloc),
+        Story::Copy => machine_is_copied(alloc),
+        Story::Take(taking) => told(alloc, &taking),
+        Story::TakeQuery => query_is_taken(alloc),
+        Story::TakeSnapshot => snapshot_is_taken(alloc),
+        Story::BeginUpdate => update_begins(alloc),
+        Story::BeginQuery => query_begins(alloc),
+        Story::Config => config_is_taken(alloc),
+        Story::Retry => call_is_retried(alloc),
+    }
+}

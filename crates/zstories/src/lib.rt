@@ -1,0 +1,61 @@
+//! How stories of refused allocations are told. A program of stories tells all of them, one after the other, and the input of a run says
+//! how many allocations are made before the first one: so a run in which one allocation fails, always the same one, refuses this one
+//! or that one of the stories (`bench/refusals`).
+#![tactic(auto)]
+
+mod ended;
+
+pub use ended::Ended;
+use std::alloc::Global;
+use std::io;
+use std::io::{Input, Print, Read};
+
+/// Makes as many allocations as the input's digits say, none where it has none.
+pub fn spend(rt: &impl Input, alloc: Global) -> io::Result<()> {
+    let mut input = [0u8; 16];
+    let length = rt.reader().read(&mut input)?;
+    for _ in 0..number(&input[..length]) {
+        allocate(alloc);
+    }
+    Ok(())
+}
+
+// Makes one allocation, and lets it go; how that ended.
+fn allocate(alloc: Global) -> Ended {
+    let one: Result<Vec<u8>, _> = Vec::with_capacity(alloc, 1);
+    match one {
+        Ok(one) => {
+            drop(one);
+            Ended::Done
+        }
+        Err(_) => Ended::Refused,
+    }
+}
+
+// The number whose digits are among these bytes.
+fn number(bytes: &[u8]) -> u64 {
+    let mut number = 0u64;
+    for byte in bytes {
+        if byte.is_ascii_digit() {
+            let digit = u64::from(*byte).wrapping_sub(u64::from(b'0'));
+            number = number.wrapping_mul(10).wrapping_add(digit);
+        }
+    }
+    number
+}
+
+/// Tells how a story has ended.
+pub fn tell(rt: &impl Print, name: &str, ended: Ended) -> io::Result<()> {
+    let told = match ended {
+        Ended::NotBegun => "not begun",
+        Ended::Done => "done",
+        Ended::Refused => "refused",
+        Ended::Wrong => "WRONG",
+    };
+    println!(rt; "{name}: {told}")
+}
+
+/// Makes one allocation more, and tells how it ended: where this one is refused, each one of the stories was.
+pub fn tell_end(rt: &impl Print, alloc: Global) -> io::Result<()> {
+    tell(rt, "the end", allocate(alloc))
+}
