@@ -20,11 +20,11 @@ returns-clause-reply c =
     IfOk-weaker c.insist.result (InsistedUntil patience c.wait.new.self.caller end)
     (λ (reply : Reply). BeganThen old c.args.call (λ m. AskedUntil patience m end reply))
     (λ reply insisted. (
-        begun,
-        c.in_ok-begin.field-0,
-        c.in_ok-begin.ensures.began,
-        inr (c.wait.new.self.caller, c.in_default.ensures.unanswered.1, insisted),
-      ))
+      begun,
+      c.in_ok-begin.field-0,
+      c.in_ok-begin.ensures.began,
+      inr (c.wait.new.self.caller, c.in_default.ensures.unanswered.1, insisted),
+    ))
     c.insist.ensures.reply
 
 pub returns-clause-unanswered : goal.returns-clause-unanswered
@@ -37,9 +37,9 @@ returns-clause-unanswered c =
     (λ (fault : Unanswered). (fault ≡ NoAnswer) × InsistedInVain patience.turns patience.retries c.wait.new.self.caller end)
     (λ (fault : Unanswered). fault ≡ NoAnswer → BeganThen old c.args.call (λ m. AskedInVain patience m end))
     (λ fault insisted is. (
-        begun,
-        c.in_ok-begin.field-0,
-        c.in_ok-begin.ensures.began,
-        (c.wait.new.self.caller, c.in_default.ensures.unanswered.1, insisted.1),
-      ))
+      begun,
+      c.in_ok-begin.field-0,
+      c.in_ok-begin.ensures.began,
+      (c.wait.new.self.caller, c.in_default.ensures.unanswered.1, insisted.1),
+    ))
     c.insist.ensures.unanswered
