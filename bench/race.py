@@ -17,7 +17,7 @@ import sys
 import time
 
 HERE = os.path.dirname(os.path.abspath(__file__))
-ZK = os.path.join(HERE, "..", "crates", "zk", "out", "zk")
+ZK = os.path.join(HERE, "..", "crates", "zk_race", "out", "zk_race")
 TIMES, ROUNDS, CALLS = 9, 1000, 3
 
 

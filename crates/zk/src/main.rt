@@ -1,20 +1,16 @@
-//! `zk script` plays a script from its input, and writes the answers to its output. `zk race` runs the service in threads, and
-//! audits the run.
+//! `zk script` plays a script from its input, and writes the answers to its output.
 #![tactic(auto)]
 
 use std::env;
 use std::process::ExitCode;
-use std::sync::Wait;
-use std::thread::Threads;
 use zcommand::{WordsFault, command, refuse};
-use zracing::race_command;
 use zscript::{ReaderSource, Sink, Source, WriterSink};
 
 fn main(rt: HostRuntime) -> ExitCode {
     let mut source = ReaderSource::new(rt.reader());
     let mut sink = WriterSink::new(rt.stdout());
     let mut faults = WriterSink::new(rt.stderr());
-    let status = match run(&rt, rt, &mut source, &mut sink, &mut faults) {
+    let status = match run(&rt, &mut source, &mut sink, &mut faults) {
         Ok(status) => status,
         Err(fault) => refuse(fault, &mut faults),
     };
@@ -22,17 +18,13 @@ fn main(rt: HostRuntime) -> ExitCode {
 }
 
 // Does what the words ask for that the program was started with.
-fn run<R: Threads + Wait + Copy + Send + 'static, S: Source, K: Sink, F: Sink>(
+fn run<S: Source, K: Sink, F: Sink>(
     rt: &HostRuntime,
-    threads: R,
     source: &mut S,
     sink: &mut K,
     faults: &mut F,
 ) -> Result<u8, WordsFault> {
     let given: Vec<String> = env::args(rt)?.collect(rt.alloc())?;
     let words: Vec<&str> = given.iter().map(|word| word.as_str()).collect(rt.alloc())?;
-    match words.get(1) {
-        Some(&"race") => Ok(race_command(threads, rt.alloc(), &words, sink, faults)),
-        _ => Ok(command(rt.alloc(), &words, source, sink, faults)),
-    }
+    Ok(command(rt.alloc(), &words, source, sink, faults))
 }

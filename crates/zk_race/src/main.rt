@@ -1,0 +1,35 @@
+//! `zk race` runs the service in threads, clients racing for nodes, and audits the run.
+//!
+//! It is a program of its own, so that whoever plays scripts need not wait for the proof of the threads: `./zk` runs the one
+//! that the words ask for.
+#![tactic(auto)]
+
+use std::env;
+use std::process::ExitCode;
+use std::sync::Wait;
+use std::thread::Threads;
+use zcommand::{WordsFault, refuse};
+use zdevices::{Sink, WriterSink};
+use zracing::race_command;
+
+fn main(rt: HostRuntime) -> ExitCode {
+    let mut sink = WriterSink::new(rt.stdout());
+    let mut faults = WriterSink::new(rt.stderr());
+    let status = match run(&rt, rt, &mut sink, &mut faults) {
+        Ok(status) => status,
+        Err(fault) => refuse(fault, &mut faults),
+    };
+    ExitCode::from(status)
+}
+
+// Does what the words ask for that the program was started with.
+fn run<R: Threads + Wait + Copy + Send + 'static, K: Sink, F: Sink>(
+    rt: &HostRuntime,
+    threads: R,
+    sink: &mut K,
+    faults: &mut F,
+) -> Result<u8, WordsFault> {
+    let given: Vec<String> = env::args(rt)?.collect(rt.alloc())?;
+    let words: Vec<&str> = given.iter().map(|word| word.as_str()).collect(rt.alloc())?;
+    Ok(race_command(threads, rt.alloc(), &words, sink, faults))
+}
