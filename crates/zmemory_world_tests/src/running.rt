@@ -92,11 +92,18 @@ fn add_events(events: &mut Vec<Event>, alloc: Global) -> Result<(), Memory> {
 
 // The call begins, is taken by the server, and its answer by the client.
 fn add_call(events: &mut Vec<Event>, call: Call) -> Result<(), Memory> {
-    let (asker, asked) = (Process::Client(client(1)), Process::Server(server(1)));
     events.push(Event::Begin(client(1), call))?;
-    events.push(Event::Take(asker, asked))?;
-    events.push(Event::Take(asked, asker))?;
+    events.push(Event::Take(asker(), asked()))?;
+    events.push(Event::Take(asked(), asker()))?;
     Ok(())
+}
+
+fn asker() -> Process {
+    Process::Client(client(1))
+}
+
+fn asked() -> Process {
+    Process::Server(server(1))
 }
 
 fn creates(alloc: Global) -> Result<Call, Memory> {
