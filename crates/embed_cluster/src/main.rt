@@ -16,7 +16,7 @@ use zcalls::{Call, ClientId, Create, Data, Kind, Query, Reply, Update};
 use zpath::Path;
 use zrun::{Client, Clients, Cluster, HandsBack, Patience, open_gates};
 use zserver_table::ServerId;
-use zworld::audit;
+use zaudit::audit;
 
 // How long an answer is waited for.
 const PATIENCE: Patience = Patience {

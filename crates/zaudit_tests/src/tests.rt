@@ -8,7 +8,7 @@ use crate::traces::{traces, verdict};
 use std::alloc::Global;
 use std::process::Abort;
 use std::test::Fail;
-use zworld::AuditFault;
+use zaudit::AuditFault;
 
 // A table, what the caller saw, whose trace is marked as cut, and the verdict.
 type Row = (&'static [Step], &'static [Seen], Option<u8>, &'static str);

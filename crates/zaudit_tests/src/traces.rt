@@ -9,7 +9,7 @@ use zpath::Path;
 use zserver_table::Process;
 use ztraces::{Act, ClientTrace, Stamp, Trace, TraceEvent, Traces};
 use ztree::{Data, Stat, Zxid};
-use zworld::{AuditFault, audit};
+use zaudit::{AuditFault, audit};
 use zworld_model::{CallEvent, Outcome};
 
 fn process(number: u8) -> Process {

@@ -5,9 +5,9 @@ use Rattle.std.proofs.Math.Seq.{take-append_seam}
 use Rattle.std.proofs.lemmas.Bool.{ltb-true, ltb-false}
 use Rattle.std.proofs.lemmas.List.{append-nil}
 use Rattle.std.specs.Prelude.{string_bytes}
-use Rattle.zprocesses.specs.Held.{Held}
-use Rattle.zanswers.specs.Line.{ServiceWorld, script_state, answers}
-use Rattle.zanswers.specs.Done.{world_between}
+use Rattle.zworld.specs.Steps.{WorldView}
+use Rattle.zscript.specs.Line.{ServiceWorld, script_state, answers}
+use Rattle.zscript.specs.Done.{world_between}
 use Rattle.zscript.specs.Script.{opening_of}
 use Rattle.zscript.specs.support.Lines.{AreLinesDone}
 use Rattle.zscript.proofs.Done.{done-none, done-line, done-written, done-append, done-text}
@@ -20,7 +20,7 @@ use Rattle.zclib.specs.Uses.{Call, Hear, Tell, IsCalled, IsUsed, played_by, told
 
 -- the world of a service, where it is open
 abbrev IsIn : Service → ServiceWorld → Type 0
-IsIn (Open chain answer) world = world_between chain ≡ world
+IsIn (Open script answer) world = world_between script.held ≡ world
 IsIn OutOfMemory world = Unit {0}
 IsIn Refused world = Unit {0}
 
@@ -57,41 +57,41 @@ idle old new world lines told at none silent same = record {
 }
 
 -- a line was played, or there was no memory for it
-plays : (chain : Held) (old new : Service) (world : ServiceWorld) (line : List ℕ) (status : Status)
-    → world_between chain ≡ world → to_tell old ≡ [] → Plays chain new line status → Went old world (played_by (Hear line status)) [] new
-plays chain old (Open left answer) world line Done at none h = record {
-  after = world_between left;
+plays : (script : WorldView) (old new : Service) (world : ServiceWorld) (line : List ℕ) (status : Status)
+    → world_between script.held ≡ world → to_tell old ≡ [] → Plays script new line status → Went old world (played_by (Hear line status)) [] new
+plays script old (Open left answer) world line Done at none h = record {
+  after = world_between left.held;
   at = refl;
-  done = subst (λ w. AreLinesDone w (line ∷ []) (world_between left) (Writes old [] (Open left answer))) at
-      (done-written (λ text. string_bytes answer ≡ text) (Writes old [] (Open left answer)) (world_between chain) (world_between left) (line ∷ [])
+  done = subst (λ w. AreLinesDone w (line ∷ []) (world_between left.held) (Writes old [] (Open left answer))) at
+      (done-written (λ text. string_bytes answer ≡ text) (Writes old [] (Open left answer)) (world_between script.held) (world_between left.held) (line ∷ [])
       (λ text is. ap (λ t. t ++ text) none ∙ sym is)
-      (done-line (world_between chain) (world_between left) line (λ text. string_bytes answer ≡ text) h));
+      (done-line (world_between script.held) (world_between left.held) line (λ text. string_bytes answer ≡ text) h));
 }
-plays chain old OutOfMemory world line Done at none h = absurd h
-plays chain old Refused world line Done at none h = absurd h
-plays chain old new world line Pending at none h = absurd h
-plays chain old new world line Memory at none h = record {
+plays script old OutOfMemory world line Done at none h = absurd h
+plays script old Refused world line Done at none h = absurd h
+plays script old new world line Pending at none h = absurd h
+plays script old new world line Memory at none h = record {
   after = world;
   at = subst (λ s. IsIn s world) (sym h) tt;
   done = done-none world (Writes old [] new) (append-nil (to_tell old) ∙ none ∙ ap to_tell (sym h));
 }
-plays chain old new world line NoServers at none h = absurd h
+plays script old new world line NoServers at none h = absurd h
 
 -- a line was heard
 hears : (old new : Service) (world : ServiceWorld) (line : List ℕ) (status : Status) → IsIn old world → Hears old new line status
     → Went old world (played_by (Hear line status)) [] new
-hears (Open chain answer) new world line status at h = elim (empty_or (string_bytes answer)) [
-  | inl none ↦ plays chain (Open chain answer) new world line status at none (h.0 none)
-  | inr some ↦ idle (Open chain answer) new world (played_by (Hear line status)) [] at (unplayed line status Pending refl (h.1 some).0) refl (h.1 some).1
+hears (Open script answer) new world line status at h = elim (empty_or (string_bytes answer)) [
+  | inl none ↦ plays script (Open script answer) new world line status at none (h.0 none)
+  | inr some ↦ idle (Open script answer) new world (played_by (Hear line status)) [] at (unplayed line status Pending refl (h.1 some).0) refl (h.1 some).1
 ]
 hears OutOfMemory new world line status at h = idle OutOfMemory new world (played_by (Hear line status)) [] at (unplayed line status Memory refl h.0) refl h.1
 hears Refused new world line status at h = idle Refused new world (played_by (Hear line status)) [] at (unplayed line status NoServers refl h.0) refl h.1
 
 -- what a service is that has told its answer
 has_told : (old new : Service) (world : ServiceWorld) → IsIn old world → HasTold old new → IsIn new world × (to_tell new ≡ [])
-has_told (Open chain answer) (Open left nothing) world at h = (ap world_between h.0 ∙ at, h.1)
-has_told (Open chain answer) OutOfMemory world at h = absurd h
-has_told (Open chain answer) Refused world at h = absurd h
+has_told (Open script answer) (Open left nothing) world at h = (ap (λ (w : WorldView). world_between w.held) h.0 ∙ at, h.1)
+has_told (Open script answer) OutOfMemory world at h = absurd h
+has_told (Open script answer) Refused world at h = absurd h
 has_told OutOfMemory new world at h = (subst (λ s. IsIn s world) (sym h) tt, ap to_tell h)
 has_told Refused new world at h = (subst (λ s. IsIn s world) (sym h) tt, ap to_tell h)
 
@@ -140,7 +140,7 @@ used (call ∷ calls) old new world at h =
 
 -- a service that was opened
 opened_in : (servers : ℕ) (opened : Service) → IsOpened servers opened → IsIn opened (opening_of servers) × (to_tell opened ≡ [])
-opened_in servers (Open chain answer) h = (h.1, h.2)
+opened_in servers (Open script answer) h = (h.1, h.2)
 opened_in servers OutOfMemory h = (tt, refl)
 opened_in servers Refused h = (tt, refl)
 

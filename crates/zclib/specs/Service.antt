@@ -1,9 +1,9 @@
 -- What the calls of C do to a service.
 use Rattle.std.specs.Prelude.{◌≡◌, ℕ, ◌≤◌, ◌<◌, ◌⊎◌, List, [], ◌++◌, length, drop, string_bytes}
 use Rattle.zserver_table.specs.declared.limits.TheConstants.{MAX_SERVERS}
-use Rattle.zprocesses.specs.Held.{Held}
-use Rattle.zanswers.specs.Line.{ServiceWorld}
-use Rattle.zanswers.specs.Done.{IsLineDone, world_between}
+use Rattle.zworld.specs.Steps.{WorldView}
+use Rattle.zscript.specs.Line.{ServiceWorld}
+use Rattle.zscript.specs.Done.{IsLineDone, world_between}
 use Rattle.zscript.specs.Script.{opening_of}
 use Rattle.zscript.specs.Servers.{IsServers}
 use Rattle.zclib.specs.declared.service.Service.{Service}
@@ -20,21 +20,21 @@ code_of NoServers = 3
 
 -- what is to be told
 abbrev pub to_tell : Service → List ℕ
-to_tell (Open chain answer) = string_bytes answer
+to_tell (Open script answer) = string_bytes answer
 to_tell OutOfMemory = []
 to_tell Refused = []
 
 -- A service was opened with so many servers: nothing was asked of them and nothing is to be told; or there is no memory
 -- for them; or there is no such number of servers.
 abbrev pub IsOpened : ℕ → Service → Type 0
-IsOpened servers (Open chain answer) =
-    IsServers servers × (world_between chain ≡ opening_of servers) × (string_bytes answer ≡ [])
+IsOpened servers (Open script answer) =
+    IsServers servers × (world_between script.held ≡ opening_of servers) × (string_bytes answer ≡ [])
 IsOpened servers OutOfMemory = IsServers servers
 IsOpened servers Refused = (servers ≡ 0) ⊎ (MAX_SERVERS < servers)
 
 -- what to say of a service that was opened
 abbrev pub status_of : Service → Status
-status_of (Open chain answer) = Done
+status_of (Open script answer) = Done
 status_of OutOfMemory = Memory
 status_of Refused = NoServers
 
@@ -48,23 +48,23 @@ OpensAs servers new code = IsOpened servers new × (code ≡ code_of (status_of 
 
 -- a service is open, at a world and with an answer to be told of which this holds
 abbrev pub IsAt : Service → (ServiceWorld → List ℕ → Type 0) → Type 0
-IsAt (Open chain answer) holds = holds (world_between chain) (string_bytes answer)
+IsAt (Open script answer) holds = holds (world_between script.held) (string_bytes answer)
 IsAt OutOfMemory holds = ⊥
 IsAt Refused holds = ⊥
 
 -- Processes play a line. Either it is done, and its answer is what is to be told; or there is no memory, and they are let go.
-abbrev pub Plays : Held → Service → List ℕ → Status → Type 0
-Plays chain new line Done =
-    IsAt new (λ world told. IsLineDone (world_between chain) line world (λ text. told ≡ text))
-Plays chain new line Pending = ⊥
-Plays chain new line Memory = new ≡ OutOfMemory
-Plays chain new line NoServers = ⊥
+abbrev pub Plays : WorldView → Service → List ℕ → Status → Type 0
+Plays script new line Done =
+    IsAt new (λ world told. IsLineDone (world_between script.held) line world (λ text. told ≡ text))
+Plays script new line Pending = ⊥
+Plays script new line Memory = new ≡ OutOfMemory
+Plays script new line NoServers = ⊥
 
 -- A service hears a line. It is played if no answer is still to be told, and else nothing is done. Want of memory is for good.
 abbrev pub Hears : Service → Service → List ℕ → Status → Type 0
-Hears (Open chain answer) new line status =
-    (string_bytes answer ≡ [] → Plays chain new line status)
-    × ((string_bytes answer ≡ [] → ⊥) → (status ≡ Pending) × (new ≡ Open chain answer))
+Hears (Open script answer) new line status =
+    (string_bytes answer ≡ [] → Plays script new line status)
+    × ((string_bytes answer ≡ [] → ⊥) → (status ≡ Pending) × (new ≡ Open script answer))
 Hears OutOfMemory new line status = (status ≡ Memory) × (new ≡ OutOfMemory)
 Hears Refused new line status = (status ≡ NoServers) × (new ≡ Refused)
 
@@ -74,9 +74,9 @@ HearsAs old new line code = (status : Status) × (code ≡ code_of status) × He
 
 -- nothing is to be told any more, and all else is as it was
 abbrev pub HasTold : Service → Service → Type 0
-HasTold (Open chain answer) (Open left nothing) = (left ≡ chain) × (string_bytes nothing ≡ [])
-HasTold (Open chain answer) OutOfMemory = ⊥
-HasTold (Open chain answer) Refused = ⊥
+HasTold (Open script answer) (Open left nothing) = (left ≡ script) × (string_bytes nothing ≡ [])
+HasTold (Open script answer) OutOfMemory = ⊥
+HasTold (Open script answer) Refused = ⊥
 HasTold OutOfMemory new = new ≡ OutOfMemory
 HasTold Refused new = new ≡ Refused
 

@@ -1,7 +1,7 @@
 -- What a program of C does with one service, call by call, and what it is told.
 use Rattle.std.specs.Prelude.{◌≡◌, ℕ, nat_lt, List, [], ◌∷◌, ◌++◌, length, take, if◌then◌else◌}
 use Rattle.zworld_model.specs.declared.outcome.Outcome.{Outcome}
-use Rattle.zanswers.specs.Line.{opening_script, answers}
+use Rattle.zscript.specs.Line.{opening_script, answers}
 use Rattle.zclib.specs.declared.service.Service.{Service}
 use Rattle.zclib.specs.declared.status.Status.{Status}
 use Rattle.zclib.specs.declared.status.Status.TheVariants.{Done, Pending, Memory, NoServers}

@@ -6,14 +6,15 @@ ghost use Rattle.zclib.specs.Service.{IsOpened, IsStatusOf, Hears, HearsAs, Tell
 use crate::status::Status;
 use std::alloc::Global;
 use std::mem::replace;
-use zanswers::Chain;
+use zscript::{answer_line, script_world};
 use zserver_table::ServerId;
+use zworld::World;
 
 /// What C has room for.
 #[derive(Drop)]
 pub enum Service {
-    /// All processes, and the answer to the last line, until it is told.
-    Open(Chain, String),
+    /// A world with every client that there can be, and the answer to the last line, until it is told.
+    Open(World, String),
     /// None any more: no memory was found, and they were let go.
     OutOfMemory,
     /// None: there is no such number of servers.
@@ -27,8 +28,8 @@ pub(crate) fn make(alloc: Global, servers: u8) -> Service
     let Some(last) = ServerId::new(servers) else {
         return Service::Refused;
     };
-    match Chain::new(alloc, last) {
-        Ok(chain) => Service::Open(chain, String::new(alloc)),
+    match script_world(alloc, last) {
+        Ok(world) => Service::Open(world, String::new(alloc)),
         Err(_) => Service::OutOfMemory,
     }
 }
@@ -49,15 +50,15 @@ pub(crate) fn status(service: &mut Service) -> u32
 fn play(service: &mut Service, line: &[u8]) -> Status
     ensures { Hears service.old service.new line.now result }
 {
-    let (chain, answer) = match service {
-        Service::Open(chain, answer) => (chain, answer),
+    let (world, answer) = match service {
+        Service::Open(world, answer) => (world, answer),
         Service::OutOfMemory => return Status::Memory,
         Service::Refused => return Status::NoServers,
     };
     if !answer.is_empty() {
         return Status::Pending;
     }
-    if chain.answer(line, answer).is_ok() {
+    if answer_line(world, line, answer).is_ok() {
         return Status::Done;
     }
     drop(replace(service, Service::OutOfMemory));

@@ -3,8 +3,8 @@ use Rattle.std.proofs.Common.{◌≡◌, Bool, true, false, true≢false, Result
 use Rattle.ztraces.specs.declared.trace.Traces.{Traces}
 use Rattle.ztraces.specs.Audit.{is_any_cut}
 use Rattle.ztraces.specs.Lawful.{AreLawful}
-use Rattle.zworld.specs.declared.auditing.faults.AuditFault.{AuditFault}
-use Rattle.zworld.specs.declared.auditing.faults.AuditFault.TheVariants.{Cut, Disorder, Mismatch, Memory}
+use Rattle.zaudit.specs.declared.faults.AuditFault.{AuditFault}
+use Rattle.zaudit.specs.declared.faults.AuditFault.TheVariants.{Cut, Disorder, Mismatch, Memory}
 
 -- it speaks against the run
 abbrev pub is_against : AuditFault → Bool

@@ -1,8 +1,8 @@
 -- What a race writes: this project's own profile.
 use Rattle.std.specs.Prelude.{ℕ, suc, List, [], ◌∷◌, ◌++◌, Option, None, Some, Result, Ok, Err, codes}
 use Rattle.std.specs.Fmt.{decimal}
-use Rattle.zworld.specs.Faults.{fault_name}
-use Rattle.zworld.specs.declared.auditing.faults.AuditFault.{AuditFault}
+use Rattle.zaudit.specs.Faults.{fault_name}
+use Rattle.zaudit.specs.declared.faults.AuditFault.{AuditFault}
 use Rattle.zrace.specs.declared.outcome.Outcome.{Outcome}
 
 -- the line of a node: the version that was seen of it, where there was an answer

@@ -4,7 +4,7 @@ ghost use Rattle.std.specs.Prelude.{◌≡◌, ◌++◌, All, IfOk, IsErr, IsFal
 ghost use Rattle.zrace.specs.Text.{audit_line, node_line, outcome_text};
 
 use std::alloc::{AllocError, Global};
-use zworld::AuditFault;
+use zaudit::AuditFault;
 
 /// What came of a race.
 #[derive(Drop)]

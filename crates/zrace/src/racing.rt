@@ -3,7 +3,7 @@
 ghost use Rattle.std.specs.Prelude.{◌≡◌, ◌≢◌, false, length, All, IfErr, IfOk};
 ghost use Rattle.ztraces.specs.Audit.{is_any_cut};
 ghost use Rattle.ztraces.specs.Lawful.{AreLawful};
-ghost use Rattle.zworld.specs.declared.auditing.faults.AuditFault.TheVariants.{Disorder, Mismatch};
+ghost use Rattle.zaudit.specs.declared.faults.AuditFault.TheVariants.{Disorder, Mismatch};
 ghost use Rattle.std.specs.Arc.{arc_value};
 ghost use Rattle.zwords.specs.Passes.{IsPassOf};
 
@@ -17,7 +17,7 @@ use zpath::Memory;
 use zrun::{Cluster, StartFault, open_gates};
 use ztraces::Traces;
 use zwords::tickets::{Pass, Tickets};
-use zworld::{AuditFault, audit};
+use zaudit::{AuditFault, audit};
 
 /// Runs a race over real threads, joins them, and audits the run. What the audit finds is never against the run: it is ok, or there
 /// was no memory for it, or a trace is cut.

@@ -12,7 +12,7 @@ use std::test::Fail;
 use zcalls::Reply;
 use zliterals::{client, server};
 use zrun::{Client, Clients};
-use zworld::audit;
+use zaudit::audit;
 
 // Takes turns until the message has come that a gate looks for, a hundred million at most.
 fn turn_until(client: &mut Client, meeting: &Meeting)

@@ -12,7 +12,7 @@ use std::test::Fail;
 use std::thread::Threads;
 use zliterals::{client, server};
 use zrun::Clients;
-use zworld::audit;
+use zaudit::audit;
 
 // Three clients call at one time, each on a thread of its own: whether all are answered.
 fn call_at_once<R: Threads>(rt: &R, alloc: Global, clients: &mut Clients) -> Option<bool>

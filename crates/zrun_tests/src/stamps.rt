@@ -11,7 +11,7 @@ use std::test::Fail;
 use zcalls::Call;
 use zliterals::{client, server};
 use zrun::{Client, Clients};
-use zworld::audit;
+use zaudit::audit;
 use zworld_model::CallEvent;
 
 // The place of the answer to the client's call, and that where it begins one.

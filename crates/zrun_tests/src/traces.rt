@@ -14,7 +14,7 @@ use zcalls::Reply;
 use zliterals::{call_number, client, server};
 use zrun::{Client, Clients};
 use ztraces::Traces;
-use zworld::{AuditFault, audit};
+use zaudit::{AuditFault, audit};
 use zworld_model::CallEvent;
 
 // What the client of a run does.

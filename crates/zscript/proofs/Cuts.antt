@@ -1,7 +1,7 @@
 -- How bytes are cut into lines, piece by piece.
 use Rattle.std.proofs.Common.{◌≡◌, ℕ, true, false, cond, List, [], ◌∷◌, ◌++◌, refl, sym, ap, ◌∙◌, append_assoc, ◌==◌}
 use Rattle.std.proofs.lemmas.List.{append-nil}
-use Rattle.zanswers.specs.Line.{ScriptState, answer, after, answers}
+use Rattle.zscript.specs.Line.{ScriptState, answer, after, answers}
 use Rattle.zscript.specs.support.Lines.{whole_lines_after, line_left, after_all, IsPart}
 
 pub whole_lines_after-append : (a line b : List ℕ) → whole_lines_after line (a ++ b) ≡ whole_lines_after line a ++ whole_lines_after (line_left line a) b

@@ -1,7 +1,7 @@
 -- A player's fault, as the fault of the whole run.
 use Rattle.std.proofs.Common.{◌≡◌, ◌<◌, ◌+◌, inl, inr, ℕ, List, [], ◌++◌, length, refl, sym, ap, ◌∙◌, subst, arith}
 use Rattle.std.proofs.lemmas.List.{append-nil}
-use Rattle.zanswers.specs.Line.{ServiceWorld, opening_script, answers}
+use Rattle.zscript.specs.Line.{ServiceWorld, opening_script, answers}
 use Rattle.zdevices.specs.Device.{SourceRun, SinkRun, Failed}
 use Rattle.zscript.specs.Script.{opening_of, whole_lines_of}
 use Rattle.zscript.specs.support.Lines.{whole_lines_after, line_left, last_line, lines_after, AreLinesDone}

@@ -2,8 +2,8 @@
 use Rattle.std.proofs.Common.{◌≡◌, ℕ, List, [], ◌∷◌, ◌++◌, map, refl, sym, ap, ◌∙◌, subst, append_assoc}
 use Rattle.std.proofs.lemmas.List.{append-nil}
 use Rattle.zworld_model.specs.declared.outcome.Outcome.{Outcome}
-use Rattle.zanswers.specs.Line.{ServiceWorld, script_state, answers}
-use Rattle.zanswers.specs.Done.{IsLineDone}
+use Rattle.zscript.specs.Line.{ServiceWorld, script_state, answers}
+use Rattle.zscript.specs.Done.{IsLineDone}
 use Rattle.zdevices.specs.Device.{TookBeginning}
 use Rattle.zscript.specs.Outcome.{IsStopped}
 use Rattle.zscript.specs.support.Lines.{after_all, AreLinesDone}

@@ -3,13 +3,13 @@ use Rattle.std.proofs.Common.{◌+◌, ◌-◌, Bool, true, false, nat_le, ◌�
 use Rattle.std.proofs.lemmas.List.{take_all, take_min, length-take, append-nil}
 use Rattle.std.proofs.lemmas.Bool.Decides.{nat_tests}
 use Rattle.std.proofs.Math.Seq.{take-append-add}
-use Rattle.zanswers.specs.Line.{ServiceWorld, ScriptState, script_state, answer, after, answers}
-use Rattle.zanswers.specs.Done.{IsLineDone}
+use Rattle.zscript.specs.Line.{ServiceWorld, ScriptState, script_state, answer, after, answers}
+use Rattle.zscript.specs.Done.{IsLineDone}
 use Rattle.zlines.specs.declared.limits.TheConstants.{MAX_LINE}
 use Rattle.zscript.specs.declared.limits.TheConstants.{KEPT}
 use Rattle.zscript.specs.support.Lines.{after_all}
 use Rattle.zscript.specs.support.PlayerView.{PlayerView, world_now, kept_front}
-use Rattle.zanswers.proofs.LongLine.{answer-long, after-long}
+use Rattle.zscript.proofs.LongLine.{answer-long, after-long}
 
 take-take-append : (n : ℕ) (a b : List ℕ) → take n (take n a ++ b) ≡ take n (a ++ b)
 take-take-append zero a b = refl

@@ -1,3 +1,12 @@
+pub mod LongLine
+pub mod Past
+pub mod OneRun
+pub mod AlikeLines
+pub mod Opening
+pub mod Replies
+pub mod Effects
+pub mod CallEffects
+pub mod LineDone
 pub mod ScriptLines
 pub mod Kept
 pub mod Cuts

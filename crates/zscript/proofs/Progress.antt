@@ -1,8 +1,8 @@
 -- How far a player has come among the lines of one block.
 use Rattle.std.proofs.Common.{◌≡◌, ◌<◌, ℕ, List, [], ◌∷◌, ◌++◌, length, refl, sym, ap, ◌∙◌, append_assoc, arith}
 use Rattle.std.proofs.lemmas.List.{append-nil}
-use Rattle.zanswers.specs.Line.{ServiceWorld}
-use Rattle.zanswers.specs.Done.{IsLineDone}
+use Rattle.zscript.specs.Line.{ServiceWorld}
+use Rattle.zscript.specs.Done.{IsLineDone}
 use Rattle.zdevices.specs.Device.{TookBeginning}
 use Rattle.zscript.specs.support.Lines.{whole_lines_after, line_left, AreLinesDone, IsPart}
 use Rattle.zscript.specs.support.PlayerView.{PlayerView, world_now, Tells}

@@ -1,7 +1,7 @@
 -- A run of a player, piece by piece.
 use Rattle.std.proofs.Common.{◌≡◌, ◌<◌, ℕ, List, [], ◌++◌, length, map, refl, sym, ap, ◌∙◌, append_assoc}
 use Rattle.std.proofs.lemmas.List.{append-nil}
-use Rattle.zanswers.specs.Line.{ServiceWorld, script_state, answers}
+use Rattle.zscript.specs.Line.{ServiceWorld, script_state, answers}
 use Rattle.zscript.specs.support.Lines.{whole_lines_after, line_left, last_line, lines_after, AreLinesDone}
 use Rattle.zscript.specs.support.PlayerView.{PlayerView, world_now, IsFresh, kept_front}
 use Rattle.zscript.specs.Outcome.{IsStopped}

@@ -1,8 +1,8 @@
 -- What a fault leaves, carried from a line to its block, and from a block to the run.
 use Rattle.std.proofs.Common.{◌≡◌, ◌<◌, ◌+◌, ℕ, List, [], ◌∷◌, ◌++◌, length, refl, sym, ap, ◌∙◌, subst, append_assoc, arith, length-append}
 use Rattle.std.proofs.lemmas.List.{append-nil}
-use Rattle.zanswers.specs.Line.{ServiceWorld}
-use Rattle.zanswers.specs.Done.{IsLineDone}
+use Rattle.zscript.specs.Line.{ServiceWorld}
+use Rattle.zscript.specs.Done.{IsLineDone}
 use Rattle.zdevices.specs.Device.{TookBeginning, Failed}
 use Rattle.zscript.specs.support.Lines.{whole_lines_after, line_left, last_line, lines_after, AreLinesDone, IsPart}
 use Rattle.zscript.specs.support.PlayerView.{PlayerView, world_now, Tells}

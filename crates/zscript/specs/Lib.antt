@@ -1,3 +1,7 @@
+pub mod Line
+pub mod Done
+pub mod Histories
+pub mod Promise
 pub mod Script
 pub mod Outcome
 pub mod Servers

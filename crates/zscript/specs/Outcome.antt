@@ -3,7 +3,7 @@
 use Rattle.std.specs.Prelude.{◌≡◌, ℕ, ◌<◌, ◌⊎◌, List, [], ◌++◌, length, codes}
 use Rattle.zdevices.specs.Device.{SourceRun, SinkRun, Failed, TookBeginning}
 use Rattle.zworld_model.specs.declared.outcome.Outcome.{Outcome}
-use Rattle.zanswers.specs.Line.{ServiceWorld, script_state, opening_script, answers}
+use Rattle.zscript.specs.Line.{ServiceWorld, script_state, opening_script, answers}
 use Rattle.zscript.specs.Script.{opening_of, lines_of, whole_lines_of, text_of}
 use Rattle.zscript.specs.declared.fault.PlayFault.{PlayFault}
 use Rattle.zscript.specs.declared.fault.PlayFault.TheVariants.{Read, Write, Memory}

@@ -6,7 +6,7 @@ use Rattle.ztree.specs.declared.limits.TheConstants.{MAX_CLIENTS}
 use Rattle.zserver_table.specs.Machine.{kept_tree}
 use Rattle.zworld_model.specs.declared.outcome.Outcome.{Outcome}
 use Rattle.zworld_model.specs.World.{opening_world}
-use Rattle.zanswers.specs.Line.{ServiceWorld, opening_script, answers}
+use Rattle.zscript.specs.Line.{ServiceWorld, opening_script, answers}
 
 -- All lines, each without its LF. What follows the last LF is a line only if it has a byte.
 abbrev pub lines_of : List ℕ → List (List ℕ)

@@ -2,3 +2,5 @@
 pub mod Lines
 pub mod PlayerView
 pub mod Stops
+pub mod Effects
+pub mod Rows

@@ -9,18 +9,24 @@
 //! let mut sink = WriterSink::new(rt.stdout());
 //! play(rt.alloc(), &mut source, &mut sink, Servers::new(1))?;
 //! ```
+//!
+//! `answer_line` plays one line on a `World` of the caller's, which `script_world` makes: what a line does and what it is
+//! answered with is in specs/Line.antt.
 #![tactic(auto)]
 
 mod fault;
 pub mod laws;
 pub mod limits;
+mod line;
 mod output;
 mod player;
 mod rows;
 mod script;
 mod servers;
+mod texts;
 
 pub use fault::PlayFault;
+pub use line::{answer_line, script_world};
 pub use script::play;
 pub use servers::Servers;
 pub use zdevices::{

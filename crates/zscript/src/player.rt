@@ -3,26 +3,27 @@
 ghost use Rattle.std.specs.Prelude.{◌≡◌, ◌<◌, ◌≤◌, [], ◌++◌, length, IfOk, IfErr, IfSome, IfNone, OnOk, OnErr, string_bytes};
 ghost use Rattle.zdevices.specs.Device.{Between, sink_run, TookBeginning, Failed};
 ghost use Rattle.zscript.specs.Script.{opening_of};
-ghost use Rattle.zanswers.specs.Done.{IsLineDone};
+ghost use Rattle.zscript.specs.Done.{IsLineDone};
 ghost use Rattle.zscript.specs.support.Lines.{whole_lines_after, line_left, last_line, AreLinesDone, IsPart, IsCutAtEnd};
 ghost use Rattle.zscript.specs.support.PlayerView.{IsFresh, world_now, kept_front, Tells};
 ghost use Rattle.zscript.specs.support.Stops.{IsBlockStoppedBy, IsEndStoppedBy, AreLinesStoppedBy, IsLineStoppedBy};
 
 use crate::fault::PlayFault;
 use crate::limits::KEPT;
+use crate::line::{answer_line, script_world};
 use crate::output::Output;
 use crate::servers::Servers;
 use memchr::memchr;
 use std::alloc::Global;
 use std::marker::Model;
-use zanswers::Chain;
 use zdevices::{DeviceFault, Sink};
 use zpath::Memory;
+use zworld::World;
 
-/// Plays a script.
+/// Plays a script, line by line, on a world with every client that there can be.
 #[derive(Drop)]
 pub(crate) struct Player {
-    chain: Chain,
+    world: World,
     line: Vec<u8>,
     output: Output,
 }
@@ -37,7 +38,7 @@ impl Model for Player {
     ghost coded = { coded_player_view };
 
     ghost view = { λ p. record {
-      chain = p.chain;
+      world = p.world.held;
       line = p.line.items;
       held = string_bytes p.output.block;
     } };
@@ -52,7 +53,7 @@ impl Player {
         ensures fresh { IfOk result (λ player. IsFresh player) }
     {
         Ok(Player {
-            chain: Chain::new(alloc, servers.last())?,
+            world: script_world(alloc, servers.last())?,
             line: Vec::new(alloc),
             output: Output::new(alloc),
         })
@@ -148,10 +149,10 @@ impl Player {
         ensures line { OnOk result (self.new.line ≡ []) }
     {
         if self.line.is_empty() {
-            return self.chain.answer(end, &mut self.output.block);
+            return answer_line(&mut self.world, end, &mut self.output.block);
         }
         self.keep(end)?;
-        self.chain.answer(&self.line, &mut self.output.block)?;
+        answer_line(&mut self.world, &self.line, &mut self.output.block)?;
         self.line.clear();
         Ok(())
     }

@@ -1,7 +1,9 @@
--- From the words of the processes to those of the world, and how a past goes on.
-use Rattle.std.proofs.Common.{◌≡◌, ◌<◌, ℕ, Bool, true, false, not, List, [], ◌∷◌, ◌++◌, length, arith, refl, sym, ap, ◌∙◌, subst, true≢false}
+-- From what the processes do to what the world says, and how a past goes on.
+use Rattle.std.proofs.Common.{◌≡◌, ℕ, Bool, true, false, not, List, [], ◌∷◌, ◌++◌, refl, sym, ap, ◌∙◌, subst, true≢false, append_assoc}
 use Rattle.std.proofs.lemmas.List.{append-nil}
+use Rattle.std.specs.Prelude.{Result, Ok, Err, IfOk, OnErr, is_err}
 use Rattle.ztree.specs.Tree.{Tree}
+use Rattle.zpath.specs.declared.memory.Memory.{Memory}
 use Rattle.zcalls.specs.Kept.{KeptState}
 use Rattle.zserver_table.specs.Machine.{kept_tree}
 use Rattle.zworld_model.specs.declared.event.Event.{Event}
@@ -17,34 +19,31 @@ use Rattle.zworld_model.specs.PlainTree.{IsExplained}
 use Rattle.zworld_model.specs.Laws.{world_after}
 use Rattle.zworld_model.proofs.Alike.{stay_alike, alike_itself, alike_through, read_alike}
 use Rattle.zorder.proofs.Headline.{every_history_is_explained}
-use Rattle.std.specs.Prelude.{Result, Ok, Err, IfOk, IsOk, OnErr, OnOk, is_err}
-use Rattle.zpath.specs.declared.memory.Memory.{Memory}
-use Rattle.zcalls.specs.declared.call.Call.{Call}
-use Rattle.zworld_model.specs.declared.history.CallEvent.TheVariants as call_event
-use Rattle.zprocesses.specs.declared.did.Did.{Did}
-use Rattle.zprocesses.specs.declared.did.Did.TheVariants as deed
-use Rattle.zprocesses.specs.declared.answer.Answer.{Answer}
-use Rattle.zprocesses.specs.declared.did.Begun.{Begun}
-use Rattle.zprocesses.specs.declared.did.Begun.TheVariants as begun
-use Rattle.zprocesses.specs.Held.{Held, world_of}
-use Rattle.zprocesses.proofs.Steps.{enabled_anyway, fitting_anyway, read_anyway, read_acted, happens_not}
-use Rattle.zprocesses.specs.Steps.{HasStepped, HasBegun, outcome_of, answer_events, is_idle}
-use Rattle.zworld.specs.support.Course.{CourseView, GoesBy, did_of, told_of}
+use Rattle.zworld.specs.declared.did.Did.{Did}
+use Rattle.zworld.specs.declared.did.Did.TheVariants as deed
+use Rattle.zworld.specs.Held.{Held, world_of}
+use Rattle.zworld.specs.Did.{outcome_of, is_idle}
+use Rattle.zworld.specs.Steps.{WorldView, IsExplainedWithPast, HasHappened, HasRun, HasBegunToRun, can_want_memory}
+use Rattle.zworld.specs.support.Stepped.{HasStepped, GoesBy}
 use Rattle.zworld.specs.support.Past.{HasPast, LeadRead}
-use Rattle.zworld.specs.Steps.{WorldView, HasHappened, HasRun, HasBegunToRun, can_want_memory}
+use Rattle.zworld.proofs.Steps.{enabled_anyway, fitting_anyway, read_anyway, read_acted, happens_not}
 
 -- an event of the processes is one of the world, from any history
-pub happened : (old new : CourseView) (event : Event) (did : Did) → GoesBy old new event did
-    → HasHappened (world_of old.held old.history) event did (world_of new.held new.history)
-happened old new event did (told, after, stepped) =
-    let leads = stepped.leads old.history in
-    let reads = sym (read_anyway old.held old.history event (outcome_of did)) in
+pub happened : (old new : Held) (before after : History) (event : Event) (did : Did) → GoesBy old new event before after did
+    → HasHappened (world_of old before) event did (world_of new after)
+happened old new before after event did (told, is, stepped) =
+    let reads = sym (read_anyway old before event (outcome_of did)) in
     record {
-      idle = stepped.idle ∙ ap not (sym (enabled_anyway old.held old.history event));
-      fits = fitting_anyway old.held old.history event (outcome_of did) ∙ stepped.fits;
-      leads = subst (λ h. IsAlike (happens kept_tree (world_of old.held old.history) (read kept_tree (world_of old.held old.history) event (outcome_of did))) (world_of new.held h)) (sym after)
-          (subst (λ e. IsAlike (happens kept_tree (world_of old.held old.history) e) (world_of new.held (old.history ++ told))) reads leads);
+      idle = stepped.idle ∙ ap not (sym (enabled_anyway old before event));
+      fits = fitting_anyway old before event (outcome_of did) ∙ stepped.fits;
+      leads = subst (λ h. IsAlike (happens kept_tree (world_of old before) (read kept_tree (world_of old before) event (outcome_of did))) (world_of new h)) (sym is)
+          (subst (λ e. IsAlike (happens kept_tree (world_of old before) e) (world_of new (before ++ told))) reads (stepped.leads before));
     }
+
+-- it goes on behind any past
+pub behind : (past : History) (old new : Held) (before after : History) (event : Event) (did : Did) → GoesBy old new event before after did
+    → GoesBy old new event (past ++ before) (past ++ after) did
+behind past old new before after event did (told, is, stepped) = (told, ap (λ xs. past ++ xs) is ∙ sym (append_assoc past before told), stepped)
 
 -- a run of events and more is a run of both
 run_both : (v : World (KeptState Tree)) (events more : List Event) → run kept_tree v (events ++ more) ≡ run kept_tree (run kept_tree v events) more
@@ -56,62 +55,93 @@ same_history : (v w : World (KeptState Tree)) → IsAlike v w → w.history ≡ 
 same_history v w alike = ap (λ (x : World (KeptState Tree)). x.history) alike.rest
 
 -- where a run leads from the end of a past
-pub stands_later : (held next : Held) (history later : History) (events : List Event) (past : HasPast false held history)
-    → IsAlike (run kept_tree (world_of held history) events) (world_of next later)
-    → IsAlike (world_after past.servers past.clients (past.events ++ events)) (world_of next later)
-stands_later held next history later events past leads =
-    let first = stay_alike kept_tree _ _ events (past.stands refl) in
-    subst (λ w. IsAlike w (world_of next later)) (sym (run_both _ past.events events)) (alike_through _ _ _ first leads)
+pub stands_later : (forgotten : Bool) (held next : Held) (history later : History) (events : List Event) (had : HasPast forgotten false held history)
+    → IsAlike (run kept_tree (world_of held (had.past ++ history)) events) (world_of next later)
+    → IsAlike (world_after had.servers had.clients (had.events ++ events)) (world_of next later)
+stands_later forgotten held next history later events had leads =
+    let first = stay_alike kept_tree _ _ events (had.stands refl) in
+    subst (λ w. IsAlike w (world_of next later)) (sym (run_both _ had.events events)) (alike_through _ _ _ first leads)
 
 -- the past goes on with it
-pub goes_on : (held next : Held) (history later : History) (events : List Event) → HasPast false held history
-    → IsAlike (run kept_tree (world_of held history) events) (world_of next later) → HasPast false next later
-goes_on held next history later events past leads =
-    let stands = stands_later held next history later events past leads in
+pub goes_on : (forgotten : Bool) (held next : Held) (history later : History) (events : List Event) (had : HasPast forgotten false held history)
+    → IsAlike (run kept_tree (world_of held (had.past ++ history)) events) (world_of next (had.past ++ later)) → HasPast forgotten false next later
+goes_on forgotten held next history later events had leads =
+    let stands = stands_later forgotten held next history (had.past ++ later) events had leads in
     record {
-      servers = past.servers;
-      clients = past.clients;
-      events = past.events ++ events;
-      opens = past.opens;
+      servers = had.servers;
+      clients = had.clients;
+      events = had.events ++ events;
+      past = had.past;
+      opens = had.opens;
+      whole = had.whole;
       told = sym (same_history _ _ stands);
       stands = λ _. stands;
     }
 
 -- so it does with an event
-pub past_goes_on : (old new : CourseView) (event : Event) (did : Did) → HasPast false old.held old.history → GoesBy old new event did
-    → HasPast false new.held new.history
-past_goes_on old new event did past goes =
-    goes_on old.held new.held old.history new.history (read kept_tree (world_of old.held old.history) event (outcome_of did) ∷ []) past (happened old new event did goes).leads
+pub past_goes_on : (forgotten : Bool) (old new : Held) (before after : History) (event : Event) (did : Did) → HasPast forgotten false old before
+    → GoesBy old new event before after did → HasPast forgotten false new after
+past_goes_on forgotten old new before after event did had goes =
+    goes_on forgotten old new before after (read kept_tree (world_of old (had.past ++ before)) event (outcome_of did) ∷ []) had
+    (happened old new (had.past ++ before) (had.past ++ after) event did (behind had.past old new before after event did goes)).leads
 
 -- where memory is refused, the history is still that of the past
-pub past_stays : (is_broken : Bool) (held next : Held) (history later : History) → HasPast is_broken held history → later ≡ history → HasPast true next later
-past_stays is_broken held next history later past same =
+pub past_stays : (forgotten is_broken : Bool) (held next : Held) (history later : History) → HasPast forgotten is_broken held history → later ≡ history
+    → HasPast forgotten true next later
+past_stays forgotten is_broken held next history later had same =
     record {
-      servers = past.servers;
-      clients = past.clients;
-      events = past.events;
-      opens = past.opens;
-      told = past.told ∙ sym same;
+      servers = had.servers;
+      clients = had.clients;
+      events = had.events;
+      past = had.past;
+      opens = had.opens;
+      whole = had.whole;
+      told = had.told ∙ ap (λ xs. had.past ++ xs) (sym same);
       stands = λ broken. absurd (true≢false broken);
     }
 
 -- the opening has a past without events
 pub past_begins : (held : Held) (history : History) (servers clients : ℕ) → is_server servers ≡ true → history ≡ []
-    → world_of held [] ≡ opening_world kept_tree servers clients → HasPast false held history
+    → world_of held [] ≡ opening_world kept_tree servers clients → HasPast false false held history
 past_begins held history servers clients opens none opening =
     record {
       servers = servers;
       clients = clients;
       events = [];
+      past = [];
       opens = opens;
+      whole = λ whole. refl;
       told = sym none;
       stands = λ _. subst (λ h. IsAlike (opening_world kept_tree servers clients) (world_of held h)) (sym none)
           (subst (IsAlike (opening_world kept_tree servers clients)) (sym opening) (alike_itself (opening_world kept_tree servers clients)));
     }
 
--- the history of a past is explained
-pub past_is_explained : (is_broken : Bool) (held : Held) (history : History) → HasPast is_broken held history → IsExplained history
-past_is_explained is_broken held history past = subst IsExplained past.told (every_history_is_explained past.servers past.clients past.events)
+-- a history that is forgotten is of the past
+pub past_is_longer : (forgotten is_broken : Bool) (held : Held) (history later : History) → HasPast forgotten is_broken held history → later ≡ []
+    → HasPast true is_broken held later
+past_is_longer forgotten is_broken held history later had none =
+    let all : had.past ++ history ≡ (had.past ++ history) ++ later = sym (append-nil (had.past ++ history)) ∙ ap (λ xs. (had.past ++ history) ++ xs) (sym none) in
+    record {
+      servers = had.servers;
+      clients = had.clients;
+      events = had.events;
+      past = had.past ++ history;
+      opens = had.opens;
+      whole = λ whole. absurd (true≢false whole);
+      told = had.told ∙ all;
+      stands = λ sound. subst (λ xs. IsAlike (world_after had.servers had.clients had.events) (world_of held xs)) all (had.stands sound);
+    }
+
+-- the past and the history are explained
+pub past_is_explained : (w : WorldView) → HasPast w.has_forgotten w.is_broken w.held w.history → IsExplainedWithPast w
+past_is_explained w had =
+    (had.past, had.whole, subst IsExplained had.told (every_history_is_explained had.servers had.clients had.events))
+
+-- where nothing was forgotten, the history is
+pub whole_is_explained : (w : WorldView) → HasPast w.has_forgotten w.is_broken w.held w.history → w.has_forgotten ≡ false → IsExplained w.history
+whole_is_explained w had whole =
+    subst (λ past. IsExplained (past ++ w.history)) (had.whole whole)
+    (subst IsExplained had.told (every_history_is_explained had.servers had.clients had.events))
 
 -- one more event
 pub lead_more : (v u w : World (KeptState Tree)) (events : List Event) (event : Event) (did : Did) → LeadRead v events u → HasHappened u event did w
@@ -157,34 +187,19 @@ has_begun_to_run v w events front back history leads cut same =
     let ran = has_run v w front leads in
     (front, back, cut, ran.0, ran.1, sym (same_history _ _ ran.2) ∙ sym same)
 
--- a call that was to begin is an event of the processes
-pub began : (old new : CourseView) (client : ℕ) (call : Call) (begun : Begun) → HasBegun old.held new.held client call begun
-    → new.history ≡ old.history ++ told_of client call begun → GoesBy old new (Begin client call) (did_of begun)
-began old new client call (begun.Number number) has after = (call_event.Begin client number call ∷ [], after, has)
-began old new client call (begun.Idle cause) has after = ([], after, has)
-
 -- the past after a call, where memory was refused or not
-pub past_after : {A : Type 0} (r : Result A Memory) (Goes : A → Type 0) (old new : CourseView) → HasPast false old.held old.history
-    → ((x : A) → Goes x → HasPast false new.held new.history) → IfOk r Goes → OnErr r (new.history ≡ old.history) → HasPast (is_err r) new.held new.history
-past_after (Ok x) Goes old new past goes_on goes stays = goes_on x goes
-past_after (Err memory) Goes old new past goes_on goes stays = past_stays false old.held new.held old.history new.history past stays
+pub past_after : {A : Type 0} (r : Result A Memory) (Goes : A → Type 0) (forgotten : Bool) (old new : Held) (before after : History)
+    → HasPast forgotten false old before → ((x : A) → Goes x → HasPast forgotten false new after) → IfOk r Goes → OnErr r (after ≡ before)
+    → HasPast forgotten (is_err r) new after
+past_after (Ok x) Goes forgotten old new before after had goes_on goes stays = goes_on x goes
+past_after (Err memory) Goes forgotten old new before after had goes_on goes stays = past_stays forgotten false old new before after had stays
 
 -- so after an event
-pub past_after_step : (r : Result Did Memory) (old new : CourseView) (event : Event) → HasPast false old.held old.history
-    → IfOk r (λ did. GoesBy old new event did) → OnErr r (new.history ≡ old.history) → HasPast (is_err r) new.held new.history
-past_after_step r old new event past goes stays =
-    past_after r (λ did. GoesBy old new event did) old new past (λ did goes. past_goes_on old new event did past goes) goes stays
-
--- a delivery of which all answers are told is an event of the processes
-pub told_by_taking : (old new : CourseView) (held : Held) (event : Event) (became : Did) (none answers : List Answer) → none ≡ []
-    → ((told : List Answer) × (answers ≡ none ++ told) × HasStepped old.held held event became (answer_events told))
-    → new.held ≡ held → new.history ≡ old.history ++ answer_events answers → GoesBy old new event became
-told_by_taking old new held event became none answers empty (told, all, stepped) same after =
-    let is : answers ≡ told = all ∙ ap (λ xs. xs ++ told) empty in (
-      answer_events told,
-      after ∙ ap (λ xs. old.history ++ answer_events xs) is,
-      subst (λ h. HasStepped old.held h event became (answer_events told)) (sym same) stepped,
-    )
+pub past_after_step : (r : Result Did Memory) (forgotten : Bool) (old new : Held) (before after : History) (event : Event) → HasPast forgotten false old before
+    → IfOk r (GoesBy old new event before after) → OnErr r (after ≡ before) → HasPast forgotten (is_err r) new after
+past_after_step r forgotten old new before after event had goes stays =
+    past_after r (GoesBy old new event before after) forgotten old new before after had
+    (λ did goes. past_goes_on forgotten old new before after event did had goes) goes stays
 
 acted_idle : (became : Did) → is_idle became ≡ true → outcome_of became ≡ Acted
 acted_idle (deed.Idle cause) idle = refl
@@ -202,65 +217,30 @@ tells_nothing held next event became told stepped off =
     same_history _ _ (stepped.leads []) ∙ ap (λ (x : World (KeptState Tree)). x.history) (ap (happens kept_tree w) reads ∙ happens_not w event off)
 
 -- an idle event leaves the processes and the history
-pub unchanged : (old new : CourseView) (event : Event) (became : Did) → GoesBy old new event became → is_idle became ≡ true
-    → (new.held ≡ old.held) × (new.history ≡ old.history)
-unchanged old new event became (told, after, stepped) idle =
-    let none = tells_nothing old.held new.held event became told stepped (not-true _ (sym stepped.idle ∙ idle)) in
-    (stepped.same idle, after ∙ ap (λ xs. old.history ++ xs) none ∙ append-nil old.history)
+unchanged : (old new : Held) (before after : History) (event : Event) (became : Did) → GoesBy old new event before after became → is_idle became ≡ true
+    → (new ≡ old) × (after ≡ before)
+unchanged old new before after event became (told, is, stepped) idle =
+    let none = tells_nothing old new event became told stepped (not-true _ (sym stepped.idle ∙ idle)) in
+    (stepped.same idle, is ∙ ap (λ xs. before ++ xs) none ∙ append-nil before)
   where
     not-true : (b : Bool) → not b ≡ true → b ≡ false
     not-true false is = refl
     not-true true is = absurd (true≢false (sym is))
 
--- a delivery that handed out answers was enabled
-pub answering_is_enabled : (held next : Held) (event : Event) (became : Did) (none answers : List Answer) → none ≡ []
-    → ((told : List Answer) × (answers ≡ none ++ told) × HasStepped held next event became (answer_events told))
-    → 0 < length answers → is_enabled (world_of held []) event ≡ true
-answering_is_enabled held next event became none answers empty (told, all, stepped) some = either _ refl
-  where
-    no-answers : (xs : List Answer) → answer_events xs ≡ [] → xs ≡ []
-    no-answers [] is = refl
-    no-answers (x ∷ xs) is = absurd (let never : ⊥ = cc in never)
-
-    either : (b : Bool) → is_enabled (world_of held []) event ≡ b → is_enabled (world_of held []) event ≡ true
-    either true is = is
-    either false off =
-        let nothing : told ≡ [] = no-answers told (tells_nothing held next event became (answer_events told) stepped off) in
-        let is : answers ≡ [] = all ∙ ap (λ xs. xs ++ told) empty ∙ nothing in
-        let never : 0 < 0 = subst (λ (xs : List Answer). 0 < length xs) is some in
-        absurd (let no : ⊥ = grind (arith, never) in no)
-
--- a world of processes, with their history
-abbrev pub the_world : CourseView → Bool → WorldView
-the_world course broken = record { held = course.held; history = course.history; is_broken = broken }
-
--- so an idle event leaves the world
-pub same_world : (r : Result Did Memory) (old new : CourseView) (event : Event) (is_broken : Bool) → is_broken ≡ is_err r
-    → IfOk r (λ did. GoesBy old new event did)
-    → IfOk r (λ did. is_idle did ≡ true → the_world new is_broken ≡ the_world old false)
-same_world (Ok did) old new event is_broken is goes =
-    λ idle. let same = unchanged old new event did goes idle in rw (same.0, same.1, is) refl
-same_world (Err memory) old new event is_broken is goes = tt
-
--- a call that was to begin, where it is told of
-pub begun_is_told : (r : Result Begun Memory) (old new : CourseView) (client : ℕ) (call told : Call) (became : Did) → told ≡ call
-    → IfOk r (λ begun. HasBegun old.held new.held client call begun) → IsOk r
-    → IfOk r (λ begun. (became ≡ did_of begun) × (new.history ≡ old.history ++ told_of client told begun))
-    → GoesBy old new (Begin client call) became
-begun_is_told (Ok begun) old new client call told became same has ok after =
-    subst (λ d. GoesBy old new (Begin client call) d) (sym after.0)
-    (began old new client call begun has (after.1 ∙ ap (λ t. old.history ++ told_of client t begun) same))
-begun_is_told (Err memory) old new client call told became same has ok after = absurd (true≢false (sym ok))
+-- so it leaves the world
+pub same_world : (r : Result Did Memory) (old new : Held) (before after : History) (event : Event) (forgotten is_broken : Bool) → is_broken ≡ is_err r
+    → IfOk r (GoesBy old new event before after)
+    → IfOk r (λ did. is_idle did ≡ true
+    → ◌≡◌ {A = WorldView} (record { held = new; history = after; has_forgotten = forgotten; is_broken = is_broken })
+    (record { held = old; history = before; has_forgotten = forgotten; is_broken = false }))
+same_world (Ok did) old new before after event forgotten is_broken is goes =
+    λ idle. let same = unchanged old new before after event did goes idle in rw (same.0, same.1, is) refl
+same_world (Err memory) old new before after event forgotten is_broken is goes = tt
 
 -- what holds in any case holds where a call was refused
 pub on_err : {A E : Type 0} {Q : Type 0} (r : Result A E) → Q → OnErr r Q
 on_err (Ok x) q = tt
 on_err (Err e) q = q
-
--- what holds where a call answered holds where it wasn't refused
-pub on_ok : {A E : Type 0} {Q : Type 0} (r : Result A E) → OnOk r Q → is_err r ≡ false → Q
-on_ok (Ok x) q is = q
-on_ok (Err e) q is = absurd (true≢false is)
 
 -- whether an event can want memory doesn't hang on the history
 can_anyway : (held : Held) (history : History) (event : Event) → can_want_memory (world_of held history) event ≡ can_want_memory (world_of held []) event

@@ -1,5 +1,16 @@
-mod Records
+pub mod Alike
+pub mod Posting
+pub mod Steps
+pub mod CallSteps
+pub mod FailureSteps
+pub mod DeliverySteps
+pub mod GivenSteps
+pub mod FrontSteps
+pub mod OpeningViews
+pub mod Results
+pub mod TakeSteps
+pub mod Tries
+pub mod Skips
+pub mod Passes
 pub mod Going
 pub mod Settled
-pub mod Complete
-mod Heads

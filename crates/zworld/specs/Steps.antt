@@ -15,21 +15,29 @@ use Rattle.zworld_model.specs.History.{History}
 use Rattle.zworld_model.specs.World.{World}
 use Rattle.zworld_model.specs.Events.{is_enabled, happens, run}
 use Rattle.zworld_model.specs.Reading.{read, is_fitting, IsReading}
-use Rattle.zworld_model.specs.Settle.{settle, settling_end}
+use Rattle.zworld_model.specs.Settle.{Settling, settle, settling_end}
 use Rattle.zworld_model.specs.Alike.{IsAlike}
-use Rattle.zprocesses.specs.declared.did.Did.{Did}
-use Rattle.zprocesses.specs.Held.{Held, world_of}
-use Rattle.zprocesses.specs.Steps.{is_idle, outcome_of}
+use Rattle.zworld_model.specs.PlainTree.{IsExplained}
+use Rattle.zworld.specs.declared.did.Did.{Did}
+use Rattle.zworld.specs.Held.{Held, world_of}
+use Rattle.zworld.specs.Did.{is_idle, outcome_of}
 
--- a world: all processes, what callers saw, and whether memory was ever refused: then nothing is promised of the processes
+-- a world: all processes, what callers saw, whether a past was forgotten before that, and whether memory was ever refused:
+-- then nothing is promised of the processes
 pub record WorldView : Type 0 where
   pub held : Held
   pub history : History
+  pub has_forgotten : Bool
   pub is_broken : Bool
 
 -- the world of the definition that it stands for
 abbrev pub world_in : WorldView → World (KeptState Tree)
 world_in w = world_of w.held w.history
+
+-- the plain tree explains all that callers saw: a past that was forgotten, and then the history. Where nothing was forgotten
+-- there is no past
+abbrev pub IsExplainedWithPast : WorldView → Type 0
+IsExplainedWithPast w = (past : History) × (w.has_forgotten ≡ false → past ≡ []) × IsExplained (past ++ w.history)
 
 -- an event led from one world to another
 pub record HasHappened (v : World (KeptState Tree)) (event : Event) (did : Did) (w : World (KeptState Tree)) : Type 0 where
@@ -56,12 +64,15 @@ HasBegunToRun v events history =
     (front back : List Event) × (events ≡ front ++ back)
     × (readings : List Event) × IsReading kept_tree v front readings × ((run kept_tree v readings).history ≡ history)
 
+-- a settling ended so, took all outcomes but these, and led to this world
+abbrev pub Ends : Settling (KeptState Tree) → Settled → List Outcome → World (KeptState Tree) → Type 0
+Ends did settled later w = (settled ≡ settling_end did) × (did.outcomes ≡ later) × IsAlike did.world w
+
 -- settling led from one world to another, and ended so: it is that of the definition, by some outcomes of its events, all
--- of which it took
+-- of which it took, and none of those that would come later
 abbrev pub HasSettled : World (KeptState Tree) → ℕ → Settled → World (KeptState Tree) → Type 0
 HasSettled v limit settled w =
-    (outcomes : List Outcome) × (settled ≡ settling_end (settle kept_tree v limit outcomes))
-    × ((settle kept_tree v limit outcomes).outcomes ≡ []) × IsAlike (settle kept_tree v limit outcomes).world w
+    (outcomes : List Outcome) × ((later : List Outcome) → Ends (settle kept_tree v limit (outcomes ++ later)) settled later w)
 
 -- no message can be taken from any link
 abbrev pub IsAtRest : World (KeptState Tree) → Type 0

@@ -1,5 +1,8 @@
-pub mod Course
 pub mod Codes
+pub mod Members
+pub mod Posting
+pub mod Fronts
+pub mod Opening
+pub mod Settling
+pub mod Stepped
 pub mod Past
-pub mod Verdict
-pub mod Heads

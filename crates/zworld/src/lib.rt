@@ -5,10 +5,17 @@
 //! explains the history: that is the promise of the whole chain, and a clause of `World`'s calls.
 #![tactic(auto)]
 
-mod answered;
-mod auditing;
-mod course;
+mod calls;
+mod deliveries;
+mod did;
+mod failures;
+mod life;
+mod member;
+mod opening;
+mod post;
+mod processes;
+mod settling;
 mod world;
 
-pub use auditing::{AuditFault, audit};
+pub use did::{Did, IdleCause};
 pub use world::World;

@@ -1,53 +1,56 @@
 //! The world.
 
-ghost use Rattle.std.specs.Prelude.{◌≡◌, ◌≤◌, true, false, IfOk, IsErr, OnErr, OnOk};
+ghost use Rattle.std.specs.Prelude.{◌≡◌, ◌≤◌, [], true, false, IfOk, IsErr, OnErr, OnOk};
 ghost use Rattle.ztree.specs.declared.limits.TheConstants.{MAX_CLIENTS};
 ghost use Rattle.zserver_table.specs.Machine.{kept_tree};
 ghost use Rattle.zworld_model.specs.PlainTree.{IsExplained};
 ghost use Rattle.zworld_model.specs.World.{opening_world};
 ghost use Rattle.zworld_model.specs.declared.settled.Settled.TheVariants.{Quiet};
-ghost use Rattle.zprocesses.specs.declared.did.Did.TheVariants.{Idle};
-ghost use Rattle.zprocesses.specs.declared.did.IdleCause.{IdleCause};
-ghost use Rattle.zprocesses.specs.Steps.{IsCause, is_idle};
+ghost use Rattle.zworld.specs.declared.did.Did.TheVariants.{Idle};
+ghost use Rattle.zworld.specs.declared.did.IdleCause.{IdleCause};
+ghost use Rattle.zworld.specs.Did.{IsCause, is_idle};
 ghost use Rattle.zworld.specs.Steps.{HasBegunToRun, HasHappened, HasRun, HasSettled, IsAtRest};
-ghost use Rattle.zworld.specs.Steps.{can_want_memory, world_in};
+ghost use Rattle.zworld.specs.Steps.{IsExplainedWithPast, can_want_memory, world_in};
 
-use crate::course::Course;
+use crate::did::Did;
+use crate::processes::Processes;
 use std::alloc::Global;
 use std::marker::Model;
 use zpath::Memory;
-use zprocesses::Did;
 use zserver_table::ServerId;
 use zworld_model::{CallEvent, Event, Settled};
 
 /// All processes with their links, and the history of what callers saw. After it met want of memory it answers
 /// `Memory` for good, and its history stays; but where a server finds none, that server stops, or doesn't hear a
 /// query.
+///
+/// The history grows by each call that begins or is answered. A program that has told it may let the world forget it:
+/// what is told later goes on from there.
 #[derive(Drop)]
 pub struct World {
-    course: Course,
+    processes: Processes,
+    history: Vec<CallEvent>,
+    has_forgotten: bool,
     is_broken: bool,
 }
 
 impl Model for World {
     ghost use Rattle.zworld.specs.Steps.{WorldView};
     ghost use Rattle.zworld.specs.support.Codes.{coded_world};
+    ghost use Rattle.zworld.specs.support.Past.{HasPast};
 
     ghost Value = { WorldView };
 
     ghost coded = { coded_world };
 
-    ghost use Rattle.std.specs.Prelude.{◌≡◌, false};
-    ghost use Rattle.zworld.specs.support.Past.{HasPast};
-
     ghost view = { λ w. record {
-      held = w.course.held;
-      history = w.course.history;
+      held = w.processes;
+      history = w.history.items;
+      has_forgotten = w.has_forgotten;
       is_broken = w.is_broken;
     } };
 
-    ghost invariant = { λ w. HasPast w.is_broken w.course.held w.course.history
-        × (w.is_broken ≡ false → w.course.is_broken ≡ false) };
+    ghost invariant = { λ w. HasPast w.has_forgotten w.is_broken w.processes w.history.items };
 }
 
 impl World {
@@ -56,30 +59,50 @@ impl World {
     pub fn new(alloc: Global, last: ServerId, clients: u8) -> Result<World, Memory>
         requires { clients ≤ MAX_CLIENTS }
         ensures world { IfOk result (λ w. world_in w ≡ opening_world kept_tree last clients) }
+        ensures whole { IfOk result (λ w. w.has_forgotten ≡ false) }
         ensures sound { IfOk result (λ w. w.is_broken ≡ false) }
     {
+        // (the number of a server is one of a chain, which the invariant asks for)
         let _ = last.number();
         Ok(World {
-            course: Course::new(alloc, last, clients)?,
+            processes: Processes::new(alloc, last, clients)?,
+            history: Vec::new(alloc),
+            has_forgotten: false,
             is_broken: false,
         })
+    }
+
+    /// The allocator that it was made with.
+    pub fn allocator(&self) -> Global {
+        self.processes.alloc
     }
 
     /// What callers saw: calls that began and answers that were taken, in the order of the events. After `Memory`
     /// it is that of the events before.
     pub fn history(&self) -> &[CallEvent]
         ensures history { result.now ≡ self.now.history }
-        ensures explained { IsExplained result.now }
+        ensures explained { IsExplainedWithPast self.now }
+        ensures whole { self.now.has_forgotten ≡ false → IsExplained result.now }
     {
-        self.course.history()
+        &self.history
     }
 
     /// Its history, handed out for good.
     pub fn into_history(self) -> Vec<CallEvent>
         ensures history { result.items ≡ self.history }
-        ensures explained { IsExplained result.items }
+        ensures explained { IsExplainedWithPast self }
+        ensures whole { self.has_forgotten ≡ false → IsExplained result.items }
     {
-        self.course.into_history()
+        let World { history, .. } = self;
+        history
+    }
+
+    /// Forgets what callers saw, which is of the past from now on.
+    pub fn forget(&mut self)
+        ensures { self.new ≡ record self.old { history = []; has_forgotten = true } }
+    {
+        self.history.clear();
+        self.has_forgotten = true;
     }
 
     /// Does one event, and says what became of it. Want of memory is met, for the first time, only at an event that is
@@ -90,7 +113,8 @@ impl World {
         ensures same { IfOk result (λ did. is_idle did ≡ true → self.new ≡ self.old) }
         ensures cause { IfOk result (λ did. (why : IdleCause) → did ≡ Idle why
             → IsCause self.old.held event why) }
-        ensures explained { IsExplained self.new.history }
+        ensures explained { IsExplainedWithPast self.new }
+        ensures past { self.new.has_forgotten ≡ self.old.has_forgotten }
         ensures history { OnErr result (self.new.history ≡ self.old.history) }
         ensures sound { OnOk result ((self.old.is_broken ≡ false) × (self.new.is_broken ≡ false)) }
         ensures broken { OnErr result (self.new.is_broken ≡ true) }
@@ -102,7 +126,7 @@ impl World {
             drop(event);
             return Err(Memory);
         }
-        let did = self.course.step(event);
+        let did = self.processes.step(event, &mut self.history);
         self.is_broken = did.is_err();
         did
     }
@@ -111,7 +135,8 @@ impl World {
     /// met it.
     pub fn run(&mut self, events: Vec<Event>) -> Result<(), Memory>
         ensures ran { OnOk result (HasRun (world_in self.old) events.items (world_in self.new)) }
-        ensures explained { IsExplained self.new.history }
+        ensures explained { IsExplainedWithPast self.new }
+        ensures past { self.new.has_forgotten ≡ self.old.has_forgotten }
         ensures kept { OnErr result
             (HasBegunToRun (world_in self.old) events.items self.new.history) }
         ensures sound { OnOk result ((self.old.is_broken ≡ false) × (self.new.is_broken ≡ false)) }
@@ -134,7 +159,8 @@ impl World {
         ensures settled { IfOk result (λ settled.
             HasSettled (world_in self.old) limit settled (world_in self.new)) }
         ensures quiet { IfOk result (λ settled. settled ≡ Quiet → IsAtRest (world_in self.new)) }
-        ensures explained { IsExplained self.new.history }
+        ensures explained { IsExplainedWithPast self.new }
+        ensures past { self.new.has_forgotten ≡ self.old.has_forgotten }
         ensures history { OnErr result (self.new.history ≡ self.old.history) }
         ensures sound { OnOk result ((self.old.is_broken ≡ false) × (self.new.is_broken ≡ false)) }
         ensures broken { OnErr result (self.new.is_broken ≡ true) }
@@ -143,8 +169,14 @@ impl World {
         if self.is_broken {
             return Err(Memory);
         }
-        let settled = self.course.settle(limit);
-        self.is_broken = settled.is_err();
-        settled
+        let told = self.history.len();
+        match self.processes.settle(limit, &mut self.history) {
+            Ok(settled) => Ok(settled),
+            Err(memory) => {
+                self.history.truncate(told);
+                self.is_broken = true;
+                Err(memory)
+            }
+        }
     }
 }

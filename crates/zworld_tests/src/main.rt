@@ -6,6 +6,8 @@
 mod asking;
 mod base;
 mod drill;
+#[cfg(test)]
+mod scenarios;
 mod trouble;
 
 use base::{Base, joining, owing, repaired};

@@ -1,7 +1,7 @@
 -- Lines as a player meets them: a line that has begun is carried on from block to block.
 use Rattle.std.specs.Prelude.{◌≡◌, ℕ, false, List, [], ◌∷◌, ◌++◌, ◌==◌, if◌then◌else◌}
 use Rattle.zworld_model.specs.declared.outcome.Outcome.{Outcome}
-use Rattle.zanswers.specs.Line.{ServiceWorld, ScriptState, script_state, after, answers}
+use Rattle.zscript.specs.Line.{ServiceWorld, ScriptState, script_state, after, answers}
 
 -- The lines that end within some bytes, each without its LF, where a line has begun before them.
 abbrev pub whole_lines_after : List ℕ → List ℕ → List (List ℕ)

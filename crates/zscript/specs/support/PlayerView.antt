@@ -2,27 +2,27 @@
 use Rattle.std.specs.Prelude.{◌≡◌, ℕ, List, [], ◌++◌, take}
 use Rattle.std.specs.Coded.{Coded, code_by, coded×, coded_ℕ, coded_list}
 use Rattle.std.proofs.Common.{refl}
-use Rattle.zprocesses.specs.Held.{Held}
-use Rattle.zprocesses.specs.support.Codes.{coded_held}
-use Rattle.zanswers.specs.Line.{ServiceWorld}
-use Rattle.zanswers.specs.Done.{world_between}
+use Rattle.zworld.specs.Held.{Held}
+use Rattle.zworld.specs.support.Codes.{coded_held}
+use Rattle.zscript.specs.Line.{ServiceWorld}
+use Rattle.zscript.specs.Done.{world_between}
 use Rattle.zscript.specs.declared.limits.TheConstants.{KEPT}
 
--- What its chain holds, what is kept of the line that has begun, and the replies that were not written yet.
+-- What its world holds, what is kept of the line that has begun, and the replies that were not written yet.
 pub record PlayerView : Type 0 where
-  pub chain : Held
+  pub world : Held
   pub line : List ℕ
   pub held : List ℕ
 
 -- How it is stored.
 abbrev pub coded_player_view : Coded PlayerView
 coded_player_view = code_by (Held × (List ℕ × List ℕ)) (coded× coded_held (coded× (coded_list coded_ℕ) (coded_list coded_ℕ)))
-    (λ p. (p.chain, (p.line, p.held)))
-    (λ q. record { chain = q.0; line = q.1.0; held = q.1.1 }) (λ _. refl)
+    (λ p. (p.world, (p.line, p.held)))
+    (λ q. record { world = q.0; line = q.1.0; held = q.1.1 }) (λ _. refl)
 
 -- The world that it stands for, between two lines.
 abbrev pub world_now : PlayerView → ServiceWorld
-world_now p = world_between p.chain
+world_now p = world_between p.world
 
 -- A player that has heard nothing yet, or keeps nothing of what it has heard.
 abbrev pub IsFresh : PlayerView → Type 0

@@ -1,7 +1,7 @@
 -- A player's own faults: within one block of bytes, and within one line.
 use Rattle.std.specs.Prelude.{ℕ, ◌<◌, List, [], ◌++◌, length}
-use Rattle.zanswers.specs.Line.{ServiceWorld}
-use Rattle.zanswers.specs.Done.{IsLineDone}
+use Rattle.zscript.specs.Line.{ServiceWorld}
+use Rattle.zscript.specs.Done.{IsLineDone}
 use Rattle.zdevices.specs.Device.{SinkRun, Failed, TookBeginning}
 use Rattle.zscript.specs.Outcome.{IsStopped}
 use Rattle.zscript.specs.support.Lines.{whole_lines_after, last_line, lines_after}

@@ -1,21 +1,37 @@
--- How what a world stands for is stored, by the codes of its parts: a proof tells worlds apart by them.
-use Rattle.std.specs.Prelude.{Bool, refl}
-use Rattle.std.specs.Coded.{Coded, code_by, coded×, coded_bool, coded_list}
+-- How what is held, and a world, are stored, by the codes of their parts: a proof tells worlds apart by them.
+use Rattle.std.specs.Prelude.{Bool, Option, List, refl}
+use Rattle.std.specs.Coded.{Coded, code_by, coded×, coded_bool, coded_list, coded_option}
+use Rattle.ztree.specs.Tree.{Tree}
+use Rattle.zcalls.specs.Kept.{KeptState}
+use Rattle.zserver_table.specs.View.{MessageOf}
+use Rattle.zclient_table.specs.View.{ClientView}
+use Rattle.zmaster_table.specs.View.{MasterView}
+use Rattle.zclient.specs.contracts.client_core.ClientCore as client
+use Rattle.zmaster.specs.contracts.master.Master as master
+use Rattle.zlinks.specs.contracts.links.Links as links
+use Rattle.zserver.specs.contracts.snapshot.Snapshot as snapshot
+use Rattle.zserver.specs.support.Codes.{coded_view}
+use Rattle.zserver.specs.Server.{TreeView}
 use Rattle.zworld_model.specs.contracts.history.CallEvent as call_event
 use Rattle.zworld_model.specs.History.{History}
-use Rattle.zprocesses.specs.Held.{Held}
-use Rattle.zprocesses.specs.support.Codes.{coded_held}
-use Rattle.zworld.specs.support.Course.{CourseView}
+use Rattle.zworld.specs.Held.{MemberView, Held}
 use Rattle.zworld.specs.Steps.{WorldView}
 
--- how the processes with their history are stored
-abbrev pub coded_course : Coded CourseView
-coded_course =
-    code_by (Held × (Bool × History)) (coded× coded_held (coded× coded_bool (coded_list call_event.the_row.coded)))
-    (λ c. (c.held, (c.is_broken, c.history))) (λ p. record { held = p.0; is_broken = p.1.0; history = p.1.1 }) (λ _. refl)
+-- how a member is stored
+abbrev pub coded_member : Coded MemberView
+coded_member = code_by (Option TreeView × Bool) (coded× (coded_option coded_view) coded_bool) (λ m. (m.view, m.owes_gone)) (λ p. record { view = p.0; owes_gone = p.1 }) (λ _. refl)
+
+-- how what is held is stored
+abbrev pub coded_held : Coded Held
+coded_held =
+    code_by (List MemberView × (List ClientView × (MasterView × List (List (List (MessageOf (KeptState Tree)))))))
+    (coded× (coded_list coded_member) (coded× (coded_list client.the_row.coded) (coded× master.the_row.coded (links.the_row snapshot.the_row).coded)))
+    (λ h. (h.members, (h.clients, (h.master, h.links))))
+    (λ p. record { members = p.0; clients = p.1.0; master = p.1.1.0; links = p.1.1.1 }) (λ _. refl)
 
 -- how a world is stored
 abbrev pub coded_world : Coded WorldView
 coded_world =
-    code_by (Held × (History × Bool)) (coded× coded_held (coded× (coded_list call_event.the_row.coded) coded_bool))
-    (λ w. (w.held, (w.history, w.is_broken))) (λ p. record { held = p.0; history = p.1.0; is_broken = p.1.1 }) (λ _. refl)
+    code_by (Held × (History × (Bool × Bool))) (coded× coded_held (coded× (coded_list call_event.the_row.coded) (coded× coded_bool coded_bool)))
+    (λ w. (w.held, (w.history, (w.has_forgotten, w.is_broken))))
+    (λ p. record { held = p.0; history = p.1.0; has_forgotten = p.1.1.0; is_broken = p.1.1.1 }) (λ _. refl)

@@ -1,5 +1,5 @@
 -- What a world keeps of its past, and runs one event after the other.
-use Rattle.std.specs.Prelude.{◌≡◌, ℕ, Bool, true, false, List, [], ◌∷◌}
+use Rattle.std.specs.Prelude.{◌≡◌, ℕ, Bool, true, false, List, [], ◌∷◌, ◌++◌}
 use Rattle.ztree.specs.Tree.{Tree}
 use Rattle.zcalls.specs.Kept.{KeptState}
 use Rattle.zserver_table.specs.Machine.{kept_tree}
@@ -11,16 +11,19 @@ use Rattle.zworld_model.specs.Events.{is_server, happens}
 use Rattle.zworld_model.specs.Reading.{read}
 use Rattle.zworld_model.specs.Alike.{IsAlike}
 use Rattle.zworld_model.specs.Laws.{world_after}
-use Rattle.zprocesses.specs.Held.{Held, world_of}
+use Rattle.zworld.specs.Held.{Held, world_of}
 
--- there is a run from an opening that tells this history; unless memory was refused, the processes stand where it ends
-pub record HasPast (is_broken : Bool) (held : Held) (history : History) : Type 0 where
+-- there is a run from an opening that tells a past, and then this history; where nothing was forgotten there is no past.
+-- Unless memory was refused, the processes stand where the run ends
+pub record HasPast (has_forgotten is_broken : Bool) (held : Held) (history : History) : Type 0 where
   pub servers : ℕ
   pub clients : ℕ
   pub events : List Event
+  pub past : History
   pub opens : is_server servers ≡ true
-  pub told : (world_after servers clients events).history ≡ history
-  pub stands : is_broken ≡ false → IsAlike (world_after servers clients events) (world_of held history)
+  pub whole : has_forgotten ≡ false → past ≡ []
+  pub told : (world_after servers clients events).history ≡ past ++ history
+  pub stands : is_broken ≡ false → IsAlike (world_after servers clients events) (world_of held (past ++ history))
 
 -- the events lead from one world to another one after the other, each read by some outcome
 abbrev pub LeadRead : World (KeptState Tree) → List Event → World (KeptState Tree) → Type 0

@@ -1,12 +1,17 @@
-use Rattle.std.proofs.Common.{subst, sym, ap, ◌∙◌}
-use Rattle.zworld_model.specs.PlainTree.{IsExplained}
-use Rattle.zworld.specs.Steps.{WorldView}
-use Rattle.zworld.proofs.Going.{past_is_explained}
+use Rattle.std.proofs.Common.{subst, ap, ◌∙◌}
+use Rattle.zworld.specs.Steps.{WorldView, IsExplainedWithPast}
+use Rattle.zworld.proofs.Going.{past_is_explained, whole_is_explained}
 use Rattle.zworld.proofs.world.World.into_history.Goals as goal
 
 pub returns-clause-explained : goal.returns-clause-explained
-returns-clause-explained c =
-    subst IsExplained (sym c.into_history.ensures) (past_is_explained c.self.inside.is_broken c.self.inside.course.held c.self.inside.course.history c.self.invariant.0)
+returns-clause-explained c = subst IsExplainedWithPast c.self.view_is (past_is_explained _ c.self.invariant)
 
-pub returns-clause-history : goal.returns-clause-history
-returns-clause-history c = c.into_history.ensures ∙ ap (λ (v : WorldView). v.history) c.self.view_is
+pub returns-clause-whole : goal.returns-clause-whole
+returns-clause-whole c whole =
+    let w : WorldView = record {
+      held = c.self.inside.processes;
+      history = c.self.inside.history.items;
+      has_forgotten = c.self.inside.has_forgotten;
+      is_broken = c.self.inside.is_broken;
+    } in
+    whole_is_explained w c.self.invariant (ap (λ (v : WorldView). v.has_forgotten) c.self.view_is ∙ whole)

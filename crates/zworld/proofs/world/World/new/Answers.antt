@@ -4,19 +4,18 @@ use Rattle.zserver_table.specs.declared.limits.TheConstants.{MAX_SERVERS}
 use Rattle.zserver_table.specs.Machine.{kept_tree}
 use Rattle.zworld_model.specs.World.{opening_world}
 use Rattle.zworld_model.specs.Events.{is_server}
-use Rattle.zprocesses.specs.Held.{world_of}
+use Rattle.zworld.specs.Held.{world_of}
 use Rattle.zworld.proofs.Going.{past_begins}
 use Rattle.zworld.proofs.world.World.new.Goals as goal
 
 pub invariant_of-result : goal.invariant_of-result
 invariant_of-result c =
-    let course = c.in_ok-new.field-0 in
     let same = c.number.ensures.same in
     let some = subst (λ n. 0 < n) same c.number.ensures.some in
     let few = subst (λ n. n ≤ MAX_SERVERS) same c.number.ensures.small in
     let opens : is_server c.args.last ≡ true = grind (arith, nat_tests, some, few) in
-    (past_begins course.held course.history c.args.last c.args.clients opens c.in_ok-new.ensures.history c.in_ok-new.ensures.opening, λ whole. c.in_ok-new.ensures.sound)
+    past_begins c.in_ok-new.field-0 c.new-2.result.items c.args.last c.args.clients opens c.new-2.ensures.items c.in_ok-new.ensures
 
 pub returns-clause-world : goal.returns-clause-world
 returns-clause-world c =
-    subst (λ h. world_of c.in_ok-new.field-0.held h ≡ opening_world kept_tree c.args.last c.args.clients) (sym c.in_ok-new.ensures.history) c.in_ok-new.ensures.opening
+    subst (λ h. world_of c.in_ok-new.field-0 h ≡ opening_world kept_tree c.args.last c.args.clients) (sym c.new-2.ensures.items) c.in_ok-new.ensures

@@ -1,15 +1,13 @@
-use Rattle.std.proofs.Common.{subst, sym, ap, ◌∙◌, [], ◌∷◌, ◌++◌, ◌≡◌, append_assoc, false}
+use Rattle.std.proofs.Common.{subst, sym, ap, ◌∙◌, [], ◌∷◌, ◌++◌, ◌≡◌, append_assoc, false, refl}
 use Rattle.std.proofs.lemmas.List.{append-nil, nil_from_length}
-use Rattle.zworld_model.specs.PlainTree.{IsExplained}
 use Rattle.zworld_model.proofs.Alike.{alike_itself}
-use Rattle.zworld.specs.Steps.{WorldView, HasRun, world_in}
+use Rattle.zworld.specs.Steps.{WorldView, IsExplainedWithPast, HasRun, world_in}
 use Rattle.zworld.proofs.Going.{past_is_explained, lead_more, has_run, has_begun_to_run, on_err}
 use Rattle.zworld.proofs.world.World.run.Goals as goal
 
 pub returns-then-self-clause-explained : goal.returns-then-self-clause-explained
 returns-then-self-clause-explained c =
-    subst (λ (v : WorldView). IsExplained v.history) c.self.view_is
-    (past_is_explained c.self.inside.is_broken c.self.inside.course.held c.self.inside.course.history c.self.invariant.0)
+    subst IsExplainedWithPast c.self.view_is (past_is_explained _ c.self.invariant)
 
 pub loop-event-init : goal.loop-event-init
 loop-event-init c = (
@@ -17,8 +15,8 @@ loop-event-init c = (
   sym c.into_iter-event-iterator.ensures.into_iter_gives.0,
   alike_itself (world_in c.args.self.now),
   subst (λ (v : WorldView). v.is_broken ≡ false) c.self.view_is c.if-self.false,
-  subst (λ (v : WorldView). IsExplained v.history) c.self.view_is
-      (past_is_explained c.self.inside.is_broken c.self.inside.course.held c.self.inside.course.history c.self.invariant.0),
+  subst IsExplainedWithPast c.self.view_is (past_is_explained _ c.self.invariant),
+  refl,
 )
 
 pub loop-event-preserved : goal.loop-event-preserved
@@ -31,6 +29,7 @@ loop-event-preserved c =
       lead_more (world_in c.args.self.now) (world_in c.loop-event.self) (world_in c.step.new.self) here.0 event c.in_ok-step.field-0 here.2 c.in_ok-step.ensures.happened,
       c.in_ok-step.ensures.sound.1,
       c.step.ensures.explained,
+      c.step.ensures.past ∙ here.5,
     )
 
 pub returns-in_err-step-clause-explained : goal.returns-in_err-step-clause-explained

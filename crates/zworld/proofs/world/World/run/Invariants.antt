@@ -1,11 +1,10 @@
 use Rattle.std.proofs.Common.{◌≡◌, ◌++◌, List, false}
 use Rattle.zworld_model.specs.declared.event.Event.{Event}
-use Rattle.zworld_model.specs.PlainTree.{IsExplained}
-use Rattle.zworld.specs.Steps.{world_in}
+use Rattle.zworld.specs.Steps.{IsExplainedWithPast, world_in}
 use Rattle.zworld.specs.support.Past.{LeadRead}
 use Rattle.zworld.proofs.world.World.run.Given as goal
 
 abbrev pub invariant-loop-event : goal.invariant-loop-event
 invariant-loop-event l =
     (front : List Event) × (l.fn.events.items ≡ front ++ l.event-iterator.rest.items) × LeadRead (world_in l.initial.self) front (world_in l.self)
-    × (l.self.is_broken ≡ false) × IsExplained l.self.history
+    × (l.self.is_broken ≡ false) × IsExplainedWithPast l.self × (l.self.has_forgotten ≡ l.initial.self.has_forgotten)

@@ -1,49 +1,51 @@
-use Rattle.std.proofs.Common.{sym, subst, ◌∙◌}
-use Rattle.std.specs.Prelude.{IfOk}
-use Rattle.std.proofs.lemmas.Result.{IfOk-weaker}
-use Rattle.zworld_model.specs.PlainTree.{IsExplained}
-use Rattle.zprocesses.specs.Held.{world_of}
-use Rattle.zworld.specs.Steps.{WorldView, HasSettled, world_in}
-use Rattle.zworld.specs.support.Course.{SettlesBy}
+use Rattle.std.proofs.Common.{◌≡◌, false, true, length, take, ap, sym, subst, ◌∙◌, arith}
+use Rattle.std.proofs.Math.Seq.{take-append_seam}
+use Rattle.zworld_model.specs.declared.settled.Settled.TheVariants.{Quiet}
+use Rattle.zworld.specs.Held.{world_of}
+use Rattle.zworld.specs.Steps.{WorldView, IsExplainedWithPast, HasSettled, world_in}
+use Rattle.zworld.specs.support.Stepped.{Settles}
 use Rattle.zworld.specs.support.Past.{HasPast}
-use Rattle.zworld.proofs.Going.{past_is_explained, on_ok}
-use Rattle.zworld.proofs.Settled.{past_after_settling, settled_as_defined, quiet_result}
+use Rattle.zworld.proofs.Going.{past_is_explained, past_stays}
+use Rattle.zworld.proofs.Settled.{past_settles, settled_as_defined, quiet_is_rest}
 use Rattle.zworld.proofs.world.World.settle.Goals as goal
+
+pub returns-in-Ok-clause-settled : goal.returns-in-Ok-clause-settled
+returns-in-Ok-clause-settled c =
+    let old = c.self.inside in
+    subst (λ (v : WorldView). HasSettled (world_in v) c.args.limit c.in-Ok.settled (world_of c.settle.new.self c.settle.new.seen.items)) c.self.view_is
+    (settled_as_defined old.processes c.settle.new.self c.args.limit old.history.items c.settle.new.seen.items c.in-Ok.settled c.in-Ok.ensures.settled)
+
+pub returns-in-Ok-clause-quiet : goal.returns-in-Ok-clause-quiet
+returns-in-Ok-clause-quiet c quiet =
+    let old = c.self.inside in
+    let had = subst (λ b. HasPast old.has_forgotten b old.processes old.history.items) c.if-self.false c.self.invariant in
+    quiet_is_rest old.has_forgotten old.processes c.settle.new.self c.args.limit old.history.items c.settle.new.seen.items had
+    (subst (Settles old.processes c.settle.new.self c.args.limit old.history.items c.settle.new.seen.items) quiet c.in-Ok.ensures.settled)
+
+pub returns-then-self-clause-explained : goal.returns-then-self-clause-explained
+returns-then-self-clause-explained c = subst IsExplainedWithPast c.self.view_is (past_is_explained _ c.self.invariant)
 
 pub invariant_of-self : goal.invariant_of-self
 invariant_of-self c =
-    let old = c.self.inside.course in
-    let new = c.settle-settled.new.self in
-    let past = subst (λ b. HasPast b old.held old.history) c.if-self.false c.self.invariant.0 in (
-      subst (λ b. HasPast b new.held new.history) (sym c.is_err-self-inside.ensures.value)
-          (past_after_settling c.settle-settled.result old new c.args.limit past c.settle-settled.ensures.settles c.settle-settled.ensures.stays),
-      λ whole. on_ok c.settle-settled.result c.settle-settled.ensures.sound (sym c.is_err-self-inside.ensures.value ∙ whole),
-    )
+    let old = c.self.inside in
+    let had = subst (λ b. HasPast old.has_forgotten b old.processes old.history.items) c.if-self.false c.self.invariant in
+    subst (λ b. HasPast old.has_forgotten b c.settle.new.self c.settle.new.seen.items) (sym c.if-self.false)
+    (past_settles old.has_forgotten old.processes c.settle.new.self c.args.limit old.history.items c.settle.new.seen.items c.in-Ok.settled had c.in-Ok.ensures.settled)
 
-pub returns-clause-settled : goal.returns-clause-settled
-returns-clause-settled c =
-    let old = c.self.inside.course in
-    let new = c.settle-settled.new.self in
-    subst (λ (v : WorldView). IfOk c.settle-settled.result (λ settled. HasSettled (world_in v) c.args.limit settled (world_of new.held new.history))) c.self.view_is
-    (IfOk-weaker c.settle-settled.result (SettlesBy old new c.args.limit)
-    (λ settled. HasSettled (world_of old.held old.history) c.args.limit settled (world_of new.held new.history))
-    (λ settled settles. settled_as_defined old new c.args.limit settled settles) c.settle-settled.ensures.settles)
+pub returns-in-Ok-clause-explained : goal.returns-in-Ok-clause-explained
+returns-in-Ok-clause-explained c =
+    let old = c.self.inside in
+    let new : WorldView = record { held = c.settle.new.self; history = c.settle.new.seen.items; has_forgotten = old.has_forgotten; is_broken = old.is_broken } in
+    let had = subst (λ b. HasPast old.has_forgotten b old.processes old.history.items) c.if-self.false c.self.invariant in
+    past_is_explained new
+    (subst (λ b. HasPast old.has_forgotten b c.settle.new.self c.settle.new.seen.items) (sym c.if-self.false)
+    (past_settles old.has_forgotten old.processes c.settle.new.self c.args.limit old.history.items c.settle.new.seen.items c.in-Ok.settled had c.in-Ok.ensures.settled))
 
-pub returns-clause-quiet : goal.returns-clause-quiet
-returns-clause-quiet c =
-    let old = c.self.inside.course in
-    let past = subst (λ b. HasPast b old.held old.history) c.if-self.false c.self.invariant.0 in
-    quiet_result c.settle-settled.result old c.settle-settled.new.self c.args.limit past c.settle-settled.ensures.settles
-
-pub returns-then-self-clause-explained : goal.returns-then-self-clause-explained
-returns-then-self-clause-explained c =
-    subst (λ (v : WorldView). IsExplained v.history) c.self.view_is
-    (past_is_explained c.self.inside.is_broken c.self.inside.course.held c.self.inside.course.history c.self.invariant.0)
-
-pub returns-clause-explained : goal.returns-clause-explained
-returns-clause-explained c =
-    let old = c.self.inside.course in
-    let new = c.settle-settled.new.self in
-    let past = subst (λ b. HasPast b old.held old.history) c.if-self.false c.self.invariant.0 in
-    past_is_explained _ new.held new.history
-    (past_after_settling c.settle-settled.result old new c.args.limit past c.settle-settled.ensures.settles c.settle-settled.ensures.stays)
+pub returns-in-Err-clause-explained : goal.returns-in-Err-clause-explained
+returns-in-Err-clause-explained c =
+    let old = c.self.inside in
+    let new : WorldView = record { held = c.settle.new.self; history = c.truncate.new.self.items; has_forgotten = old.has_forgotten; is_broken = true } in
+    let told : c.len-told.result ≡ length old.history.items = omega (arith, c.len-told.ensures, old.history.ok) in
+    let stays : c.truncate.new.self.items ≡ old.history.items =
+    c.truncate.ensures.items ∙ (λ i. take (told i) (c.in-Err.ensures.partly.1 i)) ∙ take-append_seam old.history.items c.in-Err.ensures.partly.0 in
+    past_is_explained new (past_stays old.has_forgotten old.is_broken old.processes c.settle.new.self old.history.items c.truncate.new.self.items c.self.invariant stays)

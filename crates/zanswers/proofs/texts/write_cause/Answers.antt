@@ -1,5 +1,0 @@
-use Rattle.std.proofs.Common.{rules}
-use Rattle.zanswers.proofs.texts.write_cause.Goals as goal
-
-pub returns-in_ok-push_str-in-Begin-Busy : goal.returns-in_ok-push_str-in-Begin-Busy
-returns-in_ok-push_str-in-Begin-Busy c = search rules

@@ -1,4 +1,0 @@
-pub mod Line
-pub mod Done
-pub mod Laws
-pub mod support

@@ -1,0 +1,3 @@
+pub mod Complete
+mod Heaps
+mod ClientRecords

@@ -1,0 +1,20 @@
+-- What the world's answer to a replayed event means.
+use Rattle.std.specs.Prelude.{Bool, true, false, Result, Ok, Err, if◌then◌else◌}
+use Rattle.zworld_model.specs.declared.event.Event.{Event}
+use Rattle.zworld_model.specs.declared.event.Event.TheVariants.{Join}
+use Rattle.zworld.specs.declared.did.Did.{Did}
+use Rattle.zworld.specs.declared.did.Did.TheVariants as did
+use Rattle.zaudit.specs.declared.faults.AuditFault.{AuditFault}
+use Rattle.zaudit.specs.declared.faults.AuditFault.TheVariants.{Disorder, Memory}
+
+-- it asks for a join
+abbrev pub is_join : Event → Bool
+is_join (Join server) = true
+is_join other = false
+
+-- what the answer means
+abbrev pub verdict : Bool → Did → Result (Unit {0}) AuditFault
+verdict may_be_refused did.Done = Ok tt
+verdict may_be_refused (did.Idle cause) = if may_be_refused then Ok tt else Err Disorder
+verdict may_be_refused did.Unheard = Err Memory
+verdict may_be_refused did.Stopped = Err Memory

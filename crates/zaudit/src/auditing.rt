@@ -1,0 +1,80 @@
+//! The audit.
+
+ghost use Rattle.std.specs.Prelude.{◌≡◌, true, false, Err, IfOk, IfErr};
+ghost use Rattle.zworld_model.specs.Alike.{IsAlike};
+ghost use Rattle.zworld_model.specs.PlainTree.{IsExplained};
+ghost use Rattle.zworld.specs.Steps.{world_in};
+ghost use Rattle.ztraces.specs.Lawful.{AreLawful};
+ghost use Rattle.ztraces.specs.Audit.{opening_of, is_any_cut, IsFound, IsDisordered, IsMismatched};
+ghost use Rattle.ztraces.specs.Audit.{HasFallingStamp};
+ghost use Rattle.zaudit.specs.declared.faults.AuditFault.TheVariants.{Cut, Disorder, Mismatch, Memory};
+
+use crate::faults::AuditFault;
+use crate::records::agree;
+use crate::replaying::replay;
+use crate::stamps::{all_rise, has_cut};
+use std::alloc::Global;
+use ztraces::Traces;
+use zworld::World;
+use zworld_model::CallEvent;
+
+// The world at the opening.
+fn opened(alloc: Global, traces: &Traces) -> Result<World, zpath::Memory>
+    ensures opening { IfOk result (λ world. IsAlike (opening_of traces.now) (world_in world)) }
+    ensures whole { IfOk result (λ world. world.has_forgotten ≡ false) }
+{
+    World::new(alloc, traces.last, traces.clients.len() as u8)
+}
+
+// The audit, but for what lawful traces give: the world at the end of the run.
+fn examined(alloc: Global, traces: &Traces) -> Result<World, AuditFault>
+    ensures found { IfOk result (λ world. IsFound traces.now world.history) }
+    ensures whole { IfOk result (λ world. world.has_forgotten ≡ false) }
+    ensures cut { IfErr result (λ fault. fault ≡ Cut → is_any_cut traces.now ≡ true) }
+    ensures disorder { IfErr result (λ fault. fault ≡ Disorder → IsDisordered traces.now) }
+    ensures mismatch { IfErr result (λ fault. fault ≡ Mismatch → IsMismatched traces.now) }
+    ensures cut_first { is_any_cut traces.now ≡ true → result ≡ Err Cut }
+    ensures then_stamps { is_any_cut traces.now ≡ false → HasFallingStamp traces.now
+        → result ≡ Err Disorder }
+{
+    if has_cut(traces) {
+        return Err(AuditFault::Cut);
+    }
+    if !all_rise(traces) {
+        return Err(AuditFault::Disorder);
+    }
+    let Ok(mut world) = opened(alloc, traces) else {
+        return Err(AuditFault::Memory);
+    };
+    if let Err(fault) = replay(alloc, traces, &mut world) {
+        drop(world);
+        return Err(fault);
+    }
+    if !agree(traces, world.history()) {
+        drop(world);
+        return Err(AuditFault::Mismatch);
+    }
+    Ok(world)
+}
+
+/// Replays the traces, merged by their stamps, on one world, and compares its history with what the clients saw. The
+/// answer is that history. The tests are made in the order of the faults: where a trace is cut the answer is `Cut`, and
+/// else where the stamps of one don't rise it is `Disorder`: memory is asked for only behind both.
+/// Of lawful traces that aren't cut nothing but want of memory is found.
+pub fn audit(alloc: Global, traces: &Traces) -> Result<Vec<CallEvent>, AuditFault>
+    ensures found { IfOk result (λ history. IsFound traces.now history.items) }
+    ensures explained { IfOk result (λ history. IsExplained history.items) }
+    ensures cut { IfErr result (λ fault. fault ≡ Cut → is_any_cut traces.now ≡ true) }
+    ensures cut_first { is_any_cut traces.now ≡ true → result ≡ Err Cut }
+    ensures then_stamps { is_any_cut traces.now ≡ false → HasFallingStamp traces.now
+        → result ≡ Err Disorder }
+    ensures disorder { IfErr result (λ fault. fault ≡ Disorder → IsDisordered traces.now) }
+    ensures mismatch { IfErr result (λ fault. fault ≡ Mismatch → IsMismatched traces.now) }
+    ensures complete { ∥ AreLawful traces.now ∥₁ → is_any_cut traces.now ≡ false
+        → IfErr result (λ fault. fault ≡ Memory) }
+{
+    match examined(alloc, traces) {
+        Ok(world) => Ok(world.into_history()),
+        Err(fault) => Err(fault),
+    }
+}

@@ -1,0 +1,102 @@
+//! One event of a trace, on the world.
+
+ghost use Rattle.std.specs.Prelude.{◌≡◌, ◌⊎◌, true, false, IfOk, IfErr, OnOk};
+ghost use Rattle.zserver_table.specs.Machine.{kept_tree};
+ghost use Rattle.zworld_model.specs.Events.{happens};
+ghost use Rattle.zworld_model.specs.Alike.{IsAlike};
+ghost use Rattle.zworld.specs.Steps.{world_in};
+ghost use Rattle.ztraces.specs.Traces.{event_of, is_in_place, is_step_in_place, step_happens};
+ghost use Rattle.zaudit.specs.support.Verdict.{is_join, verdict};
+ghost use Rattle.zaudit.specs.declared.faults.AuditFault.TheVariants.{Disorder, Memory};
+
+use crate::faults::AuditFault;
+use std::alloc::Global;
+use zserver_table::Process;
+use ztraces::Act;
+use zworld::{Did, World};
+use zworld_model::{Event, Outcome};
+
+// The event of the world that an act stands for.
+fn event_for(alloc: Global, process: Process, act: &Act) -> Result<Option<Event>, zpath::Memory>
+    ensures { IfOk result (λ event. event ≡ event_of process act.now) }
+{
+    match (process, act) {
+        (_, Act::Took(from, Outcome::Acted)) => Ok(Some(Event::Take(*from, process))),
+        (Process::Server(_), Act::Took(from, Outcome::Unheard)) => {
+            Ok(Some(Event::Ignore(*from, process)))
+        }
+        (Process::Server(server), Act::Took(_, Outcome::Stopped)) => Ok(Some(Event::Fail(server))),
+        (Process::Server(server), Act::Halted) => Ok(Some(Event::Fail(server))),
+        (Process::Master, Act::Joined(server)) => Ok(Some(Event::Join(*server))),
+        (Process::Client(client), Act::Began(call)) => {
+            Ok(Some(Event::Begin(client, call.copied(alloc)?)))
+        }
+        (Process::Client(client), Act::Retried) => Ok(Some(Event::Retry(client))),
+        _ => Ok(None),
+    }
+}
+
+// Whether it asks for a join.
+fn asks_to_join(event: &Event) -> bool
+    ensures { result ≡ is_join event.now }
+{
+    matches!(event, Event::Join(_))
+}
+
+// What an answer of the world means: an event that isn't enabled is in disorder, but for a join, and a server that wants
+// memory now, though it found some in its trace, is want of memory here.
+fn judge(may_be_refused: bool, did: Did) -> Result<(), AuditFault>
+    ensures { result ≡ verdict may_be_refused did }
+{
+    match did {
+        Did::Done => Ok(()),
+        Did::Idle(_) => {
+            if may_be_refused {
+                Ok(())
+            } else {
+                Err(AuditFault::Disorder)
+            }
+        }
+        Did::Unheard => Err(AuditFault::Memory),
+        Did::Stopped => Err(AuditFault::Memory),
+    }
+}
+
+// Does an event, where it is in its place.
+fn place(world: &mut World, event: Event) -> Result<(), AuditFault>
+    ensures ok { OnOk result ((is_in_place (world_in world.old) event ≡ true)
+        × IsAlike (happens kept_tree (world_in world.old) event) (world_in world.new)) }
+    ensures disorder { IfErr result (λ fault. fault ≡ Disorder
+        → is_in_place (world_in world.old) event ≡ false) }
+    ensures past { world.new.has_forgotten ≡ world.old.has_forgotten }
+    ensures only { IfErr result (λ fault. (fault ≡ Disorder) ⊎ (fault ≡ Memory)) }
+{
+    let may_be_refused = asks_to_join(&event);
+    match world.step(event) {
+        Ok(did) => judge(may_be_refused, did),
+        Err(_) => Err(AuditFault::Memory),
+    }
+}
+
+/// Does the event of the world that an act stands for, where it is in its place.
+pub(crate) fn replay_act(
+    alloc: Global,
+    world: &mut World,
+    process: Process,
+    act: &Act,
+) -> Result<(), AuditFault>
+    ensures ok { OnOk result
+        ((is_step_in_place (world_in world.old) (event_of process act.now) ≡ true)
+        × IsAlike (step_happens kept_tree (world_in world.old) (event_of process act.now))
+        (world_in world.new)) }
+    ensures disorder { IfErr result (λ fault. fault ≡ Disorder
+        → is_step_in_place (world_in world.old) (event_of process act.now) ≡ false) }
+    ensures past { world.new.has_forgotten ≡ world.old.has_forgotten }
+    ensures only { IfErr result (λ fault. (fault ≡ Disorder) ⊎ (fault ≡ Memory)) }
+{
+    match event_for(alloc, process, act) {
+        Ok(Some(event)) => place(world, event),
+        Ok(None) => Err(AuditFault::Disorder),
+        Err(_) => Err(AuditFault::Memory),
+    }
+}

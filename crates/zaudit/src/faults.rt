@@ -1,0 +1,44 @@
+//! Why traces aren't audited.
+
+ghost use Rattle.std.specs.Prelude.{◌≡◌};
+ghost use Rattle.zaudit.specs.declared.faults.AuditFault.TheVariants.{Memory};
+
+use std::fmt;
+use thiserror::Error;
+
+/// Why an audit doesn't end well: the first that holds, in this order, but for `Memory`.
+#[derive(Clone, Copy, Debug, PartialEq, Eq, Error)]
+pub enum AuditFault {
+    /// A trace is cut: nothing can be said of the run.
+    Cut,
+    /// The stamps of a trace don't rise, or an event isn't enabled in its place.
+    Disorder,
+    /// A client's record isn't what the run's history tells of it.
+    Mismatch,
+    /// There wasn't enough memory.
+    Memory,
+}
+
+impl fmt::Display for AuditFault {
+    ghost use Rattle.std.specs.Prelude.{Some};
+    ghost use Rattle.zaudit.specs.Faults.{fault_name};
+
+    ghost output = { λ fault. Some (fault_name fault) };
+
+    fn fmt<W: fmt::Write>(&self, f: &mut fmt::Formatter<W>) -> fmt::Result {
+        f.write_str(match self {
+            AuditFault::Cut => "Cut",
+            AuditFault::Disorder => "Disorder",
+            AuditFault::Mismatch => "Mismatch",
+            AuditFault::Memory => "Memory",
+        })
+    }
+}
+
+impl From<zpath::Memory> for AuditFault {
+    ghost from_gives = { λ _ fault. fault ≡ Memory };
+
+    fn from(_fault: zpath::Memory) -> AuditFault {
+        AuditFault::Memory
+    }
+}

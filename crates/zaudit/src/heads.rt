@@ -1,0 +1,92 @@
+//! The next events of all traces, the one that comes first on top.
+
+ghost use Rattle.std.specs.Prelude.{◌≡◌, ◌<◌, ◌+◌, ◌^◌, ℕ, [], None, length, get_or, IfOk, IfNone, IfSome, OnOk};
+ghost use Rattle.std.specs.BinaryHeap.{heap_items, IsHeap, KeepsHeap};
+ghost use Rattle.ztraces.specs.support.Places.{place_count, head_at, IsLeast};
+ghost use Rattle.zaudit.specs.support.Heads.{head_cmp, count_of, count_at, HoldsHeads};
+ghost use Rattle.zaudit.specs.support.Heads.{IsFirstTaken, IsNext};
+
+use crate::places::{count_of, event_at, head_of};
+use std::alloc::Global;
+use std::cmp::Reverse;
+use std::collections::BinaryHeap;
+use zpath::Memory;
+use ztraces::{TraceEvent, Traces};
+
+/// The next event of a trace: its stamp, and the place of the trace. Of a heap of them the least is on top.
+pub(crate) type Head = Reverse<(u64, usize)>;
+
+/// Puts in the next event of that trace, if it has one.
+pub(crate) fn put_head(
+    heads: &mut BinaryHeap<Head>,
+    traces: &Traces,
+    read: &[usize],
+    place: usize,
+) -> Result<(), Memory>
+    requires place { place < place_count traces.now }
+    requires read { length read.now ≡ place_count traces.now }
+    ensures heap { OnOk result
+        (KeepsHeap head_cmp (heap_items heads.old) (heap_items heads.new)) }
+    ensures put { OnOk result ((f : ℕ × ℕ → ℕ) → count_of f (heap_items heads.new)
+        ≡ count_at f place (head_at traces.now read.now place)
+        + count_of f (heap_items heads.old)) }
+{
+    if let Some(stamp) = head_of(traces, read, place) {
+        heads.push(Reverse((stamp, place)))?;
+    }
+    Ok(())
+}
+
+/// The next events of all traces.
+pub(crate) fn heads_of(
+    alloc: Global,
+    traces: &Traces,
+    read: &[usize],
+) -> Result<BinaryHeap<Head>, Memory>
+    requires { length read.now ≡ place_count traces.now }
+    ensures heap { IfOk result (λ heads. IsHeap head_cmp (heap_items heads)) }
+    ensures all { IfOk result (λ heads.
+        HoldsHeads traces.now read.now (place_count traces.now) (heap_items heads)) }
+{
+    let mut heads = BinaryHeap::new(alloc);
+    for place in 0..count_of(traces) {
+        put_head(&mut heads, traces, read, place)?;
+    }
+    Ok(heads)
+}
+
+// Takes out the one that comes first: its stamp and its place.
+fn take_first(heads: &mut BinaryHeap<Head>) -> Option<(u64, usize)>
+    requires { IsHeap head_cmp (heap_items heads.old) }
+    ensures heap { IsHeap head_cmp (heap_items heads.new) }
+    ensures first { IfSome result (λ first.
+        IsFirstTaken first (heap_items heads.old) (heap_items heads.new)) }
+    ensures none { IfNone result (heap_items heads.old ≡ []) }
+{
+    match heads.pop() {
+        Some(Reverse(first)) => Some(first),
+        None => None,
+    }
+}
+
+/// Takes out the place whose next event comes first, with that event.
+pub(crate) fn next_event<'a>(
+    heads: &mut BinaryHeap<Head>,
+    traces: &'a Traces,
+    read: &[usize],
+) -> Option<(usize, &'a TraceEvent)>
+    requires read { length read.now ≡ place_count traces.now }
+    requires heap { IsHeap head_cmp (heap_items heads.old) }
+    requires heads { HoldsHeads traces.now read.now (place_count traces.now)
+        (heap_items heads.old) }
+    ensures heap { IsHeap head_cmp (heap_items heads.new) }
+    ensures next { IfSome result (λ next. IsNext traces.now read.now next.0 next.1.now
+        (heap_items heads.old) (heap_items heads.new)) }
+    ensures small { IfSome result (λ next. get_or read.now next.0 0 + 1 < 2 ^ 64) }
+    ensures none { IfNone result (IsLeast traces.now read.now (place_count traces.now) None) }
+{
+    let Some((_, place)) = take_first(heads) else {
+        return None;
+    };
+    Some((place, event_at(traces, read, place)))
+}

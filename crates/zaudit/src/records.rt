@@ -1,0 +1,53 @@
+//! Clients' records against a history.
+
+ghost use Rattle.std.specs.Prelude.{◌≡◌, ℕ, true, false, nat_lt, IsTrue};
+ghost use Rattle.ztraces.specs.Traces.{told_of, record_of, client_count, AgreesWithRecords};
+ghost use Rattle.ztraces.specs.Traces as traces_of;
+
+use crate::sameness::is_same_event;
+use ztraces::Traces;
+use zworld_model::CallEvent;
+
+// Whose event it is.
+fn client_of(event: &CallEvent) -> u8
+    ensures { result ≡ traces_of.client_of event.now }
+{
+    match event {
+        CallEvent::Begin(client, _, _) => client.number(),
+        CallEvent::Answer(client, _, _) => client.number(),
+    }
+}
+
+// Whether the history tells of the client just what the record does.
+fn tells(history: &[CallEvent], client: u8, seen: &[CallEvent]) -> bool
+    ensures yes { result ≡ true → told_of client history.now ≡ seen.now }
+    ensures no { result ≡ false → told_of client history.now ≡ seen.now → ⊥ }
+{
+    let mut at = 0;
+    for event in history {
+        if client_of(event) == client {
+            if at == seen.len() {
+                return false;
+            }
+            if !is_same_event(event, &seen[at]) {
+                return false;
+            }
+            at += 1;
+        }
+    }
+    at == seen.len()
+}
+
+/// Whether the history tells of each client what its record does.
+pub(crate) fn agree(traces: &Traces, history: &[CallEvent]) -> bool
+    ensures yes { result ≡ true → AgreesWithRecords traces.now history.now }
+    ensures no { result ≡ false → (c : ℕ) × (nat_lt c (client_count traces.now) ≡ true)
+        × (told_of c history.now ≡ record_of traces.now c → ⊥) }
+{
+    for place in 0..traces.clients.len() {
+        if !tells(history, place as u8, &traces.clients[place].record) {
+            return false;
+        }
+    }
+    true
+}

@@ -1,6 +1,0 @@
-pub mod Codes
-pub mod Members
-pub mod Posting
-pub mod Fronts
-pub mod Opening
-pub mod Settling

@@ -1,9 +1,0 @@
--- The members of an opening.
-use Rattle.std.specs.Prelude.{ℕ, false, Some}
-use Rattle.zserver_table.specs.Machine.{kept_tree}
-use Rattle.zserver_table.specs.View.{opening_server}
-use Rattle.zprocesses.specs.Held.{MemberView}
-
--- the server of this number, where the chain goes up to the first
-abbrev pub opening_member : ℕ → ℕ → MemberView
-opening_member last s = record { view = Some (opening_server kept_tree last s); owes_gone = false }

@@ -1,0 +1,161 @@
+-- One event, or settling, brought about on a world, is the effect of a line.
+use Rattle.std.proofs.Common.{◌≡◌, ℕ, Bool, true, false, if◌then◌else◌, List, [], ◌∷◌, ◌++◌, codes, Option, None, refl, sym, ap, subst, ◌∙◌}
+use Rattle.std.specs.Prelude.{not}
+use Rattle.std.specs.List.{flat_map}
+use Rattle.std.specs.Option.{option_map_or}
+use mathlib.Core.Bool.{true≢false}
+use Rattle.ztree.specs.Tree.{Tree}
+use Rattle.zcalls.specs.Kept.{KeptState}
+use Rattle.zserver_table.specs.Machine.{kept_tree}
+use Rattle.zmaster_table.specs.Table.{join_fault}
+use Rattle.zworld_model.specs.declared.event.Event.{Event}
+use Rattle.zworld_model.specs.declared.event.Event.TheVariants as event
+use Rattle.zworld_model.specs.declared.outcome.Outcome.{Outcome}
+use Rattle.zworld_model.specs.declared.settled.Settled.{Settled}
+use Rattle.zworld_model.specs.Alike.{IsAlike}
+use Rattle.zworld_model.specs.Events.{is_enabled, happens}
+use Rattle.zworld_model.specs.Reading.{read}
+use Rattle.zworld_model.specs.Settle.{Settling, opening_settling, next_outcome, with_event}
+use Rattle.zworld.specs.declared.did.Did.{Did}
+use Rattle.zworld.specs.declared.did.Did.TheVariants as became
+use Rattle.zworld.specs.declared.did.IdleCause.{IdleCause}
+use Rattle.zworld.specs.declared.did.IdleCause.TheVariants as cause
+use Rattle.zworld.specs.Held.{Held}
+use Rattle.zworld.specs.Did.{IsCause, is_idle, outcome_of}
+use Rattle.zworld.specs.Steps.{WorldView, HasHappened, HasSettled, world_in}
+use Rattle.zworld.proofs.Steps.{read_acted, happens_not}
+use Rattle.zscript.specs.declared.limits.TheConstants.{MAX_EVENTS}
+use Rattle.zscript.specs.Line.{ServiceWorld, ScriptState, script_state, LineEffect, after_try, event_effect, plain_effect, join_effect, join_fault_name, settled_text, settle_effect, taken_text}
+use Rattle.zscript.specs.support.Effects.{cause_text, did_text, LeadsTo, IsEffectDone, IsEventDone}
+
+-- the opposite of a test
+opposite : (a b : Bool) → a ≡ not b → b ≡ not a
+opposite true true e = absurd (true≢false e)
+opposite true false e = refl
+opposite false true e = refl
+opposite false false e = absurd (true≢false (sym e))
+
+-- an event that is tried, where it is enabled, and where it isn't
+pub tried_on : (w : ServiceWorld) (outcomes : List Outcome) (event : Event) → is_enabled w event ≡ true
+    → after_try (script_state w outcomes) event ≡ with_event kept_tree (opening_settling w 1 outcomes) (read kept_tree w event (next_outcome outcomes))
+tried_on w outcomes event on =
+    let opening : Settling (KeptState Tree) = opening_settling w 1 outcomes in
+    ap (λ b. if b then with_event kept_tree opening (read kept_tree w event (next_outcome outcomes)) else opening) on
+
+tried_off : (w : ServiceWorld) (outcomes : List Outcome) (event : Event) → is_enabled w event ≡ false
+    → after_try (script_state w outcomes) event ≡ opening_settling w 1 outcomes
+tried_off w outcomes event off =
+    let opening : Settling (KeptState Tree) = opening_settling w 1 outcomes in
+    ap (λ b. if b then with_event kept_tree opening (read kept_tree w event (next_outcome outcomes)) else opening) off
+
+-- the outcomes that are met at an event
+abbrev pub told_of : Did → List Outcome
+told_of did = if is_idle did then [] else outcome_of did ∷ []
+
+module _ (v w : ServiceWorld) (event : Event) where
+  -- an event that happened is enabled; one that is idle isn't, and the world stays
+  pub enabled : (did : Did) → HasHappened v event did w → is_idle did ≡ false → is_enabled v event ≡ true
+  enabled did has so = opposite (is_idle did) (is_enabled v event) has.idle ∙ ap not so
+
+  pub not_enabled : (why : IdleCause) → HasHappened v event (became.Idle why) w → is_enabled v event ≡ false
+  not_enabled why has = opposite true (is_enabled v event) has.idle
+
+  pub idle_alike : (why : IdleCause) → HasHappened v event (became.Idle why) w → IsAlike v w
+  idle_alike why has =
+      subst (λ (u : ServiceWorld). IsAlike u w)
+      (ap (λ (e : Event). happens kept_tree v e) (read_acted v event) ∙ happens_not v event (not_enabled why has)) has.leads
+
+  -- the effect of an event
+  happened : (did : Did) (done idle : List ℕ) (later : List Outcome) → HasHappened v event did w → is_idle did ≡ false
+      → LeadsTo (event_effect (script_state v (outcome_of did ∷ later)) event done idle) w None done later
+  happened did done idle later has so =
+      let on = enabled did has so in
+      let tried = tried_on v (outcome_of did ∷ later) event on in
+      record {
+        alike = subst (λ (s : Settling (KeptState Tree)). IsAlike s.world w) (sym tried) has.leads;
+        left = ap (λ (s : Settling (KeptState Tree)). s.outcomes) tried;
+        owned = refl;
+        answered = ap (λ b. if b then done else idle) on;
+      }
+
+  event_leads : (did : Did) (done idle : List ℕ) (later : List Outcome) → HasHappened v event did w
+      → LeadsTo (event_effect (script_state v (told_of did ++ later)) event done idle) w None (if is_idle did then idle else done) later
+  event_leads (became.Idle why) done idle later has =
+      let off = not_enabled why has in
+      let tried = tried_off v later event off in
+      record {
+        alike = subst (λ (s : Settling (KeptState Tree)). IsAlike s.world w) (sym tried) (idle_alike why has);
+        left = ap (λ (s : Settling (KeptState Tree)). s.outcomes) tried;
+        owned = refl;
+        answered = ap (λ b. if b then done else idle) off;
+      }
+  event_leads became.Done done idle later has = happened became.Done done idle later has refl
+  event_leads became.Unheard done idle later has = happened became.Unheard done idle later has refl
+  event_leads became.Stopped done idle later has = happened became.Stopped done idle later has refl
+
+  -- a line of one event
+  pub event_done : (did : Did) (writes : List ℕ → Type 0) → HasHappened v event did w
+      → (effect : ScriptState → LineEffect) (done idle result : List ℕ)
+      → ((outcomes : List Outcome) → effect (script_state v outcomes) ≡ event_effect (script_state v outcomes) event done idle)
+      → (if is_idle did then idle else done) ≡ result → writes (flat_map (taken_text None) w.history ++ result) → IsEffectDone v w effect writes
+  event_done did writes has effect done idle result is told written = record {
+    told = told_of did;
+    own = None;
+    result = result;
+    leads = λ later.
+        subst (λ (e : LineEffect). LeadsTo e w None result later) (sym (is (told_of did ++ later)))
+        (subst (λ text. LeadsTo (event_effect (script_state v (told_of did ++ later)) event done idle) w None text later) told
+        (event_leads did done idle later has));
+    written = written;
+  }
+
+-- take, ignore, fail and retry
+plain_text : (did : Did) → ((why : IdleCause) → did ≡ became.Idle why → why ≡ cause.Nothing) → (if is_idle did then codes "idle" else codes "done") ≡ did_text did
+plain_text (became.Idle why) caused = ap cause_text (sym (caused why refl))
+plain_text became.Done caused = refl
+plain_text became.Unheard caused = refl
+plain_text became.Stopped caused = refl
+
+pub plain_done : (old new : WorldView) (event : Event) (writes : List ℕ → Type 0)
+    → ((why : IdleCause) → IsCause old.held event why → why ≡ cause.Nothing) → IsEventDone old new event writes
+    → IsEffectDone (world_in old) (world_in new) (λ s. plain_effect s event) writes
+plain_done old new event writes nothing done =
+    event_done (world_in old) (world_in new) event done.did writes done.happened (λ s. plain_effect s event) (codes "done") (codes "idle") (did_text done.did) (λ outcomes. refl)
+    (plain_text done.did (λ why is. nothing why (done.caused why is))) done.written
+
+-- join
+join_text : (old : Held) (server : ℕ) (did : Did) → ((why : IdleCause) → did ≡ became.Idle why → IsCause old (event.Join server) why)
+    → (if is_idle did then option_map_or (λ fault. codes "no " ++ join_fault_name fault) (join_fault old.master server) (codes "idle") else codes "done") ≡ did_text did
+join_text old server (became.Idle why) caused = refused why (caused why refl)
+  where
+    refused : (why : IdleCause) → IsCause old (event.Join server) why
+        → option_map_or (λ fault. codes "no " ++ join_fault_name fault) (join_fault old.master server) (codes "idle") ≡ cause_text why
+    refused (cause.Join fault) is = ap (λ fault. option_map_or (λ fault. codes "no " ++ join_fault_name fault) fault (codes "idle")) is
+    refused (cause.Begin fault) is = absurd is
+    refused cause.Nothing is = absurd is
+join_text old server became.Done caused = refl
+join_text old server became.Unheard caused = refl
+join_text old server became.Stopped caused = refl
+
+pub join_done : (old new : WorldView) (server : ℕ) (writes : List ℕ → Type 0) → IsEventDone old new (event.Join server) writes
+    → IsEffectDone (world_in old) (world_in new) (λ s. join_effect s server) writes
+join_done old new server writes done =
+    event_done (world_in old) (world_in new) (event.Join server) done.did writes done.happened (λ s. join_effect s server) (codes "done")
+    (option_map_or (λ fault. codes "no " ++ join_fault_name fault) (join_fault old.held.master server) (codes "idle")) (did_text done.did) (λ outcomes. refl)
+    (join_text old.held server done.did done.caused) done.written
+
+-- settle
+pub settle_done : (v w : ServiceWorld) (settled : Settled) (writes : List ℕ → Type 0) → HasSettled v MAX_EVENTS settled w
+    → writes (flat_map (taken_text None) w.history ++ settled_text settled) → IsEffectDone v w settle_effect writes
+settle_done v w settled writes (learnt, ends) written = record {
+  told = learnt;
+  own = None;
+  result = settled_text settled;
+  leads = λ later. record {
+    alike = (ends later).2;
+    left = (ends later).1;
+    owned = refl;
+    answered = ap settled_text (sym (ends later).0);
+  };
+  written = written;
+}

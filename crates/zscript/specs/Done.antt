@@ -1,0 +1,17 @@
+-- A line that was done, by a program that doesn't know beforehand what becomes of its events.
+use Rattle.std.specs.Prelude.{◌≡◌, ℕ, List, [], ◌++◌}
+use Rattle.zworld_model.specs.declared.outcome.Outcome.{Outcome}
+use Rattle.zworld.specs.Held.{Held, world_of}
+use Rattle.zscript.specs.Line.{ServiceWorld, forgotten, script_state, answer, after}
+
+-- the world between two lines, of the processes that are held
+abbrev pub world_between : Held → ServiceWorld
+world_between held = forgotten (world_of held [])
+
+-- a line was done, and this written: these outcomes were met at it, whatever comes after them
+pub record IsLineDone (old : ServiceWorld) (line : List ℕ) (new : ServiceWorld) (writes : List ℕ → Type 0) : Type 0 where
+  pub told : List Outcome
+  pub text : List ℕ
+  pub written : writes text
+  pub left : (later : List Outcome) → after (script_state old (told ++ later)) line ≡ script_state new later
+  pub answered : (later : List Outcome) → answer (script_state old (told ++ later)) line ≡ text

@@ -1,0 +1,43 @@
+-- What holds of the text over the world: what it tells is the history of one run.
+use Rattle.std.specs.Prelude.{◌≡◌, ◌⊎◌, ℕ, List, Some, codes}
+use Rattle.ztree.specs.declared.limits.TheConstants.{MAX_CLIENTS}
+use Rattle.zcalls.specs.Lists.{Among}
+use Rattle.zcalls.specs.declared.reply.Reply.{Reply}
+use Rattle.zserver_table.specs.Machine.{kept_tree}
+use Rattle.zworld_model.specs.declared.event.Event.{Event}
+use Rattle.zworld_model.specs.declared.outcome.Outcome.{Outcome}
+use Rattle.zworld_model.specs.declared.history.CallEvent.TheVariants.{Answer}
+use Rattle.zworld_model.specs.World.{opening_world}
+use Rattle.zworld_model.specs.Events.{run}
+use Rattle.zworld_model.specs.Alike.{IsAlike}
+use Rattle.zlines.specs.Reply.{reply_text}
+use Rattle.zscript.specs.Line.{ServiceWorld, ScriptState, LineEffect, opening_script, effect_of, answer, after, histories}
+
+-- there are events such that the histories of all lines, one after the other, are the history of their run
+abbrev pub LinesTellOneRun : Type 0
+LinesTellOneRun =
+    (servers : ℕ) (outcomes : List Outcome) (lines : List (List ℕ))
+    → (events : List Event) × ((run kept_tree (opening_world kept_tree servers MAX_CLIENTS) events).history ≡ histories (opening_script servers outcomes) lines)
+
+-- a call is answered with a reply to it in the history; or `unanswered`, where the history has none
+abbrev pub IsAnsweredBy : LineEffect → Type 0
+IsAnsweredBy effect =
+    (client number : ℕ) → effect.own ≡ Some (client, number)
+    → ((reply : Reply) × Among (Answer client number reply) effect.did.world.history × (effect.result ≡ reply_text reply))
+    ⊎ ((effect.result ≡ codes "unanswered") × ((reply : Reply) → Among (Answer client number reply) effect.did.world.history → ⊥))
+
+-- so it is of every line
+abbrev pub CallsAreAnsweredByTheirReplies : Type 0
+CallsAreAnsweredByTheirReplies = (s : ScriptState) (line : List ℕ) → IsAnsweredBy (effect_of s line)
+
+-- worlds that are alike are answered alike
+abbrev pub AlikeWorldsAnswerAlike : Type 0
+AlikeWorldsAnswerAlike =
+    (v w : ServiceWorld) (outcomes : List Outcome) (line : List ℕ) → IsAlike v w
+    → answer (record { world = v; outcomes = outcomes }) line ≡ answer (record { world = w; outcomes = outcomes }) line
+
+-- and one state is left of both
+abbrev pub AlikeWorldsLeaveOneState : Type 0
+AlikeWorldsLeaveOneState =
+    (v w : ServiceWorld) (outcomes : List Outcome) (line : List ℕ) → IsAlike v w
+    → after (record { world = v; outcomes = outcomes }) line ≡ after (record { world = w; outcomes = outcomes }) line

@@ -1,0 +1,67 @@
+-- What a world brings about of a line's effect, and the words that are written for it.
+use Rattle.std.specs.Prelude.{◌≡◌, ℕ, List, [], ◌∷◌, ◌++◌, codes, Option, None, Some}
+use Rattle.std.specs.List.{flat_map}
+use Rattle.std.specs.Option.{option_map_or}
+use Rattle.zworld_model.specs.declared.event.Event.{Event}
+use Rattle.zworld_model.specs.declared.history.CallEvent.TheVariants as call_event
+use Rattle.zworld_model.specs.declared.outcome.Outcome.{Outcome}
+use Rattle.zworld_model.specs.History.{History}
+use Rattle.zworld_model.specs.Alike.{IsAlike}
+use Rattle.zlines.specs.Reply.{reply_text}
+use Rattle.zworld.specs.declared.did.Did.{Did}
+use Rattle.zworld.specs.declared.did.Did.TheVariants as became
+use Rattle.zworld.specs.declared.did.IdleCause.{IdleCause}
+use Rattle.zworld.specs.declared.did.IdleCause.TheVariants as cause
+use Rattle.zworld.specs.Did.{IsCause}
+use Rattle.zworld.specs.Steps.{WorldView, HasHappened, world_in}
+use Rattle.zscript.specs.Line.{ServiceWorld, ScriptState, script_state, LineEffect, begin_fault_text, join_fault_name, taken_text, reply_in}
+
+-- why an event didn't happen
+abbrev pub cause_text : IdleCause → List ℕ
+cause_text cause.Nothing = codes "idle"
+cause_text (cause.Begin fault) = begin_fault_text fault
+cause_text (cause.Join fault) = codes "no " ++ join_fault_name fault
+
+-- what became of an event
+abbrev pub did_text : Did → List ℕ
+did_text (became.Idle why) = cause_text why
+did_text other = codes "done"
+
+-- what became of a call that was to begin
+abbrev pub begun_text : Did → List ℕ
+begun_text (became.Idle why) = cause_text why
+begun_text other = codes "begun"
+
+-- the call that a history begins with
+abbrev pub own_call : History → Option (ℕ × ℕ)
+own_call [] = None
+own_call (call_event.Begin client number call ∷ more) = Some (client, number)
+own_call (other ∷ more) = None
+
+-- what is written for a call that began and for which the world settled, with this history
+abbrev pub called_text : History → List ℕ
+called_text history =
+    let own = own_call history in
+    flat_map (taken_text own) history ++ option_map_or reply_text (reply_in own history) (codes "unanswered")
+
+-- the effect led to a world, and takes none of the outcomes that follow
+pub record LeadsTo (effect : LineEffect) (new : ServiceWorld) (own : Option (ℕ × ℕ)) (result : List ℕ) (later : List Outcome) : Type 0 where
+  pub alike : IsAlike effect.did.world new
+  pub left : effect.did.outcomes ≡ later
+  pub owned : effect.own ≡ own
+  pub answered : effect.result ≡ result
+
+-- the effect was brought about from one world to another, with these outcomes, and answered so, but for the LF
+pub record IsEffectDone (old new : ServiceWorld) (effect : ScriptState → LineEffect) (writes : List ℕ → Type 0) : Type 0 where
+  pub told : List Outcome
+  pub own : Option (ℕ × ℕ)
+  pub result : List ℕ
+  pub leads : (later : List Outcome) → LeadsTo (effect (script_state old (told ++ later))) new own result later
+  pub written : writes (flat_map (taken_text own) new.history ++ result)
+
+-- an event was done, and this written
+pub record IsEventDone (old new : WorldView) (event : Event) (writes : List ℕ → Type 0) : Type 0 where
+  pub did : Did
+  pub happened : HasHappened (world_in old) event did (world_in new)
+  pub caused : (why : IdleCause) → did ≡ became.Idle why → IsCause old.held event why
+  pub written : writes (flat_map (taken_text None) new.history ++ did_text did)

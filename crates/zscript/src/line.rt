@@ -1,0 +1,113 @@
+//! A line of a script, played on a world.
+
+ghost use Rattle.std.specs.Prelude.{◌≡◌, [], IfOk, OnOk};
+ghost use Rattle.zworld_model.specs.declared.event.Event.TheVariants as event;
+ghost use Rattle.zlines.specs.Texts.{Writes};
+ghost use Rattle.zworld.specs.Steps.{world_in};
+ghost use Rattle.zscript.specs.Line.{effect_of, line_effect, call_effect, begin_effect};
+ghost use Rattle.zscript.specs.Line.{settle_effect};
+ghost use Rattle.zscript.specs.Done.{IsLineDone, world_between};
+ghost use Rattle.zscript.specs.Script.{opening_of};
+ghost use Rattle.zscript.specs.support.Effects.{IsEffectDone, IsEventDone};
+
+use crate::limits::MAX_EVENTS;
+use crate::texts::{write_begun, write_called, write_cause, write_did, write_fault, write_settled};
+use std::alloc::Global;
+use zlines::{Line, Request, read_line};
+use zpath::Memory;
+use zserver_table::ServerId;
+use ztree::limits::MAX_CLIENTS;
+use zworld::{Did, World};
+use zworld_model::Event;
+
+/// The world that a script begins in, whose chain is the servers up to this one: every client that there can be has asked
+/// for nothing yet.
+pub fn script_world(alloc: Global, last: ServerId) -> Result<World, Memory>
+    ensures { IfOk result (λ world. world_between world.held ≡ opening_of last) }
+{
+    World::new(alloc, last, MAX_CLIENTS)
+}
+
+/// Plays a line on a world: what it asks for is done, and its answer is written, with an LF. The world forgets what it told
+/// before.
+pub fn answer_line(world: &mut World, line: &[u8], out: &mut String) -> Result<(), Memory>
+    ensures done { OnOk result (IsLineDone (world_between world.old.held) line.now
+        (world_between world.new.held) (Writes out.old out.new)) }
+{
+    world.forget();
+    answer_read(world, line, out)?;
+    out.push('\n')?;
+    Ok(())
+}
+
+// The same, where the world has told nothing yet, and without the LF.
+fn answer_read(world: &mut World, line: &[u8], out: &mut String) -> Result<(), Memory>
+    requires { world.old.history ≡ [] }
+    ensures { OnOk result (IsEffectDone (world_in world.old) (world_in world.new)
+        (λ s. effect_of s line.now) (Writes out.old out.new)) }
+{
+    match read_line(world.allocator(), line) {
+        Ok(asked) => play_line(world, asked, out),
+        Err(fault) => write_fault(fault, out),
+    }
+}
+
+// Does what a line asks for, and writes its answer.
+fn play_line(world: &mut World, asked: Line, out: &mut String) -> Result<(), Memory>
+    requires { world.old.history ≡ [] }
+    ensures { OnOk result (IsEffectDone (world_in world.old) (world_in world.new)
+        (λ s. line_effect s asked) (Writes out.old out.new)) }
+{
+    match asked {
+        Line::Call(request) => call(world, request, out),
+        Line::Begin(request) => begin(world, request, out),
+        Line::Take(from, to) => do_event(world, Event::Take(from, to), out),
+        Line::Ignore(from, to) => do_event(world, Event::Ignore(from, to), out),
+        Line::Fail(server) => do_event(world, Event::Fail(server), out),
+        Line::Join(server) => do_event(world, Event::Join(server), out),
+        Line::Retry(client) => do_event(world, Event::Retry(client), out),
+        Line::Settle => settle(world, out),
+    }
+}
+
+// A call begins, and messages are delivered until none is left.
+fn call(world: &mut World, request: Request, out: &mut String) -> Result<(), Memory>
+    requires { world.old.history ≡ [] }
+    ensures { OnOk result (IsEffectDone (world_in world.old) (world_in world.new)
+        (λ s. call_effect s request) (Writes out.old out.new)) }
+{
+    let Request { client, call } = request;
+    if let Did::Idle(cause) = world.step(Event::Begin(client, call))? {
+        return write_cause(cause, out);
+    }
+    world.settle(MAX_EVENTS)?;
+    write_called(world.history(), out)
+}
+
+// A call begins.
+fn begin(world: &mut World, request: Request, out: &mut String) -> Result<(), Memory>
+    requires { world.old.history ≡ [] }
+    ensures { OnOk result (IsEffectDone (world_in world.old) (world_in world.new)
+        (λ s. begin_effect s request) (Writes out.old out.new)) }
+{
+    let Request { client, call } = request;
+    let did = world.step(Event::Begin(client, call))?;
+    write_begun(did, out)
+}
+
+// Another event is done.
+fn do_event(world: &mut World, event: Event, out: &mut String) -> Result<(), Memory>
+    ensures { OnOk result (IsEventDone world.old world.new event (Writes out.old out.new)) }
+{
+    let did = world.step(event)?;
+    write_did(did, world.history(), out)
+}
+
+// Messages are delivered until none is left.
+fn settle(world: &mut World, out: &mut String) -> Result<(), Memory>
+    ensures { OnOk result (IsEffectDone (world_in world.old) (world_in world.new) settle_effect
+        (Writes out.old out.new)) }
+{
+    let settled = world.settle(MAX_EVENTS)?;
+    write_settled(settled, world.history(), out)
+}

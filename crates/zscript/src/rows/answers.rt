@@ -1,0 +1,71 @@
+//! Worked rows of a line's answer.
+
+ghost use Rattle.std.specs.Prelude.{◌≡◌, [], ◌∷◌, ◌++◌, codes, Some, None};
+ghost use Rattle.zpath.specs.declared.fault.PathFault.TheVariants.{Empty};
+ghost use Rattle.zcalls.specs.declared.reply.Reply.TheVariants.{Children, Deleted, Pinged};
+ghost use Rattle.zmaster_table.specs.declared.join_fault.JoinFault.TheVariants.{Used, Joining, NoChain, Lost};
+ghost use Rattle.zclient_table.specs.declared.begin_fault.BeginFault.TheVariants.{Busy, Exhausted};
+ghost use Rattle.zworld_model.specs.declared.settled.Settled.TheVariants.{Quiet, Limit};
+ghost use Rattle.zlines.specs.declared.request.LineFault.TheVariants.{BadLine, BadPath, BadData};
+ghost use Rattle.zscript.specs.declared.limits.TheConstants.{MAX_EVENTS};
+ghost use Rattle.zworld_model.specs.declared.history.CallEvent.TheVariants.{Answer};
+ghost use Rattle.zscript.specs.Line.{taken_text, reply_in, join_fault_name, begin_fault_text, settled_text};
+ghost use Rattle.zscript.specs.Line.{line_fault_text};
+ghost use Rattle.zscript.specs.support.Rows.{AreAnswered};
+
+/// Events that aren't enabled, failures and joins.
+#[tactic(auto, unfolding(crate::specs::Line::effect_of, crate::specs::Line::answer, crate::specs::Line::after, zlines::specs::Line::line_of, zmaster_table::specs::Table::join_fault))]
+pub fn chain_lines()
+    ensures own_link { AreAnswered ((codes "take s1 s1", codes "idle") ∷ []) }
+    ensures no_server { AreAnswered ((codes "take s9 m", codes "bad line") ∷ []) }
+    ensures fails_once { AreAnswered
+        ((codes "fail s1", codes "done") ∷ (codes "fail s1", codes "idle") ∷ []) }
+    ensures used { AreAnswered ((codes "join s1", codes "no Used") ∷ []) }
+    ensures nothing_outstanding { AreAnswered ((codes "retry c1", codes "idle") ∷ []) }
+{}
+
+/// Calls that begin alone, and are delivered, lost and sent again; and joins.
+pub fn chain_calls()
+    ensures begun { AreAnswered
+        ((codes "1 begin get /", codes "begun") ∷ (codes "1 begin ls /", codes "busy") ∷ []) }
+    ensures taken { AreAnswered
+        ((codes "1 begin get /", codes "begun") ∷ (codes "take c1 s1", codes "done")
+        ∷ (codes "take c1 s1", codes "idle") ∷ (codes "retry c1", codes "done") ∷ []) }
+    ensures lost { AreAnswered
+        ((codes "1 begin get /", codes "begun") ∷ (codes "ignore c1 s1", codes "done")
+        ∷ (codes "take c1 s1", codes "idle") ∷ []) }
+    ensures joins { AreAnswered
+        ((codes "join s2", codes "done") ∷ (codes "join s3", codes "no Joining") ∷ []) }
+{}
+
+/// An answer that a client took is told under its name, but for the answer to the line's own call.
+pub fn answers_are_told()
+    ensures told { taken_text None (Answer 1 2 (Children [])) ≡ codes "c1 ok 0" ++ 10 ∷ [] }
+    ensures other_call { taken_text (Some (1, 3)) (Answer 1 2 Deleted)
+        ≡ codes "c1 ok deleted" ++ 10 ∷ [] }
+    ensures own_call { taken_text (Some (1, 2)) (Answer 1 2 (Children [])) ≡ [] }
+    ensures own_reply { reply_in (Some (1, 2)) (Answer 1 1 Pinged ∷ Answer 1 2 Deleted ∷ [])
+        ≡ Some Deleted }
+    ensures no_reply { reply_in (Some (1, 2)) (Answer 2 2 Deleted ∷ []) ≡ None }
+{}
+
+/// The words for refused joins and calls, for the ends of settling and for lines that ask for nothing, those too that no
+/// script brings about.
+pub fn words_of_answers()
+    ensures used { join_fault_name Used ≡ codes "Used" }
+    ensures joining { join_fault_name Joining ≡ codes "Joining" }
+    ensures no_chain { join_fault_name NoChain ≡ codes "NoChain" }
+    ensures lost { join_fault_name Lost ≡ codes "Lost" }
+    ensures busy { begin_fault_text Busy ≡ codes "busy" }
+    ensures no_numbers { begin_fault_text Exhausted ≡ codes "no Numbers" }
+    ensures quiet { settled_text Quiet ≡ codes "quiet" }
+    ensures limit { settled_text Limit ≡ codes "limit" }
+    ensures bad_line { line_fault_text BadLine ≡ codes "bad line" }
+    ensures bad_path { line_fault_text (BadPath Empty) ≡ codes "bad path Empty" }
+    ensures bad_data { line_fault_text BadData ≡ codes "bad data" }
+{}
+
+/// The limit, as a number.
+pub fn limit_is_a_number()
+    ensures { MAX_EVENTS ≡ 100000 }
+{}

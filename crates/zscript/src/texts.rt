@@ -1,0 +1,180 @@
+//! The words of a line's answer.
+
+ghost use Rattle.std.specs.Prelude.{◌≡◌, ◌++◌, None, codes, OnOk};
+ghost use Rattle.std.specs.List.{flat_map};
+ghost use Rattle.std.specs.Option.{option_map_or};
+ghost use Rattle.zlines.specs.Reply.{reply_text};
+ghost use Rattle.zlines.specs.declared.request.LineFault.TheVariants as line_fault;
+ghost use Rattle.zlines.specs.Texts.{Writes};
+ghost use Rattle.zscript.specs.Line.{line_fault_text, join_fault_name, settled_text, taken_text};
+ghost use Rattle.zscript.specs.Line.{is_answer_to, reply_in};
+ghost use Rattle.zscript.specs.support.Effects.{cause_text, did_text, begun_text, called_text};
+ghost use Rattle.zscript.specs.support.Effects.{own_call};
+
+use zcalls::{CallNumber, ClientId};
+use zclient_table::BeginFault;
+use zlines::{LineFault, write_reply};
+use zmaster_table::JoinFault;
+use zpath::Memory;
+use zworld::{Did, IdleCause};
+use zworld_model::{CallEvent, Settled};
+
+// A call, by its client and its number there.
+type Own = Option<(ClientId, CallNumber)>;
+
+/// Writes why a line asked for nothing, unless there was no memory for it.
+pub(crate) fn write_fault(fault: LineFault, out: &mut String) -> Result<(), Memory>
+    ensures { OnOk result ((fault ≡ line_fault.Memory → ⊥)
+        × Writes out.old out.new (line_fault_text fault)) }
+{
+    match fault {
+        LineFault::BadLine => out.push_str("bad line")?,
+        LineFault::BadPath(fault) => write!(out, "bad path {fault}")?,
+        LineFault::BadData => out.push_str("bad data")?,
+        LineFault::Memory => return Err(Memory),
+    }
+    Ok(())
+}
+
+/// Writes the answers that clients took at an event, and what became of it.
+pub(crate) fn write_did(did: Did, history: &[CallEvent], out: &mut String) -> Result<(), Memory>
+    ensures { OnOk result (Writes out.old out.new
+        (flat_map (taken_text None) history.now ++ did_text did)) }
+{
+    write_taken(history, &None, out)?;
+    if let Did::Idle(cause) = did {
+        return write_cause(cause, out);
+    }
+    out.push_str("done")?;
+    Ok(())
+}
+
+/// Writes what became of a call that was to begin.
+pub(crate) fn write_begun(did: Did, out: &mut String) -> Result<(), Memory>
+    ensures { OnOk result (Writes out.old out.new (begun_text did)) }
+{
+    if let Did::Idle(cause) = did {
+        return write_cause(cause, out);
+    }
+    out.push_str("begun")?;
+    Ok(())
+}
+
+/// Writes the answers that clients took while the world settled, and how that ended.
+pub(crate) fn write_settled(
+    settled: Settled,
+    history: &[CallEvent],
+    out: &mut String,
+) -> Result<(), Memory>
+    ensures { OnOk result (Writes out.old out.new
+        (flat_map (taken_text None) history.now ++ settled_text settled)) }
+{
+    write_taken(history, &None, out)?;
+    match settled {
+        Settled::Quiet => out.push_str("quiet")?,
+        Settled::Limit => out.push_str("limit")?,
+    }
+    Ok(())
+}
+
+/// Writes the answers that clients took after a call began, and behind them the reply to that call, the first of the
+/// history.
+pub(crate) fn write_called(history: &[CallEvent], out: &mut String) -> Result<(), Memory>
+    ensures { OnOk result (Writes out.old out.new (called_text history.now)) }
+{
+    let own = own_call(history);
+    write_taken(history, &own, out)?;
+    write_own_reply(history, &own, out)
+}
+
+/// Writes why an event didn't happen.
+pub(crate) fn write_cause(cause: IdleCause, out: &mut String) -> Result<(), Memory>
+    ensures { OnOk result (Writes out.old out.new (cause_text cause)) }
+{
+    match cause {
+        IdleCause::Nothing => out.push_str("idle")?,
+        IdleCause::Begin(BeginFault::Busy) => out.push_str("busy")?,
+        IdleCause::Begin(BeginFault::Exhausted) => out.push_str("no Numbers")?,
+        IdleCause::Begin(BeginFault::Memory) => return Err(Memory),
+        IdleCause::Join(fault) => {
+            out.push_str("no ")?;
+            out.push_str(join_fault_name(fault))?;
+        }
+    }
+    Ok(())
+}
+
+// The name of a fault of a join.
+fn join_fault_name(fault: JoinFault) -> &'static str
+    ensures { result.now ≡ join_fault_name fault }
+{
+    match fault {
+        JoinFault::Used => "Used",
+        JoinFault::Joining => "Joining",
+        JoinFault::NoChain => "NoChain",
+        JoinFault::Lost => "Lost",
+    }
+}
+
+// The call that a history begins with.
+fn own_call(history: &[CallEvent]) -> Own
+    ensures { result ≡ own_call history.now }
+{
+    match history.first() {
+        Some(CallEvent::Begin(client, number, _)) => Some((*client, *number)),
+        _ => None,
+    }
+}
+
+// Writes answers that clients took, each as a line, but for the one to the line's own call.
+fn write_taken(history: &[CallEvent], own: &Own, out: &mut String) -> Result<(), Memory>
+    ensures { OnOk result (Writes out.old out.new (flat_map (taken_text own.now) history.now)) }
+{
+    for event in history {
+        write_event(event, own, out)?;
+    }
+    Ok(())
+}
+
+// Writes one of them; that a call began is not written.
+fn write_event(event: &CallEvent, own: &Own, out: &mut String) -> Result<(), Memory>
+    ensures { OnOk result (Writes out.old out.new (taken_text own.now event.now)) }
+{
+    let CallEvent::Answer(client, number, reply) = event else {
+        return Ok(());
+    };
+    if is_answer_to(own, client, number) {
+        return Ok(());
+    }
+    write!(out, "c{} ", client.number())?;
+    write_reply(reply, out)?;
+    out.push('\n')?;
+    Ok(())
+}
+
+// Whether a client's answer with this number is the one to this call.
+fn is_answer_to(own: &Own, client: &ClientId, number: &CallNumber) -> bool
+    ensures { result ≡ is_answer_to own.now client.now number.now }
+{
+    match own {
+        Some((own_client, own_number)) => own_client == client && own_number == number,
+        None => false,
+    }
+}
+
+// Writes the reply to a call, where the history has one.
+fn write_own_reply(history: &[CallEvent], own: &Own, out: &mut String) -> Result<(), Memory>
+    ensures { OnOk result (Writes out.old out.new
+        (option_map_or reply_text (reply_in own.now history.now) (codes "unanswered"))) }
+{
+    for event in history {
+        let CallEvent::Answer(client, number, reply) = event else {
+            continue;
+        };
+        if is_answer_to(own, client, number) {
+            return write_reply(reply, out);
+        }
+    }
+    out.push_str("unanswered")?;
+    Ok(())
+}

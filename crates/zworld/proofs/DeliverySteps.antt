@@ -1,0 +1,160 @@
+-- Deliveries, by what the taker made of the message.
+use Rattle.std.proofs.Common.{◌≡◌, ℕ, Bool, true, false, if◌then◌else◌, List, [], ◌∷◌, ◌++◌, drop, refl, sym, ap, subst, ◌∙◌, inl, inr, append-nil}
+use Rattle.std.specs.Prelude.{◌&&◌, ◌==◌, not}
+use mathlib.Core.Bool.{true≢false}
+use Rattle.ztree.specs.Tree.{Tree}
+use Rattle.zcalls.specs.Kept.{KeptState}
+use Rattle.zcalls.proofs.Among.{test}
+use Rattle.zserver_table.specs.declared.message.Message.TheVariants as message
+use Rattle.zserver_table.specs.declared.process.Process.{Process}
+use Rattle.zserver_table.specs.declared.process.Process.TheVariants.{Master, Server, Client}
+use Rattle.zserver_table.specs.Machine.{kept_tree}
+use Rattle.zserver_table.specs.Memory.{is_query, may_be_unheard, may_stop}
+use Rattle.zserver_table.specs.View.{MessageOf}
+use Rattle.zworld_model.specs.declared.event.Event.TheVariants as event
+use Rattle.zworld_model.specs.declared.outcome.Outcome.TheVariants as outcome
+use Rattle.zworld_model.specs.History.{History}
+use Rattle.zworld_model.specs.Links.{is_same, messages_to, without_front}
+use Rattle.zworld_model.specs.World.{World}
+use Rattle.zworld_model.specs.Events.{is_request, has_failed, is_enabled, is_server, happens, acts, front_step, process_step}
+use Rattle.zworld_model.specs.Reading.{is_fitting, read}
+use Rattle.zworld_model.specs.Alike.{IsAlike}
+use Rattle.zworld_model.proofs.Alike.{alike_itself, alike_through}
+use Rattle.zworld_model.proofs.Tests.{both}
+use Rattle.zworld.specs.declared.did.Did.TheVariants as became
+use Rattle.zworld.specs.declared.did.IdleCause.TheVariants as cause
+use Rattle.zworld.specs.Held.{Held, is_gone, member_at, world_of}
+use Rattle.zworld.specs.support.Stepped.{HasStepped}
+use Rattle.zworld.specs.support.Posting.{is_lost}
+use Rattle.zworld.specs.support.Fronts.{without, IsGiven}
+use Rattle.zworld.proofs.Alike.{alike_by}
+use Rattle.zworld.proofs.Posting.{lost_is}
+use Rattle.zworld.proofs.Steps.{idle_stepped, done_stepped, happens_so}
+
+-- a delivery with this front, to one that has not failed
+module _ (old : Held) (from to : Process) (front : MessageOf (KeptState Tree)) (rest : List (MessageOf (KeptState Tree)))
+    (there : (world_of old []).links from to ≡ front ∷ rest) (alive : is_lost old.members to ≡ false) where
+  not_failed : (history : History) → has_failed (world_of old history) to ≡ false
+  not_failed history = lost_is old history to ∙ alive
+
+  -- is enabled
+  pub delivery_enabled : is_enabled (world_of old []) (event.Take from to) ≡ true
+  delivery_enabled = rw (there, not_failed []) refl
+
+  -- the taker acted
+  pub taken : (mid new : Held) (told : History) → ((history : History) → world_of mid history ≡ without (world_of old history) from to)
+      → IsGiven mid from to front told new → HasStepped old new (event.Take from to) became.Done told
+  taken mid new told popped given =
+      done_stepped old new (event.Take from to) told delivery_enabled
+      (λ history.
+      subst (λ link. IsAlike (front_step kept_tree (world_of old history) from to link) (world_of new (history ++ told))) (sym there)
+      (subst (λ w. IsAlike (process_step kept_tree w from to front) (world_of new (history ++ told))) (popped history) (given history)))
+
+-- what is enabled isn't idle
+not_idle : (b : Bool) → b ≡ true → false ≡ not b
+not_idle true is = refl
+not_idle false is = absurd (true≢false (sym is))
+
+query_is_request : (m : MessageOf (KeptState Tree)) → is_query m ≡ true → is_request m ≡ true
+query_is_request (message.Query number query) is = refl
+query_is_request (message.Submit number update) is = refl
+query_is_request (message.Answer number reply) is = absurd (true≢false (sym is))
+query_is_request (message.Update epoch n entry) is = absurd (true≢false (sym is))
+query_is_request (message.Ack epoch n) is = absurd (true≢false (sym is))
+query_is_request (message.Snapshot epoch state) is = absurd (true≢false (sym is))
+query_is_request (message.NewPred epoch pred) is = absurd (true≢false (sym is))
+query_is_request (message.Have epoch last) is = absurd (true≢false (sym is))
+query_is_request (message.NewSucc epoch succ last) is = absurd (true≢false (sym is))
+query_is_request (message.BecomeHead epoch) is = absurd (true≢false (sym is))
+query_is_request (message.BecomeTail epoch) is = absurd (true≢false (sym is))
+query_is_request (message.Joined epoch) is = absurd (true≢false (sym is))
+query_is_request message.Gone is = absurd (true≢false (sym is))
+query_is_request (message.Config epoch head tail) is = absurd (true≢false (sym is))
+
+module _ (old : Held) (from : Process) (s : ℕ) (front : MessageOf (KeptState Tree)) (rest : List (MessageOf (KeptState Tree)))
+    (there : (world_of old []).links from (Server s) ≡ front ∷ rest) (alive : is_gone (member_at old.members s) ≡ false) where
+  enabled : is_enabled (world_of old []) (event.Take from (Server s)) ≡ true
+  enabled = delivery_enabled old from (Server s) front rest there alive
+
+  -- the server didn't hear the query
+  pub unheard : (mid : Held) → ((history : History) → world_of mid history ≡ without (world_of old history) from (Server s))
+      → may_be_unheard kept_tree ((world_of old []).servers s) from front ≡ true → HasStepped old mid (event.Take from (Server s)) became.Unheard []
+  unheard mid popped wants =
+      let w = world_of old [] in
+      let fits : is_fitting kept_tree w (event.Take from (Server s)) outcome.Unheard ≡ true = rw (enabled, there) wants in
+      let reads : read kept_tree w (event.Take from (Server s)) outcome.Unheard ≡ event.Ignore from (Server s) =
+      ap (λ b. if b then event.Ignore from (Server s) else event.Take from (Server s)) fits in
+      let query : is_query front ≡ true = (both _ _ wants).0 in
+      let request : is_enabled w (event.Ignore from (Server s)) ≡ true = rw (there, query_is_request front query, alive) refl in
+      record {
+        idle = not_idle _ enabled;
+        same = λ idle. absurd (true≢false (sym idle));
+        caused = λ why is. let never : ⊥ = cc in absurd never;
+        fits = fits;
+        leads = λ history.
+            subst (λ e. IsAlike (happens kept_tree (world_of old history) e) (world_of mid (history ++ []))) (sym reads)
+            (subst (λ v. IsAlike v (world_of mid (history ++ []))) (sym (happens_so (world_of old history) (event.Ignore from (Server s)) request))
+            (subst (λ v. IsAlike v (world_of mid (history ++ []))) (popped history)
+            (subst (λ (h : History). IsAlike (world_of mid history) (world_of mid h)) (sym (append-nil history)) (alike_itself (world_of mid history)))));
+      }
+
+  -- the front that goes with the server makes no difference
+  lost_front : (w : World (KeptState Tree)) → IsAlike (acts kept_tree w (event.Fail s)) (acts kept_tree (without w from (Server s)) (event.Fail s))
+  lost_front w =
+      let v = acts kept_tree w (event.Fail s) in let u = acts kept_tree (without w from (Server s)) (event.Fail s) in
+      alike_by v u refl refl (λ c. refl) (λ t. refl) (λ t lives. refl) links
+    where
+      on_it : (to : Process) → has_failed (acts kept_tree w (event.Fail s)) to ≡ false → is_same to (Server s) ≡ false
+      on_it Master lives = refl
+      on_it (Client c) lives = refl
+      on_it (Server t) lives = elim (test (t == s)) [
+        | inl here ↦ absurd (true≢false (sym (ap (λ b. if b then true else w.failed t) here) ∙ lives))
+        | inr other ↦ other
+      ]
+
+      and_false : (b : Bool) → (b && false) ≡ false
+      and_false true = refl
+      and_false false = refl
+
+      links : (p q : Process) → has_failed (acts kept_tree w (event.Fail s)) q ≡ false
+          → (acts kept_tree w (event.Fail s)).links p q ≡ (acts kept_tree (without w from (Server s)) (event.Fail s)).links p q
+      links p q lives =
+          let same : without_front w.links from (Server s) p q ≡ w.links p q =
+          ap (λ b. if is_same p from && b then drop 1 (w.links p q) else w.links p q) (on_it q lives)
+          ∙ ap (λ b. if b then drop 1 (w.links p q) else w.links p q) (and_false (is_same p from)) in
+          ap (λ link. if is_same p (Server s) then link ++ messages_to q ((Master, message.Gone) ∷ []) else link) (sym same)
+
+  -- the server stopped at it
+  pub stopped : (mid new : Held) → is_server s ≡ true → ((history : History) → world_of mid history ≡ without (world_of old history) from (Server s))
+      → may_stop kept_tree ((world_of old []).servers s) from front ≡ true → ((history : History) → IsAlike (acts kept_tree (world_of mid history) (event.Fail s)) (world_of new history))
+      → HasStepped old new (event.Take from (Server s)) became.Stopped []
+  stopped mid new one popped wants given =
+      let w = world_of old [] in
+      let fits : is_fitting kept_tree w (event.Take from (Server s)) outcome.Stopped ≡ true = rw (enabled, there) wants in
+      let reads : read kept_tree w (event.Take from (Server s)) outcome.Stopped ≡ event.Fail s =
+      ap (λ b. if b then event.Fail s else event.Take from (Server s)) fits in
+      let fails : is_enabled w (event.Fail s) ≡ true = rw (one, alive) refl in
+      record {
+        idle = not_idle _ enabled;
+        same = λ idle. absurd (true≢false (sym idle));
+        caused = λ why is. let never : ⊥ = cc in absurd never;
+        fits = fits;
+        leads = λ history.
+            subst (λ e. IsAlike (happens kept_tree (world_of old history) e) (world_of new (history ++ []))) (sym reads)
+            (subst (λ v. IsAlike v (world_of new (history ++ []))) (sym (happens_so (world_of old history) (event.Fail s) fails))
+            (alike_through (acts kept_tree (world_of old history) (event.Fail s)) (acts kept_tree (without (world_of old history) from (Server s)) (event.Fail s)) (world_of new (history ++ []))
+            (lost_front (world_of old history))
+            (subst (λ v. IsAlike (acts kept_tree v (event.Fail s)) (world_of new (history ++ []))) (popped history)
+            (subst (λ (h : History). IsAlike (acts kept_tree (world_of mid history) (event.Fail s)) (world_of new h)) (sym (append-nil history)) (given history)))));
+      }
+
+-- nothing can be taken
+pub not_taken : (held : Held) (from to : Process) → (world_of held []).links from to ≡ [] → HasStepped held held (event.Take from to) (became.Idle cause.Nothing) []
+not_taken held from to none = idle_stepped held (event.Take from to) cause.Nothing (rw none refl) refl
+
+pub not_taken_lost : (held : Held) (from to : Process) → is_lost held.members to ≡ true → HasStepped held held (event.Take from to) (became.Idle cause.Nothing) []
+not_taken_lost held from to lost = idle_stepped held (event.Take from to) cause.Nothing (rw (lost_is held [] to ∙ lost) (and_false _)) refl
+  where
+    and_false : (b : Bool) → (b && false) ≡ false
+    and_false true = refl
+    and_false false = refl

@@ -1,0 +1,180 @@
+-- Places that are passed by: nothing is under way from them, or to them.
+use Rattle.std.proofs.Common.{◌≡◌, ℕ, ◌+◌, ◌-◌, ◌<◌, ◌≤◌, zero, suc, true, false, if◌then◌else◌, List, [], length, map, take, get_or, inl, inr, refl, sym, ap, subst, ◌∙◌, arith, length-append}
+use Rattle.std.proofs.lemmas.List.{take_all}
+use Rattle.std.proofs.lemmas.List.FromFn.{get_or-map-range_with_len, length-map-range_with_len}
+use Rattle.std.proofs.Math.ListN.{get_or-append}
+use Rattle.std.proofs.Math.Seq.{get_or-append_right}
+use Rattle.std.proofs.lemmas.Bool.Decides.{nat_tests}
+use Rattle.std.specs.Prelude.{◌==◌, nat_le, nat_lt}
+use Rattle.std.specs.List.{range_with_len}
+use Rattle.zcalls.proofs.Among.{test}
+use Rattle.ztree.specs.declared.limits.TheConstants.{MAX_CLIENTS}
+use Rattle.zserver_table.specs.declared.limits.TheConstants.{MAX_SERVERS}
+use Rattle.zserver_table.specs.declared.process.Process.{Process}
+use Rattle.zserver_table.specs.declared.process.Process.TheVariants.{Master, Server, Client}
+use Rattle.zworld_model.specs.Events.{is_server}
+use Rattle.zworld_model.specs.Settle.{processes}
+use Rattle.zlinks.specs.Places.{place_of, links_of, is_silent}
+use Rattle.zlinks.proofs.Places.{silent_links, server_place}
+use Rattle.zlinks.specs.declared.limits.TheConstants.{PROCESSES}
+use Rattle.zworld.specs.Held.{MemberView, Held, member_at, owes, last_words, world_of}
+use Rattle.zworld.specs.support.Settling.{Point, Tries, takes, takes_from, process_at}
+use Rattle.zworld.proofs.Tries.{silent_tries, empty_try, one_more_receiver, one_more_sender}
+
+-- the process in a place of the servers, and of the clients
+at_server : (n : ℕ) → n < 8 → process_at (suc n) ≡ Server (suc n)
+at_server n few =
+    let some : (suc n == 0) ≡ false = grind (arith, nat_tests) in
+    let small : nat_le (suc n) MAX_SERVERS ≡ true = grind (arith, nat_tests, few) in rw (some, small) refl
+
+at_client : (n : ℕ) → 8 ≤ n → process_at (suc n) ≡ Client ((suc n - MAX_SERVERS) - 1)
+at_client n many =
+    let some : (suc n == 0) ≡ false = grind (arith, nat_tests) in
+    let large : nat_le (suc n) MAX_SERVERS ≡ false = grind (arith, nat_tests, many) in rw (some, large) refl
+
+-- who stands in a place of the list
+server_in : (clients n : ℕ) (d : Process) → n < 8 → get_or (processes clients) (suc n) d ≡ Server (suc n)
+server_in clients n d few =
+    get_or-append (map Server (range_with_len 1 MAX_SERVERS)) (map Client (range_with_len 0 clients)) d n (omega (arith, few, length-map-range_with_len Server 1 MAX_SERVERS))
+    ∙ get_or-map-range_with_len Server 1 MAX_SERVERS n (suc n) d few (omega arith)
+
+client_in : (clients n : ℕ) (d : Process) → 8 ≤ n → n < 8 + clients → get_or (processes clients) (suc n) d ≡ Client ((suc n - MAX_SERVERS) - 1)
+client_in clients n d many inside =
+    get_or-append_right (map Server (range_with_len 1 MAX_SERVERS)) (map Client (range_with_len 0 clients)) n d (omega (arith, many, length-map-range_with_len Server 1 MAX_SERVERS))
+    ∙ get_or-map-range_with_len Client 0 clients (n - 8) ((suc n - MAX_SERVERS) - 1) d (omega (arith, many, inside)) (omega (arith, many))
+
+-- there are so many
+pub length-processes : (clients : ℕ) → length (processes clients) ≡ 9 + clients
+length-processes clients =
+    let servers = length-map-range_with_len Server 1 MAX_SERVERS in
+    let rest = length-map-range_with_len Client 0 clients in
+    let both = length-append (map Server (range_with_len 1 MAX_SERVERS)) (map Client (range_with_len 0 clients)) in
+    omega (arith, servers, rest, both)
+
+-- each stands in its place
+pub listed : (clients place : ℕ) → place < 9 + clients → process_at place ≡ get_or (processes clients) place (process_at place)
+listed clients zero inside = refl
+listed clients (suc n) inside = elim (test (nat_lt n 8)) [
+  | inl small ↦ let few : n < 8 = grind (arith, nat_tests, small) in at_server n few ∙ sym (server_in clients n (process_at (suc n)) few)
+  | inr large ↦
+      let many : 8 ≤ n = grind (arith, nat_tests, large) in
+      at_client n many ∙ sym (client_in clients n (process_at (suc n)) many (omega (arith, inside)))
+]
+
+pub placed : (place : ℕ) → place < PROCESSES → place_of (process_at place) ≡ place
+placed zero inside = refl
+placed (suc n) inside = elim (test (nat_lt n 8)) [
+  | inl small ↦
+      let few : n < 8 = grind (arith, nat_tests, small) in
+      let is : is_server (suc n) ≡ true = grind (arith, nat_tests, few) in
+      ap place_of (at_server n few) ∙ ap (λ b. if b then suc n else PROCESSES) is
+  | inr large ↦
+      let many : 8 ≤ n = grind (arith, nat_tests, large) in
+      let c = (suc n - MAX_SERVERS) - 1 in
+      let is : nat_lt c MAX_CLIENTS ≡ true = grind (arith, nat_tests, many, inside) in
+      ap place_of (at_client n many) ∙ ap (λ b. if b then MAX_SERVERS + 1 + c else PROCESSES) is ∙ (let same : MAX_SERVERS + 1 + c ≡ suc n = omega (arith, many) in same)
+]
+
+-- the last words of a server are for the master
+pub no_words : (members : List MemberView) (from to : Process) → 0 < place_of to → last_words members from to ≡ []
+no_words members from Master some = absurd (omega (arith, some))
+no_words members Master (Server t) some = refl
+no_words members Master (Client t) some = refl
+no_words members (Server s) (Server t) some = refl
+no_words members (Server s) (Client t) some = refl
+no_words members (Client s) (Server t) some = refl
+no_words members (Client s) (Client t) some = refl
+
+-- so nothing is under way to a process behind the master
+pub empty_link : (inside held : Held) (from to : Process) → inside ≡ held → links_of inside.links from to ≡ [] → 0 < place_of to
+    → (world_of held []).links from to ≡ []
+empty_link inside held from to same none some =
+    let empty : links_of held.links from to ≡ [] = ap (λ (h : Held). links_of h.links from to) (sym same) ∙ none in
+    rw (empty, no_words held.members from to some) refl
+
+-- and nothing of a process that put nothing, where no server owes its last words
+pub silent_place : (inside held : Held) (from to : Process) (at bound : ℕ) → inside ≡ held → is_silent inside.links from ≡ true
+    → at ≤ place_of from → place_of from < bound → bound ≤ PROCESSES
+    → ((s : ℕ) → at ≤ s → 0 < s → s ≤ MAX_SERVERS → s < bound → owes (member_at held.members s) ≡ false)
+    → (world_of held []).links from to ≡ []
+silent_place inside held from to at bound same silent behind before few paid =
+    let quiet : links_of held.links from to ≡ [] = silent_links held.links from to (ap (λ (h : Held). is_silent h.links from) (sym same) ∙ silent) in
+    rw (quiet, words from to behind before) refl
+  where
+    words : (p q : Process) → at ≤ place_of p → place_of p < bound → last_words held.members p q ≡ []
+    words Master q after until = refl
+    words (Client c) q after until = refl
+    words (Server s) (Server t) after until = refl
+    words (Server s) (Client c) after until = refl
+    words (Server s) Master after until =
+        let stands = server_place s (omega (arith, until, few)) in
+        let none = paid s (omega (arith, after, stands.0)) stands.2 stands.1 (omega (arith, until, stands.0)) in
+        rw none refl
+
+-- the process that was asked for by its place is that of the list
+pub listed_as : (clients place : ℕ) (p : Process) → p ≡ process_at place → place < length (processes clients) → p ≡ get_or (processes clients) place p
+listed_as clients place p is inside =
+    subst (λ q. q ≡ get_or (processes clients) place q) (sym is) (listed clients place (omega (arith, inside, length-processes clients)))
+
+-- what is behind the end of a list isn't taken
+past : {X : Type 0} (xs : List X) (n : ℕ) → length xs ≤ n → take (n + 1) xs ≡ take n xs
+past xs n all = take_all (n + 1) xs (omega (arith, all)) ∙ sym (take_all n xs all)
+
+module _ (clients : ℕ) (p : Point) where
+  -- receivers to which nothing is under way
+  pub skipped_receivers : (from : Process) (a : Point) (place k : ℕ) → place + k ≤ PROCESSES
+      → ((to : Process) → place ≤ place_of to → place_of to < place + k → (world_of p.held []).links from to ≡ [])
+      → Tries (takes_from (take place (processes clients)) from) a p → Tries (takes_from (take (place + k) (processes clients)) from) a p
+  skipped_receivers from a place zero few none tries = subst (λ n. Tries (takes_from (take n (processes clients)) from) a p) (let same : place ≡ place + 0 = omega arith in same) tries
+  skipped_receivers from a place (suc k) few none tries =
+      let next : (place + k) + 1 ≡ place + suc k = omega arith in
+      let before = skipped_receivers from a place k (omega (arith, few)) (λ to behind here. none to behind (omega (arith, here))) tries in
+      let to = process_at (place + k) in
+      let at : place_of to ≡ place + k = placed (place + k) (omega (arith, few)) in
+      subst (λ n. Tries (takes_from (take n (processes clients)) from) a p) next
+      (elim (test (nat_lt (place + k) (9 + clients))) [
+        | inl inside ↦
+            let small : place + k < 9 + clients = grind (arith, nat_tests, inside) in
+            one_more_receiver (processes clients) (place + k) from to a p p (omega (arith, small, length-processes clients)) (listed clients (place + k) small) before
+            (empty_try from to p (none to (omega (arith, at)) (omega (arith, at))))
+        | inr outside ↦
+            let large : 9 + clients ≤ place + k = grind (arith, nat_tests, outside) in
+            subst (λ ps. Tries (takes_from ps from) a p) (sym (past (processes clients) (place + k) (omega (arith, large, length-processes clients)))) before
+      ])
+
+  pub receivers_to : (from : Process) (a : Point) (place next : ℕ) → place ≤ next → next ≤ PROCESSES
+      → ((to : Process) → place ≤ place_of to → place_of to < next → (world_of p.held []).links from to ≡ [])
+      → Tries (takes_from (take place (processes clients)) from) a p → Tries (takes_from (take next (processes clients)) from) a p
+  receivers_to from a place next ahead few none tries =
+      let far : place + (next - place) ≡ next = omega (arith, ahead) in
+      subst (λ n. Tries (takes_from (take n (processes clients)) from) a p) far
+      (skipped_receivers from a place (next - place) (omega (arith, far, few)) (λ to behind before. none to behind (omega (arith, before, far))) tries)
+
+  -- and senders of which nothing is
+  pub skipped_senders : (a : Point) (place k : ℕ) → place + k ≤ PROCESSES
+      → ((from to : Process) → place ≤ place_of from → place_of from < place + k → (world_of p.held []).links from to ≡ [])
+      → Tries (takes (processes clients) (take place (processes clients))) a p → Tries (takes (processes clients) (take (place + k) (processes clients))) a p
+  skipped_senders a place zero few none tries = subst (λ n. Tries (takes (processes clients) (take n (processes clients))) a p) (let same : place ≡ place + 0 = omega arith in same) tries
+  skipped_senders a place (suc k) few none tries =
+      let next : (place + k) + 1 ≡ place + suc k = omega arith in
+      let before = skipped_senders a place k (omega (arith, few)) (λ from to behind here. none from to behind (omega (arith, here))) tries in
+      let from = process_at (place + k) in
+      let at : place_of from ≡ place + k = placed (place + k) (omega (arith, few)) in
+      subst (λ n. Tries (takes (processes clients) (take n (processes clients))) a p) next
+      (elim (test (nat_lt (place + k) (9 + clients))) [
+        | inl inside ↦
+            let small : place + k < 9 + clients = grind (arith, nat_tests, inside) in
+            one_more_sender (processes clients) (processes clients) (place + k) from a p p (omega (arith, small, length-processes clients)) (listed clients (place + k) small) before
+            (silent_tries from (processes clients) p (λ to. none from to (omega (arith, at)) (omega (arith, at))))
+        | inr outside ↦
+            let large : 9 + clients ≤ place + k = grind (arith, nat_tests, outside) in
+            subst (λ ps. Tries (takes (processes clients) ps) a p) (sym (past (processes clients) (place + k) (omega (arith, large, length-processes clients)))) before
+      ])
+
+  pub senders_to : (a : Point) (place next : ℕ) → place ≤ next → next ≤ PROCESSES
+      → ((from to : Process) → place ≤ place_of from → place_of from < next → (world_of p.held []).links from to ≡ [])
+      → Tries (takes (processes clients) (take place (processes clients))) a p → Tries (takes (processes clients) (take next (processes clients))) a p
+  senders_to a place next ahead few none tries =
+      let far : place + (next - place) ≡ next = omega (arith, ahead) in
+      subst (λ n. Tries (takes (processes clients) (take n (processes clients))) a p) far
+      (skipped_senders a place (next - place) (omega (arith, far, few)) (λ from to behind before. none from to behind (omega (arith, before, far))) tries)

@@ -1,0 +1,109 @@
+-- Events that happened, and events that didn't.
+use Rattle.std.proofs.Common.{◌≡◌, true, false, if◌then◌else◌, [], ◌++◌, refl, sym, ap, subst, ◌∙◌, append-nil}
+use Rattle.std.specs.Prelude.{not}
+use mathlib.Core.Bool.{true≢false}
+use Rattle.ztree.specs.Tree.{Tree}
+use Rattle.zcalls.specs.Kept.{KeptState}
+use Rattle.zserver_table.specs.declared.process.Process.TheVariants.{Master, Server, Client}
+use Rattle.zserver_table.specs.Machine.{kept_tree}
+use Rattle.zworld_model.specs.declared.event.Event.{Event}
+use Rattle.zworld_model.specs.declared.event.Event.TheVariants.{Begin, Retry, Take, Ignore, Fail, Join}
+use Rattle.zworld_model.specs.declared.outcome.Outcome.{Outcome}
+use Rattle.zworld_model.specs.declared.outcome.Outcome.TheVariants.{Acted, Stopped, Unheard}
+use Rattle.zworld_model.specs.History.{History}
+use Rattle.zworld_model.specs.World.{World}
+use Rattle.zworld_model.specs.Events.{is_enabled, happens, acts}
+use Rattle.zworld_model.specs.Reading.{is_fitting, read, reading_by}
+use Rattle.zworld_model.specs.Alike.{IsAlike}
+use Rattle.zworld_model.proofs.Alike.{alike_itself}
+use Rattle.zworld.specs.declared.did.Did.{Did}
+use Rattle.zworld.specs.declared.did.Did.TheVariants as did
+use Rattle.zworld.specs.declared.did.IdleCause.{IdleCause}
+use Rattle.zworld.specs.Held.{Held, world_of}
+use Rattle.zworld.specs.Did.{IsCause}
+use Rattle.zworld.specs.support.Stepped.{HasStepped}
+
+-- what is enabled doesn't hang on the history
+pub enabled_anyway : (held : Held) (history : History) (event : Event) → is_enabled (world_of held history) event ≡ is_enabled (world_of held []) event
+enabled_anyway held history (Begin c call) = refl
+enabled_anyway held history (Retry c) = refl
+enabled_anyway held history (Take from to) = refl
+enabled_anyway held history (Ignore from to) = refl
+enabled_anyway held history (Fail s) = refl
+enabled_anyway held history (Join s) = refl
+
+-- an event at which the taker acted reads as itself
+pub read_acted : (w : World (KeptState Tree)) (event : Event) → read kept_tree w event Acted ≡ event
+read_acted w (Begin c call) = refl
+read_acted w (Retry c) = refl
+read_acted w (Take from Master) = refl
+read_acted w (Take from (Server s)) = refl
+read_acted w (Take from (Client c)) = refl
+read_acted w (Ignore from to) = refl
+read_acted w (Fail s) = refl
+read_acted w (Join s) = refl
+
+-- what outcomes an event can have doesn't hang on the history either
+pub fitting_anyway : (held : Held) (history : History) (event : Event) (outcome : Outcome)
+    → is_fitting kept_tree (world_of held history) event outcome ≡ is_fitting kept_tree (world_of held []) event outcome
+fitting_anyway held history event Acted = refl
+fitting_anyway held history (Begin c call) Stopped = refl
+fitting_anyway held history (Retry c) Stopped = refl
+fitting_anyway held history (Take from Master) Stopped = refl
+fitting_anyway held history (Take from (Server s)) Stopped = refl
+fitting_anyway held history (Take from (Client c)) Stopped = refl
+fitting_anyway held history (Ignore from to) Stopped = refl
+fitting_anyway held history (Fail s) Stopped = refl
+fitting_anyway held history (Join s) Stopped = refl
+fitting_anyway held history (Begin c call) Unheard = refl
+fitting_anyway held history (Retry c) Unheard = refl
+fitting_anyway held history (Take from Master) Unheard = refl
+fitting_anyway held history (Take from (Server s)) Unheard = refl
+fitting_anyway held history (Take from (Client c)) Unheard = refl
+fitting_anyway held history (Ignore from to) Unheard = refl
+fitting_anyway held history (Fail s) Unheard = refl
+fitting_anyway held history (Join s) Unheard = refl
+
+-- nor does how it reads
+pub read_anyway : (held : Held) (history : History) (event : Event) (outcome : Outcome)
+    → read kept_tree (world_of held history) event outcome ≡ read kept_tree (world_of held []) event outcome
+read_anyway held history event outcome =
+    ap (λ b. if b then reading_by event outcome else event) (fitting_anyway held history event outcome)
+
+-- an event that isn't enabled, or is
+pub happens_not : (w : World (KeptState Tree)) (event : Event) → is_enabled w event ≡ false → happens kept_tree w event ≡ w
+happens_not w event off = ap (λ b. if b then acts kept_tree w event else w) off
+
+pub happens_so : (w : World (KeptState Tree)) (event : Event) → is_enabled w event ≡ true → happens kept_tree w event ≡ acts kept_tree w event
+happens_so w event on = ap (λ b. if b then acts kept_tree w event else w) on
+
+-- an event that isn't enabled
+pub idle_stepped : (held : Held) (event : Event) (why : IdleCause) → is_enabled (world_of held []) event ≡ false → IsCause held event why
+    → HasStepped held held event (did.Idle why) []
+idle_stepped held event why off caused = record {
+  idle = ap not (sym off);
+  same = λ idle. refl;
+  caused = λ other is. subst (λ c. IsCause held event c) (same_cause why other is) caused;
+  fits = refl;
+  leads = λ history.
+      subst (λ e. IsAlike (happens kept_tree (world_of held history) e) (world_of held (history ++ []))) (sym (read_acted (world_of held []) event))
+      (subst (λ w. IsAlike w (world_of held (history ++ []))) (sym (happens_not (world_of held history) event (enabled_anyway held history event ∙ off)))
+      (subst (λ h. IsAlike (world_of held history) (world_of held h)) (sym (append-nil history)) (alike_itself (world_of held history))));
+}
+  where
+    same_cause : (a b : IdleCause) → did.Idle a ≡ did.Idle b → a ≡ b
+    same_cause a b is = ap (λ (d : Did). elim d [ did.Done ↦ a | did.Idle c ↦ c | did.Unheard ↦ a | did.Stopped ↦ a ]) is
+
+-- an event that happened
+pub done_stepped : (old new : Held) (event : Event) (told : History) → is_enabled (world_of old []) event ≡ true
+    → ((history : History) → IsAlike (acts kept_tree (world_of old history) event) (world_of new (history ++ told)))
+    → HasStepped old new event did.Done told
+done_stepped old new event told on alike = record {
+  idle = ap not (sym on);
+  same = λ idle. absurd (true≢false (sym idle));
+  caused = λ why is. let never : ⊥ = cc in absurd never;
+  fits = refl;
+  leads = λ history.
+      subst (λ e. IsAlike (happens kept_tree (world_of old history) e) (world_of new (history ++ told))) (sym (read_acted (world_of old []) event))
+      (subst (λ w. IsAlike w (world_of new (history ++ told))) (sym (happens_so (world_of old history) event (enabled_anyway old history event ∙ on))) (alike history));
+}

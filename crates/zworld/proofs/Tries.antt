@@ -1,0 +1,230 @@
+-- A settling goes on where the processes do: ways from one point to another, and events that are tried.
+use Rattle.std.proofs.Common.{◌≡◌, ℕ, ◌-◌, ◌<◌, ◌+◌, suc, Bool, true, false, not, if◌then◌else◌, nat_lt, List, [], ◌∷◌, ◌++◌, length, take, drop, get_or, refl, sym, ap, subst, ◌∙◌, append-nil, append_assoc, lt-ltb, arith}
+use Rattle.std.specs.Prelude.{◌&&◌, ◌||◌}
+use Rattle.std.specs.List.{list_any}
+use Rattle.std.proofs.Math.Seq.{take-suc}
+use Rattle.std.proofs.lemmas.List.FromFn.{map-range_with_len_more}
+use Rattle.std.proofs.lemmas.List.{map-append}
+use Rattle.std.proofs.lemmas.Grind.{flat_map-append}
+use mathlib.Core.Bool.{true≢false}
+use Rattle.zserver_table.specs.declared.process.Process.{Process}
+use Rattle.zserver_table.specs.Machine.{kept_tree}
+use Rattle.zworld_model.specs.declared.event.Event.{Event}
+use Rattle.zworld_model.specs.declared.event.Event.TheVariants.{Retry, Take}
+use Rattle.zworld_model.specs.declared.outcome.Outcome.{Outcome}
+use Rattle.zworld_model.specs.declared.outcome.Outcome.TheVariants.{Acted}
+use Rattle.zworld_model.specs.History.{History}
+use Rattle.zworld_model.specs.Events.{is_enabled, happens}
+use Rattle.zworld_model.specs.Reading.{read}
+use Rattle.zworld_model.specs.Settle.{retry_events, with_event, with_try, with_tries, opening_settling, next_outcome}
+use Rattle.zworld_model.specs.Alike.{IsAlike}
+use Rattle.zworld_model.proofs.Alike.{have_the_same_enabled, stay_alike, alike_itself, alike_through, read_alike}
+use Rattle.zworld_model.proofs.Settling.{none_is_done, none_may_be_done}
+use Rattle.zworld.specs.declared.did.Did.{Did}
+use Rattle.zworld.specs.declared.did.Did.TheVariants as became
+use Rattle.zworld.specs.Held.{Held, last_words, world_of}
+use Rattle.zlinks.specs.Places.{links_of, is_silent}
+use Rattle.zlinks.proofs.Places.{silent_links}
+use Rattle.zworld.specs.Did.{is_idle, outcome_of}
+use Rattle.zworld.specs.support.Stepped.{HasStepped}
+use Rattle.zworld.specs.support.Settling.{TreeSettling, StandsAt, Point, GoesOn, Does, Tries, GoOn, takes_from, takes}
+use Rattle.zworld.proofs.Steps.{enabled_anyway, read_anyway, read_acted, happens_not}
+
+-- the same settling, where no history is told
+still : (p : Point) (history : History) (outcomes : List Outcome) (s : TreeSettling) → StandsAt p.held history p.left outcomes s
+    → StandsAt p.held (history ++ []) p.left outcomes s
+still p history outcomes s stands = subst (λ h. StandsAt p.held h p.left outcomes s) (sym (append-nil history)) stands
+
+-- a point where nothing was done yet
+pub goes_nowhere : (whole : TreeSettling → TreeSettling) (p : Point) → GoesOn whole whole p p
+goes_nowhere whole p = ([], [], sym (append-nil p.seen), λ history outcomes s stands. (s, still p history outcomes s stands, refl))
+
+-- one way after another
+pub goes_on_with : (whole middle last : TreeSettling → TreeSettling) (a b c : Point) → GoesOn whole middle a b → GoesOn middle last b c → GoesOn whole last a c
+goes_on_with whole middle last a b c (told, given, more, leads) (told_next, given_next, more_next, leads_next) = (
+  told ++ told_next,
+  given ++ given_next,
+  more_next ∙ ap (λ xs. xs ++ given_next) more ∙ append_assoc a.seen given given_next,
+  λ history outcomes s stands.
+      let first = leads history (told_next ++ outcomes) s (subst (λ os. StandsAt a.held history a.left os s) (append_assoc told told_next outcomes) stands) in
+      let second = leads_next (history ++ given) outcomes first.0 first.1 in
+      let both : (history ++ given) ++ given_next ≡ history ++ (given ++ given_next) = append_assoc history given given_next in
+      (second.0, subst (λ h. StandsAt c.held h c.left outcomes second.0) both second.1, first.2 ∙ second.2),
+)
+
+-- a way that is the first of a longer one
+pub under : (whole done rest : TreeSettling → TreeSettling) (a b : Point) → ((s : TreeSettling) → whole s ≡ rest (done s)) → Does done a b → GoesOn whole rest a b
+under whole done rest a b is (told, given, more, leads) = (
+  told,
+  given,
+  more,
+  λ history outcomes s stands. let after = leads history outcomes s stands in (after.0, after.1, is s ∙ ap rest after.2),
+)
+
+-- tries of events and of more
+tries_both : (s : TreeSettling) (events more : List Event) → with_tries kept_tree s (events ++ more) ≡ with_tries kept_tree (with_tries kept_tree s events) more
+tries_both s [] more = refl
+tries_both s (event ∷ events) more = tries_both (with_try kept_tree s event) events more
+
+tries_then : (events more : List Event) (a b c : Point) → Tries events a b → Tries more b c → Tries (events ++ more) a c
+tries_then events more a b c first second =
+    goes_on_with (λ s. with_tries kept_tree s (events ++ more)) (λ s. with_tries kept_tree s more) (λ s. s) a b c
+    (under (λ s. with_tries kept_tree s (events ++ more)) (λ s. with_tries kept_tree s events) (λ s. with_tries kept_tree s more) a b (λ s. tries_both s events more) first) second
+
+-- one more of a list
+taken_more : {X : Type 0} (xs : List X) (i : ℕ) (x : X) → i < length xs → x ≡ get_or xs i x → take (i + 1) xs ≡ take i xs ++ x ∷ []
+taken_more xs i x inside is =
+    let next : i + 1 ≡ suc i = omega arith in
+    ap (λ n. take n xs) next ∙ take-suc xs i x inside ∙ ap (λ y. take i xs ++ y ∷ []) (sym is)
+
+-- so tries of deliveries to one more process, from one more process, and of one more retry
+pub one_more_receiver : (receivers : List Process) (i : ℕ) (from to : Process) (a b c : Point) → i < length receivers → to ≡ get_or receivers i to
+    → Tries (takes_from (take i receivers) from) a b → Tries (Take from to ∷ []) b c → Tries (takes_from (take (i + 1) receivers) from) a c
+one_more_receiver receivers i from to a b c inside is first second =
+    subst (λ es. Tries es a c)
+    (sym (ap (λ ps. takes_from ps from) (taken_more receivers i to inside is) ∙ map-append (λ p. Take from p) (take i receivers) (to ∷ [])))
+    (tries_then (takes_from (take i receivers) from) (Take from to ∷ []) a b c first second)
+
+pub one_more_sender : (receivers senders : List Process) (i : ℕ) (from : Process) (a b c : Point) → i < length senders → from ≡ get_or senders i from
+    → Tries (takes receivers (take i senders)) a b → Tries (takes_from receivers from) b c → Tries (takes receivers (take (i + 1) senders)) a c
+one_more_sender receivers senders i from a b c inside is first second =
+    let both : takes receivers (take (i + 1) senders) ≡ takes receivers (take i senders) ++ takes_from receivers from =
+    ap (takes receivers) (taken_more senders i from inside is) ∙ flat_map-append (takes_from receivers) (take i senders) (from ∷ [])
+    ∙ ap (λ es. takes receivers (take i senders) ++ es) (append-nil (takes_from receivers from)) in
+    subst (λ es. Tries es a c) (sym both) (tries_then (takes receivers (take i senders)) (takes_from receivers from) a b c first second)
+
+pub one_more_retry : (n client : ℕ) (a b c : Point) → client ≡ n → Tries (retry_events n) a b → Tries (Retry client ∷ []) b c → Tries (retry_events (n + 1)) a c
+one_more_retry n client a b c is first second =
+    let both : retry_events (n + 1) ≡ retry_events n ++ Retry client ∷ [] =
+    map-range_with_len_more Retry 0 n n (omega arith) ∙ ap (λ m. retry_events n ++ Retry m ∷ []) (sym is) in
+    subst (λ es. Tries es a c) (sym both) (tries_then (retry_events n) (Retry client ∷ []) a b c first second)
+
+-- tries that change no settling
+tries_nothing : (events : List Event) (p : Point)
+    → ((history : History) (outcomes : List Outcome) (s : TreeSettling) → StandsAt p.held history p.left outcomes s → with_tries kept_tree s events ≡ s) → Tries events p p
+tries_nothing events p nothing =
+    ([], [], sym (append-nil p.seen), λ history outcomes s stands. (s, still p history outcomes s stands, nothing history outcomes s stands))
+
+-- where no more may be done, nothing is
+pub spent_tries : (events : List Event) (p : Point) → p.left ≡ 0 → Tries events p p
+spent_tries events p none = tries_nothing events p (λ history outcomes s stands. none_may_be_done kept_tree s events (stands.remaining ∙ none))
+
+-- from a process that has put nothing, nothing is taken
+pub silent_tries : (from : Process) (receivers : List Process) (p : Point) → ((to : Process) → (world_of p.held []).links from to ≡ []) → Tries (takes_from receivers from) p p
+silent_tries from receivers p silent =
+    tries_nothing (takes_from receivers from) p (λ history outcomes s stands.
+    none_is_done kept_tree s (takes_from receivers from) (none_taken receivers s (λ to.
+    have_the_same_enabled kept_tree s.world (world_of p.held history) (Take from to) stands.alike ∙ rw (silent to) refl)))
+  where
+    none_taken : (receivers : List Process) (s : TreeSettling) → ((to : Process) → is_enabled s.world (Take from to) ≡ false)
+        → list_any (is_enabled s.world) (takes_from receivers from) ≡ false
+    none_taken [] s none = refl
+    none_taken (to ∷ receivers) s none = ap (λ b. b || list_any (is_enabled s.world) (takes_from receivers from)) (none to) ∙ none_taken receivers s none
+
+-- nor from a link on which nothing is
+pub empty_try : (from to : Process) (p : Point) → (world_of p.held []).links from to ≡ [] → Tries (Take from to ∷ []) p p
+empty_try from to p empty =
+    tries_nothing (Take from to ∷ []) p (λ history outcomes s stands.
+    let off : is_enabled (world_of p.held history) (Take from to) ≡ false = rw empty refl in
+    none_is_done kept_tree s (Take from to ∷ []) (ap (λ b. b || false)
+    (have_the_same_enabled kept_tree s.world (world_of p.held history) (Take from to) stands.alike ∙ off)))
+
+-- an event that was tried
+module _ (old new : Held) (event : Event) (did : Did) (given : History) (stepped : HasStepped old new event did given) where
+  -- where it is enabled
+  enabled_at : (history : History) (more : ℕ) (outcomes : List Outcome) (s : TreeSettling) → StandsAt old history more outcomes s
+      → is_enabled s.world event ≡ not (is_idle did)
+  enabled_at history more outcomes s stands =
+      have_the_same_enabled kept_tree s.world (world_of old history) event stands.alike ∙ enabled_anyway old history event
+      ∙ twice_not (is_enabled (world_of old []) event) ∙ ap not (sym stepped.idle)
+    where
+      twice_not : (b : Bool) → b ≡ not (not b)
+      twice_not true = refl
+      twice_not false = refl
+
+  -- an idle one
+  idle_acted : is_idle did ≡ true → outcome_of did ≡ Acted
+  idle_acted idle = of_did did idle
+    where
+      of_did : (d : Did) → is_idle d ≡ true → outcome_of d ≡ Acted
+      of_did (became.Idle cause) idle = refl
+      of_did became.Done idle = refl
+      of_did became.Unheard idle = absurd (true≢false (sym idle))
+      of_did became.Stopped idle = absurd (true≢false (sym idle))
+
+  stays : is_idle did ≡ true → (history : History) → IsAlike (world_of old history) (world_of new (history ++ given))
+  stays idle history =
+      let later = world_of new (history ++ given) in
+      let off : is_enabled (world_of old history) event ≡ false =
+      enabled_at history 0 [] (opening_settling (world_of old history) 0 []) (record { alike = alike_itself (world_of old history); remaining = refl; coming = refl }) ∙ ap not idle in
+      let reads : read kept_tree (world_of old []) event (outcome_of did) ≡ event = ap (read kept_tree (world_of old []) event) (idle_acted idle) ∙ read_acted (world_of old []) event in
+      subst (λ w. IsAlike w later) (happens_not (world_of old history) event off)
+      (subst (λ e. IsAlike (happens kept_tree (world_of old history) e) later) reads (stepped.leads history))
+
+  -- and one that was done
+  goes : (history : History) (more : ℕ) (outcomes : List Outcome) (s : TreeSettling) → is_idle did ≡ false → 0 < more → StandsAt old history more (outcome_of did ∷ outcomes) s
+      → (t : TreeSettling) × StandsAt new (history ++ given) (more - 1) outcomes t × (with_try kept_tree s event ≡ t)
+  goes history more outcomes s active some stands =
+      let outcome = outcome_of did in
+      let now = world_of old history in
+      let on : is_enabled s.world event ≡ true = enabled_at history more (outcome ∷ outcomes) s stands ∙ ap not active in
+      let may : nat_lt 0 s.left ≡ true = ap (nat_lt 0) stands.remaining ∙ lt-ltb 0 more some in
+      let reads : read kept_tree s.world event outcome ≡ read kept_tree (world_of old []) event outcome = read_alike kept_tree s.world now event outcome stands.alike ∙ read_anyway old history event outcome in
+      let next : TreeSettling = with_event kept_tree s (read kept_tree s.world event outcome) in (
+        next,
+        record {
+          alike = alike_through _ _ _ (stay_alike kept_tree s.world now (read kept_tree s.world event outcome ∷ []) stands.alike)
+              (subst (λ e. IsAlike (happens kept_tree now e) (world_of new (history ++ given))) (sym reads) (stepped.leads history));
+          remaining = ap (λ n. n - 1) stands.remaining;
+          coming = ap (drop 1) stands.coming;
+        },
+        ap (λ b. if b && is_enabled s.world event then with_event kept_tree s (read kept_tree s.world event (next_outcome s.outcomes)) else s) may
+            ∙ ap (λ b. if b then with_event kept_tree s (read kept_tree s.world event (next_outcome s.outcomes)) else s) on
+            ∙ ap (λ os. with_event kept_tree s (read kept_tree s.world event (next_outcome os))) stands.coming,
+      )
+
+  pub stepped_tries : (left after : ℕ) (before seen : History) → 0 < left → after ≡ (if is_idle did then left else left - 1) → seen ≡ before ++ given
+      → Tries (event ∷ []) (record { held = old; left = left; seen = before }) (record { held = new; left = after; seen = seen })
+  stepped_tries left after before seen some is more = by_idle (is_idle did) refl
+    where
+      by_idle : (idle : Bool) → is_idle did ≡ idle → Tries (event ∷ []) (record { held = old; left = left; seen = before }) (record { held = new; left = after; seen = seen })
+      by_idle true idle =
+          let same : after ≡ left = is ∙ ap (λ b. if b then left else left - 1) idle in (
+            [],
+            given,
+            more,
+            λ history outcomes s stands. (
+              s,
+              record {
+                alike = alike_through _ _ _ stands.alike (stays idle history);
+                remaining = stands.remaining ∙ sym same;
+                coming = stands.coming;
+              },
+              none_is_done kept_tree s (event ∷ []) (ap (λ b. b || false) (enabled_at history left outcomes s stands ∙ ap not idle)),
+            ),
+          )
+      by_idle false active =
+          let less : after ≡ left - 1 = is ∙ ap (λ b. if b then left else left - 1) active in (
+            outcome_of did ∷ [],
+            given,
+            more,
+            λ history outcomes s stands.
+                let next = goes history left outcomes s active some stands in
+                (next.0, subst (λ n. StandsAt new (history ++ given) n outcomes next.0) (sym less) next.1, next.2),
+          )
+
+-- nothing that a silent process put is under way
+pub silent_process : (inside held : Held) (from : Process) (silent owes : Bool) → inside ≡ held → silent ≡ is_silent inside.links from → silent ≡ true
+    → ((to : Process) → owes ≡ false → last_words held.members from to ≡ []) → not owes ≡ true → (to : Process) → (world_of held []).links from to ≡ []
+silent_process inside held from silent owes same is so none not_owed to =
+    let quiet : links_of held.links from to ≡ [] = silent_links held.links from to (ap (λ (h : Held). is_silent h.links from) (sym same) ∙ sym is ∙ so) in
+    let paid : owes ≡ false = not_true owes not_owed in
+    rw (quiet, none to paid) refl
+  where
+    not_true : (b : Bool) → not b ≡ true → b ≡ false
+    not_true false is = refl
+    not_true true is = absurd (true≢false (sym is))
+
+-- what was added is added to what was there before
+pub both_added : (old mid new : History) → GoOn mid old → GoOn new mid → GoOn new old
+both_added old mid new (given, first) (next, second) = (given ++ next, second ∙ ap (λ xs. xs ++ next) first ∙ append_assoc old given next)

@@ -1,9 +1,0 @@
-use Rattle.std.proofs.Common.{◌≡◌, length, arith}
-use Rattle.zworld.proofs.Complete.{opened_alike}
-use Rattle.zworld.proofs.auditing.opened.Goals as goal
-
-pub returns : goal.returns
-returns c =
-    let t = c.args.traces.now in
-    let count : c.len.result ≡ length t.clients.items = omega (arith, c.len.ensures, t.clients.ok) in
-    opened_alike t c.len.result count c.new.result c.new.ensures.world

@@ -1,6 +1,0 @@
-use Rattle.std.proofs.Common.{◌≡◌, ◌<◌, ℕ}
-use Rattle.ztraces.specs.Traces.{told_of, record_of}
-use Rattle.zworld.proofs.auditing.records.agree.Given as goal
-
-abbrev pub invariant-loop-place : goal.invariant-loop-place
-invariant-loop-place l = (c : ℕ) → c < l.place → told_of c l.history ≡ record_of l.traces c

@@ -1,0 +1,17 @@
+use Rattle.std.proofs.Common.{◌<◌, arith}
+use Rattle.zworld.proofs.Skips.{silent_place}
+use Rattle.zworld.proofs.processes.Processes.next_sender.Goals as goal
+
+pub returns-then-owes_gone-clause-silent : goal.returns-then-owes_gone-clause-silent
+returns-then-owes_gone-clause-silent c from to behind before =
+    let sooner : c.loop-server.server < c.next_sender-next.result = c.if-server-next.true in
+    let few = c.next_sender-next.ensures.few in
+    silent_place _ c.args.self.now from to c.args.at c.loop-server.server c.self.view_is
+    (c.next_sender-next.ensures.silent from behind (omega (arith, before, sooner))) behind before (omega (arith, sooner, few))
+    (λ s after some small until. c.loop-server.invariant s after some until (omega (arith, until, sooner)))
+
+pub returns-clause-silent : goal.returns-clause-silent
+returns-clause-silent c from to behind before =
+    silent_place _ c.args.self.now from to c.args.at c.next_sender-next.result c.self.view_is
+    (c.next_sender-next.ensures.silent from behind before) behind before c.next_sender-next.ensures.few
+    (λ s after some small until. c.loop-server.invariant s after some (omega (arith, small, c.loop-server-test.false)) until)

@@ -1,0 +1,12 @@
+use Rattle.std.proofs.Common.{◌-◌}
+use Rattle.zserver_table.specs.Machine.{kept_tree}
+use Rattle.zworld_model.specs.Settle.{deliveries, passes}
+use Rattle.zworld.specs.support.Settling.{GoesOn}
+use Rattle.zworld.proofs.processes.Processes.passes.Given as goal
+
+-- what all passes make of a settling, those that are left make of it from here
+abbrev pub invariant-loop-pass : goal.invariant-loop-pass
+invariant-loop-pass l =
+    GoesOn (passes kept_tree (deliveries l.clients) l.limit) (passes kept_tree (deliveries l.clients) (l.limit - l.pass))
+    (record { held = l.fn.self; left = l.fn.left; seen = l.fn.seen.items })
+    (record { held = l.self; left = l.left; seen = l.seen.items })

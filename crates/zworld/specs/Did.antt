@@ -1,0 +1,33 @@
+-- What is said of an event that was asked for, in the words of the definitions.
+use Rattle.std.specs.Prelude.{◌≡◌, Bool, true, false, nat_lt, Some, []}
+use Rattle.zclient_table.specs.Table.{begin_fault}
+use Rattle.zmaster_table.specs.Table.{join_fault}
+use Rattle.zworld_model.specs.declared.event.Event.{Event}
+use Rattle.zworld_model.specs.declared.event.Event.TheVariants as event
+use Rattle.zworld_model.specs.declared.outcome.Outcome.{Outcome}
+use Rattle.zworld_model.specs.declared.outcome.Outcome.TheVariants as outcome
+use Rattle.zworld.specs.declared.did.Did.{Did}
+use Rattle.zworld.specs.declared.did.Did.TheVariants as became
+use Rattle.zworld.specs.declared.did.IdleCause.{IdleCause}
+use Rattle.zworld.specs.declared.did.IdleCause.TheVariants as cause
+use Rattle.zworld.specs.Held.{Held, world_of}
+
+-- the event didn't happen
+abbrev pub is_idle : Did → Bool
+is_idle (became.Idle cause) = true
+is_idle other = false
+
+-- what became of an event, as an outcome
+abbrev pub outcome_of : Did → Outcome
+outcome_of became.Unheard = outcome.Unheard
+outcome_of became.Stopped = outcome.Stopped
+outcome_of other = outcome.Acted
+
+-- why an event isn't enabled: the fault of the client or of the master, or nothing to say
+abbrev pub IsCause : Held → Event → IdleCause → Type 0
+IsCause old (event.Begin client call) (cause.Begin fault) =
+    (nat_lt client old.master.clients ≡ true) × (begin_fault ((world_of old []).clients client) ≡ Some fault)
+IsCause old (event.Begin client call) why = (why ≡ cause.Nothing) × (nat_lt client old.master.clients ≡ false)
+IsCause old (event.Join server) (cause.Join fault) = join_fault old.master server ≡ Some fault
+IsCause old (event.Join server) why = ⊥
+IsCause old event why = why ≡ cause.Nothing

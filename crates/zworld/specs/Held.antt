@@ -1,0 +1,73 @@
+-- What the program holds of a world, and the world that it stands for.
+-- Van Renesse and Schneider, "Chain Replication for Supporting High Throughput and Availability" (OSDI 2004), section 3:
+-- a server that has failed is never heard of again, but for what it had put.
+use Rattle.std.specs.Prelude.{ℕ, zero, suc, Bool, true, false, Option, None, Some, is_none, List, [], ◌∷◌, ◌++◌, get_or, if◌then◌else◌}
+use Rattle.ztree.specs.Tree.{Tree}
+use Rattle.zcalls.specs.Kept.{KeptState}
+use Rattle.zserver_table.specs.declared.message.Message.TheVariants as message
+use Rattle.zserver_table.specs.declared.process.Process.TheVariants.{Master, Server}
+use Rattle.zserver_table.specs.View.{ServerView, MessageOf, spare}
+use Rattle.zclient_table.specs.View.{ClientView}
+use Rattle.zmaster_table.specs.View.{MasterView}
+use Rattle.zlinks.specs.Places.{links_of}
+use Rattle.zworld_model.specs.History.{History}
+use Rattle.zworld_model.specs.Links.{Links}
+use Rattle.zworld_model.specs.World.{World}
+
+-- one of the servers: its view, none where it has failed, and whether the master is still to hear that it has
+pub record MemberView : Type 0 where
+  pub view : Option (ServerView (KeptState Tree))
+  pub owes_gone : Bool
+
+-- all processes and links: the servers from 1 on, the clients from 0 on, the master, and the messages under way but for
+-- Gone
+pub record Held : Type 0 where
+  pub members : List MemberView
+  pub clients : List ClientView
+  pub master : MasterView
+  pub links : List (List (List (MessageOf (KeptState Tree))))
+
+-- a server that takes no part
+abbrev pub bystander : MemberView
+bystander = record { view = Some spare; owes_gone = false }
+
+-- a server that has just failed
+abbrev pub gone_member : MemberView
+gone_member = record { view = None; owes_gone = true }
+
+-- the member of this number
+abbrev pub member_at : List MemberView → ℕ → MemberView
+member_at members zero = bystander
+member_at members (suc place) = get_or members place bystander
+
+-- the view of a member; one that has failed has let go what it held
+abbrev pub view_of : MemberView → ServerView (KeptState Tree)
+view_of member = elim member.view [ None ↦ spare | Some view ↦ view ]
+
+-- a member has failed
+abbrev pub is_gone : MemberView → Bool
+is_gone member = is_none member.view
+
+-- a member has failed, and the master is still to hear of it
+abbrev pub owes : MemberView → Bool
+owes member = elim member.view [ None ↦ member.owes_gone | Some view ↦ false ]
+
+-- the last words of a server that has failed, while the master is still to hear them
+abbrev pub last_words : List MemberView → Links (KeptState Tree)
+last_words members (Server s) Master = if owes (member_at members s) then message.Gone ∷ [] else []
+last_words members from to = []
+
+-- a client that there isn't
+abbrev pub nobody : ClientView
+nobody = record { number = 0; outstanding = None; epoch = 0; head = None; tail = None }
+
+-- the world that is held, with this history
+abbrev pub world_of : Held → History → World (KeptState Tree)
+world_of held history = record {
+  servers = λ s. view_of (member_at held.members s);
+  clients = λ c. get_or held.clients c nobody;
+  master = held.master;
+  failed = λ s. is_gone (member_at held.members s);
+  links = λ from to. links_of held.links from to ++ last_words held.members from to;
+  history = history;
+}

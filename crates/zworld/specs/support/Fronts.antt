@@ -1,0 +1,58 @@
+-- Fronts that are taken, and messages that a process acts on.
+use Rattle.std.specs.Prelude.{◌≡◌, ℕ, true, Option, None, Some, List, [], ◌∷◌, ◌++◌}
+use Rattle.ztree.specs.Tree.{Tree}
+use Rattle.zcalls.specs.Kept.{KeptState}
+use Rattle.zserver_table.specs.declared.message.Message.TheVariants as message
+use Rattle.zserver_table.specs.declared.process.Process.{Process}
+use Rattle.zserver_table.specs.declared.process.Process.TheVariants.{Server}
+use Rattle.zserver_table.specs.Machine.{kept_tree}
+use Rattle.zserver_table.specs.Memory.{may_be_unheard, may_stop}
+use Rattle.zserver_table.specs.View.{MessageOf}
+use Rattle.zworld_model.specs.declared.event.Event.TheVariants.{Fail}
+use Rattle.zworld_model.specs.declared.history.CallEvent.TheVariants as call_event
+use Rattle.zworld_model.specs.History.{History}
+use Rattle.zworld_model.specs.Links.{without_front}
+use Rattle.zworld_model.specs.World.{World}
+use Rattle.zworld_model.specs.Events.{is_server, process_step, acts}
+use Rattle.zworld_model.specs.Alike.{IsAlike}
+use Rattle.zcalls.specs.declared.reply.Reply.{Reply}
+use Rattle.zworld.specs.declared.did.Did.{Did}
+use Rattle.zworld.specs.declared.did.Did.TheVariants as did
+use Rattle.zworld.specs.Held.{Held, world_of}
+
+-- the number of the call that a message answers
+abbrev pub answered_number : MessageOf (KeptState Tree) → Option ℕ
+answered_number (message.Answer number reply) = Some number
+answered_number other = None
+
+-- the answer that is told of a client's reply, where it has a number
+abbrev pub answers_of : ℕ → Option ℕ → Option Reply → History
+answers_of client (Some number) (Some reply) = call_event.Answer client number reply ∷ []
+answers_of client (Some number) None = []
+answers_of client None reply = []
+
+-- a world without the front of a link
+abbrev pub without : World (KeptState Tree) → Process → Process → World (KeptState Tree)
+without w from to = record w { links = without_front w.links from to }
+
+-- the front of a link was taken out, if there was one
+abbrev pub HasPopped : Held → Process → Process → Option (MessageOf (KeptState Tree)) → Held → Type 0
+HasPopped old from to None new = ((world_of old []).links from to ≡ []) × (new ≡ old)
+HasPopped old from to (Some message) new =
+    (rest : List (MessageOf (KeptState Tree))) × ((world_of old []).links from to ≡ message ∷ rest)
+    × ((history : History) → world_of new history ≡ without (world_of old history) from to)
+
+-- the taker acted on a message, and the history goes on with this
+abbrev pub IsGiven : Held → Process → Process → MessageOf (KeptState Tree) → History → Held → Type 0
+IsGiven old from to message told new =
+    (history : History) → IsAlike (process_step kept_tree (world_of old history) from to message) (world_of new (history ++ told))
+
+-- a server acted on a message, stopped at it, or didn't hear it
+abbrev pub IsGivenToServer : Held → Process → ℕ → MessageOf (KeptState Tree) → Held → Did → Type 0
+IsGivenToServer old from s message new did.Done = IsGiven old from (Server s) message [] new
+IsGivenToServer old from s message new (did.Idle why) = ⊥
+IsGivenToServer old from s message new did.Unheard =
+    (new ≡ old) × (may_be_unheard kept_tree ((world_of old []).servers s) from message ≡ true)
+IsGivenToServer old from s message new did.Stopped =
+    (is_server s ≡ true) × (may_stop kept_tree ((world_of old []).servers s) from message ≡ true)
+    × ((history : History) → IsAlike (acts kept_tree (world_of old history) (Fail s)) (world_of new history))

@@ -1,0 +1,65 @@
+-- A settling that goes on where the processes do. What a call does of it is a function of settlings; the outcomes are
+-- learnt as events are done, so each fact is of whatever follows those that were learnt.
+use Rattle.std.specs.Prelude.{◌≡◌, ℕ, ◌-◌, ◌==◌, nat_le, if◌then◌else◌, List, ◌++◌, map, flat_map}
+use Rattle.ztree.specs.Tree.{Tree}
+use Rattle.zcalls.specs.Kept.{KeptState}
+use Rattle.zserver_table.specs.Machine.{kept_tree}
+use Rattle.zserver_table.specs.declared.limits.TheConstants.{MAX_SERVERS}
+use Rattle.zserver_table.specs.declared.process.Process.{Process}
+use Rattle.zserver_table.specs.declared.process.Process.TheVariants.{Master, Server, Client}
+use Rattle.zworld_model.specs.declared.event.Event.{Event}
+use Rattle.zworld_model.specs.declared.event.Event.TheVariants.{Take}
+use Rattle.zworld_model.specs.declared.outcome.Outcome.{Outcome}
+use Rattle.zworld_model.specs.History.{History}
+use Rattle.zworld_model.specs.Settle.{Settling, with_tries}
+use Rattle.zworld_model.specs.Alike.{IsAlike}
+use Rattle.zworld.specs.Held.{Held, world_of}
+
+-- a settling of the world of kept trees
+abbrev pub TreeSettling : Type 0
+TreeSettling = Settling (KeptState Tree)
+
+-- a settling stands where the processes do: so many more events may be done, and these are the outcomes to come
+pub record StandsAt (held : Held) (history : History) (more : ℕ) (rest : List Outcome) (s : TreeSettling) : Type 0 where
+  pub alike : IsAlike s.world (world_of held history)
+  pub remaining : s.left ≡ more
+  pub coming : s.outcomes ≡ rest
+
+-- how far settling has come: what is held, how many more events may be done, and the answers up to here
+pub record Point : Type 0 where
+  pub held : Held
+  pub left : ℕ
+  pub seen : History
+
+-- from one point to another something was learnt and some answers were given, and what the one function makes of a settling
+-- at the first point the other function makes of one at the second
+abbrev pub GoesOn : (TreeSettling → TreeSettling) → (TreeSettling → TreeSettling) → Point → Point → Type 0
+GoesOn whole rest before after =
+    (told : List Outcome) × (given : History) × (after.seen ≡ before.seen ++ given)
+    × ((history : History) (outcomes : List Outcome) (s : TreeSettling) → StandsAt before.held history before.left (told ++ outcomes) s
+    → (t : TreeSettling) × StandsAt after.held (history ++ given) after.left outcomes t × (whole s ≡ rest t))
+
+-- from one point to another a function of settlings was done
+abbrev pub Does : (TreeSettling → TreeSettling) → Point → Point → Type 0
+Does done before after = GoesOn done (λ s. s) before after
+
+-- so were the tries of events
+abbrev pub Tries : List Event → Point → Point → Type 0
+Tries events before after = Does (λ s. with_tries kept_tree s events) before after
+
+-- a delivery on each link from one process
+abbrev pub takes_from : List Process → Process → List Event
+takes_from receivers from = map (λ to. Take from to) receivers
+
+-- and on each link from some
+abbrev pub takes : List Process → List Process → List Event
+takes receivers senders = flat_map (takes_from receivers) senders
+
+-- these answers are the others and more
+abbrev pub GoOn : History → History → Type 0
+GoOn after before = (given : History) × (after ≡ before ++ given)
+
+-- the process in a place, where all stand in order
+abbrev pub process_at : ℕ → Process
+process_at place =
+    if place == 0 then Master else (if nat_le place MAX_SERVERS then Server place else Client ((place - MAX_SERVERS) - 1))

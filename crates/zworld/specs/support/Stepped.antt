@@ -1,0 +1,53 @@
+-- What the processes do, by what they held before and hold after: an event is that of the definition, by what became of it, but
+-- for what failed servers held and what was put to them (Alike.antt of the world's model).
+use Rattle.std.specs.Prelude.{◌≡◌, ℕ, true, not, List, [], ◌++◌}
+use Rattle.zserver_table.specs.Machine.{kept_tree}
+use Rattle.zworld_model.specs.declared.event.Event.{Event}
+use Rattle.zworld_model.specs.declared.outcome.Outcome.{Outcome}
+use Rattle.zworld_model.specs.declared.settled.Settled.{Settled}
+use Rattle.zworld_model.specs.History.{History}
+use Rattle.zworld_model.specs.Events.{is_enabled, happens}
+use Rattle.zworld_model.specs.Reading.{read, is_fitting}
+use Rattle.zworld_model.specs.Settle.{settle, settling_end}
+use Rattle.zworld_model.specs.Alike.{IsAlike}
+use Rattle.zworld.specs.declared.did.Did.{Did}
+use Rattle.zworld.specs.declared.did.Did.TheVariants as became
+use Rattle.zworld.specs.declared.did.IdleCause.{IdleCause}
+use Rattle.zworld.specs.Held.{Held, world_of}
+use Rattle.zworld.specs.Did.{is_idle, outcome_of, IsCause}
+
+-- the event leads from what was held to what is held, whatever the history before it, which goes on with this
+abbrev pub Leads : Held → Event → History → Held → Type 0
+Leads old event told new =
+    (history : History) → IsAlike (happens kept_tree (world_of old history) event) (world_of new (history ++ told))
+
+-- the event was done, and the history goes on with this
+pub record HasStepped (old new : Held) (event : Event) (did : Did) (told : History) : Type 0 where
+  -- it is idle exactly where it wasn't enabled, and then nothing changed
+  pub idle : is_idle did ≡ not (is_enabled (world_of old []) event)
+  pub same : is_idle did ≡ true → new ≡ old
+  pub caused : (why : IdleCause) → did ≡ became.Idle why → IsCause old event why
+  -- the event can have the outcome
+  pub fits : is_fitting kept_tree (world_of old []) event (outcome_of did) ≡ true
+  -- it is the event of the definition, read by its outcome
+  pub leads : Leads old (read kept_tree (world_of old []) event (outcome_of did)) told new
+
+-- the event was done, and what callers saw goes on with what it told
+abbrev pub GoesBy : Held → Held → Event → (before after : History) → Did → Type 0
+GoesBy old new event before after did = (told : History) × (after ≡ before ++ told) × HasStepped old new event did told
+
+-- settling came to this, having learnt of these outcomes, and with these answers
+pub record SettlesBy (old new : Held) (limit : ℕ) (settled : Settled) (learnt : List Outcome) (told : History) : Type 0 where
+  -- it ended as the definition does, whatever outcomes would follow, and took none of those
+  pub ended : (history : History) (rest : List Outcome)
+      → settled ≡ settling_end (settle kept_tree (world_of old history) limit (learnt ++ rest))
+  pub left : (history : History) (rest : List Outcome)
+      → (settle kept_tree (world_of old history) limit (learnt ++ rest)).outcomes ≡ rest
+  -- it leads to what is held
+  pub leads : (history : History) (rest : List Outcome)
+      → IsAlike (settle kept_tree (world_of old history) limit (learnt ++ rest)).world (world_of new (history ++ told))
+
+-- settling came to this, and what callers saw goes on with the answers that clients took
+abbrev pub Settles : Held → Held → ℕ → (before after : History) → Settled → Type 0
+Settles old new limit before after settled =
+    (learnt : List Outcome) × (told : History) × (after ≡ before ++ told) × SettlesBy old new limit settled learnt told

@@ -1,0 +1,207 @@
+//! Messages that are delivered, and requests that are lost.
+
+ghost use Rattle.std.specs.Prelude.{◌≡◌, ◌++◌, [], true, false, IfOk, OnErr, OnOk};
+ghost use Rattle.zworld_model.specs.declared.event.Event.TheVariants.{Take, Ignore};
+ghost use Rattle.zserver_table.specs.declared.process.Process.TheVariants.{Master, Server, Client};
+ghost use Rattle.zworld_model.specs.History.{History};
+ghost use Rattle.zworld.specs.support.Stepped.{GoesBy, HasStepped};
+ghost use Rattle.zworld_model.specs.Events.{front_is, is_enabled, is_request};
+ghost use Rattle.zworld.specs.declared.did.Did.TheVariants.{Done};
+ghost use Rattle.zworld.specs.Held.{world_of};
+ghost use Rattle.zworld.specs.support.Posting.{is_lost};
+ghost use Rattle.zworld.specs.support.Fronts.{HasPopped, IsGiven, IsGivenToServer, answered_number, answers_of};
+
+use crate::did::{Did, IdleCause};
+use crate::post::{is_lost, post};
+use crate::processes::Processes;
+use zcalls::{CallNumber, ClientId, Reply};
+use zmaster::MAX_POSTS;
+use zpath::Memory;
+use zserver::Snapshot;
+use zserver_table::{Message, Process, ServerId};
+use zworld_model::{CallEvent, Outcome};
+
+impl Processes {
+    /// The front message of a link is delivered.
+    pub(crate) fn take(
+        &mut self,
+        from: Process,
+        to: Process,
+        seen: &mut Vec<CallEvent>,
+    ) -> Result<Did, Memory>
+        ensures stepped { IfOk result
+            (GoesBy self.old self.new (Take from to) seen.old.items seen.new.items) }
+        ensures silent { OnErr result (seen.new.items ≡ seen.old.items) }
+        ensures needed { OnErr result (is_enabled (world_of self.old []) (Take from to) ≡ true) }
+    {
+        if is_lost(&self.members, &to) {
+            return Ok(Did::Idle(IdleCause::Nothing));
+        }
+        let Some(message) = self.next(&from, &to) else {
+            return Ok(Did::Idle(IdleCause::Nothing));
+        };
+        match to {
+            Process::Master => self.give_to_master(from, message),
+            Process::Server(server) => self.give_to_server(from, server, message),
+            Process::Client(client) => self.give_to_client(from, client, message, seen),
+        }
+    }
+
+    // Takes out the front of a link; behind all that a failed server had put comes its Gone.
+    fn next(&mut self, from: &Process, to: &Process) -> Option<Message<Snapshot>>
+        ensures { HasPopped self.old from.now to.now result self.new }
+    {
+        if let Some(message) = self.links.next(from, to) {
+            return Some(message);
+        }
+        let (Process::Server(server), Process::Master) = (from, to) else {
+            return None;
+        };
+        let member = &mut self.members[server.number() as usize - 1];
+        if member.tell() {
+            return Some(Message::Gone);
+        }
+        None
+    }
+
+    // The master acts on a message.
+    fn give_to_master(&mut self, from: Process, message: Message<Snapshot>) -> Result<Did, Memory>
+        ensures done { IfOk result (λ did. did ≡ Done) }
+        ensures given { OnOk result (IsGiven self.old from Master message [] self.new) }
+    {
+        let Ok(()) = self.out.reserve(MAX_POSTS) else {
+            drop(message);
+            return Err(Memory);
+        };
+        self.master.take(from, message, &mut self.out);
+        post(
+            self.alloc,
+            &mut self.links,
+            &self.members,
+            &Process::Master,
+            &mut self.out,
+        )?;
+        Ok(Did::Done)
+    }
+
+    // A server that has not failed acts on a message, stops at it, or doesn't hear it.
+    fn give_to_server(
+        &mut self,
+        from: Process,
+        server: ServerId,
+        message: Message<Snapshot>,
+    ) -> Result<Did, Memory>
+        requires { is_lost self.old.members (Server server) ≡ false }
+        ensures { IfOk result (IsGivenToServer self.old from server message self.new) }
+    {
+        let member = &mut self.members[server.number() as usize - 1];
+        match member.take(from, message, &mut self.out) {
+            Outcome::Acted => {
+                post(
+                    self.alloc,
+                    &mut self.links,
+                    &self.members,
+                    &Process::Server(server),
+                    &mut self.out,
+                )?;
+                Ok(Did::Done)
+            }
+            Outcome::Unheard => Ok(Did::Unheard),
+            Outcome::Stopped => {
+                self.links.clear(&Process::Server(server));
+                Ok(Did::Stopped)
+            }
+        }
+    }
+
+    // A client acts on a message; the answer that it waited for is handed out.
+    fn give_to_client(
+        &mut self,
+        from: Process,
+        client: ClientId,
+        message: Message<Snapshot>,
+        seen: &mut Vec<CallEvent>,
+    ) -> Result<Did, Memory>
+        ensures done { IfOk result (λ did. did ≡ Done) }
+        ensures given { OnOk result ((told : History)
+            × (seen.new.items ≡ seen.old.items ++ told)
+            × IsGiven self.old from (Client client) message told self.new) }
+        ensures silent { OnErr result (seen.new.items ≡ seen.old.items) }
+    {
+        let number = answered_number(&message);
+        let core = &mut self.clients[client.number() as usize];
+        let reply = match core.take(from, message, &mut self.out) {
+            Ok(reply) => reply,
+            Err(message) => {
+                drop(message);
+                return Err(Memory);
+            }
+        };
+        let Ok(()) = post(
+            self.alloc,
+            &mut self.links,
+            &self.members,
+            &Process::Client(client),
+            &mut self.out,
+        ) else {
+            drop(reply);
+            return Err(Memory);
+        };
+        tell(seen, client, number, reply)?;
+        Ok(Did::Done)
+    }
+
+    /// The front message of a link, a request of a client, is lost.
+    pub(crate) fn ignore(&mut self, from: Process, to: Process) -> Did
+        ensures { HasStepped self.old self.new (Ignore from to) result [] }
+    {
+        if is_lost(&self.members, &to) || !self.has_request(&from, &to) {
+            return Did::Idle(IdleCause::Nothing);
+        }
+        drop(self.links.next(&from, &to));
+        Did::Done
+    }
+
+    // Whether the front of a link is a request of a client.
+    fn has_request(&self, from: &Process, to: &Process) -> bool
+        ensures { result ≡ front_is is_request ((world_of self.now []).links from.now to.now) }
+    {
+        match self.links.front(from, to) {
+            Some(Message::Submit(_, _)) => true,
+            Some(Message::Query(_, _)) => true,
+            _ => false,
+        }
+    }
+}
+
+// Adds the answer to what clients hand out, where there is one.
+fn tell(
+    seen: &mut Vec<CallEvent>,
+    client: ClientId,
+    number: Option<CallNumber>,
+    reply: Option<Reply>,
+) -> Result<(), Memory>
+    ensures told { OnOk result (seen.new.items
+        ≡ seen.old.items ++ answers_of client number reply) }
+    ensures same { OnErr result (seen.new.items ≡ seen.old.items) }
+{
+    let Some(number) = number else {
+        drop(reply);
+        return Ok(());
+    };
+    let Some(reply) = reply else {
+        return Ok(());
+    };
+    seen.push(CallEvent::Answer(client, number, reply))?;
+    Ok(())
+}
+
+// The number of the call that a message answers.
+fn answered_number(message: &Message<Snapshot>) -> Option<CallNumber>
+    ensures { result ≡ answered_number message.now }
+{
+    match message {
+        Message::Answer(number, _) => Some(*number),
+        _ => None,
+    }
+}

@@ -1,0 +1,54 @@
+//! Servers that fail, and servers that join.
+
+ghost use Rattle.std.specs.Prelude.{◌≡◌, true, [], IfOk, OnErr};
+ghost use Rattle.zworld_model.specs.declared.event.Event.TheVariants.{Fail, Join};
+ghost use Rattle.zworld_model.specs.Events.{is_enabled};
+ghost use Rattle.zworld.specs.Held.{world_of};
+ghost use Rattle.zworld.specs.support.Stepped.{HasStepped};
+
+use crate::did::{Did, IdleCause};
+use crate::post::post;
+use crate::processes::Processes;
+use zmaster::MAX_POSTS;
+use zpath::Memory;
+use zserver_table::{Process, ServerId};
+
+impl Processes {
+    /// A server fails: it lets go what it held, and what is on links to it.
+    pub(crate) fn fail(&mut self, server: ServerId) -> Did
+        ensures { HasStepped self.old self.new (Fail server) result [] }
+    {
+        let member = &mut self.members[server.number() as usize - 1];
+        if member.has_failed() {
+            return Did::Idle(IdleCause::Nothing);
+        }
+        member.fail();
+        self.links.clear(&Process::Server(server));
+        Did::Done
+    }
+
+    /// A server is asked to join behind the tail.
+    pub(crate) fn join(&mut self, server: ServerId) -> Result<Did, Memory>
+        ensures stepped { IfOk result
+            (λ did. HasStepped self.old self.new (Join server) did []) }
+        ensures needed { OnErr result (is_enabled (world_of self.old []) (Join server) ≡ true) }
+    {
+        if let Some(fault) = self.master.join_fault(server) {
+            return Ok(Did::Idle(IdleCause::Join(fault)));
+        }
+        self.out.reserve(MAX_POSTS)?;
+        match self.master.join(server, &mut self.out) {
+            Ok(()) => {
+                post(
+                    self.alloc,
+                    &mut self.links,
+                    &self.members,
+                    &Process::Master,
+                    &mut self.out,
+                )?;
+                Ok(Did::Done)
+            }
+            Err(fault) => Ok(Did::Idle(IdleCause::Join(fault))),
+        }
+    }
+}

@@ -1,0 +1,131 @@
+//! One of the servers.
+
+ghost use Rattle.std.specs.Prelude.{◌≡◌, true, false, None, Some, IfOk};
+ghost use Rattle.ztree.specs.Tree.{Tree};
+ghost use Rattle.zcalls.specs.Kept.{KeptState};
+ghost use Rattle.zserver_table.specs.Machine.{kept_tree};
+ghost use Rattle.zserver_table.specs.View.{ServerView, member};
+ghost use Rattle.zserver.specs.Server.{first_neighbour};
+ghost use Rattle.zworld.specs.Held.{bystander, gone_member, owes, is_gone};
+ghost use Rattle.zworld.specs.support.Members.{HasTaken};
+
+use crate::life::Life;
+use std::alloc::Global;
+use std::marker::Model;
+use zout::Out;
+use zpath::Memory;
+use zserver::{Server, Snapshot, Stopped, Taken};
+use zserver_table::{Message, Process, ServerId};
+use zworld_model::Outcome;
+
+/// A server that goes on; or one that has stopped, and the word that it may still owe to the master.
+#[derive(Drop)]
+pub(crate) struct Member {
+    life: Life,
+}
+
+impl Model for Member {
+    ghost use Rattle.zworld.specs.Held.{MemberView};
+    ghost use Rattle.zworld.specs.support.Codes.{coded_member};
+    ghost use Rattle.zworld.specs.support.Members.{member_of, GoesOn};
+
+    ghost Value = { MemberView };
+
+    ghost coded = { coded_member };
+
+    ghost view = { λ m. member_of m.life };
+
+    ghost invariant = { λ m. GoesOn m.life };
+}
+
+impl Member {
+    /// A member of the opening chain, with these neighbours.
+    pub(crate) fn first(
+        alloc: Global,
+        pred: Option<ServerId>,
+        succ: Option<ServerId>,
+    ) -> Result<Member, Memory>
+        ensures { IfOk result (λ m. m ≡ record {
+          view = Some (member kept_tree (first_neighbour pred) (first_neighbour succ));
+          owes_gone = false;
+        }) }
+    {
+        let server = Server::first(alloc, pred, succ)?;
+        Ok(Member {
+            life: Life::Running(server),
+        })
+    }
+
+    /// A server outside the chain.
+    pub(crate) fn spare(alloc: Global) -> Member
+        ensures { result ≡ bystander }
+    {
+        Member {
+            life: Life::Running(Server::spare(alloc)),
+        }
+    }
+
+    /// Whether it has failed.
+    pub(crate) fn has_failed(&self) -> bool
+        ensures { result ≡ is_gone self.now }
+    {
+        match &self.life {
+            Life::Running(_) => false,
+            Life::Owing | Life::Gone => true,
+        }
+    }
+
+    /// Whether the master is still to hear that it has failed.
+    pub(crate) fn owes_gone(&self) -> bool
+        ensures { result ≡ owes self.now }
+    {
+        match &self.life {
+            Life::Owing => true,
+            Life::Running(_) | Life::Gone => false,
+        }
+    }
+
+    /// It fails, and lets go what it held; the master is to hear of it.
+    pub(crate) fn fail(&mut self)
+        ensures { self.new ≡ gone_member }
+    {
+        self.life = Life::Owing;
+    }
+
+    /// Whether the master was still to hear that it has failed; now it has.
+    pub(crate) fn tell(&mut self) -> bool
+        ensures owed { result ≡ owes self.old }
+        ensures told { result ≡ true → self.new ≡ record { view = None; owes_gone = false } }
+        ensures same { result ≡ false → self.new ≡ self.old }
+    {
+        if self.owes_gone() {
+            self.life = Life::Gone;
+            return true;
+        }
+        false
+    }
+
+    /// Takes a message. Where it finds no memory it fails, but at a query, which it doesn't hear then.
+    pub(crate) fn take(
+        &mut self,
+        from: Process,
+        message: Message<Snapshot>,
+        out: &mut Out<Snapshot>,
+    ) -> Outcome
+        ensures { (view : ServerView (KeptState Tree)) → self.old.view ≡ Some view
+            → HasTaken self.old view from message result self.new out.old.posts out.new.posts }
+    {
+        let Life::Running(server) = &mut self.life else {
+            drop(message);
+            return Outcome::Acted;
+        };
+        match server.take(from, message, out) {
+            Ok(Taken::Acted) => Outcome::Acted,
+            Ok(Taken::Unheard) => Outcome::Unheard,
+            Err(Stopped) => {
+                self.life = Life::Owing;
+                Outcome::Stopped
+            }
+        }
+    }
+}

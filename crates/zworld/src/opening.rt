@@ -1,0 +1,96 @@
+//! The opening.
+
+ghost use Rattle.std.specs.Prelude.{◌≡◌, ◌<◌, ◌≤◌, ◌+◌, [], IfOk, map};
+ghost use Rattle.std.specs.List.{range_with_len};
+ghost use Rattle.ztree.specs.declared.limits.TheConstants.{MAX_CLIENTS};
+ghost use Rattle.zclient_table.specs.View.{opening_client};
+ghost use Rattle.zserver_table.specs.declared.limits.TheConstants.{MAX_SERVERS};
+ghost use Rattle.zserver_table.specs.Machine.{kept_tree};
+ghost use Rattle.zworld_model.specs.World.{opening_world};
+ghost use Rattle.zworld.specs.Held.{world_of};
+ghost use Rattle.zworld.specs.support.Opening.{opening_member};
+
+use crate::member::Member;
+use crate::processes::Processes;
+use std::alloc::Global;
+use zclient::ClientCore;
+use zlinks::Links;
+use zmaster::Master;
+use zout::Out;
+use zpath::Memory;
+use zserver_table::{MAX_SERVERS, ServerId};
+use ztree::limits::MAX_CLIENTS;
+
+impl Processes {
+    /// The opening: the chain is the servers up to this one, and there are so many clients.
+    pub(crate) fn new(alloc: Global, last: ServerId, clients: u8) -> Result<Processes, Memory>
+        requires { clients ≤ MAX_CLIENTS }
+        ensures { IfOk result (λ a. world_of a [] ≡ opening_world kept_tree last clients) }
+    {
+        let members = opening_members(alloc, last.number())?;
+        let cores = opening_clients(alloc, last, clients)?;
+        let links = Links::new(alloc)?;
+        Ok(Processes {
+            alloc,
+            members,
+            clients: cores,
+            master: Master::new(last, clients),
+            links,
+            out: Out::new(alloc),
+        })
+    }
+}
+
+// All servers, of which those up to this one are the chain.
+fn opening_members(alloc: Global, last: u8) -> Result<Vec<Member>, Memory>
+    requires { last ≤ MAX_SERVERS }
+    ensures { IfOk result (λ members. members.items
+        ≡ map (opening_member last) (range_with_len 1 MAX_SERVERS)) }
+{
+    let mut members = Vec::new(alloc);
+    for number in 1..MAX_SERVERS + 1 {
+        members.push(opening_server(alloc, number, last)?)?;
+    }
+    Ok(members)
+}
+
+// The server of this number.
+fn opening_server(alloc: Global, number: u8, last: u8) -> Result<Member, Memory>
+    requires some { 0 < number }
+    requires few { last ≤ MAX_SERVERS }
+    ensures { IfOk result (λ m. m ≡ opening_member last number) }
+{
+    if number > last {
+        return Ok(Member::spare(alloc));
+    }
+    let pred = ServerId::new(number - 1);
+    let succ = if number == last {
+        None
+    } else {
+        ServerId::new(number + 1)
+    };
+    Member::first(alloc, pred, succ)
+}
+
+// All clients, of whom there are so many.
+fn opening_clients(alloc: Global, last: ServerId, count: u8) -> Result<Vec<ClientCore>, Memory>
+    ensures { IfOk result (λ clients. clients.items
+        ≡ map (opening_client last count) (range_with_len 0 MAX_CLIENTS)) }
+{
+    let mut clients = Vec::new(alloc);
+    for number in 0..MAX_CLIENTS {
+        clients.push(opening_client(alloc, number, last, count))?;
+    }
+    Ok(clients)
+}
+
+// The client of this number.
+fn opening_client(alloc: Global, number: u8, last: ServerId, count: u8) -> ClientCore
+    ensures { result ≡ opening_client last count number }
+{
+    if number < count {
+        ClientCore::new(alloc, last)
+    } else {
+        ClientCore::outside(alloc)
+    }
+}

@@ -1,0 +1,76 @@
+//! All processes and their links.
+
+ghost use Rattle.std.specs.Prelude.{◌≡◌, ◌≤◌, [], true, IfOk, OnErr};
+ghost use Rattle.ztree.specs.declared.limits.TheConstants.{MAX_CLIENTS};
+ghost use Rattle.zworld.specs.Held.{world_of};
+ghost use Rattle.zworld.specs.Steps.{can_want_memory};
+ghost use Rattle.zworld.specs.support.Stepped.{GoesBy};
+
+use crate::did::Did;
+use crate::member::Member;
+use std::alloc::Global;
+use std::marker::Model;
+use zclient::ClientCore;
+use zlinks::Links;
+use zmaster::Master;
+use zout::Out;
+use zpath::Memory;
+use zserver::Snapshot;
+use zworld_model::{CallEvent, Event};
+
+/// The servers from 1 on, the clients from 0 on, the master, and the messages under way but for `Gone`. The list for what
+/// an event puts is kept from one event to the next, and empty between them.
+#[derive(Drop)]
+pub(crate) struct Processes {
+    pub(crate) alloc: Global,
+    pub(crate) members: Vec<Member>,
+    pub(crate) clients: Vec<ClientCore>,
+    pub(crate) master: Master,
+    pub(crate) links: Links<Snapshot>,
+    pub(crate) out: Out<Snapshot>,
+}
+
+impl Model for Processes {
+    ghost use Rattle.zworld.specs.Held.{Held};
+    ghost use Rattle.zworld.specs.support.Codes.{coded_held};
+    ghost use Rattle.zworld.specs.support.Members.{IsFull};
+
+    ghost Value = { Held };
+
+    ghost coded = { coded_held };
+
+    ghost view = { λ a. record {
+      members = a.members.items;
+      clients = a.clients.items;
+      master = a.master;
+      links = a.links;
+    } };
+
+    ghost invariant = { λ a. IsFull a.members.items a.clients.items a.out.posts };
+}
+
+impl Processes {
+    /// How many clients there are.
+    pub(crate) fn clients(&self) -> u8
+        ensures same { result ≡ self.now.master.clients }
+        ensures few { result ≤ MAX_CLIENTS }
+    {
+        self.master.clients()
+    }
+
+    /// One event, the one dispatch of them. What callers see at it is told behind what they saw before.
+    pub(crate) fn step(&mut self, event: Event, seen: &mut Vec<CallEvent>) -> Result<Did, Memory>
+        ensures goes { IfOk result (GoesBy self.old self.new event seen.old.items seen.new.items) }
+        ensures stays { OnErr result (seen.new.items ≡ seen.old.items) }
+        ensures needed { OnErr result (can_want_memory (world_of self.old []) event ≡ true) }
+    {
+        match event {
+            Event::Begin(client, call) => self.begin(client, call, seen),
+            Event::Retry(client) => self.retry(client),
+            Event::Take(from, to) => self.take(from, to, seen),
+            Event::Ignore(from, to) => Ok(self.ignore(from, to)),
+            Event::Fail(server) => Ok(self.fail(server)),
+            Event::Join(server) => self.join(server),
+        }
+    }
+}
