@@ -12,11 +12,11 @@ use std::process::ExitCode;
 use std::sync::Wait;
 use std::thread;
 use std::thread::Threads;
+use zaudit::audit;
 use zcalls::{Call, ClientId, Create, Data, Kind, Query, Reply, Update};
 use zpath::Path;
+use zprotocol::ServerId;
 use zrun::{Client, Clients, Cluster, HandsBack, Patience, open_gates};
-use zserver_table::ServerId;
-use zaudit::audit;
 
 // How long an answer is waited for.
 const PATIENCE: Patience = Patience {

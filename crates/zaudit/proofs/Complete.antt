@@ -4,7 +4,7 @@ use Rattle.std.specs.Prelude.{Result, Ok, Err, IfOk}
 use mathlib.Core.Logic.{∥∥₁_elim}
 use mathlib.Core.HLevel.{⊥_prop}
 use Rattle.zpath.specs.declared.memory.Memory as zpath_memory
-use Rattle.zserver_table.specs.Machine.{kept_tree}
+use Rattle.zprotocol.specs.server.Machine.{kept_tree}
 use Rattle.zworld.specs.Steps.{WorldView, world_in}
 use Rattle.ztraces.specs.Traces.{client_count}
 use Rattle.ztree.specs.Tree.{Tree}

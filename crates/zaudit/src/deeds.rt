@@ -1,7 +1,7 @@
 //! One event of a trace, on the world.
 
 ghost use Rattle.std.specs.Prelude.{◌≡◌, ◌⊎◌, true, false, IfOk, IfErr, OnOk};
-ghost use Rattle.zserver_table.specs.Machine.{kept_tree};
+ghost use Rattle.zprotocol.specs.server.Machine.{kept_tree};
 ghost use Rattle.zworld_model.specs.Events.{happens};
 ghost use Rattle.zworld_model.specs.Alike.{IsAlike};
 ghost use Rattle.zworld.specs.Steps.{world_in};
@@ -11,7 +11,7 @@ ghost use Rattle.zaudit.specs.declared.faults.AuditFault.TheVariants.{Disorder, 
 
 use crate::faults::AuditFault;
 use std::alloc::Global;
-use zserver_table::Process;
+use zprotocol::Process;
 use ztraces::Act;
 use zworld::{Did, World};
 use zworld_model::{Event, Outcome};

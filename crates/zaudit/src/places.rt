@@ -5,7 +5,7 @@ ghost use Rattle.ztraces.specs.Traces.{trace_of};
 ghost use Rattle.ztraces.specs.support.Places.{place_count, process_at, head_at};
 
 use zcalls::ClientId;
-use zserver_table::{Process, ServerId};
+use zprotocol::{Process, ServerId};
 use ztraces::{TraceEvent, Traces};
 
 /// How many traces there are.

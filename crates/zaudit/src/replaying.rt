@@ -1,7 +1,7 @@
 //! Traces replayed on a world.
 
 ghost use Rattle.std.specs.Prelude.{◌≡◌, ◌⊎◌, ◌<◌, true, false, List, ℕ, length, replicate, IfOk, IfErr, OnOk, IsTrue};
-ghost use Rattle.zserver_table.specs.Machine.{kept_tree};
+ghost use Rattle.zprotocol.specs.server.Machine.{kept_tree};
 ghost use Rattle.zworld.specs.Steps.{world_in};
 ghost use Rattle.zworld_model.specs.Alike.{IsAlike};
 ghost use Rattle.ztraces.specs.Traces.{Step, BeginsMerge, are_in_place};

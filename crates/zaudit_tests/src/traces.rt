@@ -3,13 +3,13 @@
 use crate::stories::{Deed, Seen, Step};
 use std::alloc::Global;
 use std::test::Fail;
+use zaudit::{AuditFault, audit};
 use zcalls::{Call, CallNumber, ClientId, Create, Kind, Query, Reply, Update};
 use zliterals::{call_number, client, server};
 use zpath::Path;
-use zserver_table::Process;
+use zprotocol::Process;
 use ztraces::{Act, ClientTrace, Stamp, Trace, TraceEvent, Traces};
 use ztree::{Data, Stat, Zxid};
-use zaudit::{AuditFault, audit};
 use zworld_model::{CallEvent, Outcome};
 
 fn process(number: u8) -> Process {

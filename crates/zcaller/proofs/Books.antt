@@ -3,8 +3,8 @@ use Rattle.std.proofs.Common.{◌≡◌, ◌<◌, ℕ, [], ◌∷◌, ◌++◌, 
 use Rattle.std.proofs.Math.Nat.{le-max_left, le-max_right, max-le, max-zero}
 use Rattle.zcalls.specs.declared.call.Call.{Call}
 use Rattle.zcalls.specs.declared.reply.Reply.{Reply}
-use Rattle.zserver_table.specs.declared.process.Process.{Process}
-use Rattle.zclient_table.specs.View.{ClientView}
+use Rattle.zprotocol.specs.declared.process.Process.{Process}
+use Rattle.zprotocol.specs.client.View.{ClientView}
 use Rattle.zworld_model.specs.History.{History}
 use Rattle.ztraces.specs.declared.stamp.TheConstants.{MAX_STAMP}
 use Rattle.ztraces.specs.declared.trace.Act.{Act}

@@ -2,11 +2,11 @@
 use Rattle.std.specs.Prelude.{◌≡◌, ◌⊎◌, ◌<◌, ℕ, Bool, true, false, Option, Some, max, is_some}
 use Rattle.zcalls.specs.declared.call.Call.{Call}
 use Rattle.zcalls.specs.declared.reply.Reply.{Reply}
-use Rattle.zclient_table.specs.declared.begin_fault.BeginFault.{BeginFault}
-use Rattle.zclient_table.specs.declared.begin_fault.BeginFault.TheVariants.{Memory}
-use Rattle.zclient_table.specs.Table.{begin_fault}
-use Rattle.zclient_table.specs.View.{ClientView}
-use Rattle.zserver_table.specs.declared.process.Process.{Process}
+use Rattle.zprotocol.specs.declared.client.begin_fault.BeginFault.{BeginFault}
+use Rattle.zprotocol.specs.declared.client.begin_fault.BeginFault.TheVariants.{Memory}
+use Rattle.zprotocol.specs.client.Table.{begin_fault}
+use Rattle.zprotocol.specs.client.View.{ClientView}
+use Rattle.zprotocol.specs.declared.process.Process.{Process}
 use Rattle.ztraces.specs.Stamps.{next_stamp}
 use Rattle.zdesks.specs.declared.desk.Desk.{Desk}
 use Rattle.zdesks.specs.Desks.{SameBooks, TreeStamped, is_cut_of, stamp_of_desk}

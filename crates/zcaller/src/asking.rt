@@ -2,8 +2,8 @@
 
 ghost use Rattle.std.specs.Prelude.{◌≡◌, ◌<◌, true, [], Option, ℕ, IfErr, IfOk, OnErr, OnOk};
 ghost use Rattle.std.specs.Prelude.{false, is_some, max};
-ghost use Rattle.zserver_table.specs.declared.process.Process.{Process};
-ghost use Rattle.zserver_table.specs.declared.process.Process.TheVariants.{Client};
+ghost use Rattle.zprotocol.specs.declared.process.Process.{Process};
+ghost use Rattle.zprotocol.specs.declared.process.Process.TheVariants.{Client};
 ghost use Rattle.zworld_model.specs.declared.history.CallEvent.TheVariants as call_event;
 ghost use Rattle.ztraces.specs.declared.stamp.TheConstants.{MAX_STAMP};
 ghost use Rattle.ztraces.specs.declared.trace.Act.TheVariants as act;

@@ -1,7 +1,7 @@
 //! What a caller's thread owns.
 
 ghost use Rattle.std.specs.Prelude.{◌≡◌, IfErr, IfOk, OnErr, OnOk, max, true};
-ghost use Rattle.zserver_table.specs.declared.process.Process.TheVariants.{Client};
+ghost use Rattle.zprotocol.specs.declared.process.Process.TheVariants.{Client};
 ghost use Rattle.ztraces.specs.Deeds.{AtClient};
 ghost use Rattle.zdesks.specs.Desks.{is_cut_of, IsAt, IsSettled, pending, process_of, SameDesk};
 ghost use Rattle.zdesks.specs.Desks.{seen_of, self_of, stamp_of_desk, Stands, trace_of};
@@ -14,7 +14,7 @@ use zcalls::{Call, CallNumber, ClientId, Reply};
 use zclient::{BeginFault, ClientCore};
 use zdesks::{Desk, Ending, Stamped};
 use zpath::Memory;
-use zserver_table::Process;
+use zprotocol::Process;
 use ztraces::Stamp;
 
 /// A client with its desk. It went by the client table from its opening view through its trace.
@@ -84,7 +84,7 @@ impl Caller {
 
     /// Begins a call, and answers its number. Busy where one has no answer yet, Exhausted where there are no numbers left, and
     /// Memory where none is found: then nothing is begun.
-    #[tactic(auto, unfolding(zclient_table::specs::Table::begin_fault))]
+    #[tactic(auto, unfolding(zprotocol::specs::client::Table::begin_fault))]
     pub fn begin(&mut self, call: Call) -> Result<CallNumber, BeginFault>
         ensures same { SameDesk (caller_desk self.old) (caller_desk self.new) }
         ensures began { IfOk result (Began self.old self.new call) }

@@ -1,7 +1,7 @@
 //! A client hears a message.
 
 ghost use Rattle.std.specs.Prelude.{◌≡◌, ◌<◌, List, [], None, Some, IfErr, IfOk, OnErr, OnOk, max, if◌then◌else◌};
-ghost use Rattle.zserver_table.specs.declared.process.Process.TheVariants.{Client};
+ghost use Rattle.zprotocol.specs.declared.process.Process.TheVariants.{Client};
 ghost use Rattle.zworld_model.specs.declared.outcome.Outcome.TheVariants.{Acted};
 ghost use Rattle.ztraces.specs.declared.stamp.TheConstants.{MAX_STAMP};
 ghost use Rattle.ztraces.specs.declared.trace.Act.TheVariants.{Took};
@@ -15,8 +15,8 @@ use zcalls::{ClientId, Reply};
 use zclient::ClientCore;
 use zdesks::{Desk, Stamped};
 use zpath::Memory;
+use zprotocol::{Message, Process};
 use zserver::Snapshot;
-use zserver_table::{Message, Process};
 use ztraces::{Act, Stamp};
 use zworld_model::{CallEvent, Outcome};
 

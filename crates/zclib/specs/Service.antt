@@ -1,6 +1,6 @@
 -- What the calls of C do to a service.
 use Rattle.std.specs.Prelude.{◌≡◌, ℕ, ◌≤◌, ◌<◌, ◌⊎◌, List, [], ◌++◌, length, drop, string_bytes}
-use Rattle.zserver_table.specs.declared.limits.TheConstants.{MAX_SERVERS}
+use Rattle.zprotocol.specs.declared.limits.TheConstants.{MAX_SERVERS}
 use Rattle.zworld.specs.Steps.{WorldView}
 use Rattle.zscript.specs.Line.{ServiceWorld}
 use Rattle.zscript.specs.Done.{IsLineDone, world_between}

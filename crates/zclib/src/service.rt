@@ -6,8 +6,8 @@ ghost use Rattle.zclib.specs.Service.{IsOpened, IsStatusOf, Hears, HearsAs, Tell
 use crate::status::Status;
 use std::alloc::Global;
 use std::mem::replace;
+use zprotocol::ServerId;
 use zscript::{answer_line, script_world};
-use zserver_table::ServerId;
 use zworld::World;
 
 /// What C has room for.

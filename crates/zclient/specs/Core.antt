@@ -1,15 +1,15 @@
 -- What the client table leaves open: when there is no memory, and how a reply is handed out.
 use Rattle.std.specs.Prelude.{◌≡◌, ◌<◌, Option, None, Some, List, [], ◌∷◌}
 use Rattle.std.specs.Option.{IsSome}
-use Rattle.zserver_table.specs.declared.message.Message.{Message}
-use Rattle.zserver_table.specs.declared.message.Message.TheVariants as message
-use Rattle.zserver_table.specs.declared.process.Process.{Process}
-use Rattle.zserver_table.specs.declared.process.Process.TheVariants.{Master}
-use Rattle.zserver_table.specs.View.{PostOf}
-use Rattle.zclient_table.specs.declared.begin_fault.BeginFault.{BeginFault}
-use Rattle.zclient_table.specs.declared.begin_fault.BeginFault.TheVariants.{Memory}
-use Rattle.zclient_table.specs.View.{ClientView}
-use Rattle.zclient_table.specs.Table.{begin_fault}
+use Rattle.zprotocol.specs.declared.message.Message.{Message}
+use Rattle.zprotocol.specs.declared.message.Message.TheVariants as message
+use Rattle.zprotocol.specs.declared.process.Process.{Process}
+use Rattle.zprotocol.specs.declared.process.Process.TheVariants.{Master}
+use Rattle.zprotocol.specs.server.View.{PostOf}
+use Rattle.zprotocol.specs.declared.client.begin_fault.BeginFault.{BeginFault}
+use Rattle.zprotocol.specs.declared.client.begin_fault.BeginFault.TheVariants.{Memory}
+use Rattle.zprotocol.specs.client.View.{ClientView}
+use Rattle.zprotocol.specs.client.Table.{begin_fault}
 
 -- a call is refused with this: by the table, or for memory where the table allows it
 abbrev pub IsBeginFault : ClientView → BeginFault → Type 0

@@ -2,19 +2,17 @@
 
 ghost use Rattle.std.specs.Prelude.{◌≡◌, ◌+◌, ◌<◌, ◌≤◌, ℕ, None, Some, [], IfErr, IfOk, IsSome, OnErr, OnOk, is_some};
 ghost use Rattle.std.specs.Option.{option_map};
-ghost use Rattle.zclient_table.specs.View.{opening_client};
-ghost use Rattle.zclient_table.specs.Table.{begin_fault, begin_step, client_step, answer_row, config_row, outstanding_posts, retry_posts};
-ghost use Rattle.zout.specs.Posts.{Puts};
+ghost use Rattle.zprotocol.specs.client.View.{opening_client};
+ghost use Rattle.zprotocol.specs.client.Table.{begin_fault, begin_step, client_step, answer_row, config_row, outstanding_posts, retry_posts};
+ghost use Rattle.zprotocol.specs.Posts.{Puts};
 ghost use Rattle.zclient.specs.Core.{IsBeginFault, IsResend};
 
 use crate::post::send_call;
 use std::alloc::Global;
 use std::marker::Model;
 use zcalls::{Call, CallNumber, MAX_CALL_NUMBER, Reply};
-use zclient_table::BeginFault;
-use zout::Out;
 use zpath::Memory;
-use zserver_table::{Epoch, Message, Process, ServerId};
+use zprotocol::{BeginFault, Epoch, Message, Out, Process, ServerId};
 
 /// What a client knows: its last call's number, the call that it waits for, and the chain's ends.
 #[derive(Drop)]
@@ -28,7 +26,7 @@ pub struct ClientCore {
 }
 
 impl Model for ClientCore {
-    ghost use Rattle.zclient_table.specs.View.{ClientView};
+    ghost use Rattle.zprotocol.specs.client.View.{ClientView};
 
     ghost Value = { ClientView };
 
@@ -81,7 +79,7 @@ impl ClientCore {
     }
 
     /// Why it can't begin a call now: `Busy`, or `Exhausted`.
-    #[tactic(auto, unfolding(zclient_table::specs::Table::begin_fault))]
+    #[tactic(auto, unfolding(zprotocol::specs::client::Table::begin_fault))]
     pub fn begin_fault(&self) -> Option<BeginFault>
         ensures { result ≡ begin_fault self.now }
     {
@@ -95,7 +93,7 @@ impl ClientCore {
     }
 
     /// Begins a call, and answers its number. All growth is made before anything is put or changed.
-    #[tactic(auto, unfolding(zclient_table::specs::Table::begin_step, zclient_table::specs::Table::begin_fault))]
+    #[tactic(auto, unfolding(zprotocol::specs::client::Table::begin_step, zprotocol::specs::client::Table::begin_fault))]
     pub fn begin<T: Drop>(&mut self, call: Call, out: &mut Out<T>) -> Result<CallNumber, BeginFault>
         ensures number { IfOk result (λ number. number ≡ self.new.number) }
         ensures next { OnOk result (self.new ≡ (begin_step {T = T} self.old call).0) }
@@ -122,7 +120,7 @@ impl ClientCore {
 
     /// Takes a message, and hands out the reply that it waited for. Where a call has to be sent again and
     /// there is no memory for it, hands the message back.
-    #[tactic(auto, unfolding(zclient_table::specs::Table::client_step))]
+    #[tactic(auto, unfolding(zprotocol::specs::client::Table::client_step))]
     pub fn take<T: Drop>(
         &mut self,
         from: Process,
@@ -158,7 +156,7 @@ impl ClientCore {
     }
 
     /// Sends the call that it waits for once more; answers whether there is one.
-    #[tactic(auto, unfolding(zclient_table::specs::Table::retry_posts))]
+    #[tactic(auto, unfolding(zprotocol::specs::client::Table::retry_posts))]
     pub fn retry<T: Drop>(&self, out: &mut Out<T>) -> Result<bool, Memory>
         ensures waits { IfOk result (λ waits. waits ≡ is_some self.now.outstanding) }
         ensures puts { OnOk result (Puts out.old out.new (retry_posts self.now)) }
@@ -170,7 +168,7 @@ impl ClientCore {
     }
 
     // The number of the next call, or why none can begin.
-    #[tactic(auto, unfolding(zclient_table::specs::Table::begin_fault))]
+    #[tactic(auto, unfolding(zprotocol::specs::client::Table::begin_fault))]
     fn next_number(&self) -> Result<CallNumber, BeginFault>
         ensures next { IfOk result (λ number. number ≡ self.now.number + 1) }
         ensures allowed { OnOk result (begin_fault self.now ≡ None) }
@@ -215,7 +213,7 @@ impl ClientCore {
     }
 
     // Answer: to the call that it waits for, the wait is over, and the reply is handed out.
-    #[tactic(auto, unfolding(zclient_table::specs::Table::answer_row))]
+    #[tactic(auto, unfolding(zprotocol::specs::client::Table::answer_row))]
     fn answer<T: Drop>(&mut self, number: CallNumber, reply: Reply) -> Option<Reply>
         ensures next { self.new ≡ (answer_row {T = T} self.old number reply).0 }
         ensures silent { (answer_row {T = T} self.old number reply).1 ≡ [] }
@@ -233,7 +231,7 @@ impl ClientCore {
     }
 
     // Config: a later one holds from now on, and a call that it waits for goes out again.
-    #[tactic(auto, unfolding(zclient_table::specs::Table::config_row))]
+    #[tactic(auto, unfolding(zprotocol::specs::client::Table::config_row))]
     fn config<T: Drop>(
         &mut self,
         epoch: &Epoch,

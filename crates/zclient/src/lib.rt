@@ -9,4 +9,4 @@ mod client_core;
 mod post;
 
 pub use client_core::ClientCore;
-pub use zclient_table::BeginFault;
+pub use zprotocol::BeginFault;

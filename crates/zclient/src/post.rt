@@ -1,15 +1,14 @@
 //! A call on its way.
 
 ghost use Rattle.std.specs.Prelude.{◌≡◌, ◌<◌, IfOk, OnErr, OnOk};
-ghost use Rattle.zclient_table.specs.Table.{call_posts};
-ghost use Rattle.zout.specs.Posts.{Puts};
+ghost use Rattle.zprotocol.specs.client.Table.{call_posts};
+ghost use Rattle.zprotocol.specs.Posts.{Puts};
 ghost use Rattle.zclient.specs.Core.{posts_of};
 
 use std::alloc::Global;
 use zcalls::{Call, CallNumber};
-use zout::Out;
 use zpath::Memory;
-use zserver_table::{Message, Process, ServerId};
+use zprotocol::{Message, Out, Process, ServerId};
 
 /// The message that sends a call: an update to the head, a query to the tail. None where there is no such
 /// server.

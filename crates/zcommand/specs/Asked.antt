@@ -1,6 +1,6 @@
 -- What a program's words ask for, by the number that they give: this project's own profile.
 use Rattle.std.specs.Prelude.{ℕ, ◌&&◌, nat_le, if◌then◌else◌, List, [], ◌∷◌, codes, Option, Some, Result, Ok, Err}
-use Rattle.zserver_table.specs.declared.limits.TheConstants.{MAX_SERVERS}
+use Rattle.zprotocol.specs.declared.limits.TheConstants.{MAX_SERVERS}
 use Rattle.zoptions.specs.Asked.{asked_of}
 use Rattle.zcommand.specs.declared.order.Settings.{Settings}
 use Rattle.zcommand.specs.declared.order.Settings.TheVariants.{Script}

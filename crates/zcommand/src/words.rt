@@ -9,8 +9,8 @@ use crate::fault::WordsFault;
 use crate::order::Settings;
 use std::alloc::Global;
 use zoptions::{NumberOption, numbers_asked};
+use zprotocol::MAX_SERVERS;
 use zscript::Servers;
-use zserver_table::MAX_SERVERS;
 
 // The option of a script.
 static SCRIPT_OPTIONS: [NumberOption; 1] = [NumberOption {

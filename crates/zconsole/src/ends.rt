@@ -10,7 +10,7 @@ use std::alloc::Global;
 use std::sync::Wait;
 use thiserror::Error;
 use zpath::Memory;
-use zserver_table::ServerId;
+use zprotocol::ServerId;
 
 /// How many orders the channel has room for.
 pub const ROOM: usize = 8;

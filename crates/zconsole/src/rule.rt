@@ -5,7 +5,7 @@ ghost use Rattle.zconsole.specs.Orders.{log, InOrder};
 
 use crossbeam_channel::protocol::{Join, Lesson, Outcome, Protocol, Split};
 use std::collections::LinkedList;
-use zserver_table::ServerId;
+use zprotocol::ServerId;
 
 /// What an end may do, and what it has put or taken. No value of it is made.
 pub struct Log {

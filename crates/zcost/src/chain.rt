@@ -5,9 +5,8 @@ use crate::order::{Kind, Order};
 use crate::trouble::Trouble;
 use std::alloc::Global;
 use zcalls::Entry;
-use zout::Out;
+use zprotocol::{Message, Out, Process, ServerId};
 use zserver::{Server, Snapshot};
-use zserver_table::{Message, Process, ServerId};
 
 /// Gives a new chain of so many servers the calls of an order; how many it answered.
 pub fn answered(alloc: Global, count: u8, calls: &Calls, order: &Order) -> Result<u64, Trouble> {

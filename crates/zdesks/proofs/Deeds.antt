@@ -1,8 +1,8 @@
 -- One more deed.
 use Rattle.std.proofs.Common.{◌≡◌, List, [], ◌∷◌, ◌++◌, Option, None, sym, refl, ap, ◌∙◌, subst, append-nil}
 use Rattle.std.specs.Option.{option_map}
-use Rattle.zserver_table.specs.Machine.{kept_tree}
-use Rattle.zserver_table.specs.declared.process.Process.{Process}
+use Rattle.zprotocol.specs.server.Machine.{kept_tree}
+use Rattle.zprotocol.specs.declared.process.Process.{Process}
 use Rattle.zworld_model.specs.History.{History}
 use Rattle.zworld_model.specs.Links.{messages_to}
 use Rattle.ztraces.specs.declared.trace.TraceEvent.{TraceEvent}

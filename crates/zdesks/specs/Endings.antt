@@ -1,7 +1,7 @@
 -- What a clause says of what a desk leaves.
 use Rattle.std.specs.Prelude.{◌≡◌, false, List, [], length, map}
-use Rattle.zserver_table.specs.declared.process.Process.{Process}
-use Rattle.zserver_table.specs.Machine.{kept_tree}
+use Rattle.zprotocol.specs.declared.process.Process.{Process}
+use Rattle.zprotocol.specs.server.Machine.{kept_tree}
 use Rattle.ztraces.specs.Deeds.{GoesBy, trace_by, takes, puts, told_by}
 use Rattle.ztraces.specs.Lawful.{Begins}
 use Rattle.zlinks.specs.Places.{process_at}

@@ -1,13 +1,12 @@
 //! The desk of a process.
 
 ghost use Rattle.std.specs.Prelude.{◌≡◌, [], Option, true, false, length};
-ghost use Rattle.zserver_table.specs.declared.process.Process.{Process};
+ghost use Rattle.zprotocol.specs.declared.process.Process.{Process};
 
 use std::alloc::Global;
-use zout::Out;
+use zprotocol::{Message, Out, Process, ServerId};
 use zrings::ends::{Rx, Tx};
 use zserver::Snapshot;
-use zserver_table::{Message, Process, ServerId};
 use ztraces::{Stamp, Trace, TraceEvent};
 use zworld_model::CallEvent;
 

@@ -2,7 +2,7 @@
 
 ghost use Rattle.std.specs.Prelude.{◌≡◌, ◌<◌, Option, None, IsFalse, IsTrue};
 ghost use Rattle.std.specs.Prelude.{List, [], ◌++◌, false, length, max, option_to_list};
-ghost use Rattle.zserver_table.specs.declared.process.Process.{Process};
+ghost use Rattle.zprotocol.specs.declared.process.Process.{Process};
 ghost use Rattle.ztraces.specs.declared.stamp.TheConstants.{MAX_STAMP};
 ghost use Rattle.ztraces.specs.Stamps.{next_stamp};
 ghost use Rattle.zdesks.specs.declared.limits.TheConstants.{MAX_EVENTS};

@@ -5,7 +5,7 @@ ghost use Rattle.zdesks.specs.Desks.{Keeps, SameRest, Stands, TreePost, TreeStan
 
 use crate::desk::{Desk, Stamped};
 use zlinks::place::process_at;
-use zserver_table::Process;
+use zprotocol::Process;
 
 impl Desk {
     /// How many links it takes from.

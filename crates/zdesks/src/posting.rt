@@ -1,15 +1,15 @@
 //! What the last event put goes onto the links.
 
 ghost use Rattle.std.specs.Prelude.{◌≡◌, ◌∷◌, [], List, None, Option, IfNone, IfSome, IsTrue};
-ghost use Rattle.zserver_table.specs.declared.process.Process.{Process};
+ghost use Rattle.zprotocol.specs.declared.process.Process.{Process};
 ghost use Rattle.ztraces.specs.Deeds.{last_post};
 ghost use Rattle.zdesks.specs.Desks.{IsSettled, Keeps, pending, SameBooks, SameDesk, Stands};
 ghost use Rattle.zdesks.specs.Desks.{TreePost, TreeStamped, TreeStanding};
 
 use crate::desk::Desk;
 use zlinks::place::place;
+use zprotocol::{Message, Process};
 use zserver::Snapshot;
-use zserver_table::{Message, Process};
 
 impl Desk {
     /// Puts what the last event put on its links. False where there was no memory for all of it: the rest is kept for later.

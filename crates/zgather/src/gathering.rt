@@ -2,7 +2,7 @@
 
 ghost use Rattle.std.specs.Prelude.{◌≡◌, ◌≤◌, false, IfOk, length, map, true};
 ghost use Rattle.ztree.specs.declared.limits.TheConstants.{MAX_CLIENTS};
-ghost use Rattle.zserver_table.specs.declared.limits.TheConstants.{MAX_SERVERS};
+ghost use Rattle.zprotocol.specs.declared.limits.TheConstants.{MAX_SERVERS};
 ghost use Rattle.ztraces.specs.Audit.{is_any_cut};
 ghost use Rattle.ztraces.specs.Lawful.{AreLawful};
 ghost use Rattle.zdesks.specs.declared.desk.Ending.{Ending};
@@ -13,7 +13,7 @@ use std::alloc::Global;
 use zdesks::Ending;
 use zmesh::{Mesh, are_told};
 use zpath::Memory;
-use zserver_table::ServerId;
+use zprotocol::ServerId;
 use ztraces::{ClientTrace, Traces};
 
 /// The traces of a run whose chain began with the servers up to the last one, from what its processes left: the master, the

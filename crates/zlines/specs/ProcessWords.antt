@@ -3,9 +3,9 @@ use Rattle.std.specs.Prelude.{ℕ, ◌&&◌, drop, codes, nat_eq, nat_lt, nat_le
 use Rattle.std.specs.Option.{option_map}
 use Rattle.std.specs.List.{starts_with}
 use Rattle.std.specs.Str.{bytes_eq}
-use Rattle.zserver_table.specs.declared.limits.TheConstants.{MAX_SERVERS}
-use Rattle.zserver_table.specs.declared.process.Process.{Process}
-use Rattle.zserver_table.specs.declared.process.Process.TheVariants.{Master, Server, Client}
+use Rattle.zprotocol.specs.declared.limits.TheConstants.{MAX_SERVERS}
+use Rattle.zprotocol.specs.declared.process.Process.{Process}
+use Rattle.zprotocol.specs.declared.process.Process.TheVariants.{Master, Server, Client}
 use Rattle.zlines.specs.LineWords.{Word, number_of, client_of}
 
 -- the server of a number

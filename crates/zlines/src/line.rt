@@ -2,7 +2,7 @@
 
 use crate::request::Request;
 use zcalls::ClientId;
-use zserver_table::{Process, ServerId};
+use zprotocol::{Process, ServerId};
 
 /// What a line asks for.
 #[derive(Drop)]

@@ -16,7 +16,7 @@ use crate::request::LineFault;
 use std::alloc::Global;
 use std::str;
 use zcalls::ClientId;
-use zserver_table::{Process, ServerId};
+use zprotocol::{Process, ServerId};
 
 /// Reads a line: what it asks for, or why it asks for nothing.
 #[tactic(auto, unfolding(crate::specs::Line::line_of))]

@@ -7,7 +7,7 @@ ghost use Rattle.zlines.specs.ProcessWords.{server_of, client_process_of, proces
 use crate::number::number;
 use crate::shape::behind;
 use zcalls::ClientId;
-use zserver_table::{MAX_SERVERS, Process, ServerId};
+use zprotocol::{MAX_SERVERS, Process, ServerId};
 use ztree::limits::MAX_CLIENTS;
 
 /// The client that a word names: 0 to 31.

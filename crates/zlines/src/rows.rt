@@ -17,7 +17,7 @@ ghost use Rattle.zlines.specs.declared.limits.TheConstants.{MAX_LINE, NUMBER_BOU
 ghost use Rattle.ztree.specs.support.Samples.{a, some_stat};
 ghost use Rattle.zlines.specs.declared.request.LineFault.TheVariants.{BadLine, BadPath, BadData};
 ghost use Rattle.zlines.specs.LineWords.{number_of, client_of, data_of, data_text};
-ghost use Rattle.zserver_table.specs.declared.process.Process.TheVariants.{Master, Server, Client};
+ghost use Rattle.zprotocol.specs.declared.process.Process.TheVariants.{Master, Server, Client};
 ghost use Rattle.zlines.specs.declared.line.Line.TheVariants as line;
 ghost use Rattle.zlines.specs.ProcessWords.{process_of, server_of, client_process_of};
 ghost use Rattle.zlines.specs.Line.{line_of};

@@ -3,10 +3,10 @@
 use Rattle.std.specs.Prelude.{ℕ, ◌+◌, ◌-◌, ◌==◌, Bool, true, false, not, ◌&&◌, nat_lt, nat_le, if◌then◌else◌, List, [], ◌∷◌, get_or}
 use Rattle.std.specs.List.{list_any}
 use Rattle.ztree.specs.declared.limits.TheConstants.{MAX_CLIENTS}
-use Rattle.zserver_table.specs.declared.limits.TheConstants.{MAX_SERVERS}
-use Rattle.zserver_table.specs.declared.message.Message.{Message}
-use Rattle.zserver_table.specs.declared.process.Process.{Process}
-use Rattle.zserver_table.specs.declared.process.Process.TheVariants.{Master, Server, Client}
+use Rattle.zprotocol.specs.declared.limits.TheConstants.{MAX_SERVERS}
+use Rattle.zprotocol.specs.declared.message.Message.{Message}
+use Rattle.zprotocol.specs.declared.process.Process.{Process}
+use Rattle.zprotocol.specs.declared.process.Process.TheVariants.{Master, Server, Client}
 use Rattle.zworld_model.specs.Events.{is_server}
 use Rattle.zworld_model.specs.Links.{is_same}
 use Rattle.zlinks.specs.declared.limits.TheConstants.{PROCESSES}

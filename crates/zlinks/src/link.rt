@@ -2,13 +2,13 @@
 
 ghost use Rattle.std.specs.Prelude.{◌≡◌, [], ◌∷◌, ◌++◌, List, MatchOption, OnErr, OnOk, not};
 ghost use Rattle.zlinks.specs.Places.{holds};
-ghost use Rattle.zserver_table.specs.declared.message.Message.{Message};
+ghost use Rattle.zprotocol.specs.declared.message.Message.{Message};
 
 use std::alloc::Global;
 use std::collections::VecDeque;
 use std::marker::Model;
 use zpath::Memory;
-use zserver_table::Message;
+use zprotocol::Message;
 
 /// The messages on the way from one process to another, the front first.
 #[derive(Drop)]
@@ -18,7 +18,7 @@ pub(crate) struct Link<T> {
 
 impl<T> Model for Link<T> {
     ghost use Rattle.std.specs.Prelude.{List};
-    ghost use Rattle.zserver_table.specs.declared.message.Message.{Message};
+    ghost use Rattle.zprotocol.specs.declared.message.Message.{Message};
 
     ghost Value = { List (Message T) };
 

@@ -1,8 +1,8 @@
 //! The links.
 
 ghost use Rattle.std.specs.Prelude.{◌≡◌, ◌<◌, ◌≤◌, true, false, [], ◌∷◌, ◌++◌, List, MatchOption, IfNone, IfOk, OnErr, OnOk, drop};
-ghost use Rattle.zserver_table.specs.declared.message.Message.{Message};
-ghost use Rattle.zserver_table.specs.declared.process.Process.{Process};
+ghost use Rattle.zprotocol.specs.declared.message.Message.{Message};
+ghost use Rattle.zprotocol.specs.declared.process.Process.{Process};
 ghost use Rattle.zlinks.specs.declared.limits.TheConstants.{PROCESSES};
 ghost use Rattle.zlinks.specs.Places.{place_of, links_of, with_link, without_receiver, is_silent, holds};
 
@@ -12,7 +12,7 @@ use crate::row::Row;
 use std::alloc::Global;
 use std::marker::Model;
 use zpath::Memory;
-use zserver_table::{Message, Process};
+use zprotocol::{Message, Process};
 
 /// The links between all processes, and how many processes have put something that is still on one.
 #[derive(Drop)]
@@ -24,7 +24,7 @@ pub struct Links<T> {
 impl<T> Model for Links<T> {
     ghost use Rattle.std.specs.Prelude.{List};
     ghost use Rattle.std.specs.List.{list_any};
-    ghost use Rattle.zserver_table.specs.declared.message.Message.{Message};
+    ghost use Rattle.zprotocol.specs.declared.message.Message.{Message};
     ghost use Rattle.zlinks.specs.Places.{holds};
     ghost use Rattle.zlinks.specs.support.Rows.{Counts};
 

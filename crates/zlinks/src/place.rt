@@ -6,7 +6,7 @@ ghost use Rattle.zlinks.specs.Places.{place_of, process_at};
 
 use crate::limits::PROCESSES;
 use zcalls::ClientId;
-use zserver_table::{MAX_SERVERS, Process, ServerId};
+use zprotocol::{MAX_SERVERS, Process, ServerId};
 
 const FIRST_CLIENT: usize = MAX_SERVERS as usize + 1;
 

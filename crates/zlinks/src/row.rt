@@ -2,7 +2,7 @@
 
 ghost use Rattle.std.specs.Prelude.{◌≡◌, ◌+◌, ◌<◌, ◌≤◌, ℕ, true, [], ◌∷◌, ◌++◌, List, MatchOption, IfNone, IfOk, OnErr, OnOk, length, get_or, set, drop, not};
 ghost use Rattle.std.specs.List.{list_any};
-ghost use Rattle.zserver_table.specs.declared.message.Message.{Message};
+ghost use Rattle.zprotocol.specs.declared.message.Message.{Message};
 ghost use Rattle.zlinks.specs.declared.limits.TheConstants.{PROCESSES};
 ghost use Rattle.zlinks.specs.Places.{holds};
 ghost use Rattle.zlinks.specs.support.Rows.{IsBlank, share};
@@ -12,7 +12,7 @@ use crate::link::Link;
 use std::alloc::Global;
 use std::marker::Model;
 use zpath::Memory;
-use zserver_table::Message;
+use zprotocol::Message;
 
 /// The links from one process, by the places of the receivers, and how many of them hold something.
 #[derive(Drop)]
@@ -23,7 +23,7 @@ pub(crate) struct Row<T> {
 
 impl<T> Model for Row<T> {
     ghost use Rattle.std.specs.Prelude.{List};
-    ghost use Rattle.zserver_table.specs.declared.message.Message.{Message};
+    ghost use Rattle.zprotocol.specs.declared.message.Message.{Message};
     ghost use Rattle.zlinks.specs.Places.{holds};
     ghost use Rattle.zlinks.specs.support.Rows.{Counts};
 

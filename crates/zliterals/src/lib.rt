@@ -4,9 +4,9 @@
 ghost use Rattle.std.specs.Prelude.{◌≡◌, ◌<◌, ◌≤◌};
 ghost use Rattle.zcalls.specs.declared.limits.TheConstants.{MAX_CALL_NUMBER};
 ghost use Rattle.ztree.specs.declared.limits.TheConstants.{MAX_CLIENTS};
-ghost use Rattle.zserver_table.specs.declared.limits.TheConstants.{MAX_EPOCH, MAX_LOG_NUMBER, MAX_SERVERS};
+ghost use Rattle.zprotocol.specs.declared.limits.TheConstants.{MAX_EPOCH, MAX_LOG_NUMBER, MAX_SERVERS};
 
-use zserver_table::{CallNumber, ClientId, Epoch, LogNumber, ServerId};
+use zprotocol::{CallNumber, ClientId, Epoch, LogNumber, ServerId};
 
 /// The server of this number.
 pub fn server(number: u8) -> ServerId

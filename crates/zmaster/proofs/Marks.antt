@@ -3,7 +3,7 @@ use Rattle.std.proofs.Common.{◌≡◌, ℕ, ◌+◌, ◌<◌, ◌≤◌, Bool,
 use Rattle.std.specs.Prelude.{slice_set}
 use Rattle.std.specs.List.{range_with_len}
 use Rattle.std.proofs.lemmas.Bool.Decides.{nat_tests}
-use Rattle.zmaster_table.specs.View.{is_among, with_number}
+use Rattle.zprotocol.specs.master.View.{is_among, with_number}
 use Rattle.zmaster.specs.support.Marks.{numbers_from}
 
 -- a number isn't among those that are above it

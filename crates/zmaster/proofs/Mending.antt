@@ -5,11 +5,11 @@ use Rattle.std.specs.List.{position, position_or_len, remove, refill}
 use Rattle.std.proofs.lemmas.List.Quantifiers.{position-Some}
 use Rattle.std.proofs.lemmas.Bool.Decides.{nat_tests}
 use Rattle.zcalls.proofs.Among.{test}
-use Rattle.zserver_table.specs.declared.message.Message.TheVariants as message
-use Rattle.zserver_table.specs.declared.process.Process.TheVariants.{Server}
-use Rattle.zserver_table.specs.View.{Neighbour}
-use Rattle.zmaster_table.specs.View.{is_among}
-use Rattle.zmaster_table.specs.Table.{MendedChain, mended_chain, mended_chain_behind}
+use Rattle.zprotocol.specs.declared.message.Message.TheVariants as message
+use Rattle.zprotocol.specs.declared.process.Process.TheVariants.{Server}
+use Rattle.zprotocol.specs.server.View.{Neighbour}
+use Rattle.zprotocol.specs.master.View.{is_among}
+use Rattle.zprotocol.specs.master.Table.{MendedChain, mended_chain, mended_chain_behind}
 use Rattle.zmaster.specs.support.Mending.{IsPlace, mended_at, mended_behind_at}
 
 -- the numbers of a chain

@@ -3,14 +3,14 @@ use Rattle.std.proofs.Common.{◌≡◌, ℕ, ◌+◌, ◌≤◌, true, false, �
 use Rattle.std.proofs.lemmas.Bool.Decides.{nat_tests}
 use Rattle.std.specs.List.{last_or}
 use Rattle.std.proofs.lemmas.List.FromFn.{length-map-range_with_len, map-range_with_len_more}
-use Rattle.zmaster_table.specs.declared.join_fault.JoinFault.{JoinFault}
-use Rattle.zmaster_table.specs.declared.join_fault.JoinFault.TheVariants.{Used}
+use Rattle.zprotocol.specs.declared.master.join_fault.JoinFault.{JoinFault}
+use Rattle.zprotocol.specs.declared.master.join_fault.JoinFault.TheVariants.{Used}
 use Rattle.zcalls.proofs.Among.{test}
-use Rattle.zserver_table.specs.declared.message.Message.TheVariants as message
-use Rattle.zserver_table.specs.declared.process.Process.TheVariants.{Server, Client}
-use Rattle.zserver_table.specs.View.{Neighbour, PostOf}
-use Rattle.zmaster_table.specs.View.{MasterView, is_among, members, is_joining, with_number, head_of, tail_of}
-use Rattle.zmaster_table.specs.Table.{before, without_next, have_row, joined_row, gone_row, join_step, join_fault, and_tell_clients}
+use Rattle.zprotocol.specs.declared.message.Message.TheVariants as message
+use Rattle.zprotocol.specs.declared.process.Process.TheVariants.{Server, Client}
+use Rattle.zprotocol.specs.server.View.{Neighbour, PostOf}
+use Rattle.zprotocol.specs.master.View.{MasterView, is_among, members, is_joining, with_number, head_of, tail_of}
+use Rattle.zprotocol.specs.master.Table.{before, without_next, have_row, joined_row, gone_row, join_step, join_fault, and_tell_clients}
 use Rattle.zmaster.specs.support.Mending.{joins, IsPlace, mended_at, mended_behind_at, chain_fault}
 use Rattle.zmaster.specs.support.Telling.{config_posts_to}
 use Rattle.std.specs.List.{remove}

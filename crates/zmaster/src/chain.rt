@@ -2,16 +2,14 @@
 
 ghost use Rattle.std.specs.Prelude.{◌≡◌, ◌<◌, ◌≤◌, ◌==◌, not, length, map, filter};
 ghost use Rattle.std.specs.List.{last_or, position};
-ghost use Rattle.zmaster_table.specs.Table.{before};
-ghost use Rattle.zout.specs.Posts.{PutsInRoom};
+ghost use Rattle.zprotocol.specs.master.Table.{before};
+ghost use Rattle.zprotocol.specs.Posts.{PutsInRoom};
 ghost use Rattle.zmaster.specs.support.Mending.{joins, mended_at, chain_fault};
 
 use crate::limits::SERVERS;
 use crate::member::Member;
 use arrayvec::ArrayVec;
-use zmaster_table::JoinFault;
-use zout::Out;
-use zserver_table::{Epoch, Message, Process, ServerId};
+use zprotocol::{Epoch, JoinFault, Message, Out, Process, ServerId};
 
 /// The members from the head down.
 pub(crate) type Members = ArrayVec<Member, SERVERS>;

@@ -1,10 +1,10 @@
 //! What the master knows, and the rows of its table.
 
 ghost use Rattle.std.specs.Prelude.{◌≡◌, ◌+◌, ◌<◌, ◌≤◌, length};
-ghost use Rattle.zserver_table.specs.declared.limits.TheConstants.{MAX_EPOCH, MAX_SERVERS};
-ghost use Rattle.zmaster_table.specs.View.{opening_master, head_of, tail_of, with_number};
-ghost use Rattle.zmaster_table.specs.Table.{config_posts, join_fault, join_step, master_step, have_row, joined_row, gone_row};
-ghost use Rattle.zout.specs.Posts.{PutsInRoom};
+ghost use Rattle.zprotocol.specs.declared.limits.TheConstants.{MAX_EPOCH, MAX_SERVERS};
+ghost use Rattle.zprotocol.specs.master.View.{opening_master, head_of, tail_of, with_number};
+ghost use Rattle.zprotocol.specs.master.Table.{config_posts, join_fault, join_step, master_step, have_row, joined_row, gone_row};
+ghost use Rattle.zprotocol.specs.Posts.{PutsInRoom};
 ghost use Rattle.ztree.specs.declared.limits.TheConstants.{MAX_CLIENTS};
 ghost use Rattle.zmaster.specs.declared.limits.TheConstants.{MAX_POSTS};
 
@@ -16,9 +16,7 @@ use crate::limits::{MAX_POSTS, SERVERS};
 use crate::member::{Member, first_epoch};
 use crate::used::{is_used, mark_used, width};
 use std::marker::Model;
-use zmaster_table::JoinFault;
-use zout::Out;
-use zserver_table::{ClientId, Epoch, LogNumber, Message, Process, ServerId};
+use zprotocol::{ClientId, Epoch, JoinFault, LogNumber, Message, Out, Process, ServerId};
 
 /// What the master knows. That the epochs which it gives are few is the business of its owner.
 #[derive(Drop)]
@@ -32,7 +30,7 @@ pub(crate) struct Knowledge {
 
 impl Model for Knowledge {
     ghost use Rattle.std.specs.Prelude.{◌≤◌};
-    ghost use Rattle.zmaster_table.specs.View.{MasterView};
+    ghost use Rattle.zprotocol.specs.master.View.{MasterView};
     ghost use Rattle.zmaster.specs.support.Marks.{numbers_from};
     ghost use Rattle.ztree.specs.declared.limits.TheConstants.{MAX_CLIENTS};
 
@@ -91,7 +89,7 @@ impl Knowledge {
     }
 
     /// Takes a message: the master table.
-    #[tactic(auto, using(zout::proofs::Posts::put_none), unfolding(zmaster_table::specs::Table::master_step))]
+    #[tactic(auto, using(zprotocol::proofs::Posts::put_none), unfolding(zprotocol::specs::master::Table::master_step))]
     pub(crate) fn take<T: Drop>(&mut self, from: &Process, message: &Message<T>, out: &mut Out<T>)
         requires epochs { self.old.epoch < MAX_EPOCH }
         requires room { MAX_POSTS ≤ out.old.room }

@@ -15,4 +15,4 @@ mod used;
 
 pub use limits::MAX_POSTS;
 pub use master::Master;
-pub use zmaster_table::JoinFault;
+pub use zprotocol::JoinFault;

@@ -1,6 +1,6 @@
 //! The limits of the master: each is this project's profile.
 
-use zserver_table::MAX_SERVERS;
+use zprotocol::MAX_SERVERS;
 
 /// How many messages the master puts at most at once: one to each client, and some to servers.
 pub const MAX_POSTS: usize = 40;

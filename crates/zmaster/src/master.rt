@@ -1,18 +1,16 @@
 //! The master.
 
 ghost use Rattle.std.specs.Prelude.{◌≡◌, ◌≤◌, IfErr, OnErr, OnOk, None, Some};
-ghost use Rattle.zmaster_table.specs.View.{opening_master};
-ghost use Rattle.zmaster_table.specs.Table.{join_fault, join_step, master_step};
-ghost use Rattle.zout.specs.Posts.{PutsInRoom};
+ghost use Rattle.zprotocol.specs.master.View.{opening_master};
+ghost use Rattle.zprotocol.specs.master.Table.{join_fault, join_step, master_step};
+ghost use Rattle.zprotocol.specs.Posts.{PutsInRoom};
 ghost use Rattle.ztree.specs.declared.limits.TheConstants.{MAX_CLIENTS};
 ghost use Rattle.zmaster.specs.declared.limits.TheConstants.{MAX_POSTS};
 
 use crate::knowledge::Knowledge;
 use crate::limits::MAX_POSTS;
 use std::marker::Model;
-use zmaster_table::JoinFault;
-use zout::Out;
-use zserver_table::{Message, Process, ServerId};
+use zprotocol::{JoinFault, Message, Out, Process, ServerId};
 
 /// The master. Whatever it hears, it gives at most three epochs for each number of a server.
 #[derive(Drop)]
@@ -22,9 +20,9 @@ pub struct Master {
 
 impl Model for Master {
     ghost use Rattle.std.specs.Prelude.{◌≤◌, length};
-    ghost use Rattle.zserver_table.specs.declared.limits.TheConstants.{MAX_SERVERS};
-    ghost use Rattle.zmaster_table.specs.View.{MasterView};
-    ghost use Rattle.zmaster_table.specs.Laws.{IsBounded};
+    ghost use Rattle.zprotocol.specs.declared.limits.TheConstants.{MAX_SERVERS};
+    ghost use Rattle.zprotocol.specs.master.View.{MasterView};
+    ghost use Rattle.zprotocol.specs.master.Laws.{IsBounded};
 
     ghost Value = { MasterView };
 

@@ -3,7 +3,7 @@
 ghost use Rattle.std.specs.Prelude.{◌≡◌};
 
 use std::marker::Model;
-use zserver_table::{Epoch, ServerId};
+use zprotocol::{Epoch, ServerId};
 
 /// A member of the chain, with the epoch of its pair with the one before it.
 #[derive(Drop)]

@@ -1,12 +1,12 @@
 //! The numbers of servers that were ever used, as a row of marks.
 
 ghost use Rattle.std.specs.Prelude.{◌≡◌, ◌≤◌, length};
-ghost use Rattle.zserver_table.specs.declared.limits.TheConstants.{MAX_SERVERS};
-ghost use Rattle.zmaster_table.specs.View.{is_among, with_number};
+ghost use Rattle.zprotocol.specs.declared.limits.TheConstants.{MAX_SERVERS};
+ghost use Rattle.zprotocol.specs.master.View.{is_among, with_number};
 ghost use Rattle.zmaster.specs.support.Marks.{numbers_from};
 
 use crate::limits::SERVERS;
-use zserver_table::ServerId;
+use zprotocol::ServerId;
 
 /// Whether the number is marked.
 pub(crate) fn is_used(used: &[bool; SERVERS], server: &ServerId) -> bool

@@ -3,7 +3,7 @@
 #![tactic(auto)]
 
 ghost use Rattle.std.specs.Prelude.{◌≡◌, IfOk, length};
-ghost use Rattle.zserver_table.specs.declared.limits.TheConstants.{MAX_SERVERS};
+ghost use Rattle.zprotocol.specs.declared.limits.TheConstants.{MAX_SERVERS};
 
 use std::alloc::Global;
 use std::rt::Files;
@@ -12,8 +12,8 @@ use std::thread::Threads;
 use std::{fs, io, thread};
 use zliterals::server;
 use zpath::Memory;
+use zprotocol::MAX_SERVERS;
 use zrun::{Cluster, Open, StartFault};
-use zserver_table::MAX_SERVERS;
 use zstories::{Ended, spend, tell, tell_end};
 
 fn main(rt: HostRuntime) -> io::Result<()> {

@@ -6,9 +6,8 @@ use std::alloc::Global;
 use zcalls::{Call, Query, Update};
 use zclient::{BeginFault, ClientCore};
 use zliterals::{epoch, server};
-use zout::Out;
 use zpath::Memory;
-use zserver_table::{Message, Process};
+use zprotocol::{Message, Out, Process};
 use zstories::Ended;
 
 // What a client puts: no Snapshot is among it.

@@ -4,9 +4,8 @@ use crate::story::{Word, hears, hears_at};
 use crate::taking::{acts, takes};
 use std::alloc::Global;
 use zliterals::{epoch, server};
-use zout::Out;
+use zprotocol::{Message, Out, Process};
 use zserver::{Server, Snapshot};
-use zserver_table::{Message, Process};
 use zstories::Ended;
 
 /// A spare server whose predecessor is server 1 takes what that one hands over.

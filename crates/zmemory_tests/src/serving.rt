@@ -7,10 +7,9 @@ use crate::taking::{acts, has_put};
 use std::alloc::Global;
 use zcalls::Query;
 use zliterals::{call_number, client};
-use zout::Out;
 use zpath::{Memory, Path};
+use zprotocol::{Message, Out, Process};
 use zserver::{Server, Snapshot, Stopped, Taken};
-use zserver_table::{Message, Process};
 use zstories::Ended;
 
 /// A query at a tail.

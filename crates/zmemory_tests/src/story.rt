@@ -6,10 +6,9 @@ use crate::values::create;
 use std::alloc::Global;
 use zcalls::Update;
 use zliterals::{call_number, client, epoch, log_number, server};
-use zout::Out;
 use zpath::Memory;
+use zprotocol::{Message, Out, Process, ServerId};
 use zserver::{Server, Snapshot};
-use zserver_table::{Message, Process, ServerId};
 use zstories::Ended;
 
 /// A server takes a message: its predecessor and its successor in the opening chain, 0 for none, what it took

@@ -2,9 +2,8 @@
 
 use std::alloc::Global;
 use zliterals::epoch;
-use zout::Out;
+use zprotocol::{Message, Out, Process};
 use zserver::{Server, Snapshot, Stopped, Taken};
-use zserver_table::{Message, Process};
 use zstories::Ended;
 
 /// Hands a server a message, with nothing put before; whether it acted.

@@ -4,7 +4,7 @@ use std::alloc::Global;
 use zcalls::{Call, Create, Data, Kind, Query, Reply, Update};
 use zliterals::{client, server};
 use zpath::{Memory, Path};
-use zserver_table::Process;
+use zprotocol::Process;
 use zstories::Ended;
 use zworld::World;
 use zworld_model::{CallEvent, Event};

@@ -8,7 +8,7 @@ use Rattle.zslots.specs.Lists.{empty_list}
 use Rattle.zslots.specs.Families.{key_at}
 use Rattle.zslots.proofs.Maps.{id_cmp_total, id_cmp_same, same_or_other}
 use Rattle.zslots.proofs.Families.{families-kept}
-use Rattle.zindex.specs.IndexView.{IdsByPath}
+use Rattle.znodes.specs.index.IndexView.{IdsByPath}
 use Rattle.ztree.specs.Tree.{Path}
 use Rattle.ztree.proofs.Maps.{none_some}
 use Rattle.ztree.proofs.Sorted.{paths_total, same_path}

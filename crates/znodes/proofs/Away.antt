@@ -10,7 +10,7 @@ use Rattle.zslots.specs.Lists.{list_without}
 use Rattle.zslots.specs.Families.{HasFamilies, ChangesHead, key_at}
 use Rattle.zslots.proofs.Maps.{same_or_other}
 use Rattle.zslots.proofs.Families.{families-kept, families-unlinked}
-use Rattle.zindex.specs.IndexView.{IdsByPath}
+use Rattle.znodes.specs.index.IndexView.{IdsByPath}
 use Rattle.ztree.specs.Tree.{parent_of}
 use Rattle.znodes.specs.declared.row.Row.{Row}
 use Rattle.znodes.specs.support.OwnerLists.{OwnerLists, list_of}

@@ -12,7 +12,7 @@ use Rattle.zslots.specs.Families.{HasFamilies, ChangesHead, key_at}
 use Rattle.zslots.proofs.Items.{some_there}
 use Rattle.zslots.proofs.Maps.{same_or_other}
 use Rattle.zslots.proofs.Families.{families-kept, families-pushed}
-use Rattle.zindex.specs.IndexView.{IdsByPath}
+use Rattle.znodes.specs.index.IndexView.{IdsByPath}
 use Rattle.ztree.specs.Tree.{parent_of}
 use Rattle.ztree.proofs.Maps.{none_some}
 use Rattle.znodes.specs.declared.row.Row.{Row}

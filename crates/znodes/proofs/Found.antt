@@ -13,7 +13,7 @@ use Rattle.ztree.proofs.Maps.{none_some, same_some}
 use Rattle.znodes.specs.declared.row.Row.{Row}
 use Rattle.znodes.specs.support.Rows.{IsLinked, nodes_of, node_at}
 use Rattle.znodes.specs.support.OwnerLists.{OwnerLists}
-use Rattle.zindex.specs.IndexView.{IdsByPath}
+use Rattle.znodes.specs.index.IndexView.{IdsByPath}
 use Rattle.zslots.proofs.MapValues.{get-map_values, len-map_values}
 
 -- what is found through an Id

@@ -9,7 +9,7 @@ use Rattle.zslots.specs.SlotsView.{Items}
 use Rattle.zslots.specs.Lists.{empty_list, list_with_front, list_without}
 use Rattle.zslots.specs.Families.{ChangesHead}
 use Rattle.zslots.proofs.Maps.{same_or_other}
-use Rattle.zindex.specs.IndexView.{IdsByPath}
+use Rattle.znodes.specs.index.IndexView.{IdsByPath}
 use Rattle.ztree.specs.Tree.{Path}
 use Rattle.ztree.proofs.Maps as maps
 use Rattle.ztree.proofs.Sorted.{paths_total, same_path}

@@ -19,3 +19,4 @@ pub mod Written
 pub mod Added
 pub mod OwnersKnown
 pub mod Opening
+pub mod index_lemmas

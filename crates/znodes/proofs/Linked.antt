@@ -13,7 +13,7 @@ use Rattle.zslots.specs.Families.{IsFamily, key_at}
 use Rattle.zslots.proofs.Maps.{is_none}
 use Rattle.zslots.proofs.Items.{some_there}
 use Rattle.zslots.proofs.Families.{family-first}
-use Rattle.zindex.specs.IndexView.{IdsByPath}
+use Rattle.znodes.specs.index.IndexView.{IdsByPath}
 use Rattle.ztree.specs.Tree.{Path, parent_of, has_node, children}
 use Rattle.ztree.proofs.Maps.{same_some, has_some}
 use Rattle.ztree.proofs.Children.{children_gone}

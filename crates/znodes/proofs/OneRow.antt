@@ -5,7 +5,7 @@ use Rattle.zslots.specs.declared.id.Id.{Id}
 use Rattle.zslots.specs.SlotsView.{Items}
 use Rattle.zslots.specs.Lists.{empty_list}
 use Rattle.zslots.proofs.Maps.{get-remove-here, get-insert-here, get-insert-elsewhere}
-use Rattle.zindex.specs.IndexView.{IdsByPath}
+use Rattle.znodes.specs.index.IndexView.{IdsByPath}
 use Rattle.ztree.proofs.Maps.{same_some, none_some}
 use Rattle.znodes.specs.declared.row.Row.{Row}
 use Rattle.znodes.specs.declared.nodes.Nodes.TheInside.{Inside}

@@ -15,7 +15,7 @@ use Rattle.zslots.specs.Lists.{empty_list}
 use Rattle.zslots.specs.Families.{key_at}
 use Rattle.zslots.proofs.Families.{families-none}
 use Rattle.zslots.proofs.Maps.{id_cmp_total, id_cmp_same}
-use Rattle.zindex.specs.IndexView.{IdsByPath}
+use Rattle.znodes.specs.index.IndexView.{IdsByPath}
 use Rattle.ztree.specs.declared.node.Node.{Node}
 use Rattle.ztree.specs.Tree.{Path}
 use Rattle.ztree.proofs.Maps as maps

@@ -18,7 +18,7 @@ use Rattle.ztree.proofs.Ephemerals.{path_if_owned}
 use Rattle.znodes.specs.declared.row.Row.{Row}
 use Rattle.znodes.specs.support.Rows.{IsLinked, owner_key, fellow_links, owned_by, nodes_of}
 use Rattle.znodes.specs.support.OwnerLists.{OwnerLists, list_of}
-use Rattle.zindex.specs.IndexView.{IdsByPath}
+use Rattle.znodes.specs.index.IndexView.{IdsByPath}
 use Rattle.znodes.proofs.Keys.{owner_key-parts, owner_key-live}
 use Rattle.znodes.proofs.OwnerMaps.{is_somebody}
 use Rattle.znodes.proofs.Found.{found_row}

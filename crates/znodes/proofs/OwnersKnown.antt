@@ -11,7 +11,7 @@ use Rattle.zslots.specs.Ids.{Ids, IsIn}
 use Rattle.zslots.specs.Lists.{IsList, empty_list}
 use Rattle.zslots.specs.Families.{key_at}
 use Rattle.zslots.proofs.Families.{families-kept}
-use Rattle.zindex.specs.IndexView.{IdsByPath}
+use Rattle.znodes.specs.index.IndexView.{IdsByPath}
 use Rattle.ztree.specs.declared.node.Node.{Node}
 use Rattle.ztree.specs.Tree.{Path, ephemerals}
 use Rattle.ztree.proofs.Maps as maps

@@ -13,7 +13,7 @@ use Rattle.zslots.specs.Families.{HasFamilies, ChangesHead, key_at}
 use Rattle.zslots.proofs.Maps.{same_or_other}
 use Rattle.zslots.proofs.ListMoves.{parts-kept}
 use Rattle.zslots.proofs.Families.{families-pushed, family-room}
-use Rattle.zindex.specs.IndexView.{IdsByPath}
+use Rattle.znodes.specs.index.IndexView.{IdsByPath}
 use Rattle.ztree.specs.Tree.{Path, parent_of}
 use Rattle.ztree.proofs.Maps as maps
 use Rattle.ztree.proofs.Sorted.{paths_total, same_path}

@@ -21,7 +21,7 @@ use Rattle.ztree.proofs.Maps.{none_some, same_some, has_some, is_there}
 use Rattle.znodes.specs.declared.row.Row.{Row}
 use Rattle.znodes.specs.support.Rows.{IsLinked, parent_key, sibling_links, children_at, children_of, nodes_of}
 use Rattle.znodes.specs.support.OwnerLists.{OwnerLists}
-use Rattle.zindex.specs.IndexView.{IdsByPath}
+use Rattle.znodes.specs.index.IndexView.{IdsByPath}
 use Rattle.znodes.specs.support.Reading.{last_name, name_at, names_at}
 use Rattle.znodes.proofs.Rising.{AreDistinct, children_rise, sorted_same, same_length}
 use Rattle.znodes.proofs.Keys.{last_name-appended, parent_key-parts, parent_key-live}

@@ -8,7 +8,7 @@ use Rattle.zslots.specs.declared.id.Id.{Id}
 use Rattle.zslots.specs.SlotsView.{Items}
 use Rattle.zslots.proofs.Maps.{id_cmp_total, id_cmp_same}
 use Rattle.zslots.proofs.MapValues.{get-map_values}
-use Rattle.zindex.specs.IndexView.{IdsByPath}
+use Rattle.znodes.specs.index.IndexView.{IdsByPath}
 use Rattle.ztree.specs.declared.node.Node.{Node}
 use Rattle.ztree.specs.Tree.{Path}
 use Rattle.ztree.proofs.Maps as maps

@@ -1,2 +1,3 @@
 pub mod NodesView
 pub mod support
+pub mod index

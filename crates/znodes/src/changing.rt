@@ -8,11 +8,10 @@ ghost use Rattle.znodes.specs.NodesView.{path_of, AtPath, AtNode, AtTaken, IsKno
 ghost use Rattle.znodes.specs.NodesView.{Adds, Takes, CanReturn, Returns};
 ghost use Rattle.znodes.specs.support.Linking.{Holds};
 
-use crate::key::Key;
+use crate::key::{Key, copy_of};
 use crate::linking::{cut_child, cut_owned, id_above, put_child, put_owned, set_key, take_key};
 use crate::nodes::Nodes;
 use crate::row::Row;
-use zindex::key;
 use zpath::{Memory, Name, Path};
 use zslots::Id;
 use ztree::Node;
@@ -29,7 +28,7 @@ impl Nodes {
         ensures err { OnErr result (SameButRoom self.old self.new) }
         ensures kept { OnErr result (self.old.room ≤ self.new.room) }
     {
-        let Ok(key) = key(self.alloc, path.names()) else {
+        let Ok(key) = copy_of(self.alloc, path.names()) else {
             drop(path);
             drop(node);
             return Err(Memory);

@@ -40,7 +40,7 @@ impl Key {
         ensures { IfOk result (λ copy. copy ≡ self.now) }
     {
         Ok(Key {
-            names: zindex::key(alloc, &self.names)?,
+            names: copy_of(alloc, &self.names)?,
         })
     }
 }
@@ -53,4 +53,11 @@ pub(crate) fn kept(names: Option<Vec<Name>>) -> Option<Key>
         Some(names) => Some(Key::of(names)),
         None => None,
     }
+}
+
+// Names, owned once more: what an `Index` keeps them by.
+pub(crate) fn copy_of(alloc: Global, names: &[Name]) -> Result<Vec<Name>, Memory>
+    ensures { IfOk result (λ key. key.items ≡ names.now) }
+{
+    Ok(Vec::from_clones(alloc, names)?)
 }

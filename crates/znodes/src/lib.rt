@@ -9,6 +9,7 @@
 
 mod changing;
 mod children;
+mod index;
 mod key;
 mod linking;
 mod nodes;

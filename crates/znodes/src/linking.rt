@@ -11,10 +11,10 @@ ghost use Rattle.znodes.specs.support.OwnerLists.{list_of};
 ghost use Rattle.znodes.specs.support.KeyNames.{names_of};
 ghost use Rattle.znodes.specs.support.Linking.{with_key, kept_key, with_child, without_child, with_owned, without_owned, owners_with, owners_without};
 
+use crate::index::Index;
 use crate::key::{Key, kept};
 use crate::owners::Owners;
 use crate::row::Row;
-use zindex::Index;
 use zpath::Name;
 use zslots::{Id, Slots};
 

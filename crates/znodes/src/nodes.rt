@@ -3,11 +3,11 @@
 ghost use Rattle.std.specs.Prelude.{◌≡◌, ◌≤◌, IfOk, OnOk};
 ghost use Rattle.std.specs.FinMap as finite;
 
+use crate::index::Index;
 use crate::owners::Owners;
 use crate::row::Row;
 use std::alloc::Global;
 use std::marker::Model;
-use zindex::Index;
 use zpath::{Memory, Path};
 use zslots::Slots;
 use ztree::Node;

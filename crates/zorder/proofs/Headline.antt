@@ -3,8 +3,8 @@ use Rattle.std.proofs.Common.{◌≡◌, List, [], ◌∷◌, sym, ap, ◌∙◌
 use Rattle.ztree.specs.Tree.{Tree}
 use Rattle.zcalls.specs.Kept.{KeptState}
 use Rattle.zcalls.specs.PlainTree.{plain_tree}
-use Rattle.zserver_table.specs.Machine.{kept_tree, replay}
-use Rattle.zserver_table.proofs.Projection.{log_stands_for_machine}
+use Rattle.zprotocol.specs.server.Machine.{kept_tree, replay}
+use Rattle.zprotocol.proofs.server_lemmas.Projection.{log_stands_for_machine}
 use Rattle.zworld_model.specs.declared.event.Event.{Event}
 use Rattle.zworld_model.specs.PlainTree.{IsExplained}
 use Rattle.zworld_model.specs.World.{World, opening_world}
@@ -12,9 +12,9 @@ use Rattle.zworld_model.specs.Events.{happens, run}
 use Rattle.zworld_model.specs.Alike.{IsAlike}
 use Rattle.zworld_model.proofs.Alike.{stay_alike, alike_through}
 use Rattle.zworld_model.proofs.LogWorlds.{runs_with}
-use Rattle.zlegal.proofs.order.PlainTree.{items_explain}
-use Rattle.zchain.specs.Flow.{LogWorld}
-use Rattle.zchain.specs.Account.{opening_account}
+use Rattle.zorder.proofs.legal_lemmas.order.PlainTree.{items_explain}
+use Rattle.zorder.specs.chain.Flow.{LogWorld}
+use Rattle.zorder.specs.chain.Account.{opening_account}
 use Rattle.zorder.specs.Headline.{EveryHistoryIsExplained, LeadWithLosses, EveryHistoryWithLossesIsExplained}
 use Rattle.zorder.specs.Facts.{account_of}
 use Rattle.zorder.proofs.Runs.{account_world, every_run_is_sound}

@@ -2,3 +2,8 @@ pub mod Runs
 pub mod Headline
 pub mod Tails
 pub mod Told
+pub mod legal_lemmas
+pub mod chain_lemmas
+pub mod servers_lemmas
+pub mod clients_lemmas
+pub mod master_lemmas

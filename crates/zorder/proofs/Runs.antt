@@ -2,24 +2,24 @@
 use Rattle.std.proofs.Common.{◌≡◌, Bool, true, false, if◌then◌else◌, List, [], ◌∷◌, ◌++◌, refl, sym, ap, ◌∙◌, subst}
 use Rattle.zcalls.specs.Kept.{Plain}
 use Rattle.zcalls.specs.PlainTree.{plain_tree}
-use Rattle.zserver_table.specs.declared.process.Process.TheVariants.{Master, Server, Client}
+use Rattle.zprotocol.specs.declared.process.Process.TheVariants.{Master, Server, Client}
 use Rattle.zworld_model.specs.declared.event.Event.{Event}
 use Rattle.zworld_model.specs.declared.event.Event.TheVariants.{Begin, Retry, Take, Ignore, Fail, Join}
 use Rattle.zworld_model.specs.Events.{is_enabled, acts, run}
-use Rattle.zlegal.specs.Prefix.{IsPrefix}
-use Rattle.zlegal.proofs.lists.Prefixes.{prefix_same, prefix_of}
-use Rattle.zchain.specs.Flow.{log_machine}
-use Rattle.zchain.specs.Last.{LastsAreLengths}
-use Rattle.zchain.specs.Account.{Account, account_by, next_account, account_after, opening_account}
-use Rattle.zchain.specs.Sound.{IsSound, IsSoundAfter}
-use Rattle.zchain.specs.Events.{KeepsSound}
-use Rattle.zchain.proofs.tables.Lasts.{lasts, lasts_happen}
-use Rattle.zchain.proofs.steps.Opening.{opening_sound}
-use Rattle.zchain.proofs.steps.Drops.{requests_are_lost}
-use Rattle.zserving.proofs.Events.{servers_hear_servers, servers_hear_clients}
-use Rattle.zcalling.proofs.Events.{clients_hear, calls_begin, calls_are_sent_again, servers_fail}
-use Rattle.zmending.proofs.orders.Orders.{servers_hear_master}
-use Rattle.zmending.proofs.Events.{master_hears, servers_join}
+use Rattle.zorder.specs.legal.Prefix.{IsPrefix}
+use Rattle.zorder.proofs.legal_lemmas.lists.Prefixes.{prefix_same, prefix_of}
+use Rattle.zorder.specs.chain.Flow.{log_machine}
+use Rattle.zorder.specs.chain.Last.{LastsAreLengths}
+use Rattle.zorder.specs.chain.Account.{Account, account_by, next_account, account_after, opening_account}
+use Rattle.zorder.specs.chain.Sound.{IsSound, IsSoundAfter}
+use Rattle.zorder.specs.chain.Events.{KeepsSound}
+use Rattle.zorder.proofs.chain_lemmas.tables.Lasts.{lasts, lasts_happen}
+use Rattle.zorder.proofs.chain_lemmas.steps.Opening.{opening_sound}
+use Rattle.zorder.proofs.chain_lemmas.steps.Drops.{requests_are_lost}
+use Rattle.zorder.proofs.servers_lemmas.Events.{servers_hear_servers, servers_hear_clients}
+use Rattle.zorder.proofs.clients_lemmas.Events.{clients_hear, calls_begin, calls_are_sent_again, servers_fail}
+use Rattle.zorder.proofs.master_lemmas.orders.Orders.{servers_hear_master}
+use Rattle.zorder.proofs.master_lemmas.Events.{master_hears, servers_join}
 use Rattle.zorder.specs.Facts.{account_of, EveryRunIsSound, CommittedStays}
 
 -- what is told beside the world leaves the world

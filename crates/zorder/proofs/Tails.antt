@@ -7,24 +7,24 @@ use Rattle.zcalls.specs.declared.call.Entry.{Entry}
 use Rattle.zcalls.specs.Lists.{ComesBefore}
 use Rattle.zcalls.specs.PlainTree.{plain_tree}
 use Rattle.zcalls.proofs.ActedLogs.{acted_entries_once}
-use Rattle.zserver_table.specs.Machine.{kept_tree, replay}
-use Rattle.zserver_table.specs.View.{ServerView, is_tail}
-use Rattle.zserver_table.specs.support.Homomorphism.{view_with}
-use Rattle.zserver_table.proofs.Projection.{log_stands_for_machine}
-use Rattle.zmaster_table.specs.View.{members}
+use Rattle.zprotocol.specs.server.Machine.{kept_tree, replay}
+use Rattle.zprotocol.specs.server.View.{ServerView, is_tail}
+use Rattle.zprotocol.specs.server.support.Homomorphism.{view_with}
+use Rattle.zprotocol.proofs.server_lemmas.Projection.{log_stands_for_machine}
+use Rattle.zprotocol.specs.master.View.{members}
 use Rattle.zworld_model.specs.World.{World, opening_world}
 use Rattle.zworld_model.specs.Events.{run}
 use Rattle.zworld_model.specs.support.LogWorld.{world_with}
 use Rattle.zworld_model.proofs.LogWorlds.{runs_with}
-use Rattle.zlegal.specs.Prefix.{IsPrefix}
-use Rattle.zlegal.proofs.lists.Tests.{left_of, right_of}
-use Rattle.zlegal.proofs.lists.Places.{two_places}
-use Rattle.zlegal.proofs.lists.Prefixes.{prefix_of}
-use Rattle.zchain.specs.Flow.{LogWorld, Log, log_at}
-use Rattle.zchain.specs.Account.{Account, opening_account}
-use Rattle.zchain.specs.Sound.{IsSound}
-use Rattle.zchain.proofs.places.Pairs.{log_member}
-use Rattle.zchain.proofs.steps.Sends.{final_log_of_log}
+use Rattle.zorder.specs.legal.Prefix.{IsPrefix}
+use Rattle.zorder.proofs.legal_lemmas.lists.Tests.{left_of, right_of}
+use Rattle.zorder.proofs.legal_lemmas.lists.Places.{two_places}
+use Rattle.zorder.proofs.legal_lemmas.lists.Prefixes.{prefix_of}
+use Rattle.zorder.specs.chain.Flow.{LogWorld, Log, log_at}
+use Rattle.zorder.specs.chain.Account.{Account, opening_account}
+use Rattle.zorder.specs.chain.Sound.{IsSound}
+use Rattle.zorder.proofs.chain_lemmas.places.Pairs.{log_member}
+use Rattle.zorder.proofs.chain_lemmas.steps.Sends.{final_log_of_log}
 use Rattle.zorder.specs.Facts.{account_of, OneTailAnswers, LogsBeginEachOther, TailsHoldWhatTailsHeld, UpdatesActOnce}
 use Rattle.zorder.proofs.Runs.{account_world, every_run_is_sound, committed_stays}
 

@@ -17,13 +17,13 @@ use Rattle.zworld_model.specs.declared.history.CallEvent.TheVariants.{Answer}
 use Rattle.zworld_model.specs.History.{IsUpdate, HasBegun}
 use Rattle.zworld_model.specs.LegalOrder.{operation_step}
 use Rattle.zworld_model.specs.PlainTree.{service_of}
-use Rattle.zlegal.specs.Items.{Item, is_update, updates_of, Replays}
-use Rattle.zlegal.proofs.lists.Members.{among_take}
-use Rattle.zlegal.proofs.order.LegalOrders.{one_call, given}
-use Rattle.zlegal.proofs.acts.ActedLogs.{after_items, after_calls, acted_leads, items_lead}
-use Rattle.zlegal.proofs.acts.NewItems.{updates_more}
-use Rattle.zchain.specs.Account.{Account}
-use Rattle.zchain.specs.Sound.{IsSound}
+use Rattle.zorder.specs.legal.Items.{Item, is_update, updates_of, Replays}
+use Rattle.zorder.proofs.legal_lemmas.lists.Members.{among_take}
+use Rattle.zorder.proofs.legal_lemmas.order.LegalOrders.{one_call, given}
+use Rattle.zorder.proofs.legal_lemmas.acts.ActedLogs.{after_items, after_calls, acted_leads, items_lead}
+use Rattle.zorder.proofs.legal_lemmas.acts.NewItems.{updates_more}
+use Rattle.zorder.specs.chain.Account.{Account}
+use Rattle.zorder.specs.chain.Sound.{IsSound}
 use Rattle.zorder.specs.Facts.{account_of, AnsweredUpdatesAreCommitted, AnsweredQueriesSawCommitted}
 use Rattle.zorder.proofs.Runs.{every_run_is_sound}
 

@@ -8,18 +8,18 @@ use Rattle.zcalls.specs.Lists.{Among, ComesBefore, NoTwo}
 use Rattle.zcalls.specs.Operation.{Operation, IsSameCall}
 use Rattle.zcalls.specs.PlainTree.{plain_tree}
 use Rattle.zcalls.specs.Acts.{after_log, acts_of}
-use Rattle.zserver_table.specs.Machine.{kept_tree}
-use Rattle.zserver_table.specs.View.{is_tail}
-use Rattle.zmaster_table.specs.View.{members}
+use Rattle.zprotocol.specs.server.Machine.{kept_tree}
+use Rattle.zprotocol.specs.server.View.{is_tail}
+use Rattle.zprotocol.specs.master.View.{members}
 use Rattle.zworld_model.specs.declared.event.Event.{Event}
 use Rattle.zworld_model.specs.declared.history.CallEvent.TheVariants.{Answer}
 use Rattle.zworld_model.specs.History.{IsUpdate, HasBegun}
 use Rattle.zworld_model.specs.World.{opening_world}
 use Rattle.zworld_model.specs.Events.{run}
-use Rattle.zlegal.specs.Prefix.{IsPrefix}
-use Rattle.zchain.specs.Flow.{log_at}
-use Rattle.zchain.specs.Account.{Account, account_after, opening_account}
-use Rattle.zchain.specs.Sound.{IsSound}
+use Rattle.zorder.specs.legal.Prefix.{IsPrefix}
+use Rattle.zorder.specs.chain.Flow.{log_at}
+use Rattle.zorder.specs.chain.Account.{Account, account_after, opening_account}
+use Rattle.zorder.specs.chain.Sound.{IsSound}
 
 -- the log world after a list of events, with its committed log and its items
 abbrev pub account_of : ℕ → ℕ → List Event → Account

@@ -11,7 +11,7 @@ ghost use Rattle.zorder.specs.Facts.{
   UpdatesActOnce,
 };
 
-/// Every run of the log world is sound: it has all the facts of `zchain/specs/Sound.antt`.
+/// Every run of the log world is sound: it has all the facts of `specs/chain/Sound.antt`.
 pub fn every_run_is_sound()
     ensures { EveryRunIsSound }
 {}

@@ -3,7 +3,7 @@
 ghost use Rattle.std.specs.Prelude.{◌≡◌, ◌<◌, ◌≤◌, IfNone, IfSome};
 ghost use Rattle.zrace.specs.declared.plan.TheConstants.{MAX_RACERS, MAX_ROUNDS};
 
-use zserver_table::ServerId;
+use zprotocol::ServerId;
 
 /// The most clients that race: the client 0 stands aside.
 pub const MAX_RACERS: u8 = 31;

@@ -13,11 +13,11 @@ use crate::plan::Race;
 use std::alloc::Global;
 use std::sync::{Arc, Wait};
 use std::thread::Threads;
+use zaudit::{AuditFault, audit};
 use zpath::Memory;
 use zrun::{Cluster, StartFault, open_gates};
 use ztraces::Traces;
 use zwords::tickets::{Pass, Tickets};
-use zaudit::{AuditFault, audit};
 
 /// Runs a race over real threads, joins them, and audits the run. What the audit finds is never against the run: it is ok, or there
 /// was no memory for it, or a trace is cut.

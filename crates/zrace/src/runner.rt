@@ -9,8 +9,8 @@ use std::alloc::Global;
 use std::sync::Arc;
 use zcalls::{Call, Create, Data, Expected, Kind, Query, Reply, SetData, Update};
 use zpath::Path;
+use zprotocol::ServerId;
 use zrun::{Client, Patience};
-use zserver_table::ServerId;
 use zwords::tickets::{Pass, Tickets};
 
 // how long an answer is waited for: no race comes near the end of it

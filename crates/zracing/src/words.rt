@@ -8,8 +8,8 @@ ghost use Rattle.zracing.specs.Asked.{IsRaceAsked, IsRaceOf};
 use std::alloc::Global;
 use zcommand::WordsFault;
 use zoptions::{NumberOption, numbers_asked};
+use zprotocol::ServerId;
 use zrace::Race;
-use zserver_table::ServerId;
 
 // The options of a race.
 static RACE_OPTIONS: [NumberOption; 4] = [

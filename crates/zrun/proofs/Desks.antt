@@ -2,7 +2,7 @@
 use Rattle.std.proofs.Common.{◌≡◌, ◌<◌, ◌≤◌, ◌+◌, ℕ, zero, suc, List, [], ◌∷◌, ◌++◌, length, map, reverse, refl, sym, ap, subst, ◌∙◌, append-nil, append_assoc, arith}
 use Rattle.std.proofs.lemmas.List.{length-map, length-reverse, map-append, nil_from_length, reverse-append}
 use mathlib.Core.Option.{some-injective, some-ne-none}
-use Rattle.zserver_table.specs.declared.process.Process.TheVariants.{Server, Client}
+use Rattle.zprotocol.specs.declared.process.Process.TheVariants.{Server, Client}
 use Rattle.ztraces.proofs.Rows.{same_process}
 use Rattle.zlinks.specs.Places.{process_at}
 use Rattle.zgather.proofs.Elements.{element_right}

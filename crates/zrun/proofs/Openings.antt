@@ -3,11 +3,11 @@ use Rattle.std.proofs.Common.{◌≡◌, ◌<◌, ℕ, zero, suc, true, List, []
 use Rattle.std.specs.Prelude.{All}
 use mathlib.Core.Option.{some-injective, some-ne-none}
 use Rattle.std.proofs.lemmas.List.Elements.{All-head, All-tail}
-use Rattle.zserver_table.specs.declared.process.Process.TheVariants.{Master, Server, Client}
-use Rattle.zserver_table.specs.Machine.{kept_tree}
-use Rattle.zserver_table.specs.View.{opening_server}
-use Rattle.zmaster_table.specs.View.{opening_master}
-use Rattle.zclient_table.specs.View.{opening_client}
+use Rattle.zprotocol.specs.declared.process.Process.TheVariants.{Master, Server, Client}
+use Rattle.zprotocol.specs.server.Machine.{kept_tree}
+use Rattle.zprotocol.specs.server.View.{opening_server}
+use Rattle.zprotocol.specs.master.View.{opening_master}
+use Rattle.zprotocol.specs.client.View.{opening_client}
 use Rattle.zworld_model.specs.Events.{is_server}
 use Rattle.ztraces.specs.Deeds.{AtMaster, AtServer, AtClient}
 use Rattle.zdesks.specs.Desks.{Each, opening_of}

@@ -2,8 +2,8 @@
 use Rattle.std.specs.Prelude.{◌≡◌, ◌<◌, ℕ, zero, suc, true, List, Option, None, Some}
 use Rattle.zcalls.specs.declared.call.Call.{Call}
 use Rattle.zcalls.specs.declared.reply.Reply.{Reply}
-use Rattle.zclient_table.specs.declared.begin_fault.BeginFault.{BeginFault}
-use Rattle.zclient_table.specs.View.{ClientView}
+use Rattle.zprotocol.specs.declared.client.begin_fault.BeginFault.{BeginFault}
+use Rattle.zprotocol.specs.client.View.{ClientView}
 use Rattle.zdesks.specs.declared.desk.Desk.{Desk}
 use Rattle.zdesks.specs.declared.desk.Ending.{Ending}
 use Rattle.zdesks.specs.Desks.{Each}

@@ -1,6 +1,6 @@
 -- Why a call has no reply, where it wasn't begun.
-use Rattle.zclient_table.specs.declared.begin_fault.BeginFault.{BeginFault}
-use Rattle.zclient_table.specs.declared.begin_fault.BeginFault.TheVariants as begin_fault
+use Rattle.zprotocol.specs.declared.client.begin_fault.BeginFault.{BeginFault}
+use Rattle.zprotocol.specs.declared.client.begin_fault.BeginFault.TheVariants as begin_fault
 use Rattle.zrun.specs.declared.faults.Unanswered.{Unanswered}
 use Rattle.zrun.specs.declared.faults.Unanswered.TheVariants.{Busy, Exhausted, Memory}
 

@@ -1,6 +1,6 @@
 -- What a clause says of the clients of a run.
 use Rattle.std.specs.Prelude.{◌≡◌, ◌<◌, ℕ, Bool, true, false, Option, None, Some, IsSome, get_or, map}
-use Rattle.zserver_table.specs.declared.process.Process.TheVariants as process
+use Rattle.zprotocol.specs.declared.process.Process.TheVariants as process
 use Rattle.ztraces.specs.declared.trace.ClientTrace.{ClientTrace}
 use Rattle.ztraces.specs.declared.trace.Traces.{Traces}
 use Rattle.ztraces.specs.Traces.{record_of, trace_of}

@@ -15,7 +15,7 @@ use zcaller::Caller;
 use zcalls::{Call, CallNumber, ClientId, Reply};
 use zclient::BeginFault;
 use zpath::Memory;
-use zserver_table::ServerId;
+use zprotocol::ServerId;
 use ztraces::Stamp;
 use zwords::halts::{Halt, HaltSeat};
 

@@ -1,7 +1,7 @@
 //! A cluster, and its join.
 
 ghost use Rattle.std.specs.Prelude.{◌≡◌, false, IfOk, length};
-ghost use Rattle.zserver_table.specs.declared.limits.TheConstants.{MAX_SERVERS};
+ghost use Rattle.zprotocol.specs.declared.limits.TheConstants.{MAX_SERVERS};
 ghost use Rattle.ztraces.specs.Audit.{is_any_cut};
 ghost use Rattle.ztraces.specs.Lawful.{AreLawful};
 ghost use Rattle.zrun.specs.Runs.{IsRun};
@@ -19,7 +19,7 @@ use std::thread::{PromisedHandle, Threads};
 use zconsole::ends::{Console, Inbox};
 use zgather::gather;
 use zpath::Memory;
-use zserver_table::MAX_SERVERS;
+use zprotocol::MAX_SERVERS;
 use zthreads::{MasterThread, ServerThread};
 use ztraces::Traces;
 

@@ -1,11 +1,11 @@
 //! The gates of a cluster that nobody holds back.
 
 ghost use Rattle.std.specs.Prelude.{◌≡◌, IfOk, length};
-ghost use Rattle.zserver_table.specs.declared.limits.TheConstants.{MAX_SERVERS};
+ghost use Rattle.zprotocol.specs.declared.limits.TheConstants.{MAX_SERVERS};
 
 use std::alloc::Global;
 use zpath::Memory;
-use zserver_table::MAX_SERVERS;
+use zprotocol::MAX_SERVERS;
 use zthreads::Open;
 
 /// A gate for each server, which lets all pass.

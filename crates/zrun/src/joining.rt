@@ -2,7 +2,7 @@
 
 ghost use Rattle.std.specs.Prelude.{◌≡◌, ◌≤◌, [], IfOk, length, map, true};
 ghost use Rattle.std.specs.Vec.{vec_capacity};
-ghost use Rattle.zserver_table.specs.declared.limits.TheConstants.{MAX_SERVERS};
+ghost use Rattle.zprotocol.specs.declared.limits.TheConstants.{MAX_SERVERS};
 ghost use Rattle.zrun.specs.Handles.{given_server};
 ghost use Rattle.zrun.specs.Runs.{AreLeftBy, Pairs};
 ghost use Rattle.zrun.specs.Origins.{client_desks};

@@ -2,9 +2,9 @@
 
 ghost use Rattle.std.specs.Prelude.{◌≡◌, ◌<◌, ◌≤◌, IfOk};
 ghost use Rattle.ztree.specs.declared.limits.TheConstants.{MAX_CLIENTS};
-ghost use Rattle.zserver_table.specs.Machine.{kept_tree};
-ghost use Rattle.zserver_table.specs.View.{opening_server};
-ghost use Rattle.zserver_table.specs.declared.process.Process.TheVariants as process;
+ghost use Rattle.zprotocol.specs.server.Machine.{kept_tree};
+ghost use Rattle.zprotocol.specs.server.View.{opening_server};
+ghost use Rattle.zprotocol.specs.declared.process.Process.TheVariants as process;
 ghost use Rattle.zdesks.specs.Desks.{IsDeskOf};
 ghost use Rattle.zthreads.specs.Owned.{master_desk, server_desk};
 ghost use Rattle.zcaller.specs.Callers.{caller_desk};
@@ -16,9 +16,9 @@ use zclient::ClientCore;
 use zdesks::{Desk, Stamped};
 use zmaster::Master;
 use zpath::Memory;
+use zprotocol::{Process, ServerId};
 use zrings::ends::{Rx, Tx};
 use zserver::Server;
-use zserver_table::{Process, ServerId};
 use zthreads::{MasterThread, ServerThread};
 
 /// What all processes of a run know of its opening.

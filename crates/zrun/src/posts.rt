@@ -1,7 +1,7 @@
 //! All that a run's threads and clients own, before any thread is started.
 
 ghost use Rattle.std.specs.Prelude.{◌≡◌, ◌≤◌, ◌+◌, IfOk, OnOk, length};
-ghost use Rattle.zserver_table.specs.declared.limits.TheConstants.{MAX_SERVERS};
+ghost use Rattle.zprotocol.specs.declared.limits.TheConstants.{MAX_SERVERS};
 ghost use Rattle.zrun.specs.Supplies.{HandsOut, left};
 ghost use Rattle.zrun.specs.Origins.{client_desks};
 ghost use Rattle.zrun.specs.Members.{clients_run, HasAll};
@@ -17,7 +17,7 @@ use zcaller::Caller;
 use zcalls::ClientId;
 use zconsole::ends::{Console, Inbox};
 use zpath::Memory;
-use zserver_table::{MAX_SERVERS, ServerId};
+use zprotocol::{MAX_SERVERS, ServerId};
 use zthreads::{MasterThread, ServerThread};
 
 /// What a server's thread is started with.

@@ -6,7 +6,7 @@ ghost use Rattle.std.specs.Arc.{arc_value};
 ghost use Rattle.zwords.specs.HaltSeats.{IsSeatOf};
 ghost use Rattle.zwords.specs.declared.limits.TheConstants.{LAST_BIT};
 ghost use Rattle.ztree.specs.declared.limits.TheConstants.{MAX_CLIENTS};
-ghost use Rattle.zserver_table.specs.declared.limits.TheConstants.{MAX_SERVERS};
+ghost use Rattle.zprotocol.specs.declared.limits.TheConstants.{MAX_SERVERS};
 ghost use Rattle.zdesks.specs.Desks.{SameDesk};
 ghost use Rattle.zthreads.specs.Owned.{master_desk, server_desk};
 ghost use Rattle.zrun.specs.Handles.{given_master, given_server};
@@ -25,7 +25,7 @@ use std::sync::Wait;
 use std::thread;
 use std::thread::{PromisedHandle, Threads};
 use zconsole::ends::{Console, Inbox};
-use zserver_table::{MAX_SERVERS, ServerId};
+use zprotocol::{MAX_SERVERS, ServerId};
 use zthreads::{Gate, MasterThread, ServerThread, preside, serve};
 
 impl Cluster {

@@ -1,7 +1,7 @@
 //! Gates that look for a message, and hold their server until all that are looked for have come.
 
 ghost use Rattle.std.specs.Prelude.{◌≡◌, IfOk, length};
-ghost use Rattle.zserver_table.specs.declared.limits.TheConstants.{MAX_SERVERS};
+ghost use Rattle.zprotocol.specs.declared.limits.TheConstants.{MAX_SERVERS};
 
 use std::alloc::Global;
 use std::sync::Arc;
@@ -9,8 +9,8 @@ use std::sync::atomic::AtomicUsize;
 use std::sync::atomic::Ordering::SeqCst;
 use std::test::Fail;
 use std::thread;
+use zprotocol::{MAX_SERVERS, Message, Process};
 use zserver::Snapshot;
-use zserver_table::{MAX_SERVERS, Message, Process};
 use zthreads::Gate;
 
 /// What a gate looks for.

@@ -9,10 +9,10 @@ use crate::gates::{Meeting, Sought};
 use crate::runs;
 use std::alloc::Global;
 use std::test::Fail;
+use zaudit::audit;
 use zcalls::Reply;
 use zliterals::{client, server};
 use zrun::{Client, Clients};
-use zaudit::audit;
 
 // Takes turns until the message has come that a gate looks for, a hundred million at most.
 fn turn_until(client: &mut Client, meeting: &Meeting)

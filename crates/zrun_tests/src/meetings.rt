@@ -10,9 +10,9 @@ use crate::runs;
 use std::alloc::Global;
 use std::test::Fail;
 use std::thread::Threads;
+use zaudit::audit;
 use zliterals::{client, server};
 use zrun::Clients;
-use zaudit::audit;
 
 // Three clients call at one time, each on a thread of its own: whether all are answered.
 fn call_at_once<R: Threads>(rt: &R, alloc: Global, clients: &mut Clients) -> Option<bool>

@@ -10,8 +10,8 @@ use std::alloc::Global;
 use std::sync::{Arc, Wait};
 use std::test::Fail;
 use std::thread::Threads;
+use zprotocol::ServerId;
 use zrun::{Clients, Cluster, Console};
-use zserver_table::ServerId;
 
 /// A cluster, with its console and its clients.
 pub type Started = (Cluster, Console, Clients);

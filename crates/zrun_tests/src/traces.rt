@@ -10,11 +10,11 @@ use std::alloc::Global;
 use std::sync::Wait;
 use std::test::Fail;
 use std::thread::Threads;
+use zaudit::{AuditFault, audit};
 use zcalls::Reply;
 use zliterals::{call_number, client, server};
 use zrun::{Client, Clients};
 use ztraces::Traces;
-use zaudit::{AuditFault, audit};
 use zworld_model::CallEvent;
 
 // What the client of a run does.

@@ -6,8 +6,8 @@ use mathlib.Core.Bool.{true≢false}
 use Rattle.ztree.specs.Tree.{Tree}
 use Rattle.zcalls.specs.Kept.{KeptState}
 use Rattle.zcalls.specs.declared.call.Call.{Call}
-use Rattle.zserver_table.specs.Machine.{kept_tree}
-use Rattle.zclient_table.specs.Table.{begin_fault, begin_step}
+use Rattle.zprotocol.specs.server.Machine.{kept_tree}
+use Rattle.zprotocol.specs.client.Table.{begin_fault, begin_step}
 use Rattle.zworld_model.specs.declared.event.Event.{Event}
 use Rattle.zworld_model.specs.declared.event.Event.TheVariants as event
 use Rattle.zworld_model.specs.declared.history.CallEvent.TheVariants as call_event

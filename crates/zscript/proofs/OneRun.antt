@@ -5,7 +5,7 @@ use Rattle.std.specs.Prelude.{Ok, Err, ◌&&◌, nat_lt}
 use Rattle.ztree.specs.Tree.{Tree}
 use Rattle.ztree.specs.declared.limits.TheConstants.{MAX_CLIENTS}
 use Rattle.zcalls.specs.Kept.{KeptState}
-use Rattle.zserver_table.specs.Machine.{kept_tree}
+use Rattle.zprotocol.specs.server.Machine.{kept_tree}
 use Rattle.zworld_model.specs.declared.event.Event.{Event}
 use Rattle.zworld_model.specs.declared.event.Event.TheVariants as event
 use Rattle.zworld_model.specs.declared.outcome.Outcome.{Outcome}

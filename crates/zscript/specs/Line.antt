@@ -8,14 +8,14 @@ use Rattle.ztree.specs.Tree.{Tree}
 use Rattle.ztree.specs.declared.limits.TheConstants.{MAX_CLIENTS}
 use Rattle.zcalls.specs.Kept.{KeptState}
 use Rattle.zcalls.specs.declared.reply.Reply.{Reply}
-use Rattle.zserver_table.specs.Machine.{kept_tree}
-use Rattle.zserver_table.specs.View.{spare}
-use Rattle.zmaster_table.specs.declared.join_fault.JoinFault.{JoinFault}
-use Rattle.zmaster_table.specs.declared.join_fault.JoinFault.TheVariants.{Used, Joining, NoChain, Lost}
-use Rattle.zmaster_table.specs.Table.{join_fault}
-use Rattle.zclient_table.specs.declared.begin_fault.BeginFault.{BeginFault}
-use Rattle.zclient_table.specs.declared.begin_fault.BeginFault.TheVariants as begin
-use Rattle.zclient_table.specs.Table.{begin_fault}
+use Rattle.zprotocol.specs.server.Machine.{kept_tree}
+use Rattle.zprotocol.specs.server.View.{spare}
+use Rattle.zprotocol.specs.declared.master.join_fault.JoinFault.{JoinFault}
+use Rattle.zprotocol.specs.declared.master.join_fault.JoinFault.TheVariants.{Used, Joining, NoChain, Lost}
+use Rattle.zprotocol.specs.master.Table.{join_fault}
+use Rattle.zprotocol.specs.declared.client.begin_fault.BeginFault.{BeginFault}
+use Rattle.zprotocol.specs.declared.client.begin_fault.BeginFault.TheVariants as begin
+use Rattle.zprotocol.specs.client.Table.{begin_fault}
 use Rattle.zworld_model.specs.declared.event.Event.{Event}
 use Rattle.zworld_model.specs.declared.event.Event.TheVariants as event
 use Rattle.zworld_model.specs.declared.history.CallEvent.{CallEvent}

@@ -15,7 +15,7 @@ use crate::texts::{write_begun, write_called, write_cause, write_did, write_faul
 use std::alloc::Global;
 use zlines::{Line, Request, read_line};
 use zpath::Memory;
-use zserver_table::ServerId;
+use zprotocol::ServerId;
 use ztree::limits::MAX_CLIENTS;
 use zworld::{Did, World};
 use zworld_model::Event;

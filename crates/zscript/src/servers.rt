@@ -3,9 +3,9 @@
 ghost use Rattle.std.specs.Prelude.{◌≡◌};
 
 use std::marker::Model;
-use zserver_table::ServerId;
+use zprotocol::ServerId;
 
-/// How many servers the chain begins with: 1 to `zserver_table::MAX_SERVERS`. The others are spare, and can join.
+/// How many servers the chain begins with: 1 to `zprotocol::MAX_SERVERS`. The others are spare, and can join.
 #[derive(Clone, Copy, Debug, PartialEq, Eq)]
 pub struct Servers {
     count: u8,

@@ -12,10 +12,9 @@ ghost use Rattle.zscript.specs.support.Effects.{cause_text, did_text, begun_text
 ghost use Rattle.zscript.specs.support.Effects.{own_call};
 
 use zcalls::{CallNumber, ClientId};
-use zclient_table::BeginFault;
 use zlines::{LineFault, write_reply};
-use zmaster_table::JoinFault;
 use zpath::Memory;
+use zprotocol::{BeginFault, JoinFault};
 use zworld::{Did, IdleCause};
 use zworld_model::{CallEvent, Settled};
 

@@ -6,11 +6,11 @@ use Rattle.zcalls.specs.declared.call.Entry.{Entry}
 use Rattle.zcalls.specs.declared.reply.Reply.{Reply}
 use Rattle.zcalls.specs.Kept.{KeptState}
 use Rattle.zcalls.proofs.Among.{test}
-use Rattle.zserver_table.specs.declared.limits.TheConstants.{MAX_LOG_NUMBER}
-use Rattle.zserver_table.specs.Machine.{kept_tree}
-use Rattle.zserver_table.specs.Memory.{grows_by}
-use Rattle.zserver_table.specs.View.{Neighbour, Post}
-use Rattle.zserver_table.specs.Table.{ack_posts, answer_posts, forward_post, accept_result}
+use Rattle.zprotocol.specs.declared.limits.TheConstants.{MAX_LOG_NUMBER}
+use Rattle.zprotocol.specs.server.Machine.{kept_tree}
+use Rattle.zprotocol.specs.server.Memory.{grows_by}
+use Rattle.zprotocol.specs.server.View.{Neighbour, Post}
+use Rattle.zprotocol.specs.server.Table.{ack_posts, answer_posts, forward_post, accept_result}
 use Rattle.zserver.specs.Server.{TreeView}
 use Rattle.zserver.specs.support.Replicas.{applied_result, next_number, accept_row}
 

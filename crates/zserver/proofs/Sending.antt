@@ -7,7 +7,7 @@ use Rattle.std.proofs.lemmas.List.{append-nil}
 use Rattle.std.proofs.lemmas.List.Elements.{filter_more}
 use Rattle.zcalls.specs.declared.call.Entry.{Entry}
 use Rattle.zcalls.proofs.Among.{test}
-use Rattle.zserver_table.specs.Table.{entries_above}
+use Rattle.zprotocol.specs.server.Table.{entries_above}
 
 -- an entry that isn't above the number adds nothing
 pub above_skips : (n : ℕ) (sent : List (ℕ × Entry)) (i : ℕ) (e : ℕ × Entry) → i < length sent → e ≡ get_or sent i e → e.0 ≤ n

@@ -5,10 +5,10 @@ use Rattle.std.specs.Prelude.{ℕ, Bool, false, Option}
 use Rattle.std.specs.Option.{option_map}
 use Rattle.ztree.specs.Tree.{Tree}
 use Rattle.zcalls.specs.Kept.{KeptState}
-use Rattle.zserver_table.specs.declared.process.Process.{Process}
-use Rattle.zserver_table.specs.Machine.{kept_tree}
-use Rattle.zserver_table.specs.View.{ServerView, MessageOf, Neighbour}
-use Rattle.zserver_table.specs.Table.{ServerResult, no_effect, server_step}
+use Rattle.zprotocol.specs.declared.process.Process.{Process}
+use Rattle.zprotocol.specs.server.Machine.{kept_tree}
+use Rattle.zprotocol.specs.server.View.{ServerView, MessageOf, Neighbour}
+use Rattle.zprotocol.specs.server.Table.{ServerResult, no_effect, server_step}
 use Rattle.zserver.specs.declared.taken.Taken.{Taken}
 use Rattle.zserver.specs.declared.taken.Taken.TheVariants.{Acted, Unheard}
 

@@ -1,12 +1,12 @@
 //! The rows in which the machine applies an entry: `Submit` and `Update`.
 
 ghost use Rattle.std.specs.Prelude.{◌≡◌, ◌+◌, ◌<◌, ◌≤◌, ◌==◌, None, Some, ◌++◌, ◌∷◌, [], true, is_some, is_none, if◌then◌else◌, IfOk, OnErr, OnOk};
-ghost use Rattle.zserver_table.specs.declared.limits.TheConstants.{MAX_LOG_NUMBER};
-ghost use Rattle.zserver_table.specs.Machine.{kept_tree};
-ghost use Rattle.zserver_table.specs.Memory.{grows_by};
-ghost use Rattle.zserver_table.specs.View.{Neighbour};
-ghost use Rattle.zserver_table.specs.Table.{answer_posts, forward_post, is_neighbour, submit_row, update_row};
-ghost use Rattle.zout.specs.Posts.{Puts};
+ghost use Rattle.zprotocol.specs.declared.limits.TheConstants.{MAX_LOG_NUMBER};
+ghost use Rattle.zprotocol.specs.server.Machine.{kept_tree};
+ghost use Rattle.zprotocol.specs.server.Memory.{grows_by};
+ghost use Rattle.zprotocol.specs.server.View.{Neighbour};
+ghost use Rattle.zprotocol.specs.server.Table.{answer_posts, forward_post, is_neighbour, submit_row, update_row};
+ghost use Rattle.zprotocol.specs.Posts.{Puts};
 ghost use Rattle.zserver.specs.support.Replicas.{accept_row, applied_result, next_number};
 
 use crate::neighbour::{Neighbour, is_neighbour};
@@ -14,13 +14,12 @@ use crate::replica::{Replica, put_ack};
 use crate::snapshot::Snapshot;
 use zcalls::{CallNumber, ClientId, Entry, Reply};
 use zops::Machine;
-use zout::Out;
 use zpath::Memory;
-use zserver_table::{Epoch, LogNumber, MAX_LOG_NUMBER, Message, Process, ServerId};
+use zprotocol::{Epoch, LogNumber, MAX_LOG_NUMBER, Message, Out, Process, ServerId};
 
 impl Replica {
     /// Submit: a head accepts the update as its next entry.
-    #[tactic(auto, unfolding(zserver_table::specs::Table::submit_row, crate::specs::support::Replicas::accept_row, crate::specs::support::Replicas::next_number))]
+    #[tactic(auto, unfolding(zprotocol::specs::server::Table::submit_row, crate::specs::support::Replicas::accept_row, crate::specs::support::Replicas::next_number))]
     pub(crate) fn submit(&mut self, entry: Entry, out: &mut Out<Snapshot>) -> Result<(), Memory>
         ensures next { OnOk result (self.new
             ≡ (submit_row kept_tree self.old entry.client entry.number entry.update).0) }
@@ -40,7 +39,7 @@ impl Replica {
     }
 
     /// Update: the next entry, from the predecessor.
-    #[tactic(auto, unfolding(zserver_table::specs::Table::update_row, crate::specs::support::Replicas::accept_row, crate::specs::support::Replicas::next_number))]
+    #[tactic(auto, unfolding(zprotocol::specs::server::Table::update_row, crate::specs::support::Replicas::accept_row, crate::specs::support::Replicas::next_number))]
     pub(crate) fn update(
         &mut self,
         from: ServerId,

@@ -1,24 +1,23 @@
 //! The state of a server handed to one that has none.
 
 ghost use Rattle.std.specs.Prelude.{◌≡◌, ◌∷◌, true, [], OnErr, OnOk};
-ghost use Rattle.zserver_table.specs.declared.message.Message.TheVariants as message;
-ghost use Rattle.zserver_table.specs.declared.process.Process.TheVariants as process;
-ghost use Rattle.zout.specs.Posts.{Puts};
-ghost use Rattle.zserver_table.specs.Memory.{grows_by};
-ghost use Rattle.zserver_table.specs.Table.{snapshot_row};
+ghost use Rattle.zprotocol.specs.declared.message.Message.TheVariants as message;
+ghost use Rattle.zprotocol.specs.declared.process.Process.TheVariants as process;
+ghost use Rattle.zprotocol.specs.Posts.{Puts};
+ghost use Rattle.zprotocol.specs.server.Memory.{grows_by};
+ghost use Rattle.zprotocol.specs.server.Table.{snapshot_row};
 
 use crate::neighbour::{Neighbour, is_neighbour};
 use crate::replica::Replica;
 use crate::snapshot::Snapshot;
 use std::alloc::Global;
 use zops::Machine;
-use zout::Out;
 use zpath::Memory;
-use zserver_table::{Epoch, Message, Process, ServerId};
+use zprotocol::{Epoch, Message, Out, Process, ServerId};
 
 impl Replica {
     /// Snapshot: from the predecessor, at a server without state.
-    #[tactic(auto, unfolding(zserver_table::specs::Table::snapshot_row))]
+    #[tactic(auto, unfolding(zprotocol::specs::server::Table::snapshot_row))]
     pub(crate) fn snapshot(
         &mut self,
         from: ServerId,

@@ -1,10 +1,10 @@
 //! A neighbour in the chain.
 
 ghost use Rattle.std.specs.Prelude.{◌≡◌};
-ghost use Rattle.zserver_table.specs.Table.{is_neighbour};
+ghost use Rattle.zprotocol.specs.server.Table.{is_neighbour};
 
 use std::marker::Model;
-use zserver_table::{Epoch, ServerId};
+use zprotocol::{Epoch, ServerId};
 
 /// A neighbour in the chain, with the epoch of the pair.
 #[derive(Drop)]

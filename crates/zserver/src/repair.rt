@@ -1,22 +1,21 @@
 //! The rows in which acknowledgements go up the chain, and in which a server hears of its neighbours.
 
 ghost use Rattle.std.specs.Prelude.{◌≡◌, true, [], OnErr, OnOk};
-ghost use Rattle.zout.specs.Posts.{Puts};
-ghost use Rattle.zserver_table.specs.Memory.{grows_by};
-ghost use Rattle.zserver_table.specs.Table.{ack_row, new_pred_row, new_succ_row, become_head_row, become_tail_row};
+ghost use Rattle.zprotocol.specs.Posts.{Puts};
+ghost use Rattle.zprotocol.specs.server.Memory.{grows_by};
+ghost use Rattle.zprotocol.specs.server.Table.{ack_row, new_pred_row, new_succ_row, become_head_row, become_tail_row};
 
 use crate::join::hand_over;
 use crate::neighbour::{Neighbour, is_neighbour};
 use crate::replica::{Replica, acknowledge};
 use crate::sent::{send_above, take_out};
 use crate::snapshot::Snapshot;
-use zout::Out;
 use zpath::Memory;
-use zserver_table::{Epoch, LogNumber, Message, Process, ServerId};
+use zprotocol::{Epoch, LogNumber, Message, Out, Process, ServerId};
 
 impl Replica {
     /// Ack: from the successor; what the tail has processed leaves Sent, and the predecessor is told.
-    #[tactic(auto, unfolding(zserver_table::specs::Table::ack_row))]
+    #[tactic(auto, unfolding(zprotocol::specs::server::Table::ack_row))]
     pub(crate) fn ack(
         &mut self,
         from: ServerId,
@@ -40,7 +39,7 @@ impl Replica {
     }
 
     /// NewPred: the new predecessor; the master is told what the server has.
-    #[tactic(auto, unfolding(zserver_table::specs::Table::new_pred_row))]
+    #[tactic(auto, unfolding(zprotocol::specs::server::Table::new_pred_row))]
     pub(crate) fn new_pred(
         &mut self,
         epoch: Epoch,
@@ -60,7 +59,7 @@ impl Replica {
     }
 
     /// NewSucc: the new successor; what it lacks is put to it.
-    #[tactic(auto, unfolding(zserver_table::specs::Table::new_succ_row))]
+    #[tactic(auto, unfolding(zprotocol::specs::server::Table::new_succ_row))]
     pub(crate) fn new_succ(
         &mut self,
         epoch: Epoch,
@@ -88,7 +87,7 @@ impl Replica {
     }
 
     /// BecomeHead: no predecessor any more.
-    #[tactic(auto, unfolding(zserver_table::specs::Table::become_head_row))]
+    #[tactic(auto, unfolding(zprotocol::specs::server::Table::become_head_row))]
     pub(crate) fn become_head(&mut self)
         ensures next { self.new ≡ (become_head_row self.old).0 }
         ensures silent { (become_head_row self.old).1 ≡ [] }
@@ -97,7 +96,7 @@ impl Replica {
     }
 
     /// BecomeTail: no successor any more; all of Sent is processed now, which is acknowledged.
-    #[tactic(auto, unfolding(zserver_table::specs::Table::become_tail_row))]
+    #[tactic(auto, unfolding(zprotocol::specs::server::Table::become_tail_row))]
     pub(crate) fn become_tail(&mut self, out: &mut Out<Snapshot>) -> Result<(), Memory>
         ensures next { OnOk result (self.new ≡ (become_tail_row self.old).0) }
         ensures puts { OnOk result (Puts out.old out.new (become_tail_row self.old).1) }

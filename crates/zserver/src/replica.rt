@@ -1,10 +1,10 @@
 //! What a server knows.
 
 ghost use Rattle.std.specs.Prelude.{◌≡◌, ◌<◌, true, is_some, IfOk, OnErr, OnOk};
-ghost use Rattle.zserver_table.specs.Machine.{kept_tree};
-ghost use Rattle.zserver_table.specs.View.{member, spare};
-ghost use Rattle.zout.specs.Posts.{Puts};
-ghost use Rattle.zserver_table.specs.Table.{ack_posts, last_number};
+ghost use Rattle.zprotocol.specs.server.Machine.{kept_tree};
+ghost use Rattle.zprotocol.specs.server.View.{member, spare};
+ghost use Rattle.zprotocol.specs.Posts.{Puts};
+ghost use Rattle.zprotocol.specs.server.Table.{ack_posts, last_number};
 ghost use Rattle.zserver.specs.Server.{first_neighbour};
 
 use crate::neighbour::Neighbour;
@@ -13,9 +13,8 @@ use crate::snapshot::{Snapshot, log_number};
 use std::alloc::Global;
 use std::marker::Model;
 use zops::Machine;
-use zout::Out;
 use zpath::Memory;
-use zserver_table::{Epoch, LogNumber, Message, Process, ServerId};
+use zprotocol::{Epoch, LogNumber, Message, Out, Process, ServerId};
 
 /// What a server knows while it goes on. Its machine, where it has one, never met want of memory, and
 /// counts the entries: the number of the last one is no field of its own.

@@ -1,22 +1,21 @@
 //! The row in which a client asks: `Query`.
 
 ghost use Rattle.std.specs.Prelude.{◌≡◌, true};
-ghost use Rattle.zserver_table.specs.Machine.{kept_tree};
-ghost use Rattle.zserver_table.specs.Memory.{grows_by};
-ghost use Rattle.zout.specs.Posts.{Puts};
-ghost use Rattle.zserver_table.specs.Table.{query_row};
+ghost use Rattle.zprotocol.specs.server.Machine.{kept_tree};
+ghost use Rattle.zprotocol.specs.server.Memory.{grows_by};
+ghost use Rattle.zprotocol.specs.Posts.{Puts};
+ghost use Rattle.zprotocol.specs.server.Table.{query_row};
 ghost use Rattle.zserver.specs.declared.taken.Taken.TheVariants.{Acted, Unheard};
 
 use crate::replica::Replica;
 use crate::snapshot::Snapshot;
 use crate::taken::Taken;
 use zcalls::{CallNumber, ClientId, Query};
-use zout::Out;
-use zserver_table::{Message, Process};
+use zprotocol::{Message, Out, Process};
 
 impl Replica {
     /// Query: a tail answers it; where there is no memory, it is as if it had been lost.
-    #[tactic(auto, unfolding(zserver_table::specs::Table::query_row))]
+    #[tactic(auto, unfolding(zprotocol::specs::server::Table::query_row))]
     pub(crate) fn query(
         &self,
         client: &ClientId,

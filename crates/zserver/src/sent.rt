@@ -1,17 +1,16 @@
 //! The entries that were forwarded, and that the tail may not have processed.
 
 ghost use Rattle.std.specs.Prelude.{◌≡◌, ◌<◌, ◌≤◌, length, map, IfOk, OnErr, OnOk};
-ghost use Rattle.zout.specs.Posts.{Puts};
-ghost use Rattle.zserver_table.specs.Table.{entries_above, forward_post};
+ghost use Rattle.zprotocol.specs.Posts.{Puts};
+ghost use Rattle.zprotocol.specs.server.Table.{entries_above, forward_post};
 
 use crate::neighbour::Neighbour;
 use crate::snapshot::Snapshot;
 use std::alloc::Global;
 use std::collections::VecDeque;
 use zcalls::Entry;
-use zout::Out;
 use zpath::Memory;
-use zserver_table::{LogNumber, Message, Process};
+use zprotocol::{LogNumber, Message, Out, Process};
 
 /// The entries, each with its number in the log.
 pub(crate) type Sent = Vec<(LogNumber, Entry)>;

@@ -1,10 +1,10 @@
 //! The server.
 
 ghost use Rattle.std.specs.Prelude.{◌≡◌, ◌⊎◌, true, false, IfOk, IsErr, OnErr, OnOk};
-ghost use Rattle.zserver_table.specs.Machine.{kept_tree};
-ghost use Rattle.zserver_table.specs.Memory.{may_be_unheard, may_stop};
-ghost use Rattle.zserver_table.specs.View.{member, spare};
-ghost use Rattle.zout.specs.Posts.{Puts};
+ghost use Rattle.zprotocol.specs.server.Machine.{kept_tree};
+ghost use Rattle.zprotocol.specs.server.Memory.{may_be_unheard, may_stop};
+ghost use Rattle.zprotocol.specs.server.View.{member, spare};
+ghost use Rattle.zprotocol.specs.Posts.{Puts};
 ghost use Rattle.zserver.specs.declared.taken.Taken.TheVariants.{Unheard};
 ghost use Rattle.zserver.specs.Server.{first_neighbour, running, taken_result};
 
@@ -15,9 +15,8 @@ use crate::taken::Taken;
 use std::alloc::Global;
 use std::marker::Model;
 use std::mem;
-use zout::Out;
 use zpath::Memory;
-use zserver_table::{Message, Process, ServerId};
+use zprotocol::{Message, Out, Process, ServerId};
 
 /// One server of the chain, or a spare one. It doesn't know its own number: no row of its table asks
 /// for it.

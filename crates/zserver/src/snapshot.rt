@@ -6,7 +6,7 @@ use std::alloc::Global;
 use std::marker::Model;
 use zops::Machine;
 use zpath::Memory;
-use zserver_table::LogNumber;
+use zprotocol::LogNumber;
 
 /// The whole state of a server, as it is handed to one that has none. Its machine has never met want of
 /// memory, and the number of its last entry is how many entries the machine applied. The machine is
@@ -20,7 +20,7 @@ impl Model for Snapshot {
     ghost use Rattle.std.specs.Prelude.{◌≡◌, false};
     ghost use Rattle.ztree.specs.Tree.{Tree};
     ghost use Rattle.zcalls.specs.Kept.{KeptState};
-    ghost use Rattle.zserver_table.specs.View.{Transfer};
+    ghost use Rattle.zprotocol.specs.server.View.{Transfer};
     ghost use Rattle.zserver.specs.support.Codes.{coded_transfer};
 
     ghost Value = { Transfer (KeptState Tree) };

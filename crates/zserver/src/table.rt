@@ -1,11 +1,11 @@
 //! The server table.
 
 ghost use Rattle.std.specs.Prelude.{◌≡◌, true, IfOk, OnErr, OnOk};
-ghost use Rattle.zserver_table.specs.declared.process.Process.TheVariants as process;
-ghost use Rattle.zserver_table.specs.Machine.{kept_tree};
-ghost use Rattle.zserver_table.specs.Memory.{may_be_unheard, may_stop};
-ghost use Rattle.zserver_table.specs.Table.{server_step};
-ghost use Rattle.zout.specs.Posts.{Puts};
+ghost use Rattle.zprotocol.specs.declared.process.Process.TheVariants as process;
+ghost use Rattle.zprotocol.specs.server.Machine.{kept_tree};
+ghost use Rattle.zprotocol.specs.server.Memory.{may_be_unheard, may_stop};
+ghost use Rattle.zprotocol.specs.server.Table.{server_step};
+ghost use Rattle.zprotocol.specs.Posts.{Puts};
 ghost use Rattle.zserver.specs.declared.taken.Taken.TheVariants.{Unheard};
 ghost use Rattle.zserver.specs.Server.{taken_result};
 
@@ -13,9 +13,8 @@ use crate::replica::Replica;
 use crate::snapshot::Snapshot;
 use crate::taken::Taken;
 use zcalls::{ClientId, Entry};
-use zout::Out;
 use zpath::Memory;
-use zserver_table::{Message, Process, ServerId};
+use zprotocol::{Message, Out, Process, ServerId};
 
 impl Replica {
     /// The server table. Where a growth is refused nothing is put, and the replica is of no use any
@@ -49,7 +48,7 @@ impl Replica {
     }
 
     // From a client.
-    #[tactic(auto, unfolding(zserver_table::specs::Table::server_step))]
+    #[tactic(auto, unfolding(zprotocol::specs::server::Table::server_step))]
     fn take_call(
         &mut self,
         client: &ClientId,
@@ -91,7 +90,7 @@ impl Replica {
     }
 
     // From another server.
-    #[tactic(auto, unfolding(zserver_table::specs::Table::server_step))]
+    #[tactic(auto, unfolding(zprotocol::specs::server::Table::server_step))]
     fn take_of_server(
         &mut self,
         server: &ServerId,
@@ -118,7 +117,7 @@ impl Replica {
     }
 
     // From the master.
-    #[tactic(auto, unfolding(zserver_table::specs::Table::server_step, zserver_table::specs::Table::become_head_row))]
+    #[tactic(auto, unfolding(zprotocol::specs::server::Table::server_step, zprotocol::specs::server::Table::become_head_row))]
     fn take_of_master(
         &mut self,
         message: Message<Snapshot>,

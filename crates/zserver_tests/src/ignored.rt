@@ -5,7 +5,7 @@ use crate::play::{Rows, first, plays};
 use crate::values::Given;
 use std::alloc::Global;
 use std::process::Abort;
-use zserver_table::ServerId;
+use zprotocol::ServerId;
 
 const OLD_UPDATE: Rows = &[(Given::Update(1, 3, 2), &[])];
 

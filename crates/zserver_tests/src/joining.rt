@@ -7,9 +7,8 @@ use std::alloc::Global;
 use std::process::Abort;
 use zcalls::Update;
 use zliterals::{call_number, client, server};
-use zout::Out;
+use zprotocol::{Epoch, Message, Out, Process};
 use zserver::{Server, Snapshot};
-use zserver_table::{Epoch, Message, Process};
 
 // A spare server joins behind server 1 in epoch 1.
 const JOINS: Rows = &[

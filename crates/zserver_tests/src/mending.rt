@@ -2,7 +2,7 @@
 
 use crate::play::{Rows, first, plays};
 use crate::values::Given;
-use zserver_table::ServerId;
+use zprotocol::ServerId;
 
 /// A server stands between server 1, as a pair of epoch 4, and server 3, as a pair of epoch 5, and has one
 /// entry, which the tail may not have processed.

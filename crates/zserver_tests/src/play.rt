@@ -4,9 +4,8 @@ use crate::shown::{Shown, puts};
 use crate::values::{Given, message, sender};
 use std::alloc::Global;
 use std::process::Abort;
-use zout::Out;
+use zprotocol::{Message, Out, Process, ServerId};
 use zserver::{Server, Snapshot, Taken};
-use zserver_table::{Message, Process, ServerId};
 
 /// What a server is given, and beside each message what it puts then.
 pub(crate) type Rows = &'static [(Given, &'static [Shown])];

@@ -1,9 +1,8 @@
 //! What was put, in words and numbers.
 
 use std::process::Abort;
-use zout::Out;
+use zprotocol::{LogNumber, Message, Out, Process};
 use zserver::Snapshot;
-use zserver_table::{LogNumber, Message, Process};
 
 /// A message that was put: what its receiver is, and its number, 0 for the master; then what the message
 /// is, with its epoch or the number of its call, and its log number.

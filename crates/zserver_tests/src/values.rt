@@ -6,8 +6,8 @@ use std::process::Abort;
 use zcalls::{CallNumber, Entry, Query, Update};
 use zliterals::client;
 use zpath::Path;
+use zprotocol::{Epoch, LogNumber, Message, Process, ServerId};
 use zserver::Snapshot;
-use zserver_table::{Epoch, LogNumber, Message, Process, ServerId};
 
 /// A message that a server is given.
 pub(crate) enum Given {

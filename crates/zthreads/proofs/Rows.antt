@@ -3,16 +3,16 @@ use Rattle.std.proofs.Common.{◌≡◌, ◌<◌, ◌≤◌, ℕ, ◌+◌, ◌&&
 use Rattle.std.proofs.lemmas.Bool.Decides.{nat_tests}
 use Rattle.ztree.specs.Tree.{Tree}
 use Rattle.zcalls.specs.Kept.{KeptState}
-use Rattle.zserver_table.specs.declared.limits.TheConstants.{MAX_SERVERS}
-use Rattle.zserver_table.specs.declared.process.Process.{Process}
-use Rattle.zserver_table.specs.declared.process.Process.TheVariants.{Client}
-use Rattle.zserver_table.specs.declared.process.Process.TheVariants as process
-use Rattle.zserver_table.specs.Machine.{kept_tree}
-use Rattle.zserver_table.specs.Memory.{may_be_unheard}
-use Rattle.zserver_table.specs.View.{Transfer}
-use Rattle.zmaster_table.specs.declared.join_fault.JoinFault.{JoinFault}
-use Rattle.zmaster_table.specs.View.{MasterView}
-use Rattle.zmaster_table.specs.Table.{join_fault, join_step, master_step}
+use Rattle.zprotocol.specs.declared.limits.TheConstants.{MAX_SERVERS}
+use Rattle.zprotocol.specs.declared.process.Process.{Process}
+use Rattle.zprotocol.specs.declared.process.Process.TheVariants.{Client}
+use Rattle.zprotocol.specs.declared.process.Process.TheVariants as process
+use Rattle.zprotocol.specs.server.Machine.{kept_tree}
+use Rattle.zprotocol.specs.server.Memory.{may_be_unheard}
+use Rattle.zprotocol.specs.server.View.{Transfer}
+use Rattle.zprotocol.specs.declared.master.join_fault.JoinFault.{JoinFault}
+use Rattle.zprotocol.specs.master.View.{MasterView}
+use Rattle.zprotocol.specs.master.Table.{join_fault, join_step, master_step}
 use Rattle.zserver.specs.Server.{TreeView, TreeMessage, taken_result}
 use Rattle.zserver.specs.declared.taken.Taken.{Taken}
 use Rattle.zserver.specs.declared.taken.Taken.TheVariants as taken

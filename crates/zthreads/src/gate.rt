@@ -1,7 +1,7 @@
 //! What stands between taking a message and acting on it.
 
+use zprotocol::{Message, Process};
 use zserver::Snapshot;
-use zserver_table::{Message, Process};
 
 /// Called on a server's thread between taking a message and acting on it: so a test can hold a server there.
 pub trait Gate: Drop {

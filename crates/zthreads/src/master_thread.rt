@@ -1,7 +1,7 @@
 //! What the master's thread owns.
 
 ghost use Rattle.std.specs.Prelude.{◌≡◌, ◌<◌, ◌≤◌, None, Some, [], true};
-ghost use Rattle.zserver_table.specs.declared.process.Process.TheVariants as process;
+ghost use Rattle.zprotocol.specs.declared.process.Process.TheVariants as process;
 ghost use Rattle.zmaster.specs.declared.limits.TheConstants.{MAX_POSTS};
 ghost use Rattle.ztraces.specs.Deeds.{AtMaster};
 ghost use Rattle.zdesks.specs.Desks.{is_cut_of, IsAt, IsSettled, link_count, process_of, room_of};
@@ -11,8 +11,8 @@ ghost use Rattle.zdesks.specs.Endings.{HasEnded, SameWires};
 use crate::took::took;
 use zdesks::{Desk, Ending};
 use zmaster::{MAX_POSTS, Master};
+use zprotocol::{Message, Process, ServerId};
 use zserver::Snapshot;
-use zserver_table::{Message, Process, ServerId};
 use ztraces::{Act, Stamp};
 use zworld_model::Outcome;
 

@@ -10,7 +10,7 @@ use crate::idle::Idle;
 use crate::master_thread::MasterThread;
 use std::sync::Wait;
 use zconsole::ends::Inbox;
-use zserver_table::ServerId;
+use zprotocol::ServerId;
 use zwords::halts::{Halt, HaltSeat};
 
 /// Goes over the links in turn, and takes the console's orders, until bit 0 is set, at which it looks before each take. An order

@@ -10,8 +10,8 @@ ghost use Rattle.zthreads.specs.Threads.{IsServer, outcome_of, server_standing, 
 use crate::gate::Gate;
 use crate::took::took;
 use zdesks::{Desk, Ending};
+use zprotocol::{Message, Process, ServerId};
 use zserver::{Server, Snapshot, Stopped, Taken};
-use zserver_table::{Message, Process, ServerId};
 use ztraces::{Act, Stamp};
 use zworld_model::Outcome;
 

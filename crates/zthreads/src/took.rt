@@ -3,7 +3,7 @@
 ghost use Rattle.std.specs.Prelude.{◌≡◌};
 ghost use Rattle.ztraces.specs.declared.trace.Act.TheVariants.{Took};
 
-use zserver_table::Process;
+use zprotocol::Process;
 use ztraces::Act;
 use zworld_model::Outcome;
 

@@ -1,8 +1,8 @@
 -- One step more of a merge, and of a run.
 use Rattle.std.proofs.Common.{◌≡◌, Bool, true, false, cond, List, [], ◌∷◌, ◌++◌, Option, Some, None, refl, sym, ap, ◌∙◌, subst}
 use Rattle.std.specs.Prelude.{◌&&◌}
-use Rattle.zserver_table.specs.declared.process.Process.{Process}
-use Rattle.zserver_table.specs.Machine.{Does}
+use Rattle.zprotocol.specs.declared.process.Process.{Process}
+use Rattle.zprotocol.specs.server.Machine.{Does}
 use Rattle.zworld_model.specs.declared.event.Event.{Event}
 use Rattle.zworld_model.specs.declared.event.Event.TheVariants as event
 use Rattle.zworld_model.specs.Links.{is_same}

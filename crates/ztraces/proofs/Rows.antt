@@ -5,20 +5,20 @@ use Rattle.std.proofs.lemmas.List.{append-nil}
 use Rattle.zcalls.specs.declared.call.Call.{Call}
 use Rattle.zcalls.specs.declared.reply.Reply.{Reply}
 use Rattle.zcalls.proofs.Among.{test}
-use Rattle.zserver_table.specs.declared.message.Message.TheVariants as message
-use Rattle.zserver_table.specs.declared.process.Process.{Process}
-use Rattle.zserver_table.specs.declared.process.Process.TheVariants.{Master, Server, Client}
-use Rattle.zserver_table.specs.Machine.{Does}
-use Rattle.zserver_table.specs.View.{ServerView, Transfer, MessageOf, Post}
-use Rattle.zserver_table.specs.Table as server
-use Rattle.zmaster_table.specs.declared.join_fault.JoinFault.{JoinFault}
-use Rattle.zmaster_table.specs.View.{MasterView, members, with_number}
-use Rattle.zmaster_table.specs.Table as master
-use Rattle.zmaster_table.specs.support.Cases.{IsMasterRow, Ignores, Reports, Joins, LeavesOutside, Leaves}
-use Rattle.zmaster_table.proofs.Cases.{master_case}
+use Rattle.zprotocol.specs.declared.message.Message.TheVariants as message
+use Rattle.zprotocol.specs.declared.process.Process.{Process}
+use Rattle.zprotocol.specs.declared.process.Process.TheVariants.{Master, Server, Client}
+use Rattle.zprotocol.specs.server.Machine.{Does}
+use Rattle.zprotocol.specs.server.View.{ServerView, Transfer, MessageOf, Post}
+use Rattle.zprotocol.specs.server.Table as server
+use Rattle.zprotocol.specs.declared.master.join_fault.JoinFault.{JoinFault}
+use Rattle.zprotocol.specs.master.View.{MasterView, members, with_number}
+use Rattle.zprotocol.specs.master.Table as master
+use Rattle.zprotocol.specs.master.support.Cases.{IsMasterRow, Ignores, Reports, Joins, LeavesOutside, Leaves}
+use Rattle.zprotocol.proofs.master_lemmas.Cases.{master_case}
 use Rattle.std.specs.List.{last_or}
-use Rattle.zclient_table.specs.View.{ClientView}
-use Rattle.zclient_table.specs.Table as client
+use Rattle.zprotocol.specs.client.View.{ClientView}
+use Rattle.zprotocol.specs.client.Table as client
 use Rattle.zworld_model.proofs.Tests.{both}
 use Rattle.zworld_model.specs.declared.event.Event.TheVariants as event
 use Rattle.zworld_model.specs.declared.history.CallEvent.TheVariants as call_event
@@ -27,7 +27,7 @@ use Rattle.zworld_model.specs.History.{History}
 use Rattle.zworld_model.specs.Links.{Links, is_same, messages_to, put, without_front}
 use Rattle.zworld_model.specs.World.{World, at}
 use Rattle.zworld_model.specs.Events.{is_server, has_failed, is_enabled, happens, process_step, client_does, with_answer, acts, is_request}
-use Rattle.zserver_table.specs.Memory.{is_query}
+use Rattle.zprotocol.specs.server.Memory.{is_query}
 use Rattle.ztraces.specs.declared.trace.Act.{Act}
 use Rattle.ztraces.specs.declared.trace.Act.TheVariants.{Took, Began, Retried, Joined, Halted}
 use Rattle.ztraces.specs.Deeds.{Stamped, Standing, AtMaster, AtServer, AtClient, Out, standing_in, answer_told, last_post, Row, MasterTakes, ServerTakes, ClientTakes, ServerIgnores, ServerStops, ServerHalts, MasterJoins, MasterRefuses, ClientBegins, ClientRetries}

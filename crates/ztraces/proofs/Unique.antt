@@ -3,7 +3,7 @@ use Rattle.std.proofs.Common.{◌≡◌, ℕ, Bool, true, false, cond, ◌==◌,
 use Rattle.std.specs.Prelude.{◌&&◌, ◌||◌}
 use Rattle.std.proofs.lemmas.Bool.Decides.{nat_tests}
 use Rattle.zcalls.proofs.Among.{test}
-use Rattle.zserver_table.specs.declared.process.Process.{Process}
+use Rattle.zprotocol.specs.declared.process.Process.{Process}
 use Rattle.zworld_model.specs.Links.{is_same}
 use Rattle.ztraces.specs.declared.trace.TraceEvent.{TraceEvent}
 use Rattle.ztraces.specs.declared.trace.Traces.{Traces}

@@ -2,9 +2,9 @@
 
 ghost use Rattle.std.specs.Prelude.{◌≡◌, ℕ, true, false, None, Some, [], ◌∷◌, ◌++◌, take, drop};
 ghost use Rattle.std.specs.List.{list_any};
-ghost use Rattle.zserver_table.specs.declared.message.Message.TheVariants as message;
-ghost use Rattle.zserver_table.specs.declared.process.Process.TheVariants.{Master, Server, Client};
-ghost use Rattle.zserver_table.specs.support.Rows.{counting_machine};
+ghost use Rattle.zprotocol.specs.declared.message.Message.TheVariants as message;
+ghost use Rattle.zprotocol.specs.declared.process.Process.TheVariants.{Master, Server, Client};
+ghost use Rattle.zprotocol.specs.server.support.Rows.{counting_machine};
 ghost use Rattle.zworld_model.specs.declared.event.Event.TheVariants as event;
 ghost use Rattle.zworld_model.specs.declared.history.CallEvent.TheVariants as call_event;
 ghost use Rattle.zworld_model.specs.declared.outcome.Outcome.TheVariants.{Acted, Stopped, Unheard};

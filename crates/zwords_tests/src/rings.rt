@@ -7,8 +7,8 @@ use std::test::Fail;
 use std::thread;
 use std::thread::join;
 use zliterals::{epoch, log_number};
+use zprotocol::Message;
 use zrings::ends::{Rx, Tx, link, told};
-use zserver_table::Message;
 
 const MESSAGES: u64 = 1_000;
 

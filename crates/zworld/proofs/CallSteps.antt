@@ -7,11 +7,11 @@ use Rattle.std.proofs.lemmas.List.{set-get_or, get_or_default}
 use Rattle.ztree.specs.Tree.{Tree}
 use Rattle.zcalls.specs.Kept.{KeptState}
 use Rattle.zcalls.specs.declared.call.Call.{Call}
-use Rattle.zserver_table.specs.declared.process.Process.TheVariants.{Client}
-use Rattle.zserver_table.specs.View.{Transfer, Post}
-use Rattle.zclient_table.specs.View.{ClientView}
-use Rattle.zclient_table.specs.Table.{begin_fault, begin_step, retry_posts}
-use Rattle.zclient_table.specs.declared.begin_fault.BeginFault.{BeginFault}
+use Rattle.zprotocol.specs.declared.process.Process.TheVariants.{Client}
+use Rattle.zprotocol.specs.server.View.{Transfer, Post}
+use Rattle.zprotocol.specs.client.View.{ClientView}
+use Rattle.zprotocol.specs.client.Table.{begin_fault, begin_step, retry_posts}
+use Rattle.zprotocol.specs.declared.client.begin_fault.BeginFault.{BeginFault}
 use Rattle.zworld_model.specs.declared.event.Event.TheVariants as event
 use Rattle.zworld_model.specs.declared.history.CallEvent.TheVariants as call_event
 use Rattle.zworld_model.specs.History.{History}

@@ -6,16 +6,16 @@ use Rattle.ztree.specs.Tree.{Tree}
 use Rattle.zcalls.specs.Kept.{KeptState}
 use Rattle.zcalls.specs.declared.reply.Reply.{Reply}
 use Rattle.zcalls.proofs.Among.{test}
-use Rattle.zserver_table.specs.declared.message.Message.TheVariants as message
-use Rattle.zserver_table.specs.declared.process.Process.{Process}
-use Rattle.zserver_table.specs.declared.process.Process.TheVariants.{Master, Server, Client}
-use Rattle.zserver_table.specs.Machine.{kept_tree}
-use Rattle.zserver_table.specs.Memory.{may_be_unheard, may_stop}
-use Rattle.zserver_table.specs.View.{ServerView, Transfer, MessageOf, Post, spare}
-use Rattle.zclient_table.specs.View.{ClientView}
-use Rattle.zclient_table.specs.Table.{ClientResult, client_step, answer_row, config_row, is_waiting_for}
-use Rattle.zserver_table.specs.Table.{server_step}
-use Rattle.zmaster_table.specs.Table.{master_step}
+use Rattle.zprotocol.specs.declared.message.Message.TheVariants as message
+use Rattle.zprotocol.specs.declared.process.Process.{Process}
+use Rattle.zprotocol.specs.declared.process.Process.TheVariants.{Master, Server, Client}
+use Rattle.zprotocol.specs.server.Machine.{kept_tree}
+use Rattle.zprotocol.specs.server.Memory.{may_be_unheard, may_stop}
+use Rattle.zprotocol.specs.server.View.{ServerView, Transfer, MessageOf, Post, spare}
+use Rattle.zprotocol.specs.client.View.{ClientView}
+use Rattle.zprotocol.specs.client.Table.{ClientResult, client_step, answer_row, config_row, is_waiting_for}
+use Rattle.zprotocol.specs.server.Table.{server_step}
+use Rattle.zprotocol.specs.master.Table.{master_step}
 use Rattle.zserver.specs.Server.{TreeView}
 use Rattle.zworld_model.specs.declared.event.Event.TheVariants as event
 use Rattle.zworld_model.specs.declared.outcome.Outcome.TheVariants as outcome

@@ -5,7 +5,7 @@ use Rattle.std.specs.Prelude.{Result, Ok, Err, IfOk, OnErr, is_err}
 use Rattle.ztree.specs.Tree.{Tree}
 use Rattle.zpath.specs.declared.memory.Memory.{Memory}
 use Rattle.zcalls.specs.Kept.{KeptState}
-use Rattle.zserver_table.specs.Machine.{kept_tree}
+use Rattle.zprotocol.specs.server.Machine.{kept_tree}
 use Rattle.zworld_model.specs.declared.event.Event.{Event}
 use Rattle.zworld_model.specs.declared.event.Event.TheVariants.{Begin, Retry, Take, Ignore, Fail, Join}
 use Rattle.zworld_model.specs.declared.outcome.Outcome.{Outcome}

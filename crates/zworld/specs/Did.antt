@@ -1,7 +1,7 @@
 -- What is said of an event that was asked for, in the words of the definitions.
 use Rattle.std.specs.Prelude.{◌≡◌, Bool, true, false, nat_lt, Some, []}
-use Rattle.zclient_table.specs.Table.{begin_fault}
-use Rattle.zmaster_table.specs.Table.{join_fault}
+use Rattle.zprotocol.specs.client.Table.{begin_fault}
+use Rattle.zprotocol.specs.master.Table.{join_fault}
 use Rattle.zworld_model.specs.declared.event.Event.{Event}
 use Rattle.zworld_model.specs.declared.event.Event.TheVariants as event
 use Rattle.zworld_model.specs.declared.outcome.Outcome.{Outcome}

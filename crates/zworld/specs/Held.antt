@@ -4,11 +4,11 @@
 use Rattle.std.specs.Prelude.{ℕ, zero, suc, Bool, true, false, Option, None, Some, is_none, List, [], ◌∷◌, ◌++◌, get_or, if◌then◌else◌}
 use Rattle.ztree.specs.Tree.{Tree}
 use Rattle.zcalls.specs.Kept.{KeptState}
-use Rattle.zserver_table.specs.declared.message.Message.TheVariants as message
-use Rattle.zserver_table.specs.declared.process.Process.TheVariants.{Master, Server}
-use Rattle.zserver_table.specs.View.{ServerView, MessageOf, spare}
-use Rattle.zclient_table.specs.View.{ClientView}
-use Rattle.zmaster_table.specs.View.{MasterView}
+use Rattle.zprotocol.specs.declared.message.Message.TheVariants as message
+use Rattle.zprotocol.specs.declared.process.Process.TheVariants.{Master, Server}
+use Rattle.zprotocol.specs.server.View.{ServerView, MessageOf, spare}
+use Rattle.zprotocol.specs.client.View.{ClientView}
+use Rattle.zprotocol.specs.master.View.{MasterView}
 use Rattle.zlinks.specs.Places.{links_of}
 use Rattle.zworld_model.specs.History.{History}
 use Rattle.zworld_model.specs.Links.{Links}

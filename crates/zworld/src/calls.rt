@@ -16,7 +16,7 @@ use crate::processes::Processes;
 use std::alloc::Global;
 use zcalls::{Call, CallNumber, ClientId};
 use zpath::Memory;
-use zserver_table::Process;
+use zprotocol::Process;
 use zworld_model::CallEvent;
 
 // The copy of a call, and room to tell of it.

@@ -2,7 +2,7 @@
 
 ghost use Rattle.std.specs.Prelude.{◌≡◌, ◌++◌, [], true, false, IfOk, OnErr, OnOk};
 ghost use Rattle.zworld_model.specs.declared.event.Event.TheVariants.{Take, Ignore};
-ghost use Rattle.zserver_table.specs.declared.process.Process.TheVariants.{Master, Server, Client};
+ghost use Rattle.zprotocol.specs.declared.process.Process.TheVariants.{Master, Server, Client};
 ghost use Rattle.zworld_model.specs.History.{History};
 ghost use Rattle.zworld.specs.support.Stepped.{GoesBy, HasStepped};
 ghost use Rattle.zworld_model.specs.Events.{front_is, is_enabled, is_request};
@@ -17,8 +17,8 @@ use crate::processes::Processes;
 use zcalls::{CallNumber, ClientId, Reply};
 use zmaster::MAX_POSTS;
 use zpath::Memory;
+use zprotocol::{Message, Process, ServerId};
 use zserver::Snapshot;
-use zserver_table::{Message, Process, ServerId};
 use zworld_model::{CallEvent, Outcome};
 
 impl Processes {

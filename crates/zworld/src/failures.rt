@@ -11,7 +11,7 @@ use crate::post::post;
 use crate::processes::Processes;
 use zmaster::MAX_POSTS;
 use zpath::Memory;
-use zserver_table::{Process, ServerId};
+use zprotocol::{Process, ServerId};
 
 impl Processes {
     /// A server fails: it lets go what it held, and what is on links to it.

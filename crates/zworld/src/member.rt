@@ -3,8 +3,8 @@
 ghost use Rattle.std.specs.Prelude.{◌≡◌, true, false, None, Some, IfOk};
 ghost use Rattle.ztree.specs.Tree.{Tree};
 ghost use Rattle.zcalls.specs.Kept.{KeptState};
-ghost use Rattle.zserver_table.specs.Machine.{kept_tree};
-ghost use Rattle.zserver_table.specs.View.{ServerView, member};
+ghost use Rattle.zprotocol.specs.server.Machine.{kept_tree};
+ghost use Rattle.zprotocol.specs.server.View.{ServerView, member};
 ghost use Rattle.zserver.specs.Server.{first_neighbour};
 ghost use Rattle.zworld.specs.Held.{bystander, gone_member, owes, is_gone};
 ghost use Rattle.zworld.specs.support.Members.{HasTaken};
@@ -12,10 +12,9 @@ ghost use Rattle.zworld.specs.support.Members.{HasTaken};
 use crate::life::Life;
 use std::alloc::Global;
 use std::marker::Model;
-use zout::Out;
 use zpath::Memory;
+use zprotocol::{Message, Out, Process, ServerId};
 use zserver::{Server, Snapshot, Stopped, Taken};
-use zserver_table::{Message, Process, ServerId};
 use zworld_model::Outcome;
 
 /// A server that goes on; or one that has stopped, and the word that it may still owe to the master.

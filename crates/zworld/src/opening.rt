@@ -3,9 +3,9 @@
 ghost use Rattle.std.specs.Prelude.{◌≡◌, ◌<◌, ◌≤◌, ◌+◌, [], IfOk, map};
 ghost use Rattle.std.specs.List.{range_with_len};
 ghost use Rattle.ztree.specs.declared.limits.TheConstants.{MAX_CLIENTS};
-ghost use Rattle.zclient_table.specs.View.{opening_client};
-ghost use Rattle.zserver_table.specs.declared.limits.TheConstants.{MAX_SERVERS};
-ghost use Rattle.zserver_table.specs.Machine.{kept_tree};
+ghost use Rattle.zprotocol.specs.client.View.{opening_client};
+ghost use Rattle.zprotocol.specs.declared.limits.TheConstants.{MAX_SERVERS};
+ghost use Rattle.zprotocol.specs.server.Machine.{kept_tree};
 ghost use Rattle.zworld_model.specs.World.{opening_world};
 ghost use Rattle.zworld.specs.Held.{world_of};
 ghost use Rattle.zworld.specs.support.Opening.{opening_member};
@@ -16,9 +16,8 @@ use std::alloc::Global;
 use zclient::ClientCore;
 use zlinks::Links;
 use zmaster::Master;
-use zout::Out;
 use zpath::Memory;
-use zserver_table::{MAX_SERVERS, ServerId};
+use zprotocol::{MAX_SERVERS, Out, ServerId};
 use ztree::limits::MAX_CLIENTS;
 
 impl Processes {

@@ -1,16 +1,15 @@
 //! Putting messages on links.
 
 ghost use Rattle.std.specs.Prelude.{◌≡◌, [], OnOk, length};
-ghost use Rattle.zserver_table.specs.declared.limits.TheConstants.{MAX_SERVERS};
+ghost use Rattle.zprotocol.specs.declared.limits.TheConstants.{MAX_SERVERS};
 ghost use Rattle.zworld.specs.support.Posting.{is_lost, IsPosted};
 
 use crate::member::Member;
 use std::alloc::Global;
 use zlinks::Links;
-use zout::Out;
 use zpath::Memory;
+use zprotocol::{Out, Process};
 use zserver::Snapshot;
-use zserver_table::Process;
 
 /// Whether a process has failed, which only a server does.
 pub(crate) fn is_lost(members: &[Member], process: &Process) -> bool

@@ -13,8 +13,8 @@ use std::marker::Model;
 use zclient::ClientCore;
 use zlinks::Links;
 use zmaster::Master;
-use zout::Out;
 use zpath::Memory;
+use zprotocol::Out;
 use zserver::Snapshot;
 use zworld_model::{CallEvent, Event};
 

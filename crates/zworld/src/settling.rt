@@ -2,8 +2,8 @@
 
 ghost use Rattle.std.specs.Prelude.{◌≡◌, ◌==◌, ◌≤◌, ◌<◌, ◌-◌, ◌∷◌, ◌++◌, [], List, length, IfOk, OnErr, if◌then◌else◌};
 ghost use Rattle.ztree.specs.declared.limits.TheConstants.{MAX_CLIENTS};
-ghost use Rattle.zserver_table.specs.Machine.{kept_tree};
-ghost use Rattle.zserver_table.specs.declared.process.Process.{Process};
+ghost use Rattle.zprotocol.specs.server.Machine.{kept_tree};
+ghost use Rattle.zprotocol.specs.declared.process.Process.{Process};
 ghost use Rattle.zlinks.specs.declared.limits.TheConstants.{PROCESSES};
 ghost use Rattle.zlinks.specs.Places.{place_of};
 ghost use Rattle.zworld_model.specs.declared.event.Event.TheVariants.{Retry, Take};
@@ -20,7 +20,7 @@ use crate::did::Did;
 use crate::processes::Processes;
 use zcalls::ClientId;
 use zpath::Memory;
-use zserver_table::{MAX_SERVERS, Process, ServerId};
+use zprotocol::{MAX_SERVERS, Process, ServerId};
 use zworld_model::{CallEvent, Settled};
 
 impl Processes {

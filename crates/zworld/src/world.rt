@@ -2,7 +2,7 @@
 
 ghost use Rattle.std.specs.Prelude.{◌≡◌, ◌≤◌, [], true, false, IfOk, IsErr, OnErr, OnOk};
 ghost use Rattle.ztree.specs.declared.limits.TheConstants.{MAX_CLIENTS};
-ghost use Rattle.zserver_table.specs.Machine.{kept_tree};
+ghost use Rattle.zprotocol.specs.server.Machine.{kept_tree};
 ghost use Rattle.zworld_model.specs.PlainTree.{IsExplained};
 ghost use Rattle.zworld_model.specs.World.{opening_world};
 ghost use Rattle.zworld_model.specs.declared.settled.Settled.TheVariants.{Quiet};
@@ -17,7 +17,7 @@ use crate::processes::Processes;
 use std::alloc::Global;
 use std::marker::Model;
 use zpath::Memory;
-use zserver_table::ServerId;
+use zprotocol::ServerId;
 use zworld_model::{CallEvent, Event, Settled};
 
 /// All processes with their links, and the history of what callers saw. After it met want of memory it answers

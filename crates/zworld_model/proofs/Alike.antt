@@ -3,13 +3,13 @@ use Rattle.std.proofs.Common.{◌≡◌, ℕ, Bool, true, false, if◌then◌els
 use mathlib.Core.Bool.{true≢false}
 use Rattle.std.specs.Prelude.{◌&&◌, not, ◌==◌, drop}
 use Rattle.zcalls.specs.declared.reply.Reply.{Reply}
-use Rattle.zserver_table.specs.declared.message.Message.TheVariants as message
-use Rattle.zserver_table.specs.declared.process.Process.{Process}
-use Rattle.zserver_table.specs.declared.process.Process.TheVariants.{Master, Server, Client}
-use Rattle.zserver_table.specs.Machine.{Does}
-use Rattle.zserver_table.specs.View.{ServerView, Transfer, MessageOf, Post}
-use Rattle.zserver_table.specs.Table as server
-use Rattle.zclient_table.specs.Table as client
+use Rattle.zprotocol.specs.declared.message.Message.TheVariants as message
+use Rattle.zprotocol.specs.declared.process.Process.{Process}
+use Rattle.zprotocol.specs.declared.process.Process.TheVariants.{Master, Server, Client}
+use Rattle.zprotocol.specs.server.Machine.{Does}
+use Rattle.zprotocol.specs.server.View.{ServerView, Transfer, MessageOf, Post}
+use Rattle.zprotocol.specs.server.Table as server
+use Rattle.zprotocol.specs.client.Table as client
 use Rattle.zworld_model.specs.declared.event.Event.{Event}
 use Rattle.zworld_model.specs.declared.event.Event.TheVariants.{Begin, Retry, Take, Ignore, Fail, Join}
 use Rattle.zworld_model.specs.Links.{Links, put, without_front, is_same, messages_to}
@@ -17,7 +17,7 @@ use Rattle.zworld_model.specs.World.{World, at}
 use Rattle.zworld_model.specs.Events.{front_is, is_request, has_failed, is_enabled, with_answer, server_does, client_does, process_step, front_step, acts, happens, run}
 use Rattle.zworld_model.specs.declared.outcome.Outcome.{Outcome}
 use Rattle.zworld_model.specs.declared.outcome.Outcome.TheVariants.{Acted, Stopped, Unheard}
-use Rattle.zserver_table.specs.Memory.{may_be_unheard, may_stop}
+use Rattle.zprotocol.specs.server.Memory.{may_be_unheard, may_stop}
 use Rattle.zworld_model.specs.Reading.{is_delivery, is_fitting, reading_by, read}
 use Rattle.zworld_model.specs.Alike.{IsAlike}
 

@@ -5,15 +5,15 @@ use Rattle.std.specs.Prelude.{is_none}
 use Rattle.std.specs.List.{AllByRecursion}
 use Rattle.zcalls.specs.declared.reply.Reply.{Reply}
 use Rattle.zcalls.proofs.Among.{test}
-use Rattle.zserver_table.specs.declared.limits.TheConstants.{MAX_SERVERS}
-use Rattle.zserver_table.specs.declared.process.Process.{Process}
-use Rattle.zserver_table.specs.declared.process.Process.TheVariants.{Master, Server, Client}
-use Rattle.zserver_table.specs.Machine.{Does, kept_tree}
-use Rattle.zserver_table.specs.View.{Transfer, MessageOf}
-use Rattle.zmaster_table.specs.Laws.{IsRisingFrom, IsBounded}
-use Rattle.zmaster_table.specs.Table.{join_fault}
-use Rattle.zmaster_table.proofs.Bounds.{opening_is_bounded, messages_keep, joins_keep}
-use Rattle.zclient_table.specs.Table.{ClientResult, client_step}
+use Rattle.zprotocol.specs.declared.limits.TheConstants.{MAX_SERVERS}
+use Rattle.zprotocol.specs.declared.process.Process.{Process}
+use Rattle.zprotocol.specs.declared.process.Process.TheVariants.{Master, Server, Client}
+use Rattle.zprotocol.specs.server.Machine.{Does, kept_tree}
+use Rattle.zprotocol.specs.server.View.{Transfer, MessageOf}
+use Rattle.zprotocol.specs.master.Laws.{IsRisingFrom, IsBounded}
+use Rattle.zprotocol.specs.master.Table.{join_fault}
+use Rattle.zprotocol.proofs.master_lemmas.Bounds.{opening_is_bounded, messages_keep, joins_keep}
+use Rattle.zprotocol.specs.client.Table.{ClientResult, client_step}
 use Rattle.zworld_model.specs.declared.event.Event.{Event}
 use Rattle.zworld_model.specs.declared.event.Event.TheVariants.{Begin, Retry, Take, Ignore, Fail, Join}
 use Rattle.zworld_model.specs.Links.{without_front}

@@ -1,6 +1,6 @@
 -- Where an outcome fits, an event reads as it says.
 use Rattle.std.proofs.Common.{◌≡◌, true, refl}
-use Rattle.zserver_table.specs.Machine.{Does}
+use Rattle.zprotocol.specs.server.Machine.{Does}
 use Rattle.zworld_model.specs.declared.event.Event.{Event}
 use Rattle.zworld_model.specs.declared.outcome.Outcome.{Outcome}
 use Rattle.zworld_model.specs.World.{World}

@@ -1,7 +1,7 @@
 -- Outcomes are learnt as events are done.
 use Rattle.std.proofs.Common.{◌≡◌, zero, suc, Bool, true, false, if◌then◌else◌, [], ◌∷◌, refl, sym, ap, ◌∙◌}
 use Rattle.std.proofs.lemmas.List.{append_assoc}
-use Rattle.zserver_table.specs.Machine.{Does}
+use Rattle.zprotocol.specs.server.Machine.{Does}
 use Rattle.zworld_model.specs.Events.{happens}
 use Rattle.zworld_model.specs.Reading.{read, read_all}
 use Rattle.zworld_model.specs.Settle.{with_event, with_tries, passes, next_outcome}

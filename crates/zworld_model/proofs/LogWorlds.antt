@@ -4,20 +4,20 @@ use Rattle.std.proofs.Common.{Option, Some, None, refl, sym, ap, ◌∙◌}
 use Rattle.std.proofs.lemmas.List.{map-append, drop-map}
 use Rattle.std.specs.Prelude.{◌&&◌, not, ◌==◌, drop, nat_lt}
 use Rattle.zcalls.specs.declared.reply.Reply.{Reply}
-use Rattle.zserver_table.specs.declared.message.Message.TheVariants as message
-use Rattle.zserver_table.specs.declared.process.Process.{Process}
-use Rattle.zserver_table.specs.declared.process.Process.TheVariants.{Master, Server, Client}
-use Rattle.zserver_table.specs.Machine.{Does}
-use Rattle.zserver_table.specs.View.{ServerView, Neighbour, Transfer, MessageOf, Post, spare, opening_server}
-use Rattle.zserver_table.specs.Table as server
-use Rattle.zserver_table.specs.support.Homomorphism.{IsHomomorphism, message_with, posts_with, view_with, server_result_with}
-use Rattle.zserver_table.proofs.Projection.{table_with}
-use Rattle.zmaster_table.specs.Table as master
-use Rattle.zmaster_table.specs.Laws.{master_result_with as master_with}
-use Rattle.zmaster_table.proofs.Projection.{table_with as master_takes_with, join_with as joins_with}
-use Rattle.zclient_table.specs.View.{ClientView}
-use Rattle.zclient_table.specs.Table as client
-use Rattle.zclient_table.proofs.Projection.{begins_with, retries_with, table_with as client_takes_with}
+use Rattle.zprotocol.specs.declared.message.Message.TheVariants as message
+use Rattle.zprotocol.specs.declared.process.Process.{Process}
+use Rattle.zprotocol.specs.declared.process.Process.TheVariants.{Master, Server, Client}
+use Rattle.zprotocol.specs.server.Machine.{Does}
+use Rattle.zprotocol.specs.server.View.{ServerView, Neighbour, Transfer, MessageOf, Post, spare, opening_server}
+use Rattle.zprotocol.specs.server.Table as server
+use Rattle.zprotocol.specs.server.support.Homomorphism.{IsHomomorphism, message_with, posts_with, view_with, server_result_with}
+use Rattle.zprotocol.proofs.server_lemmas.Projection.{table_with}
+use Rattle.zprotocol.specs.master.Table as master
+use Rattle.zprotocol.specs.master.Laws.{master_result_with as master_with}
+use Rattle.zprotocol.proofs.master_lemmas.Projection.{table_with as master_takes_with, join_with as joins_with}
+use Rattle.zprotocol.specs.client.View.{ClientView}
+use Rattle.zprotocol.specs.client.Table as client
+use Rattle.zprotocol.proofs.client_lemmas.Projection.{begins_with, retries_with, table_with as client_takes_with}
 use Rattle.zworld_model.specs.declared.event.Event.{Event}
 use Rattle.zworld_model.specs.declared.event.Event.TheVariants.{Begin, Retry, Take, Ignore, Fail, Join}
 use Rattle.zworld_model.specs.declared.history.CallEvent.TheVariants as call_event

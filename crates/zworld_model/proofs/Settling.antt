@@ -6,7 +6,7 @@ use Rattle.std.proofs.lemmas.Bool.{ltb-true, lt-ltb}
 use Rattle.std.proofs.lemmas.Bool.Decides.{nat_tests}
 use Rattle.std.specs.Prelude.{◌⊎◌, ◌&&◌, ◌||◌, not, ◌==◌, nat_lt}
 use Rattle.std.specs.List.{list_any}
-use Rattle.zserver_table.specs.Machine.{Does}
+use Rattle.zprotocol.specs.server.Machine.{Does}
 use Rattle.zworld_model.specs.declared.event.Event.{Event}
 use Rattle.zworld_model.specs.declared.settled.Settled.TheVariants.{Quiet, Limit}
 use Rattle.zworld_model.specs.World.{World}

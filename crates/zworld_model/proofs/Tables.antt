@@ -1,8 +1,8 @@
 -- What the worked runs open: every row of the three tables. A proof that opens one of these opens the rows on its line.
 use Rattle.std.specs.Prelude.{ℕ}
-use Rattle.zserver_table.proofs.Tables.{chain_rows, repair_rows}
-use Rattle.zmaster_table.proofs.Tables.{master_table}
-use Rattle.zclient_table.proofs.Tables.{client_table}
+use Rattle.zprotocol.proofs.server_lemmas.Tables.{chain_rows, repair_rows}
+use Rattle.zprotocol.proofs.master_lemmas.Tables.{master_table}
+use Rattle.zprotocol.proofs.client_lemmas.Tables.{client_table}
 
 -- all tables
 unfoldable pub all_tables : ℕ

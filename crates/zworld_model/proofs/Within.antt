@@ -7,20 +7,20 @@ use Rattle.zcalls.specs.declared.call.Call.{Call}
 use Rattle.zcalls.specs.declared.reply.Reply.{Reply}
 use Rattle.zcalls.specs.Lists.{Among}
 use Rattle.zcalls.proofs.Among.{test, among_cases}
-use Rattle.zserver_table.specs.declared.message.Message.TheVariants as message
-use Rattle.zserver_table.specs.declared.process.Process.{Process}
-use Rattle.zserver_table.specs.declared.process.Process.TheVariants.{Master, Server, Client}
-use Rattle.zserver_table.specs.Machine.{Does}
-use Rattle.zserver_table.specs.View.{ServerView, Transfer, MessageOf, Post}
-use Rattle.zserver_table.specs.Table.{server_step}
-use Rattle.zserver_table.proofs.Cases.{server_case}
-use Rattle.zmaster_table.specs.View.{MasterView}
-use Rattle.zmaster_table.specs.Table.{master_step, join_step}
-use Rattle.zmaster_table.proofs.Cases.{master_case}
-use Rattle.zclient_table.specs.View.{ClientView}
-use Rattle.zclient_table.specs.Table.{ClientResult, client_step, begin_step, retry_posts}
-use Rattle.zclient_table.specs.support.Cases as client
-use Rattle.zclient_table.proofs.Cases.{client_case}
+use Rattle.zprotocol.specs.declared.message.Message.TheVariants as message
+use Rattle.zprotocol.specs.declared.process.Process.{Process}
+use Rattle.zprotocol.specs.declared.process.Process.TheVariants.{Master, Server, Client}
+use Rattle.zprotocol.specs.server.Machine.{Does}
+use Rattle.zprotocol.specs.server.View.{ServerView, Transfer, MessageOf, Post}
+use Rattle.zprotocol.specs.server.Table.{server_step}
+use Rattle.zprotocol.proofs.server_lemmas.Cases.{server_case}
+use Rattle.zprotocol.specs.master.View.{MasterView}
+use Rattle.zprotocol.specs.master.Table.{master_step, join_step}
+use Rattle.zprotocol.proofs.master_lemmas.Cases.{master_case}
+use Rattle.zprotocol.specs.client.View.{ClientView}
+use Rattle.zprotocol.specs.client.Table.{ClientResult, client_step, begin_step, retry_posts}
+use Rattle.zprotocol.specs.client.support.Cases as client
+use Rattle.zprotocol.proofs.client_lemmas.Cases.{client_case}
 use Rattle.zworld_model.specs.declared.event.Event.{Event}
 use Rattle.zworld_model.specs.declared.event.Event.TheVariants.{Begin, Retry, Take, Ignore, Fail, Join}
 use Rattle.zworld_model.specs.Links.{Links, put, without_front, is_same, messages_to}

@@ -7,18 +7,18 @@ use Rattle.zcalls.specs.declared.call.Call.{Call}
 use Rattle.zcalls.specs.declared.call.Call.TheVariants as call
 use Rattle.zcalls.specs.declared.call.Entry.{Entry}
 use Rattle.zcalls.specs.declared.reply.Reply.{Reply}
-use Rattle.zserver_table.specs.declared.message.Message.TheVariants as message
-use Rattle.zserver_table.specs.declared.process.Process.{Process}
-use Rattle.zserver_table.specs.declared.process.Process.TheVariants.{Server, Client}
-use Rattle.zserver_table.specs.Machine.{Does}
-use Rattle.zserver_table.specs.View.{ServerView, Neighbour, Transfer, MessageOf, Post}
-use Rattle.zserver_table.specs.Table.{ServerResult, ack_posts, answer_posts, forward_post, entries_above, missing_posts}
-use Rattle.zserver_table.specs.support.Cases.{IsAccepted, Processes, Forwards, IsRow, Ignores, Submits, Updates, Asks, Acknowledges, Shows, Turns, Follows, Leads, Ends}
-use Rattle.zclient_table.specs.View.{ClientView}
-use Rattle.zclient_table.specs.Table.{call_posts, outstanding_posts}
-use Rattle.zmaster_table.specs.View.{MasterView, with_number, members, is_joining, first_of, head_of, tail_of}
-use Rattle.zmaster_table.specs.Table.{before, config_posts, MendedChain, join_step}
-use Rattle.zmaster_table.specs.support.Cases as master
+use Rattle.zprotocol.specs.declared.message.Message.TheVariants as message
+use Rattle.zprotocol.specs.declared.process.Process.{Process}
+use Rattle.zprotocol.specs.declared.process.Process.TheVariants.{Server, Client}
+use Rattle.zprotocol.specs.server.Machine.{Does}
+use Rattle.zprotocol.specs.server.View.{ServerView, Neighbour, Transfer, MessageOf, Post}
+use Rattle.zprotocol.specs.server.Table.{ServerResult, ack_posts, answer_posts, forward_post, entries_above, missing_posts}
+use Rattle.zprotocol.specs.server.support.Cases.{IsAccepted, Processes, Forwards, IsRow, Ignores, Submits, Updates, Asks, Acknowledges, Shows, Turns, Follows, Leads, Ends}
+use Rattle.zprotocol.specs.client.View.{ClientView}
+use Rattle.zprotocol.specs.client.Table.{call_posts, outstanding_posts}
+use Rattle.zprotocol.specs.master.View.{MasterView, with_number, members, is_joining, first_of, head_of, tail_of}
+use Rattle.zprotocol.specs.master.Table.{before, config_posts, MendedChain, join_step}
+use Rattle.zprotocol.specs.master.support.Cases as master
 use Rattle.zworld_model.specs.Events.{is_server}
 use Rattle.zworld_model.specs.support.Within.{is_process, IsServer, IsNamed, IsNear, IsOfClient, SpeaksWithin, GoesWithin, IsViewWithin, IsMemberWithin}
 

@@ -5,8 +5,8 @@
 use Rattle.std.specs.Prelude.{◌≡◌, ℕ, false, List}
 use Rattle.ztree.specs.Tree.{Tree}
 use Rattle.zcalls.specs.Kept.{KeptState}
-use Rattle.zserver_table.specs.declared.process.Process.{Process}
-use Rattle.zserver_table.specs.Machine.{kept_tree}
+use Rattle.zprotocol.specs.declared.process.Process.{Process}
+use Rattle.zprotocol.specs.server.Machine.{kept_tree}
 use Rattle.zworld_model.specs.declared.event.Event.{Event}
 use Rattle.zworld_model.specs.World.{World}
 use Rattle.zworld_model.specs.declared.outcome.Outcome.{Outcome}

@@ -2,11 +2,11 @@
 -- for a message stops, and that delivery reads as its failure; a query for which it finds none is lost.
 -- Want of memory as a failure is this project's profile.
 use Rattle.std.specs.Prelude.{◌≡◌, Bool, true, false, ◌&&◌, if◌then◌else◌, List, [], ◌∷◌}
-use Rattle.zserver_table.specs.declared.process.Process.{Process}
-use Rattle.zserver_table.specs.declared.process.Process.TheVariants.{Server}
-use Rattle.zserver_table.specs.Machine.{Does}
-use Rattle.zserver_table.specs.Memory.{may_be_unheard, may_stop}
-use Rattle.zserver_table.specs.View.{ServerView, MessageOf}
+use Rattle.zprotocol.specs.declared.process.Process.{Process}
+use Rattle.zprotocol.specs.declared.process.Process.TheVariants.{Server}
+use Rattle.zprotocol.specs.server.Machine.{Does}
+use Rattle.zprotocol.specs.server.Memory.{may_be_unheard, may_stop}
+use Rattle.zprotocol.specs.server.View.{ServerView, MessageOf}
 use Rattle.zworld_model.specs.declared.event.Event.{Event}
 use Rattle.zworld_model.specs.declared.event.Event.TheVariants.{Take, Ignore, Fail}
 use Rattle.zworld_model.specs.declared.outcome.Outcome.{Outcome}

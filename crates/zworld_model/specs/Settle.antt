@@ -5,10 +5,10 @@
 use Rattle.std.specs.Prelude.{ℕ, zero, suc, ◌-◌, Bool, true, false, ◌&&◌, ◌||◌, not, nat_lt, ◌==◌, if◌then◌else◌}
 use Rattle.std.specs.Prelude.{List, [], ◌∷◌, ◌++◌, map, flat_map, drop}
 use Rattle.std.specs.List.{range_with_len, list_any}
-use Rattle.zserver_table.specs.declared.limits.TheConstants.{MAX_SERVERS}
-use Rattle.zserver_table.specs.declared.process.Process.{Process}
-use Rattle.zserver_table.specs.declared.process.Process.TheVariants.{Master, Server, Client}
-use Rattle.zserver_table.specs.Machine.{Does}
+use Rattle.zprotocol.specs.declared.limits.TheConstants.{MAX_SERVERS}
+use Rattle.zprotocol.specs.declared.process.Process.{Process}
+use Rattle.zprotocol.specs.declared.process.Process.TheVariants.{Master, Server, Client}
+use Rattle.zprotocol.specs.server.Machine.{Does}
 use Rattle.zworld_model.specs.declared.event.Event.{Event}
 use Rattle.zworld_model.specs.declared.event.Event.TheVariants.{Retry, Take}
 use Rattle.zworld_model.specs.declared.outcome.Outcome.{Outcome}

@@ -2,10 +2,10 @@
 -- Van Renesse and Schneider, "Chain Replication for Supporting High Throughput and Availability" (OSDI 2004), section 3:
 -- servers fail-stop, and a master that detects failures and doesn't fail. It is over any machine.
 use Rattle.std.specs.Prelude.{ℕ, Bool, false, ◌==◌, if◌then◌else◌, []}
-use Rattle.zserver_table.specs.Machine.{Does}
-use Rattle.zserver_table.specs.View.{ServerView, opening_server}
-use Rattle.zmaster_table.specs.View.{MasterView, opening_master}
-use Rattle.zclient_table.specs.View.{ClientView, opening_client}
+use Rattle.zprotocol.specs.server.Machine.{Does}
+use Rattle.zprotocol.specs.server.View.{ServerView, opening_server}
+use Rattle.zprotocol.specs.master.View.{MasterView, opening_master}
+use Rattle.zprotocol.specs.client.View.{ClientView, opening_client}
 use Rattle.zworld_model.specs.History.{History}
 use Rattle.zworld_model.specs.Links.{Links}
 

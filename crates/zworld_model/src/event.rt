@@ -1,7 +1,7 @@
 //! The events of the world.
 
 use zcalls::{Call, ClientId};
-use zserver_table::{Process, ServerId};
+use zprotocol::{Process, ServerId};
 
 /// One event: a call that begins, a delivery, a failure or a join. Each is one atomic step: at most one process changes
 /// its state, takes at most one message and puts messages. An event that is not enabled changes nothing.

@@ -10,7 +10,7 @@ ghost use Rattle.zcalls.specs.Step.{step, query_reply};
 ghost use Rattle.zworld_model.specs.PlainTree.{service_of};
 ghost use Rattle.zworld_model.specs.Alike.{HaveTheSameEnabled, StayAlike, ReadAlike};
 ghost use Rattle.zworld_model.specs.Alike.{HaveTheSameOutcomes, AreAlikeThemselves, AlikeIsTransitive};
-ghost use Rattle.zserver_table.specs.Machine.{kept_tree};
+ghost use Rattle.zprotocol.specs.server.Machine.{kept_tree};
 ghost use Rattle.zworld_model.specs.support.Learning.{DoneIsLearnt, IdleIsPassed, PassBegins};
 ghost use Rattle.zworld_model.specs.support.Learning.{PassesEnd, ReadingIsLearnt};
 ghost use Rattle.zworld_model.specs.Laws.{FittingOutcomesAreRead, LinksAreVisited, QuietIsQuiet};

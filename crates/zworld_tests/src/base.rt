@@ -3,7 +3,7 @@
 use crate::trouble::Trouble;
 use std::alloc::Global;
 use zcalls::ClientId;
-use zserver_table::{Process, ServerId};
+use zprotocol::{Process, ServerId};
 
 /// One event of a base list, by the numbers of its processes; the call that begins is the client's sequential
 /// create.

@@ -5,7 +5,7 @@ use crate::base::{Base, Move, client, process, server};
 use crate::trouble::Trouble;
 use std::alloc::Global;
 use zcalls::Kind;
-use zserver_table::MAX_SERVERS;
+use zprotocol::MAX_SERVERS;
 use zworld::World;
 use zworld_model::Event;
 

@@ -4,7 +4,7 @@ use Who::{Client, Master, Server};
 use std::alloc::Global;
 use std::process::Abort;
 use zcalls::{Call, ClientId, Reply, Update};
-use zserver_table::{Process, ServerId};
+use zprotocol::{Process, ServerId};
 use zworld::{Did, World};
 use zworld_model::{CallEvent, Event, Settled};
 

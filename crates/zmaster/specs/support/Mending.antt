@@ -1,9 +1,9 @@
 -- How a chain is mended once the member at a place has gone: the same as the table's, which looks for the member itself.
 use Rattle.std.specs.Prelude.{◌≡◌, ℕ, zero, suc, Bool, true, false, Option, None, Some, List, [], ◌∷◌, ◌==◌, is_some, if◌then◌else◌}
-use Rattle.zserver_table.specs.View.{Neighbour}
-use Rattle.zmaster_table.specs.declared.join_fault.JoinFault.{JoinFault}
-use Rattle.zmaster_table.specs.declared.join_fault.JoinFault.TheVariants.{Joining, NoChain, Lost}
-use Rattle.zmaster_table.specs.Table.{MendedChain, without_first, without_next}
+use Rattle.zprotocol.specs.server.View.{Neighbour}
+use Rattle.zprotocol.specs.declared.master.join_fault.JoinFault.{JoinFault}
+use Rattle.zprotocol.specs.declared.master.join_fault.JoinFault.TheVariants.{Joining, NoChain, Lost}
+use Rattle.zprotocol.specs.master.Table.{MendedChain, without_first, without_next}
 
 -- the joining one, if any, is this
 abbrev pub joins : Option ℕ → ℕ → Bool

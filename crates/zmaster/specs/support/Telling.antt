@@ -1,10 +1,10 @@
 -- What the first clients are told, on the way to telling all.
 use Rattle.std.specs.Prelude.{ℕ, List, map}
 use Rattle.std.specs.List.{range_with_len}
-use Rattle.zserver_table.specs.declared.message.Message.TheVariants as message
-use Rattle.zserver_table.specs.declared.process.Process.TheVariants.{Client}
-use Rattle.zserver_table.specs.View.{PostOf}
-use Rattle.zmaster_table.specs.View.{MasterView, head_of, tail_of}
+use Rattle.zprotocol.specs.declared.message.Message.TheVariants as message
+use Rattle.zprotocol.specs.declared.process.Process.TheVariants.{Client}
+use Rattle.zprotocol.specs.server.View.{PostOf}
+use Rattle.zprotocol.specs.master.View.{MasterView, head_of, tail_of}
 
 -- so many clients, by number, hear of the epoch, the head and the tail
 abbrev pub config_posts_to : {T : Type 0} → MasterView → ℕ → List (PostOf T)

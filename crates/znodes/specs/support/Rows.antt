@@ -13,7 +13,7 @@ use Rattle.zslots.specs.Links.{no_links}
 use Rattle.zslots.specs.Lists.{empty_list}
 use Rattle.zslots.specs.Families.{HasFamilies}
 use Rattle.zslots.specs.MapValues.{map_values}
-use Rattle.zindex.specs.IndexView.{IdsByPath}
+use Rattle.znodes.specs.index.IndexView.{IdsByPath}
 use Rattle.ztree.specs.declared.node.Node.{Node}
 use Rattle.ztree.specs.Tree.{Name, Path, Nodes, parent_of}
 use Rattle.znodes.specs.declared.row.Row.{Row}

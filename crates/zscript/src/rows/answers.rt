@@ -3,8 +3,8 @@
 ghost use Rattle.std.specs.Prelude.{◌≡◌, [], ◌∷◌, ◌++◌, codes, Some, None};
 ghost use Rattle.zpath.specs.declared.fault.PathFault.TheVariants.{Empty};
 ghost use Rattle.zcalls.specs.declared.reply.Reply.TheVariants.{Children, Deleted, Pinged};
-ghost use Rattle.zmaster_table.specs.declared.join_fault.JoinFault.TheVariants.{Used, Joining, NoChain, Lost};
-ghost use Rattle.zclient_table.specs.declared.begin_fault.BeginFault.TheVariants.{Busy, Exhausted};
+ghost use Rattle.zprotocol.specs.declared.master.join_fault.JoinFault.TheVariants.{Used, Joining, NoChain, Lost};
+ghost use Rattle.zprotocol.specs.declared.client.begin_fault.BeginFault.TheVariants.{Busy, Exhausted};
 ghost use Rattle.zworld_model.specs.declared.settled.Settled.TheVariants.{Quiet, Limit};
 ghost use Rattle.zlines.specs.declared.request.LineFault.TheVariants.{BadLine, BadPath, BadData};
 ghost use Rattle.zscript.specs.declared.limits.TheConstants.{MAX_EVENTS};
@@ -14,7 +14,7 @@ ghost use Rattle.zscript.specs.Line.{line_fault_text};
 ghost use Rattle.zscript.specs.support.Rows.{AreAnswered};
 
 /// Events that aren't enabled, failures and joins.
-#[tactic(auto, unfolding(crate::specs::Line::effect_of, crate::specs::Line::answer, crate::specs::Line::after, zlines::specs::Line::line_of, zmaster_table::specs::Table::join_fault))]
+#[tactic(auto, unfolding(crate::specs::Line::effect_of, crate::specs::Line::answer, crate::specs::Line::after, zlines::specs::Line::line_of, zprotocol::specs::master::Table::join_fault))]
 pub fn chain_lines()
     ensures own_link { AreAnswered ((codes "take s1 s1", codes "idle") ∷ []) }
     ensures no_server { AreAnswered ((codes "take s9 m", codes "bad line") ∷ []) }

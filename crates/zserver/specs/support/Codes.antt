@@ -6,7 +6,7 @@ use Rattle.zcalls.specs.declared.call.Entry.{Entry}
 use Rattle.zcalls.specs.contracts.call.Entry as entry
 use Rattle.zcalls.specs.Kept.{KeptState}
 use Rattle.zops.specs.support.Codes.{coded_service}
-use Rattle.zserver_table.specs.View.{Transfer, Neighbour}
+use Rattle.zprotocol.specs.server.View.{Transfer, Neighbour}
 use Rattle.zserver.specs.Server.{ServerState, TreeView}
 
 -- how what a Snapshot hands over is stored

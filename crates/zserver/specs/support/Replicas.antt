@@ -5,8 +5,8 @@ use Rattle.zcalls.specs.declared.call.Entry.{Entry}
 use Rattle.zcalls.specs.declared.reply.Reply.{Reply}
 use Rattle.zcalls.specs.Kept.{KeptState}
 use Rattle.zops.specs.Machine.{MachineView}
-use Rattle.zserver_table.specs.Machine.{kept_tree}
-use Rattle.zserver_table.specs.Table.{ServerResult, accept_result, has_room, if_initialised}
+use Rattle.zprotocol.specs.server.Machine.{kept_tree}
+use Rattle.zprotocol.specs.server.Table.{ServerResult, accept_result, has_room, if_initialised}
 use Rattle.zserver.specs.Server.{TreeView}
 
 -- the tree with kept replies that the machine stands for, where there is one

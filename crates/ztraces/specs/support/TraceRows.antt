@@ -2,12 +2,12 @@
 use Rattle.std.specs.Prelude.{ℕ, None, Some, List, [], ◌∷◌}
 use Rattle.zcalls.specs.declared.call.Call.{Call}
 use Rattle.zcalls.specs.declared.call.Call.TheVariants as call
-use Rattle.zserver_table.specs.declared.message.Message.TheVariants as message
-use Rattle.zserver_table.specs.declared.process.Process.{Process}
-use Rattle.zserver_table.specs.declared.process.Process.TheVariants.{Master, Server, Client}
-use Rattle.zserver_table.specs.View.{ServerView, MessageOf}
-use Rattle.zserver_table.specs.support.Rows.{counting_machine, number_reply, update, query}
-use Rattle.zclient_table.specs.View.{ClientView}
+use Rattle.zprotocol.specs.declared.message.Message.TheVariants as message
+use Rattle.zprotocol.specs.declared.process.Process.{Process}
+use Rattle.zprotocol.specs.declared.process.Process.TheVariants.{Master, Server, Client}
+use Rattle.zprotocol.specs.server.View.{ServerView, MessageOf}
+use Rattle.zprotocol.specs.server.support.Rows.{counting_machine, number_reply, update, query}
+use Rattle.zprotocol.specs.client.View.{ClientView}
 use Rattle.zworld_model.specs.declared.history.CallEvent.TheVariants as call_event
 use Rattle.zworld_model.specs.declared.outcome.Outcome.TheVariants.{Acted}
 use Rattle.zworld_model.specs.History.{History}

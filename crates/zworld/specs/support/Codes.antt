@@ -3,9 +3,9 @@ use Rattle.std.specs.Prelude.{Bool, Option, List, refl}
 use Rattle.std.specs.Coded.{Coded, code_by, coded×, coded_bool, coded_list, coded_option}
 use Rattle.ztree.specs.Tree.{Tree}
 use Rattle.zcalls.specs.Kept.{KeptState}
-use Rattle.zserver_table.specs.View.{MessageOf}
-use Rattle.zclient_table.specs.View.{ClientView}
-use Rattle.zmaster_table.specs.View.{MasterView}
+use Rattle.zprotocol.specs.server.View.{MessageOf}
+use Rattle.zprotocol.specs.client.View.{ClientView}
+use Rattle.zprotocol.specs.master.View.{MasterView}
 use Rattle.zclient.specs.contracts.client_core.ClientCore as client
 use Rattle.zmaster.specs.contracts.master.Master as master
 use Rattle.zlinks.specs.contracts.links.Links as links

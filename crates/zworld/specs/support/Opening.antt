@@ -1,7 +1,7 @@
 -- The members of an opening.
 use Rattle.std.specs.Prelude.{ℕ, false, Some}
-use Rattle.zserver_table.specs.Machine.{kept_tree}
-use Rattle.zserver_table.specs.View.{opening_server}
+use Rattle.zprotocol.specs.server.Machine.{kept_tree}
+use Rattle.zprotocol.specs.server.View.{opening_server}
 use Rattle.zworld.specs.Held.{MemberView}
 
 -- the server of this number, where the chain goes up to the first

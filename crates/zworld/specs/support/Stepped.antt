@@ -1,7 +1,7 @@
 -- What the processes do, by what they held before and hold after: an event is that of the definition, by what became of it, but
 -- for what failed servers held and what was put to them (Alike.antt of the world's model).
 use Rattle.std.specs.Prelude.{◌≡◌, ℕ, true, not, List, [], ◌++◌}
-use Rattle.zserver_table.specs.Machine.{kept_tree}
+use Rattle.zprotocol.specs.server.Machine.{kept_tree}
 use Rattle.zworld_model.specs.declared.event.Event.{Event}
 use Rattle.zworld_model.specs.declared.outcome.Outcome.{Outcome}
 use Rattle.zworld_model.specs.declared.settled.Settled.{Settled}

@@ -2,7 +2,7 @@
 -- beforehand. What it keeps is one fact: with what was learnt and whatever follows, the definition stands where the
 -- program stands, with what follows.
 use Rattle.std.specs.Prelude.{◌≡◌, Bool, true, false, ◌&&◌, nat_lt, List, [], ◌∷◌, ◌++◌, suc, ℕ}
-use Rattle.zserver_table.specs.Machine.{Does}
+use Rattle.zprotocol.specs.server.Machine.{Does}
 use Rattle.zworld_model.specs.declared.event.Event.{Event}
 use Rattle.zworld_model.specs.declared.outcome.Outcome.{Outcome}
 use Rattle.zworld_model.specs.World.{World}

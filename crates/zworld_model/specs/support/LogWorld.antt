@@ -4,8 +4,8 @@
 -- an object's state is what its history of updates makes of it.
 use Rattle.std.specs.Prelude.{◌≡◌, ℕ, List, map}
 use Rattle.zcalls.specs.declared.call.Entry.{Entry}
-use Rattle.zserver_table.specs.Machine.{kept_tree, log_of, replay}
-use Rattle.zserver_table.specs.support.Homomorphism.{message_with, view_with}
+use Rattle.zprotocol.specs.server.Machine.{kept_tree, log_of, replay}
+use Rattle.zprotocol.specs.server.support.Homomorphism.{message_with, view_with}
 use Rattle.zworld_model.specs.declared.event.Event.{Event}
 use Rattle.zworld_model.specs.World.{World, opening_world}
 use Rattle.zworld_model.specs.Events.{is_enabled, run}

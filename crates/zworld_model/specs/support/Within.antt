@@ -3,11 +3,11 @@ use Rattle.std.specs.Prelude.{◌≡◌, ℕ, Bool, true, false, nat_lt, Option,
 use Rattle.std.specs.List.{AllByRecursion}
 use Rattle.zcalls.specs.declared.call.Entry.{Entry}
 use Rattle.zcalls.specs.Lists.{Among}
-use Rattle.zserver_table.specs.declared.message.Message.TheVariants as message
-use Rattle.zserver_table.specs.declared.process.Process.{Process}
-use Rattle.zserver_table.specs.declared.process.Process.TheVariants.{Master, Server, Client}
-use Rattle.zserver_table.specs.View.{ServerView, Neighbour, MessageOf, Post}
-use Rattle.zclient_table.specs.View.{ClientView}
+use Rattle.zprotocol.specs.declared.message.Message.TheVariants as message
+use Rattle.zprotocol.specs.declared.process.Process.{Process}
+use Rattle.zprotocol.specs.declared.process.Process.TheVariants.{Master, Server, Client}
+use Rattle.zprotocol.specs.server.View.{ServerView, Neighbour, MessageOf, Post}
+use Rattle.zprotocol.specs.client.View.{ClientView}
 use Rattle.zworld_model.specs.Events.{is_server}
 use Rattle.zworld_model.specs.Links.{Links}
 use Rattle.zworld_model.specs.World.{World}

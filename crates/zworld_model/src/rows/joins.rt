@@ -1,9 +1,9 @@
 //! Worked runs in which a server joins.
 
 ghost use Rattle.std.specs.Prelude.{◌≡◌, [], ◌∷◌, None, Some, false, take};
-ghost use Rattle.zserver_table.specs.declared.message.Message.TheVariants as message;
-ghost use Rattle.zmaster_table.specs.declared.join_fault.JoinFault.TheVariants.{Joining, Lost};
-ghost use Rattle.zmaster_table.specs.Table.{join_fault};
+ghost use Rattle.zprotocol.specs.declared.message.Message.TheVariants as message;
+ghost use Rattle.zprotocol.specs.declared.master.join_fault.JoinFault.TheVariants.{Joining, Lost};
+ghost use Rattle.zprotocol.specs.master.Table.{join_fault};
 ghost use Rattle.zworld_model.specs.declared.event.Event.TheVariants.{Join};
 ghost use Rattle.zworld_model.specs.declared.history.CallEvent.TheVariants as saw;
 ghost use Rattle.zworld_model.specs.support.Counter.{create, exists, name_reply, count_reply};

@@ -1,7 +1,7 @@
 //! Worked runs in which a server fails.
 
 ghost use Rattle.std.specs.Prelude.{◌≡◌, [], ◌∷◌, ◌++◌, None, Some, take};
-ghost use Rattle.zserver_table.specs.declared.message.Message.TheVariants as message;
+ghost use Rattle.zprotocol.specs.declared.message.Message.TheVariants as message;
 ghost use Rattle.zworld_model.specs.declared.event.Event.TheVariants.{Take, Fail};
 ghost use Rattle.zworld_model.specs.declared.history.CallEvent.TheVariants as saw;
 ghost use Rattle.zworld_model.specs.support.Counter.{create, create_update, name_reply};

@@ -1,7 +1,7 @@
 //! Worked runs of a chain in which nobody fails.
 
 ghost use Rattle.std.specs.Prelude.{◌≡◌, [], ◌∷◌, ◌++◌, true, false, take};
-ghost use Rattle.zserver_table.specs.declared.message.Message.TheVariants as message;
+ghost use Rattle.zprotocol.specs.declared.message.Message.TheVariants as message;
 ghost use Rattle.zworld_model.specs.declared.event.Event.TheVariants.{Begin, Retry, Take, Ignore, Fail};
 ghost use Rattle.zworld_model.specs.declared.event.Event.TheVariants.{Join};
 ghost use Rattle.zworld_model.specs.declared.history.CallEvent.TheVariants as saw;

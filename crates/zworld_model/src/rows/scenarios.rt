@@ -1,8 +1,8 @@
 //! Worked scenarios of failures and joins.
 
 ghost use Rattle.std.specs.Prelude.{◌≡◌, [], ◌∷◌, Some};
-ghost use Rattle.zmaster_table.specs.declared.join_fault.JoinFault.TheVariants.{Used, NoChain};
-ghost use Rattle.zmaster_table.specs.Table.{join_fault};
+ghost use Rattle.zprotocol.specs.declared.master.join_fault.JoinFault.TheVariants.{Used, NoChain};
+ghost use Rattle.zprotocol.specs.master.Table.{join_fault};
 ghost use Rattle.zworld_model.specs.declared.history.CallEvent.TheVariants.{Begin, Answer};
 ghost use Rattle.zworld_model.specs.support.Counter.{create, exists, name_reply, count_reply};
 ghost use Rattle.zworld_model.specs.support.ScenarioRows.{scenes_end, two_fail, both_middle_servers_fail};

@@ -1,8 +1,8 @@
 //! Worked runs of settling and of readings.
 
 ghost use Rattle.std.specs.Prelude.{◌≡◌, true, false, [], ◌∷◌, ◌++◌, Some, take};
-ghost use Rattle.zmaster_table.specs.declared.join_fault.JoinFault.TheVariants.{Lost};
-ghost use Rattle.zmaster_table.specs.Table.{join_fault};
+ghost use Rattle.zprotocol.specs.declared.master.join_fault.JoinFault.TheVariants.{Lost};
+ghost use Rattle.zprotocol.specs.master.Table.{join_fault};
 ghost use Rattle.zworld_model.specs.declared.event.Event.TheVariants.{Begin, Retry, Take, Ignore, Fail};
 ghost use Rattle.zworld_model.specs.declared.history.CallEvent.TheVariants as saw;
 ghost use Rattle.zworld_model.specs.declared.settled.Settled.TheVariants.{Quiet, Limit};

@@ -1,14 +1,14 @@
 use Rattle.std.proofs.Common.{◌≡◌, ◌<◌, ◌+◌, ◌∷◌, ◌++◌, [], List, None, sym, ◌∙◌, subst, ap, option_to_list}
 use Rattle.ztree.specs.Tree.{Tree}
 use Rattle.zcalls.specs.Kept.{KeptState}
-use Rattle.zserver_table.specs.View.{Transfer}
+use Rattle.zprotocol.specs.server.View.{Transfer}
 use Rattle.zworld_model.specs.declared.history.CallEvent.{CallEvent}
 use Rattle.ztraces.specs.declared.trace.Act.{Act}
 use Rattle.ztraces.specs.declared.trace.Act.TheVariants.{Began}
 use Rattle.zworld_model.specs.declared.history.CallEvent.TheVariants as call_event
 use Rattle.ztraces.specs.Deeds.{AtClient}
-use Rattle.zclient_table.specs.View.{ClientView}
-use Rattle.zclient_table.specs.Table.{begin_step}
+use Rattle.zprotocol.specs.client.View.{ClientView}
+use Rattle.zprotocol.specs.client.Table.{begin_step}
 use Rattle.zdesks.specs.Desks.{Stands, IsEvent, pending, TreePost}
 use Rattle.zdesks.proofs.Pending.{pending_none}
 use Rattle.ztraces.specs.declared.stamp.TheConstants.{MAX_STAMP}

@@ -1,6 +1,6 @@
 use Rattle.std.proofs.Common.{◌≡◌, ◌<◌, ◌++◌, [], List, refl, sym, ◌∙◌, subst, ap, option_to_list}
 use Rattle.ztraces.specs.Deeds.{AtClient}
-use Rattle.zclient_table.specs.Table.{retry_posts}
+use Rattle.zprotocol.specs.client.Table.{retry_posts}
 use Rattle.zdesks.specs.Desks.{Stands, pending, TreePost}
 use Rattle.zdesks.proofs.Pending.{pending_none}
 use Rattle.ztraces.specs.declared.stamp.TheConstants.{MAX_STAMP}

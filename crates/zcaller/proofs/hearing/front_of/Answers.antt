@@ -1,5 +1,5 @@
 use Rattle.std.proofs.Common.{Option, subst}
-use Rattle.zserver_table.specs.declared.process.Process.{Process}
+use Rattle.zprotocol.specs.declared.process.Process.{Process}
 use Rattle.zdesks.specs.Desks.{Stands, TreeStamped}
 use Rattle.zcaller.proofs.hearing.front_of.Goals as goal
 

@@ -3,8 +3,8 @@ use Rattle.std.specs.Option.{option_map}
 use Rattle.zcalls.specs.declared.reply.Reply.{Reply}
 use Rattle.ztraces.specs.declared.trace.Act.{Act}
 use Rattle.ztraces.specs.Deeds.{AtClient, answer_told}
-use Rattle.zclient_table.specs.View.{ClientView}
-use Rattle.zclient_table.specs.Table.{client_step}
+use Rattle.zprotocol.specs.client.View.{ClientView}
+use Rattle.zprotocol.specs.client.Table.{client_step}
 use Rattle.zdesks.specs.Desks.{Stands, IsEvent, pending, TreePost}
 use Rattle.zdesks.proofs.Pending.{pending_none}
 use Rattle.ztraces.specs.declared.stamp.TheConstants.{MAX_STAMP}

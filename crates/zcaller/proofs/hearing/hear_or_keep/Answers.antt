@@ -1,6 +1,6 @@
 use Rattle.std.proofs.Common.{[], List, Option, Some, sym, ◌∙◌, subst, ap, refl, inl, inr}
-use Rattle.zserver_table.specs.declared.process.Process.{Process}
-use Rattle.zclient_table.specs.View.{ClientView}
+use Rattle.zprotocol.specs.declared.process.Process.{Process}
+use Rattle.zprotocol.specs.client.View.{ClientView}
 use Rattle.ztraces.specs.Deeds.{AtClient}
 use Rattle.zdesks.specs.Desks.{Stands, pending, TreePost, TreeStamped}
 use Rattle.zcaller.proofs.hearing.hear_or_keep.Goals as goal

@@ -1,9 +1,9 @@
 use Rattle.std.proofs.Common.{◌≡◌, ◌-◌, ◌<◌, length, ℕ, refl, sym, ap, ◌∙◌, arith, get_or, List}
 use Rattle.std.proofs.Math.ListN.{length-set}
 use Rattle.std.specs.Prelude.{slice_set}
-use Rattle.zserver_table.specs.View.{Neighbour}
-use Rattle.zmaster_table.specs.Table.{MendedChain}
-use Rattle.zout.proofs.Posts.{put_one}
+use Rattle.zprotocol.specs.server.View.{Neighbour}
+use Rattle.zprotocol.specs.master.Table.{MendedChain}
+use Rattle.zprotocol.proofs.Posts.{put_one}
 use Rattle.zmaster.proofs.Mending.{mended_end, mended_between, refilled}
 use Rattle.zmaster.proofs.chain.mend.Goals as goal
 

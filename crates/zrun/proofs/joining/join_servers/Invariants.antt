@@ -1,6 +1,6 @@
 use Rattle.std.proofs.Common.{◌≡◌, ◌+◌, ◌≤◌, ◌++◌, length, map}
 use Rattle.std.specs.Vec.{vec_capacity}
-use Rattle.zserver_table.specs.declared.limits.TheConstants.{MAX_SERVERS}
+use Rattle.zprotocol.specs.declared.limits.TheConstants.{MAX_SERVERS}
 use Rattle.zrun.specs.Handles.{given_server}
 use Rattle.zrun.specs.Runs.{AreLeftBy}
 use Rattle.zrun.proofs.joining.join_servers.Given as goal

@@ -1,5 +1,5 @@
 use Rattle.std.proofs.Common.{◌≡◌, take}
-use Rattle.zserver_table.specs.Table.{entries_above}
+use Rattle.zprotocol.specs.server.Table.{entries_above}
 use Rattle.zserver.proofs.sent.copies_above.Given as goal
 
 abbrev pub invariant-loop-e : goal.invariant-loop-e

@@ -1,5 +1,5 @@
 use Rattle.std.proofs.Common.{◌≡◌, ◌≤◌, ◌++◌, length, map}
-use Rattle.zserver_table.specs.Table.{forward_post}
+use Rattle.zprotocol.specs.server.Table.{forward_post}
 use Rattle.zserver.proofs.sent.put_all.Given as goal
 
 abbrev pub invariant-loop-number : goal.invariant-loop-number

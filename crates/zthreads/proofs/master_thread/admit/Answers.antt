@@ -1,9 +1,9 @@
 use Rattle.std.proofs.Common.{◌≡◌, ◌<◌, ◌≤◌, ◌++◌, [], List, None, sym, ◌∙◌, subst, ap}
 use Rattle.ztraces.specs.Deeds.{AtMaster}
-use Rattle.zserver_table.specs.declared.limits.TheConstants.{MAX_SERVERS}
-use Rattle.zmaster_table.specs.View.{MasterView}
-use Rattle.zmaster_table.specs.Table.{join_step}
-use Rattle.zserver_table.specs.View.{Transfer}
+use Rattle.zprotocol.specs.declared.limits.TheConstants.{MAX_SERVERS}
+use Rattle.zprotocol.specs.master.View.{MasterView}
+use Rattle.zprotocol.specs.master.Table.{join_step}
+use Rattle.zprotocol.specs.server.View.{Transfer}
 use Rattle.ztree.specs.Tree.{Tree}
 use Rattle.zcalls.specs.Kept.{KeptState}
 use Rattle.zdesks.specs.Desks.{Stands, pending, TreePost}

@@ -1,8 +1,8 @@
 use Rattle.std.proofs.Common.{◌≡◌, ◌++◌, [], List, Some, None, sym, ◌∙◌, subst, ap, max}
 use Rattle.ztraces.specs.declared.trace.Act.{Act}
 use Rattle.ztraces.specs.Deeds.{AtMaster}
-use Rattle.zmaster_table.specs.View.{MasterView}
-use Rattle.zmaster_table.specs.Table.{master_step}
+use Rattle.zprotocol.specs.master.View.{MasterView}
+use Rattle.zprotocol.specs.master.Table.{master_step}
 use Rattle.zdesks.specs.Desks.{Stands, IsEvent, pending, TreePost}
 use Rattle.zdesks.proofs.Pending.{pending_none, is_next}
 use Rattle.zthreads.proofs.Rows.{master_takes}

@@ -1,6 +1,6 @@
 use Rattle.std.proofs.Common.{refl, sym}
 use mathlib.Core.Bool.{true≢false}
-use Rattle.zserver_table.specs.Table.{server_step, query_row}
+use Rattle.zprotocol.specs.server.Table.{server_step, query_row}
 use Rattle.ztraces.specs.Deeds.{ServerIgnores, ServerStops, ServerHalts}
 use Rattle.ztraces.specs.support.TraceRows.{c0, server_with, request, asked}
 use Rattle.ztraces.proofs.worked.servers_end_by_their_rows.Goals as goal

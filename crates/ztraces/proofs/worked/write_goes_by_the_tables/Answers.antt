@@ -2,7 +2,7 @@ use Rattle.std.proofs.Common.{refl, arith}
 use Rattle.zworld_model.proofs.Tables.{all_tables}
 use Rattle.ztraces.specs.Deeds.{ServerTakes, ClientTakes, ClientBegins}
 use Rattle.ztraces.specs.support.TraceRows.{s1, c0, write, waiting_client, server_with, request, answer}
-use Rattle.zclient_table.specs.View.{opening_client}
+use Rattle.zprotocol.specs.client.View.{opening_client}
 use Rattle.ztraces.proofs.worked.write_goes_by_the_tables.Goals as goal
 
 pub returns-clause-client : goal.returns-clause-client

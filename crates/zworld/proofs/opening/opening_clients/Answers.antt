@@ -1,6 +1,6 @@
 use Rattle.std.proofs.Common.{sym, arith}
 use Rattle.std.proofs.lemmas.List.FromFn.{map-range_with_len_more}
-use Rattle.zclient_table.specs.View.{opening_client}
+use Rattle.zprotocol.specs.client.View.{opening_client}
 use Rattle.zworld.proofs.opening.opening_clients.Goals as goal
 
 pub loop-number-preserved : goal.loop-number-preserved

@@ -1,6 +1,6 @@
 use Rattle.std.proofs.Common.{◌≡◌, map}
 use Rattle.std.specs.List.{range_with_len}
-use Rattle.zclient_table.specs.View.{opening_client}
+use Rattle.zprotocol.specs.client.View.{opening_client}
 use Rattle.zworld.proofs.opening.opening_clients.Given as goal
 
 abbrev pub invariant-loop-number : goal.invariant-loop-number

@@ -1,5 +1,5 @@
 use Rattle.std.proofs.Common.{◌≡◌, false, length}
-use Rattle.zserver_table.specs.declared.process.Process.{Process}
+use Rattle.zprotocol.specs.declared.process.Process.{Process}
 use Rattle.zlinks.specs.Places.{links_of}
 use Rattle.zworld_model.specs.Links.{put}
 use Rattle.zworld.specs.support.Posting.{is_lost}

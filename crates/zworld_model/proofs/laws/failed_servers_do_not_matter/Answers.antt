@@ -1,4 +1,4 @@
-use Rattle.zserver_table.specs.Machine.{kept_tree}
+use Rattle.zprotocol.specs.server.Machine.{kept_tree}
 use Rattle.zworld_model.proofs.Alike.{have_the_same_enabled, stay_alike, read_alike, outcomes_alike, alike_itself, alike_through}
 use Rattle.zworld_model.proofs.laws.failed_servers_do_not_matter.Goals as goal
 

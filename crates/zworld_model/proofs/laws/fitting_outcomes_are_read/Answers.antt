@@ -1,4 +1,4 @@
-use Rattle.zserver_table.specs.Machine.{kept_tree}
+use Rattle.zprotocol.specs.server.Machine.{kept_tree}
 use Rattle.zworld_model.proofs.Fitting.{fitting_is_read}
 use Rattle.zworld_model.proofs.laws.fitting_outcomes_are_read.Goals as goal
 

@@ -1,5 +1,5 @@
-use Rattle.zserver_table.specs.Machine.{kept_tree, replay}
-use Rattle.zserver_table.proofs.Projection.{log_stands_for_machine}
+use Rattle.zprotocol.specs.server.Machine.{kept_tree, replay}
+use Rattle.zprotocol.proofs.server_lemmas.Projection.{log_stands_for_machine}
 use Rattle.zworld_model.proofs.LogWorlds.{enabled_with, runs_with}
 use Rattle.zworld_model.proofs.laws.log_world_stands_for_the_world.Goals as goal
 

@@ -1,4 +1,4 @@
-use Rattle.zserver_table.specs.Machine.{kept_tree}
+use Rattle.zprotocol.specs.server.Machine.{kept_tree}
 use Rattle.zworld_model.proofs.Learning.{done_is_learnt, idle_is_passed, pass_begins, passes_end, reading_is_learnt}
 use Rattle.zworld_model.proofs.laws.outcomes_are_learnt.Goals as goal
 

@@ -1,4 +1,4 @@
-use Rattle.zserver_table.specs.Machine.{kept_tree}
+use Rattle.zprotocol.specs.server.Machine.{kept_tree}
 use Rattle.zworld_model.proofs.Settling.{settling_is_a_run, settling_keeps_its_limit, quiet_has_nothing_to_take}
 use Rattle.zworld_model.proofs.laws.settling_is_a_run.Goals as goal
 

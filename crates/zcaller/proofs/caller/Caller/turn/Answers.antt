@@ -1,5 +1,5 @@
 use Rattle.std.proofs.Common.{[], List, Option, None, sym, ◌∙◌, subst}
-use Rattle.zserver_table.specs.declared.process.Process.{Process}
+use Rattle.zprotocol.specs.declared.process.Process.{Process}
 use Rattle.ztraces.specs.Deeds.{AtClient}
 use Rattle.zdesks.specs.Desks.{Stands, IsSettled, pending, TreePost, TreeStamped}
 use Rattle.zdesks.proofs.Pending.{nothing_waits, pending_same}

@@ -1,5 +1,5 @@
 use Rattle.std.proofs.Common.{rules}
-use Rattle.zclient_table.specs.Table.{answer_row}
+use Rattle.zprotocol.specs.client.Table.{answer_row}
 use Rattle.zclient.proofs.client_core.ClientCore.answer.Goals as goal
 
 pub returns-clause-next : goal.returns-clause-next

@@ -1,5 +1,5 @@
 use Rattle.std.proofs.Common.{rules}
-use Rattle.zclient_table.specs.Table.{config_row}
+use Rattle.zprotocol.specs.client.Table.{config_row}
 use Rattle.zclient.proofs.client_core.ClientCore.config.Goals as goal
 
 pub returns-in_err-send-clause-later : goal.returns-in_err-send-clause-later

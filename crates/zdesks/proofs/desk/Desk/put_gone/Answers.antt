@@ -1,7 +1,7 @@
 use mathlib.Core.Logic.{∥∥₁_map}
 use Rattle.std.proofs.Common.{◌<◌, [], refl, length, arith}
-use Rattle.zserver_table.specs.declared.message.Message.TheVariants as message
-use Rattle.zserver_table.specs.declared.process.Process.TheVariants.{Master}
+use Rattle.zprotocol.specs.declared.message.Message.TheVariants as message
+use Rattle.zprotocol.specs.declared.process.Process.TheVariants.{Master}
 use Rattle.zdesks.specs.Desks.{self_of, books_of}
 use Rattle.atomic_table.proofs.Lists.{at_index}
 use Rattle.zdesks.proofs.Wires.{out_more}

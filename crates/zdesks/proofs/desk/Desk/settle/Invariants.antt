@@ -1,5 +1,5 @@
 use Rattle.std.proofs.Common.{length, Option}
-use Rattle.zserver_table.specs.declared.process.Process.{Process}
+use Rattle.zprotocol.specs.declared.process.Process.{Process}
 use Rattle.zdesks.specs.Desks.{IsSettled, SameBooks, SameDesk, Stands, TreeStanding, TreeStamped, pending}
 use Rattle.zdesks.proofs.desk.Desk.settle.Given as goal
 

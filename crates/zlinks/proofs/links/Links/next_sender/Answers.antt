@@ -3,7 +3,7 @@ use Rattle.std.proofs.Math.Nat.{eq-or-lt_of_le}
 use Rattle.std.proofs.lemmas.List.{get_or_default}
 use Rattle.std.specs.Prelude.{not}
 use Rattle.std.specs.List.{list_any}
-use Rattle.zserver_table.specs.declared.process.Process.{Process}
+use Rattle.zprotocol.specs.declared.process.Process.{Process}
 use Rattle.zlinks.specs.Places.{place_of, holds, is_silent}
 use Rattle.zlinks.proofs.Rows.{fails_at}
 use Rattle.zlinks.proofs.links.Links.next_sender.Goals as goal

@@ -1,5 +1,5 @@
 use Rattle.std.proofs.Common.{◌≡◌, ◌<◌, ◌≤◌, true}
-use Rattle.zserver_table.specs.declared.process.Process.{Process}
+use Rattle.zprotocol.specs.declared.process.Process.{Process}
 use Rattle.zlinks.specs.Places.{place_of, is_silent}
 use Rattle.zlinks.proofs.links.Links.next_sender.Given as goal
 

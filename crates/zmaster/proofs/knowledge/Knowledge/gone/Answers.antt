@@ -1,7 +1,7 @@
 use Rattle.std.proofs.Common.{◌≡◌, ◌==◌, ap, sym, ◌∙◌, refl, true, false, Option, Some, None, List, ℕ, arith}
 use Rattle.std.specs.List.{position}
-use Rattle.zserver_table.specs.View.{Neighbour}
-use Rattle.zout.proofs.Posts.{put_none, put_more}
+use Rattle.zprotocol.specs.server.View.{Neighbour}
+use Rattle.zprotocol.proofs.Posts.{put_none, put_more}
 use Rattle.zmaster.specs.support.Mending.{joins}
 use Rattle.zmaster.specs.contracts.knowledge.Knowledge.{the_view}
 use Rattle.zmaster.proofs.Mending.{place_found, place_missing}

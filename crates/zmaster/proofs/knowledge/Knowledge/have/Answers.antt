@@ -1,8 +1,8 @@
 use Rattle.std.proofs.Common.{◌≡◌, ap, sym, ◌∙◌, refl, Option, None, Some, List, ℕ}
-use Rattle.zserver_table.specs.View.{Neighbour}
-use Rattle.zmaster_table.specs.View.{MasterView}
-use Rattle.zmaster_table.specs.Table.{before}
-use Rattle.zout.proofs.Posts.{put_none, put_one}
+use Rattle.zprotocol.specs.server.View.{Neighbour}
+use Rattle.zprotocol.specs.master.View.{MasterView}
+use Rattle.zprotocol.specs.master.Table.{before}
+use Rattle.zprotocol.proofs.Posts.{put_none, put_one}
 use Rattle.zmaster.proofs.Rows.{have_none, have_some}
 use Rattle.zmaster.proofs.knowledge.Knowledge.have.Goals as goal
 

@@ -1,8 +1,8 @@
 use Rattle.std.proofs.Common.{◌≡◌, ap, sym, ◌∙◌, refl, Option, Some, None, List, ℕ, arith, length, map, lit<}
 use Rattle.std.specs.List.{last_or}
-use Rattle.zserver_table.specs.View.{Neighbour}
-use Rattle.zmaster_table.specs.View.{with_number}
-use Rattle.zout.proofs.Posts.{put_none, put_one}
+use Rattle.zprotocol.specs.server.View.{Neighbour}
+use Rattle.zprotocol.specs.master.View.{with_number}
+use Rattle.zprotocol.proofs.Posts.{put_none, put_one}
 use Rattle.zmaster.specs.support.Marks.{numbers_from}
 use Rattle.zmaster.specs.contracts.knowledge.Knowledge.{the_view}
 use Rattle.zmaster.proofs.Marks.{few_numbers}

@@ -1,5 +1,5 @@
 use Rattle.std.proofs.Common.{◌≡◌, ap, sym, ◌∙◌, refl, true, false}
-use Rattle.zmaster_table.specs.View.{is_among}
+use Rattle.zprotocol.specs.master.View.{is_among}
 use Rattle.zmaster.specs.support.Marks.{numbers_from}
 use Rattle.zmaster.specs.support.Mending.{chain_fault}
 use Rattle.zmaster.specs.contracts.knowledge.Knowledge.{the_view}

@@ -1,5 +1,5 @@
 use Rattle.std.proofs.Common.{◌≡◌, sym, ◌∙◌, refl, true, false}
-use Rattle.zout.proofs.Posts.{put_none}
+use Rattle.zprotocol.proofs.Posts.{put_none}
 use Rattle.zmaster.specs.support.Mending.{joins}
 use Rattle.zmaster.specs.contracts.knowledge.Knowledge.{the_view}
 use Rattle.zmaster.proofs.Rows.{joined_none, joined_some}

@@ -1,7 +1,7 @@
 use Rattle.std.proofs.Common.{◌≡◌, ◌+◌, ◌-◌, ap, sym, ◌∙◌, arith, length, lit<, suc, ℕ}
 use Rattle.std.specs.List.{range_with_len}
 use Rattle.std.proofs.lemmas.List.FromFn.{length-map-range_with_len, map-range_with_len_more}
-use Rattle.zserver_table.specs.View.{Neighbour}
+use Rattle.zprotocol.specs.server.View.{Neighbour}
 use Rattle.zmaster.proofs.Marks.{number_behind}
 use Rattle.zmaster.proofs.knowledge.Knowledge.new.Goals as goal
 

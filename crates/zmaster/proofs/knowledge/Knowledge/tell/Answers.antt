@@ -1,6 +1,6 @@
 use Rattle.std.proofs.Common.{ap, arith}
-use Rattle.zmaster_table.specs.View.{MasterView}
-use Rattle.zout.proofs.Posts.{put_one, put_more}
+use Rattle.zprotocol.specs.master.View.{MasterView}
+use Rattle.zprotocol.proofs.Posts.{put_one, put_more}
 use Rattle.zmaster.proofs.Rows.{config_count, config_more}
 use Rattle.zmaster.proofs.knowledge.Knowledge.tell.Goals as goal
 

@@ -1,4 +1,4 @@
-use Rattle.zout.specs.Posts.{PutsInRoom}
+use Rattle.zprotocol.specs.Posts.{PutsInRoom}
 use Rattle.zmaster.specs.support.Telling.{config_posts_to}
 use Rattle.zmaster.proofs.knowledge.Knowledge.tell.Given as goal
 

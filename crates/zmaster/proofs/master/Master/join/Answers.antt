@@ -1,10 +1,10 @@
 use Rattle.std.proofs.Common.{◌≡◌, ◌+◌, ◌≤◌, sym, subst, ◌∙◌, arith, length, Option, None}
-use Rattle.zmaster_table.specs.declared.join_fault.JoinFault.{JoinFault}
-use Rattle.zmaster_table.specs.View.{MasterView, with_number}
-use Rattle.zmaster_table.specs.Table.{join_fault}
-use Rattle.zmaster_table.specs.Laws.{IsBounded}
-use Rattle.zmaster_table.proofs.Bounds.{joins_keep}
-use Rattle.zmaster_table.proofs.Numbers.{one_more}
+use Rattle.zprotocol.specs.declared.master.join_fault.JoinFault.{JoinFault}
+use Rattle.zprotocol.specs.master.View.{MasterView, with_number}
+use Rattle.zprotocol.specs.master.Table.{join_fault}
+use Rattle.zprotocol.specs.master.Laws.{IsBounded}
+use Rattle.zprotocol.proofs.master_lemmas.Bounds.{joins_keep}
+use Rattle.zprotocol.proofs.master_lemmas.Numbers.{one_more}
 use Rattle.zmaster.proofs.Rows.{free_is_new}
 use Rattle.zmaster.proofs.master.Master.join.Goals as goal
 

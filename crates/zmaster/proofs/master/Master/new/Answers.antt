@@ -1,7 +1,7 @@
 use Rattle.std.proofs.Common.{sym, subst}
-use Rattle.zmaster_table.specs.View.{MasterView}
-use Rattle.zmaster_table.specs.Laws.{IsBounded}
-use Rattle.zmaster_table.proofs.Bounds.{opening_is_bounded}
+use Rattle.zprotocol.specs.master.View.{MasterView}
+use Rattle.zprotocol.specs.master.Laws.{IsBounded}
+use Rattle.zprotocol.proofs.master_lemmas.Bounds.{opening_is_bounded}
 use Rattle.zmaster.proofs.master.Master.new.Goals as goal
 
 pub invariant_of-result : goal.invariant_of-result

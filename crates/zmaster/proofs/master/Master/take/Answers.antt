@@ -1,7 +1,7 @@
 use Rattle.std.proofs.Common.{sym, subst}
-use Rattle.zmaster_table.specs.View.{MasterView}
-use Rattle.zmaster_table.specs.Laws.{IsBounded}
-use Rattle.zmaster_table.proofs.Bounds.{messages_keep}
+use Rattle.zprotocol.specs.master.View.{MasterView}
+use Rattle.zprotocol.specs.master.Laws.{IsBounded}
+use Rattle.zprotocol.proofs.master_lemmas.Bounds.{messages_keep}
 use Rattle.zmaster.proofs.master.Master.take.Goals as goal
 
 pub invariant_of-self : goal.invariant_of-self

@@ -7,7 +7,7 @@ use Rattle.zslots.specs.declared.id.Id.{Id}
 use Rattle.zslots.specs.declared.limits.TheConstants.{MAX_LENGTH}
 use Rattle.zslots.specs.SlotsView.{SlotsView, Items}
 use Rattle.zslots.proofs.Items.{some_there}
-use Rattle.zindex.specs.IndexView.{IdsByPath}
+use Rattle.znodes.specs.index.IndexView.{IdsByPath}
 use Rattle.ztree.specs.Tree.{parent_of}
 use Rattle.ztree.proofs.Maps.{same_some, none_some}
 use Rattle.znodes.specs.declared.row.Row.{Row}

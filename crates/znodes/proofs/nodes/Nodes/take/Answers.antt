@@ -3,7 +3,7 @@ use mathlib.Core.Path.{subst}
 use Rattle.std.specs.Option.{option_copied, option_and_then}
 use Rattle.std.specs.FinMap.{get, insert, remove}
 use Rattle.zslots.specs.SlotsView.{SlotsView, Items}
-use Rattle.zindex.specs.IndexView.{IdsByPath}
+use Rattle.znodes.specs.index.IndexView.{IdsByPath}
 use Rattle.std.specs.Prelude.{Vec}
 use Rattle.std.specs.Global.{Global}
 use Rattle.znodes.specs.support.KeyNames.{names_of}

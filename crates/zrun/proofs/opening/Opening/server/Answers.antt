@@ -1,5 +1,5 @@
 use Rattle.std.proofs.Common.{◌<◌, ◌≤◌, sym, ap, ◌∙◌, subst}
-use Rattle.zserver_table.specs.declared.limits.TheConstants.{MAX_SERVERS}
+use Rattle.zprotocol.specs.declared.limits.TheConstants.{MAX_SERVERS}
 use Rattle.ztraces.specs.Deeds.{AtServer}
 use Rattle.zdesks.specs.Desks.{IsAt, TreeStanding}
 use Rattle.zthreads.proofs.Rows.{server_is}

@@ -1,5 +1,5 @@
 use Rattle.std.proofs.Common.{ap, ◌∙◌, ◌∷◌, ◌++◌, []}
-use Rattle.zserver_table.specs.Table.{forward_post}
+use Rattle.zprotocol.specs.server.Table.{forward_post}
 use Rattle.zserver.specs.Server.{TreeView}
 use Rattle.zserver.proofs.Accepting.{accepted_succ, forward_puts}
 use Rattle.zserver.proofs.replica.Replica.forward.Goals as goal

@@ -1,5 +1,5 @@
 use Rattle.std.proofs.Common.{rules}
-use Rattle.zserver_table.specs.Table.{new_succ_row}
+use Rattle.zprotocol.specs.server.Table.{new_succ_row}
 use Rattle.zserver.proofs.replica.Replica.new_succ.Goals as goal
 
 pub returns-clause-next : goal.returns-clause-next

@@ -1,5 +1,5 @@
 use Rattle.std.proofs.Common.{ap, ◌∙◌, ◌++◌}
-use Rattle.zserver_table.specs.Table.{ack_posts, answer_posts}
+use Rattle.zprotocol.specs.server.Table.{ack_posts, answer_posts}
 use Rattle.zserver.specs.Server.{TreeView}
 use Rattle.zserver.proofs.Accepting.{next_fits, applied_pred, process_row, puts_both}
 use Rattle.zserver.proofs.replica.Replica.process.Goals as goal

@@ -1,5 +1,5 @@
 use Rattle.std.proofs.Common.{rules}
-use Rattle.zserver_table.specs.Table.{snapshot_row}
+use Rattle.zprotocol.specs.server.Table.{snapshot_row}
 use Rattle.zserver.proofs.replica.Replica.snapshot.Goals as goal
 
 pub returns-clause-next : goal.returns-clause-next

@@ -1,5 +1,5 @@
 use Rattle.std.proofs.Common.{◌≡◌, ◌<◌, List, length, get_or, ◌∙◌, ap, subst, arith}
-use Rattle.zserver_table.specs.declared.process.Process.TheVariants.{Client}
+use Rattle.zprotocol.specs.declared.process.Process.TheVariants.{Client}
 use Rattle.zworld.specs.Held.{MemberView}
 use Rattle.zworld.specs.support.Posting.{IsPosted}
 use Rattle.zworld.specs.support.Fronts.{answers_of}

@@ -1,11 +1,11 @@
 use Rattle.std.proofs.Common.{◌≤◌, ◌++◌, ℕ, List, [], ap, get_or, map, subst, ◌∙◌}
 use Rattle.std.specs.List.{range_with_len}
 use mathlib.Core.Path.{fun_ext}
-use Rattle.zserver_table.specs.declared.limits.TheConstants.{MAX_SERVERS}
+use Rattle.zprotocol.specs.declared.limits.TheConstants.{MAX_SERVERS}
 use Rattle.ztree.specs.Tree.{Tree}
 use Rattle.zcalls.specs.Kept.{KeptState}
-use Rattle.zserver_table.specs.View.{MessageOf}
-use Rattle.zclient_table.specs.View.{ClientView}
+use Rattle.zprotocol.specs.server.View.{MessageOf}
+use Rattle.zprotocol.specs.client.View.{ClientView}
 use Rattle.zworld.specs.Held.{MemberView, is_gone, last_words, member_at, nobody, view_of}
 use Rattle.zworld.specs.support.Opening.{opening_member}
 use Rattle.zworld.proofs.OpeningViews.{opening_member_at, opening_client_at, no_words}

@@ -1,5 +1,5 @@
 use Rattle.std.proofs.Common.{◌-◌}
-use Rattle.zserver_table.specs.Machine.{kept_tree}
+use Rattle.zprotocol.specs.server.Machine.{kept_tree}
 use Rattle.zworld_model.specs.Settle.{deliveries, passes}
 use Rattle.zworld.specs.support.Settling.{GoesOn}
 use Rattle.zworld.proofs.processes.Processes.passes.Given as goal

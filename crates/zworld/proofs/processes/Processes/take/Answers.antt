@@ -1,6 +1,6 @@
 use Rattle.std.proofs.Common.{◌≡◌, true, false, Some, List, [], ◌++◌, sym, subst, append-nil}
-use Rattle.zserver_table.specs.declared.process.Process.{Process}
-use Rattle.zserver_table.specs.declared.process.Process.TheVariants.{Master, Client}
+use Rattle.zprotocol.specs.declared.process.Process.{Process}
+use Rattle.zprotocol.specs.declared.process.Process.TheVariants.{Master, Client}
 use Rattle.zworld_model.specs.History.{History}
 use Rattle.zworld.specs.declared.did.Did.TheVariants.{Done}
 use Rattle.zworld.specs.support.Fronts.{HasPopped, IsGiven, IsGivenToServer}

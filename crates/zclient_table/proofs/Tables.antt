@@ -1,8 +1,0 @@
--- What worked rows open: every row of the client table.
-use Rattle.std.specs.Prelude.{ℕ}
-use Rattle.zclient_table.specs.Table.{client_step, answer_row, config_row, begin_step, begin_fault, retry_posts}
-
--- the client table
-unfoldable pub client_table : ℕ
-unfolding client_step answer_row config_row begin_step begin_fault retry_posts
-client_table = 0

@@ -1,9 +1,0 @@
-use Rattle.std.proofs.Common.{sym, ap, ◌∙◌}
-use Rattle.std.specs.FinMap as finite
-use Rattle.zindex.proofs.Finds.{len-ids}
-use Rattle.zindex.proofs.index.Index.len.Goals as goal
-
-pub returns : goal.returns
-returns c =
-    c.len.ensures.len ∙ sym (len-ids c.self.inside.ids.entries c.len.ensures.unique)
-    ∙ ap (λ v. finite.len v.ids) c.self.view_is

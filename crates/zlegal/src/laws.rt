@@ -1,8 +1,0 @@
-//! The laws.
-
-ghost use Rattle.zlegal.specs.Laws.{ItemsExplain};
-
-/// A list of items that goes with a history and a committed log makes a legal order of the history.
-pub fn items_explain()
-    ensures { ItemsExplain }
-{}

@@ -1,5 +1,0 @@
-//! Tests of the links.
-#![tactic(auto)]
-
-#[cfg(test)]
-mod links;

@@ -1,0 +1,12 @@
+use Rattle.std.proofs.Common.{ap, ◌∙◌}
+use Rattle.std.specs.FinMap as finite
+use Rattle.znodes.proofs.index_lemmas.Changes.{ids-inserted}
+use Rattle.znodes.proofs.index.Index.insert.Goals as goal
+
+pub returns-clause-ids : goal.returns-clause-ids
+returns-clause-ids c =
+    let names = c.args.names.items in
+    let updates = c.in-Ok.ensures.updates in
+    ids-inserted names c.args.id c.self.inside.ids.entries c.insert.new.self.entries
+    (record { here = updates.1; elsewhere = updates.3 })
+    ∙ ap (λ v. finite.insert v.ids names c.args.id) c.self.view_is

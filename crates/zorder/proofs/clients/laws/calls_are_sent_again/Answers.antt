@@ -1,0 +1,5 @@
+use Rattle.zorder.proofs.clients_lemmas.Events.{calls_are_sent_again}
+use Rattle.zorder.proofs.clients.laws.calls_are_sent_again.Goals as goal
+
+pub returns : goal.returns
+returns c = calls_are_sent_again

@@ -1,0 +1,5 @@
+use Rattle.zorder.proofs.clients_lemmas.Events.{calls_begin}
+use Rattle.zorder.proofs.clients.laws.calls_begin.Goals as goal
+
+pub returns : goal.returns
+returns c = calls_begin

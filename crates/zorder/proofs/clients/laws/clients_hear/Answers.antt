@@ -1,0 +1,5 @@
+use Rattle.zorder.proofs.clients_lemmas.Events.{clients_hear}
+use Rattle.zorder.proofs.clients.laws.clients_hear.Goals as goal
+
+pub returns : goal.returns
+returns c = clients_hear

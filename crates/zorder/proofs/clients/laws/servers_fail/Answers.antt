@@ -1,0 +1,5 @@
+use Rattle.zorder.proofs.clients_lemmas.Events.{servers_fail}
+use Rattle.zorder.proofs.clients.laws.servers_fail.Goals as goal
+
+pub returns : goal.returns
+returns c = servers_fail

@@ -1,0 +1,92 @@
+-- The events of clients, and that a server fails.
+use Rattle.std.proofs.Common.{◌≡◌, ℕ, true, false, List, ◌∷◌, refl, sym, subst, inl}
+use Rattle.zcalls.specs.Lists.{Among}
+use Rattle.zcalls.specs.PlainTree.{plain_tree}
+use Rattle.zprotocol.specs.declared.message.Message.TheVariants as message
+use Rattle.zprotocol.specs.declared.process.Process.{Process}
+use Rattle.zprotocol.specs.declared.process.Process.TheVariants.{Master, Server, Client}
+use Rattle.zprotocol.specs.client.Table as client
+use Rattle.zworld_model.specs.declared.event.Event.TheVariants.{Begin, Retry, Take, Fail}
+use Rattle.zworld_model.specs.Links.{without_front}
+use Rattle.zworld_model.specs.World.{at}
+use Rattle.zworld_model.specs.Events.{acts, front_step}
+use Rattle.zorder.specs.chain.Flow.{log_machine, LogMessage}
+use Rattle.zorder.specs.chain.Chain.{IsMember}
+use Rattle.zorder.specs.chain.Account.{Account}
+use Rattle.zorder.specs.chain.Sound.{IsSound}
+use Rattle.zorder.proofs.chain_lemmas.links.Links.{at_cases, at_same, front_among}
+use Rattle.zorder.proofs.chain_lemmas.links.LaterWorlds.{justified_later}
+use Rattle.zorder.proofs.chain_lemmas.tables.Lasts.{lasts}
+use Rattle.zorder.proofs.chain_lemmas.steps.Puts.{put_unread, unread_foreign}
+use Rattle.zorder.proofs.chain_lemmas.steps.Drops.{kept_not_to, dropped_sound}
+use Rattle.zorder.proofs.chain_lemmas.Events.{where_enabled, quiet_event, front_there}
+use Rattle.zorder.specs.clients.Laws.{ClientsHear, CallsBegin, CallsAreSentAgain, ServersFail}
+use Rattle.zorder.proofs.clients_lemmas.ClientSteps.{begin_sound}
+use Rattle.zorder.proofs.clients_lemmas.ClientMessages.{again_sound, message_taken}
+
+-- a client hears
+client_hears : (t : Account) → IsSound plain_tree t → (from : Process) (c : ℕ) (m : LogMessage) (rest : List LogMessage) → t.world.links from (Client c) ≡ m ∷ rest
+    → IsSound plain_tree (record t { world = front_step (log_machine plain_tree) t.world from (Client c) (m ∷ rest) })
+client_hears t s from c m rest link =
+    let popped : Account = record t { world = record t.world { links = without_front t.world.links from (Client c) } } in
+    message_taken plain_tree popped (dropped_sound plain_tree t s from (Client c) (kept_not_to t.world from (Client c) (λ z. refl))) c from m
+    (justified_later t.world popped.world t.items t.items
+    (record { begun = λ o h. h; given = λ i h. h; opened = λ z k h. (h.0, λ p a. h.1 p (front_among t.world.links from (Client c) Master (Server z) (message.NewPred k p) a)); failed = λ z h. h })
+    from (Client c) m (s.justified from (Client c) m (subst (Among m) (sym link) (inl refl))))
+
+-- the events Take at a client
+pub clients_hear : ClientsHear
+clients_hear Master c t lasts s = where_enabled t (Take Master (Client c)) s (λ e. front_there t Master (Client c) e
+    (λ m rest link alive. quiet_event t _ (client_hears t s Master c m rest link)))
+clients_hear (Server p) c t lasts s = where_enabled t (Take (Server p) (Client c)) s (λ e. front_there t (Server p) (Client c) e
+    (λ m rest link alive. quiet_event t _ (client_hears t s (Server p) c m rest link)))
+clients_hear (Client d) c t lasts s = where_enabled t (Take (Client d) (Client c)) s (λ e. front_there t (Client d) (Client c) e
+    (λ m rest link alive. quiet_event t _ (client_hears t s (Client d) c m rest link)))
+
+-- the event Begin
+pub calls_begin : CallsBegin
+calls_begin c call t lasts s = where_enabled t (Begin c call) s (λ e. quiet_event t _ (begin_sound plain_tree t s c call))
+
+again_account : (t : Account) → IsSound plain_tree t → (c : ℕ) → IsSound plain_tree (record t { world = acts (log_machine plain_tree) t.world (Retry c) })
+unfolding client.retry_posts
+again_account t s c = again_sound plain_tree t s c (t.world.clients c) refl refl
+
+-- the event Retry
+pub calls_are_sent_again : CallsAreSentAgain
+calls_are_sent_again c t lasts s = where_enabled t (Retry c) s (λ e. quiet_event t _ (again_account t s c))
+
+-- a server fails
+fail_sound : (t : Account) → IsSound plain_tree t → (x : ℕ) → IsSound plain_tree (record t { world = record t.world { failed = at x true t.world.failed } })
+fail_sound t s x = record {
+  distinct = s.distinct;
+  used = s.used;
+  blank = s.blank;
+  live = λ z is alive. at_cases (λ b. b ≡ false → IsMember t.world z) x true t.world.failed z (λ e h. absurd (cc h)) (λ f h. s.live z is h) alive;
+  line = s.line;
+  successors = s.successors;
+  epochs = s.epochs;
+  tail_orders = s.tail_orders;
+  ordered = λ a b before log is. let h = s.ordered a b before log is in
+      record { own = h.own; holds = h.holds; begins = h.begins; has_successor = h.has_successor; no_tail_order = h.no_tail_order };
+  committed = s.committed;
+  tail = s.tail;
+  sent = s.sent;
+  begun = s.begun;
+  committed_begun = s.committed_begun;
+  justified = λ from to m a. justified_later t.world (record t.world { failed = at x true t.world.failed }) t.items t.items
+      (record { begun = λ o h. h; given = λ i h. h; opened = λ z k h. h; failed = λ z h. at_cases (λ b. b ≡ true) x true t.world.failed z (λ e. refl) (λ f. h) }) from to m (s.justified from to m a);
+  acted = s.acted;
+  replays = s.replays;
+  rising = s.rising;
+  in_time = s.in_time;
+  answered = s.answered;
+  once = s.once;
+  numbered = s.numbered;
+  waits = s.waits;
+}
+
+-- the event Fail
+pub servers_fail : ServersFail
+servers_fail x t lasts s = where_enabled t (Fail x) s (λ e. quiet_event t _
+    (put_unread plain_tree (record t { world = record t.world { failed = at x true t.world.failed } }) x Master message.Gone (unread_foreign message.Gone tt)
+    (at_same x true t.world.failed) (fail_sound t s x)))

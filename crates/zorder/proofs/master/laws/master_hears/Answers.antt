@@ -1,0 +1,5 @@
+use Rattle.zorder.proofs.master_lemmas.Events.{master_hears}
+use Rattle.zorder.proofs.master.laws.master_hears.Goals as goal
+
+pub returns : goal.returns
+returns c = master_hears

@@ -1,0 +1,5 @@
+use Rattle.zorder.proofs.master_lemmas.Events.{servers_join}
+use Rattle.zorder.proofs.master.laws.servers_join.Goals as goal
+
+pub returns : goal.returns
+returns c = servers_join

@@ -1,0 +1,5 @@
+use Rattle.zorder.proofs.servers_lemmas.Events.{servers_hear_clients}
+use Rattle.zorder.proofs.servers.laws.servers_hear_clients.Goals as goal
+
+pub returns : goal.returns
+returns c = servers_hear_clients

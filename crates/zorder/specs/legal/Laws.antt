@@ -1,0 +1,15 @@
+-- A list of calls in the order in which they took effect makes a legal order of a history.
+use Rattle.std.specs.Prelude.{List}
+use Rattle.ztree.specs.Tree.{opening_tree}
+use Rattle.zcalls.specs.declared.call.Entry.{Entry}
+use Rattle.zcalls.specs.PlainTree.{plain_tree}
+use Rattle.zworld_model.specs.History.{History}
+use Rattle.zworld_model.specs.PlainTree.{IsExplained, service_of}
+use Rattle.zorder.specs.legal.Items.{Item, Replays, AreCommitted, TimesRise, AreBegunInTime, AreAnsweredInTime, EventsDiffer}
+
+-- the plain tree explains a history where a list of items goes with it, and a committed log
+abbrev pub ItemsExplain : Type 0
+ItemsExplain =
+    (history : History) (committed : List Entry) (items : List Item)
+    → AreCommitted plain_tree committed items → Replays (service_of plain_tree) opening_tree items → TimesRise items
+    → AreBegunInTime history items → AreAnsweredInTime items 0 history → EventsDiffer history → IsExplained history

@@ -1,0 +1,18 @@
+-- The events that repair and extend the chain: the master's orders at servers, what the master hears, and joins.
+use Rattle.std.specs.Prelude.{ℕ}
+use Rattle.zprotocol.specs.declared.process.Process.{Process}
+use Rattle.zprotocol.specs.declared.process.Process.TheVariants.{Master, Server}
+use Rattle.zworld_model.specs.declared.event.Event.TheVariants.{Take, Join}
+use Rattle.zorder.specs.chain.Events.{KeepsSound}
+
+-- a server takes a message of the master, whatever it is
+abbrev pub ServersHearMaster : Type 0
+ServersHearMaster = (s : ℕ) → KeepsSound (Take Master (Server s))
+
+-- the master takes a message: Have, Joined, Gone, or one that doesn't count
+abbrev pub MasterHears : Type 0
+MasterHears = (from : Process) → KeepsSound (Take from Master)
+
+-- a server joins
+abbrev pub ServersJoin : Type 0
+ServersJoin = (s : ℕ) → KeepsSound (Join s)

@@ -1,0 +1,3 @@
+//! Servers hear servers and clients: what is kept of a chain stays so.
+
+pub mod laws;

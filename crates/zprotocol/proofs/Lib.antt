@@ -1,0 +1,4 @@
+pub mod server_lemmas
+pub mod master_lemmas
+pub mod client_lemmas
+pub mod Posts

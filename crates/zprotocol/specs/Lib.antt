@@ -1,0 +1,4 @@
+pub mod server
+pub mod master
+pub mod client
+pub mod Posts

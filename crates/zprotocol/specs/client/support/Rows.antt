@@ -1,0 +1,54 @@
+-- What the worked rows of the client table speak of: calls, a reply, and some clients.
+use Rattle.std.specs.Prelude.{◌≡◌, ℕ, Option, None, Some, List, []}
+use Rattle.zcalls.specs.declared.call.Call.{Call}
+use Rattle.zcalls.specs.declared.call.Call.TheVariants as call
+use Rattle.zcalls.specs.declared.call.Expected.TheVariants.{Any}
+use Rattle.zcalls.specs.declared.call.Update.{Update}
+use Rattle.zcalls.specs.declared.call.Update.TheVariants.{Delete}
+use Rattle.zcalls.specs.declared.call.Query.{Query}
+use Rattle.zcalls.specs.declared.call.Query.TheVariants.{Exists}
+use Rattle.zprotocol.specs.declared.process.Process.{Process}
+use Rattle.zprotocol.specs.server.View.{Transfer, MessageOf, Post}
+use Rattle.zprotocol.specs.client.View.{ClientView}
+use Rattle.zprotocol.specs.client.Table.{ClientResult, begin_step, client_step, retry_posts}
+
+-- an update, and a query
+abbrev pub update : Update
+update = Delete (record { path = []; version = Any })
+
+abbrev pub query : Query
+query = Exists []
+
+-- a client with so many calls that waits for this one, and was told of server 1 as the head and server 3 as the tail in
+-- epoch 4
+abbrev pub client : ℕ → Option (ℕ × Call) → ClientView
+client number outstanding = record { number = number; outstanding = outstanding; epoch = 4; head = Some 1; tail = Some 3 }
+
+-- a client of two servers that waits for its first call
+abbrev pub beginner : ClientView
+beginner = record { number = 1; outstanding = Some (1, call.Update update); epoch = 0; head = Some 1; tail = Some 2 }
+
+-- a client that waits for nothing, one that waits for an update, and one that waits for a query
+abbrev pub idle : ClientView
+idle = client 7 None
+
+abbrev pub updating : ClientView
+updating = client 7 (Some (7, call.Update update))
+
+abbrev pub asking : ClientView
+asking = client 7 (Some (7, call.Query query))
+
+-- what a client does with a message, between servers whose machine is a number
+abbrev pub after : ClientView → Process → MessageOf ℕ → ClientResult (Transfer ℕ)
+after v from m = client_step v from m
+
+-- that changes nothing, puts nothing, and hands no reply out
+abbrev pub Ignores : ClientView → Process → MessageOf ℕ → Type 0
+Ignores v from m = after v from m ≡ (v, [], None)
+
+-- what a client does when a call begins, and what it puts at a retry
+abbrev pub after_call : ClientView → Call → ClientView × List (Post ℕ)
+after_call v c = begin_step v c
+
+abbrev pub after_retry : ClientView → List (Post ℕ)
+after_retry v = retry_posts v

@@ -1,0 +1,60 @@
+-- The view of the master: what it knows of the chain.
+-- Van Renesse and Schneider, "Chain Replication for Supporting High Throughput and Availability" (OSDI 2004),
+-- section 3; epochs, and that no server's number is used again, are this project's profile.
+use Rattle.std.specs.Prelude.{ℕ, Bool, false, not, Option, None, Some, List, [], ◌∷◌, ◌==◌, nat_lt, if◌then◌else◌, map, filter}
+use Rattle.std.specs.List.{list_any, range_with_len, last_or}
+use Rattle.zprotocol.specs.server.View.{Neighbour}
+
+-- what the master knows: the chain from the head down, each member with the epoch of its pair with the one before it; the
+-- member that has no state yet; the numbers of servers that were ever used, a rising list; the last epoch that it gave; and
+-- how many clients there are, with numbers from 0
+pub record MasterView : Type 0 where
+  pub chain : List Neighbour
+  pub joining : Option ℕ
+  pub used : List ℕ
+  pub epoch : ℕ
+  pub clients : ℕ
+
+-- the opening: the chain is the servers from 1 up to so many, and all pairs have epoch 0
+abbrev pub opening_master : ℕ → ℕ → MasterView
+opening_master servers clients =
+    record {
+      chain = map (λ s. (s, 0)) (range_with_len 1 servers);
+      joining = None;
+      used = range_with_len 1 servers;
+      epoch = 0;
+      clients = clients;
+    }
+
+-- the number is one of these
+abbrev pub is_among : ℕ → List ℕ → Bool
+is_among s numbers = list_any (λ number. number == s) numbers
+
+-- a rising list of numbers with this one in its place, once
+abbrev pub with_number : ℕ → List ℕ → List ℕ
+with_number s [] = s ∷ []
+with_number s (number ∷ numbers) =
+    if number == s then number ∷ numbers else
+    if nat_lt s number then s ∷ number ∷ numbers else
+    number ∷ with_number s numbers
+
+-- the members of the chain, from the head down
+abbrev pub members : MasterView → List ℕ
+members v = map (λ member. member.0) v.chain
+
+-- this member has no state yet
+abbrev pub is_joining : MasterView → ℕ → Bool
+is_joining v s = elim v.joining [ None ↦ false | Some joining ↦ joining == s ]
+
+-- the first of a list
+abbrev pub first_of : List ℕ → Option ℕ
+first_of [] = None
+first_of (s ∷ rest) = Some s
+
+-- the head that clients are told: the first of the chain
+abbrev pub head_of : MasterView → Option ℕ
+head_of v = first_of (members v)
+
+-- the tail that clients are told: the last that isn't joining, or the first where there is no such member
+abbrev pub tail_of : MasterView → Option ℕ
+tail_of v = last_or (head_of v) (filter (λ s. not (is_joining v s)) (members v))

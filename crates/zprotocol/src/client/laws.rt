@@ -1,0 +1,11 @@
+//! What holds of the definitions themselves: each function's contract is a law, and its body does nothing.
+
+ghost use Rattle.zprotocol.specs.server.Machine.{kept_tree};
+ghost use Rattle.zprotocol.specs.client.Laws.{TableKeepsLogs, CallKeepsLogs, RetryKeepsLogs};
+
+/// A client does the same among servers with logs as among servers with the trees that the logs lead to.
+pub fn client_looks_at_no_machine()
+    ensures table { TableKeepsLogs kept_tree }
+    ensures call { CallKeepsLogs kept_tree }
+    ensures retry { RetryKeepsLogs kept_tree }
+{}

@@ -1,0 +1,39 @@
+//! What holds of the definitions themselves: each function's contract is a law, and its body does nothing.
+
+ghost use Rattle.std.specs.Prelude.{◌≡◌, ℕ, Some};
+ghost use Rattle.ztree.specs.Tree.{Tree, opening_tree};
+ghost use Rattle.zcalls.specs.declared.call.Query.{Query};
+ghost use Rattle.zcalls.specs.declared.call.Update.{Update};
+ghost use Rattle.zcalls.specs.Kept.{KeptState, nothing_kept};
+ghost use Rattle.zcalls.specs.Step.{step, query_reply};
+ghost use Rattle.zprotocol.specs.server.Machine.{kept_tree};
+ghost use Rattle.zprotocol.specs.server.support.Homomorphism.{LogStandsForMachine, TableKeepsLogs};
+ghost use Rattle.zprotocol.specs.server.Laws.{OnlyTailsAnswer};
+ghost use Rattle.zprotocol.specs.server.support.Rows.{first_entry};
+
+/// A log of entries stands for the tree with kept replies that it leads to: the log replies as that tree
+/// does, and a server does the same with either. So what holds of a chain of logs holds of a chain of
+/// trees.
+pub fn logs_stand_for_trees()
+    ensures log { LogStandsForMachine kept_tree }
+    ensures table { TableKeepsLogs kept_tree }
+{}
+
+/// No server but a tail answers a client, whatever message it takes.
+pub fn only_tails_answer()
+    ensures { OnlyTailsAnswer kept_tree }
+{}
+
+/// The machine that servers hold is the plain tree with kept replies: where it starts, what a client's first
+/// update does to it and is answered, and what a query is answered.
+pub fn machine_does_the_plain_step()
+    ensures start { kept_tree.start ≡ nothing_kept opening_tree }
+    ensures first_update { (t : Tree) (client : ℕ) (update : Update)
+        → (kept_tree.apply (nothing_kept t) (first_entry client update)).0.plain
+        ≡ (step t client update).0 }
+    ensures first_reply { (t : Tree) (client : ℕ) (update : Update)
+        → (kept_tree.apply (nothing_kept t) (first_entry client update)).1
+        ≡ Some (step t client update).1 }
+    ensures query { (s : KeptState Tree) (query : Query)
+        → kept_tree.ask s query ≡ query_reply s.plain query }
+{}

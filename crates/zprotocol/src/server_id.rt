@@ -1,0 +1,48 @@
+//! The number of a server.
+
+ghost use Rattle.std.specs.Prelude.{◌≡◌, ◌<◌, ◌≤◌, ◌⊎◌, IfNone, IfSome};
+
+use crate::limits::MAX_SERVERS;
+use std::marker::Model;
+
+/// One of the servers that there can be, by its number, from 1 up to `MAX_SERVERS`.
+#[derive(Clone, Copy, Debug, PartialEq, Eq)]
+pub struct ServerId {
+    number: u8,
+}
+
+impl Model for ServerId {
+    ghost use Rattle.std.specs.Prelude.{ℕ, ◌<◌, ◌≤◌};
+    ghost use Rattle.zprotocol.specs.declared.limits.TheConstants.{MAX_SERVERS};
+
+    ghost Value = { ℕ };
+
+    ghost view = { λ s. s.number };
+
+    ghost invariant = { λ s. (0 < s.number) × (s.number ≤ MAX_SERVERS) };
+
+    ghost inverse = { λ n. record { number = n } };
+}
+
+impl ServerId {
+    /// The server of that number; none for 0 and above `MAX_SERVERS`.
+    pub fn new(number: u8) -> Option<ServerId>
+        ensures server { IfSome result (λ s. (s ≡ number) × (0 < number) × (number ≤ MAX_SERVERS)) }
+        ensures none { IfNone result ((number ≡ 0) ⊎ (MAX_SERVERS < number)) }
+    {
+        if number == 0 || number > MAX_SERVERS {
+            None
+        } else {
+            Some(ServerId { number })
+        }
+    }
+
+    /// Its number.
+    pub fn number(self) -> u8
+        ensures same { result ≡ self }
+        ensures some { 0 < result }
+        ensures small { result ≤ MAX_SERVERS }
+    {
+        self.number
+    }
+}

@@ -1,0 +1,9 @@
+//! The machine, and the values of its calls: worked calls are answered as they should be, rows of lines, and beside each the line of its answer.
+
+mod calls;
+mod limits;
+mod multis;
+mod play;
+mod refusals;
+mod retries;
+mod sessions;

@@ -1,0 +1,105 @@
+//! The master mends a chain, and lets servers join it or says why not.
+
+use crate::tables::posts::{Outbox, next_config, next_server, server};
+use Act::{Gone, Join};
+use std::alloc::Global;
+use std::process::Abort;
+use zmaster::{JoinFault, MAX_POSTS, Master};
+use zprotocol::{Epoch, Message, Out, Process};
+
+// The server that is told, and the epoch and the tail of which a client hears.
+type Posts = (Option<u8>, Option<(u64, u8)>);
+
+// How many servers there are, what happens to them, and why the last of it is refused.
+const REFUSED: [(u8, [Act; 3], JoinFault); 5] = [
+    (2, [Join(3), Join(4), Join(3)], JoinFault::Used),
+    (2, [Gone(1), Join(3), Join(4)], JoinFault::Joining),
+    (1, [Gone(2), Gone(1), Join(2)], JoinFault::Used),
+    (1, [Gone(2), Gone(1), Join(3)], JoinFault::NoChain),
+    (1, [Join(2), Gone(1), Join(3)], JoinFault::Lost),
+];
+
+#[test]
+fn mends_a_chain(rt: HostRuntime) {
+    for (gone, told, tail) in [(1, 2, 3), (2, 3, 3), (3, 2, 2)] {
+        let posts = posts_of_repair(&rt, rt.alloc(), gone);
+        assert!(rt; posts == (Some(told), Some((1, tail))));
+    }
+}
+
+#[test]
+fn lets_a_server_join(rt: HostRuntime) {
+    let posts = posts_of_join(&rt, rt.alloc());
+    assert!(rt; posts == (Some(3), Some((2, 3))));
+}
+
+#[test]
+fn refuses_by_the_first_fault(rt: HostRuntime) {
+    for (servers, acts, fault) in &REFUSED {
+        let refused = last_fault(&rt, rt.alloc(), *servers, acts);
+        assert!(rt; refused == Some(*fault));
+    }
+}
+
+// What happens to a chain: a server fails, or is to join.
+#[derive(Clone, Copy)]
+enum Act {
+    Gone(u8),
+    Join(u8),
+}
+
+// Why the last of these acts was refused, on a chain of so many servers.
+fn last_fault(rt: &impl Abort, alloc: Global, servers: u8, acts: &[Act]) -> Option<JoinFault> {
+    let mut master = Master::new(server(rt, servers), 1);
+    let mut out: Outbox = Out::new(alloc);
+    let mut fault = None;
+    for act in acts {
+        fault = act_on(rt, &mut master, *act, &mut out);
+    }
+    drop(out);
+    fault
+}
+
+fn act_on(rt: &impl Abort, master: &mut Master, act: Act, out: &mut Outbox) -> Option<JoinFault> {
+    out.reserve(MAX_POSTS).expect(rt, "there is memory");
+    match act {
+        Gone(number) => {
+            master.take(Process::Server(server(rt, number)), Message::Gone, out);
+            None
+        }
+        Join(number) => master.join(server(rt, number), out).err(),
+    }
+}
+
+// What the master puts where this one of three servers fails.
+fn posts_of_repair(rt: &impl Abort, alloc: Global, gone: u8) -> Posts {
+    let mut master = Master::new(server(rt, 3), 1);
+    let mut out: Outbox = Out::new(alloc);
+    act_on(rt, &mut master, Gone(gone), &mut out);
+    let posts = (next_server(&mut out), next_config(&mut out));
+    drop(out);
+    posts
+}
+
+// What it puts where a third server joins.
+fn posts_of_join(rt: &impl Abort, alloc: Global) -> Posts {
+    let mut master = Master::new(server(rt, 2), 1);
+    let mut out: Outbox = Out::new(alloc);
+    act_on(rt, &mut master, Join(3), &mut out);
+    let told = next_server(&mut out);
+    has_joined(rt, &mut master, 3, &mut out);
+    let tail = next_config(&mut out);
+    drop(out);
+    (told, tail)
+}
+
+// The master hears that a server has joined in epoch 1.
+fn has_joined(rt: &impl Abort, master: &mut Master, number: u8, out: &mut Outbox) {
+    let epoch = Epoch::new(1).expect(rt, "there is such an epoch");
+    out.reserve(MAX_POSTS).expect(rt, "there is memory");
+    master.take(
+        Process::Server(server(rt, number)),
+        Message::Joined(epoch),
+        out,
+    );
+}
