@@ -1,6 +1,7 @@
 //! The traces by place: the master's first, then the servers', then the clients'.
 
 ghost use Rattle.std.specs.Prelude.{◌≡◌, ◌<◌, ◌≤◌, ◌+◌, ◌^◌, length, get_or};
+ghost use Rattle.zprotocol.specs.declared.limits.TheConstants.{PROCESSES};
 ghost use Rattle.ztraces.specs.Traces.{trace_of};
 ghost use Rattle.ztraces.specs.support.Places.{place_count, process_at, head_at};
 
@@ -11,7 +12,7 @@ use ztraces::{TraceEvent, Traces};
 /// How many traces there are.
 pub(crate) fn count_of(traces: &Traces) -> usize
     ensures count { result ≡ place_count traces.now }
-    ensures small { result ≤ 41 }
+    ensures small { result ≤ PROCESSES }
 {
     1 + traces.servers.len() + traces.clients.len()
 }

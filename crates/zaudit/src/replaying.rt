@@ -1,6 +1,7 @@
 //! Traces replayed on a world.
 
-ghost use Rattle.std.specs.Prelude.{◌≡◌, ◌⊎◌, ◌<◌, true, false, List, ℕ, length, replicate, IfOk, IfErr, OnOk, IsTrue};
+ghost use Rattle.std.specs.Prelude.{◌≡◌, ◌⊎◌, ◌<◌, ◌≤◌, true, false, List, ℕ, length, replicate, IfOk, IfErr, OnOk, IsTrue};
+ghost use Rattle.zprotocol.specs.declared.limits.TheConstants.{PROCESSES};
 ghost use Rattle.zprotocol.specs.server.Machine.{kept_tree};
 ghost use Rattle.zworld.specs.Steps.{world_in};
 ghost use Rattle.zworld_model.specs.Alike.{IsAlike};
@@ -95,7 +96,7 @@ pub(crate) fn replay(alloc: Global, traces: &Traces, world: &mut World) -> Resul
 
 // So many zeros.
 fn zeros(alloc: Global, n: usize) -> Result<Vec<usize>, zpath::Memory>
-    requires { n < 64 }
+    requires { n ≤ PROCESSES }
     ensures { IfOk result (λ read. read.items ≡ replicate n 0) }
 {
     Ok(vec![in alloc; 0; n]?)

@@ -98,14 +98,14 @@ pub(crate) fn hear_or_keep(
     match hear(alloc, id, desk, core, sender, stamp, message, next) {
         Ok(reply) => reply,
         Err(message) => {
-            *front = kept(&from, message);
+            *front = handed_back(&from, message);
             None
         }
     }
 }
 
 // A message that is handed back.
-fn kept(from: &Process, message: Stamped) -> Option<(Process, Stamped)>
+fn handed_back(from: &Process, message: Stamped) -> Option<(Process, Stamped)>
     ensures { result ≡ Some (from.now, message) }
 {
     Some((*from, message))

@@ -37,6 +37,13 @@ impl CallNumber {
         }
     }
 
+    /// The number before the first call's.
+    pub fn before_all() -> CallNumber
+        ensures { result ≡ 0 }
+    {
+        CallNumber { number: 0 }
+    }
+
     /// Its number.
     pub fn number(self) -> u64
         ensures same { result ≡ self }

@@ -47,10 +47,10 @@ impl ClientCore {
     {
         ClientCore {
             alloc,
-            number: no_call(),
+            number: CallNumber::before_all(),
             outstanding: None,
-            epoch: first_epoch(),
-            head: Some(first_server()),
+            epoch: Epoch::opening(),
+            head: Some(ServerId::first()),
             tail: Some(last),
         }
     }
@@ -62,9 +62,9 @@ impl ClientCore {
     {
         ClientCore {
             alloc,
-            number: no_call(),
+            number: CallNumber::before_all(),
             outstanding: None,
-            epoch: first_epoch(),
+            epoch: Epoch::opening(),
             head: None,
             tail: None,
         }
@@ -143,7 +143,7 @@ impl ClientCore {
                 number, reply,
             )),
             (Process::Master, Message::Config(epoch, head, tail)) => match self.config(
-                &epoch, &head, &tail, out,
+                epoch, &head, &tail, out,
             ) {
                 Ok(()) => Ok(None),
                 Err(Memory) => Err(Message::Config(epoch, head, tail)),
@@ -234,18 +234,18 @@ impl ClientCore {
     #[tactic(auto, unfolding(zprotocol::specs::client::Table::config_row))]
     fn config<T: Drop>(
         &mut self,
-        epoch: &Epoch,
+        epoch: Epoch,
         head: &Option<ServerId>,
         tail: &Option<ServerId>,
         out: &mut Out<T>,
     ) -> Result<(), Memory>
         ensures next { OnOk result
-            (self.new ≡ (config_row {T = T} self.old epoch.now head.now tail.now).0) }
+            (self.new ≡ (config_row {T = T} self.old epoch head.now tail.now).0) }
         ensures puts { OnOk result
-            (Puts out.old out.new (config_row self.old epoch.now head.now tail.now).1) }
+            (Puts out.old out.new (config_row self.old epoch head.now tail.now).1) }
         ensures no_reply { OnOk result
-            ((config_row {T = T} self.old epoch.now head.now tail.now).2 ≡ None) }
-        ensures later { OnErr result (self.old.epoch < epoch.now) }
+            ((config_row {T = T} self.old epoch head.now tail.now).2 ≡ None) }
+        ensures later { OnErr result (self.old.epoch < epoch) }
         ensures waited { OnErr result (IsSome self.old.outstanding) }
         ensures same { OnErr result (self.new ≡ self.old) }
         ensures silent { OnErr result (out.new.posts ≡ out.old.posts) }
@@ -254,39 +254,9 @@ impl ClientCore {
             return Ok(());
         }
         self.send(head, tail, out)?;
-        self.epoch = *epoch;
+        self.epoch = epoch;
         self.head = *head;
         self.tail = *tail;
         Ok(())
-    }
-}
-
-// The number before the first call's.
-fn no_call() -> CallNumber
-    ensures { result ≡ 0 }
-{
-    match CallNumber::new(0) {
-        Some(number) => number,
-        None => unreachable!(),
-    }
-}
-
-// The epoch of the opening chain.
-fn first_epoch() -> Epoch
-    ensures { result ≡ 0 }
-{
-    match Epoch::new(0) {
-        Some(epoch) => epoch,
-        None => unreachable!(),
-    }
-}
-
-// The opening chain's first server.
-fn first_server() -> ServerId
-    ensures { result ≡ 1 }
-{
-    match ServerId::new(1) {
-        Some(server) => server,
-        None => unreachable!(),
     }
 }

@@ -105,6 +105,7 @@ impl Chain {
             drop(message);
             return Err(Trouble::BadOrder);
         };
+        // A query that isn't heard is counted by its missing answer.
         let _ = server.take(from, message, &mut self.out)?;
         Ok(())
     }

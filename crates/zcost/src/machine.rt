@@ -18,6 +18,7 @@ pub fn answered(alloc: Global, calls: &Calls, order: &Order) -> Result<u64, Trou
 // Gives a machine the call that makes the node, and then those of the order.
 fn plays(machine: &mut Machine, calls: &Calls, order: &Order) -> Result<u64, Trouble> {
     let entry = calls.first()?;
+    // Whether it is answered is counted from here on.
     let _ = applies(machine, entry)?;
     let mut answered = 0u64;
     for number in 0..order.count {

@@ -1,6 +1,7 @@
 //! The orders.
 
 use crate::trouble::Trouble;
+use zprotocol::MAX_SERVERS;
 
 /// Who gets the calls.
 #[derive(Clone, Copy)]
@@ -34,21 +35,24 @@ impl Order {
     /// Reads an order.
     pub fn read(line: &str) -> Result<Order, Trouble> {
         let mut words = line.split(' ');
-        let place = place_of(words.next())?;
+        let place = place_named(words.next())?;
         let kind = kind_of(words.next())?;
         let count = number_of(words.next())?;
         Ok(Order { place, kind, count })
     }
 }
 
-fn place_of(word: Option<&str>) -> Result<Place, Trouble> {
+fn place_named(word: Option<&str>) -> Result<Place, Trouble> {
     match word {
         Some("nowhere") => Ok(Place::Nowhere),
         Some("machine") => Ok(Place::Machine),
-        _ => match number_of(word)? {
-            servers @ 1..=8 => Ok(Place::Chain(servers as u8)),
-            _ => Err(Trouble::BadOrder),
-        },
+        _ => {
+            let servers = number_of(word)?;
+            if servers == 0 || servers > MAX_SERVERS as u64 {
+                return Err(Trouble::BadOrder);
+            }
+            Ok(Place::Chain(servers as u8))
+        }
     }
 }
 

@@ -9,7 +9,7 @@ use Rattle.ztraces.specs.declared.trace.TraceEvent.{TraceEvent}
 use Rattle.ztraces.specs.Deeds.{Row, IsStamped, stamp_of, taken_from, takes, stamped}
 use Rattle.ztraces.proofs.Deeds.{goes_more, left_more, last_more, trace_more, takes_more, puts_more, told_more}
 use Rattle.zrings.specs.Ends.{put_of}
-use Rattle.zlinks.specs.Places.{process_at}
+use Rattle.zprotocol.specs.Places.{process_at}
 use Rattle.zdesks.specs.Desks.{TreeDeed, TreeStanding, TreeStamped, TreePost, Self, Books, Accounts, IsEvent, took_from}
 
 -- an event more

@@ -1,6 +1,7 @@
 -- One link of many changes.
-use Rattle.std.proofs.Common.{◌≡◌, ◌≢◌, ◌==◌, ◌<◌, ◌≤◌, ◌-◌, ℕ, zero, suc, Bool, true, false, if◌then◌else◌, List, [], ◌∷◌, ◌++◌, Option, Some, None, map, length, set, get_or, sym, refl, ap, ◌∙◌, subst, ⊎_elim, eq-eqb, ne_eqb, nat_le, append-nil, append_assoc, length-set, arith}
+use Rattle.std.proofs.Common.{◌+◌, ◌≡◌, ◌≢◌, ◌==◌, ◌<◌, ◌≤◌, ◌-◌, ℕ, zero, suc, Bool, true, false, if◌then◌else◌, List, [], ◌∷◌, ◌++◌, Option, Some, None, map, length, set, get_or, sym, refl, ap, ◌∙◌, subst, ⊎_elim, eq-eqb, ne_eqb, nat_le, append-nil, append_assoc, length-set, arith}
 use Rattle.std.proofs.lemmas.Bool.Decides.{nat_tests}
+use Rattle.zprotocol.specs.declared.limits.TheConstants.{MAX_SERVERS}
 use mathlib.Core.Option.{some, some-ne-none}
 use lib.ListN.{get_elem?}
 use Rattle.atomic_table.proofs.Lists.{at_set}
@@ -12,7 +13,7 @@ use Rattle.zrings.specs.declared.ends.Tx.{Tx}
 use Rattle.zrings.specs.declared.ends.Rx.{Rx}
 use Rattle.zrings.specs.Ends.{put_of, taken_of}
 use Rattle.ztraces.specs.Deeds.{takes, puts, stamped}
-use Rattle.zlinks.specs.Places.{process_at}
+use Rattle.zprotocol.specs.Places.{process_at}
 use Rattle.zdesks.specs.Desks.{TreeDeed, TreeStanding, TreeStamped, TreePost, Each, Self, Books, Accounts, took_from, IsOutside, SameBooks, SameDesk}
 use Rattle.zdesks.specs.declared.desk.Desk.{Desk}
 
@@ -40,9 +41,9 @@ same_self (Client c) = eq-eqb c c refl
 
 -- processes at two places are two
 abbrev pick : Bool → Bool → ℕ → Process
-pick a b i = if a then Master else if b then Server i else Client (i - 9)
+pick a b i = if a then Master else if b then Server i else Client (i - (MAX_SERVERS + 1))
 
-apart_by : (i j : ℕ) (a b c d : Bool) → (i == 0) ≡ a → nat_le i 8 ≡ b → (j == 0) ≡ c → nat_le j 8 ≡ d → i ≢ j → is_same (pick a b i) (pick c d j) ≡ false
+apart_by : (i j : ℕ) (a b c d : Bool) → (i == 0) ≡ a → nat_le i MAX_SERVERS ≡ b → (j == 0) ≡ c → nat_le j MAX_SERVERS ≡ d → i ≢ j → is_same (pick a b i) (pick c d j) ≡ false
 apart_by i j true b true d p q r s ne = absurd (ne (grind (arith, nat_tests)))
 apart_by i j true b false true p q r s ne = refl
 apart_by i j true b false false p q r s ne = refl
@@ -51,10 +52,10 @@ apart_by i j false true false true p q r s ne = ne_eqb i j ne
 apart_by i j false true false false p q r s ne = refl
 apart_by i j false false true d p q r s ne = refl
 apart_by i j false false false true p q r s ne = refl
-apart_by i j false false false false p q r s ne = ne_eqb (i - 9) (j - 9) (λ e. ne (grind (arith, nat_tests)))
+apart_by i j false false false false p q r s ne = ne_eqb (i - (MAX_SERVERS + 1)) (j - (MAX_SERVERS + 1)) (λ e. ne (grind (arith, nat_tests)))
 
 pub apart : (i j : ℕ) → i ≢ j → is_same (process_at i) (process_at j) ≡ false
-apart i j ne = apart_by i j (i == 0) (nat_le i 8) (j == 0) (nat_le j 8) refl refl refl refl ne
+apart i j ne = apart_by i j (i == 0) (nat_le i MAX_SERVERS) (j == 0) (nat_le j MAX_SERVERS) refl refl refl refl ne
 
 within : {X : Type 0} (xs : List X) (i : ℕ) (x : X) → get_elem? xs i ≡ some x → i < length xs
 within [] i x at = absurd (some-ne-none x (sym at))

@@ -18,7 +18,7 @@ use Rattle.ztraces.specs.declared.stamp.TheConstants.{MAX_STAMP}
 use Rattle.ztraces.specs.declared.trace.TraceEvent.{TraceEvent}
 use Rattle.ztraces.specs.declared.trace.Act.{Act}
 use Rattle.ztraces.specs.Deeds.{Deed, Standing, Stamped, standing_in, Row, IsStamped, stamp_of, taken_from, GoesBy, trace_by, takes, puts, stamped, told_by, left_by, last_by}
-use Rattle.zlinks.specs.Places.{process_at}
+use Rattle.zprotocol.specs.Places.{process_at}
 use Rattle.zrings.specs.declared.ends.Tx.{Tx}
 use Rattle.zrings.specs.declared.ends.Rx.{Rx}
 use Rattle.zrings.specs.Ends.{ring_of_tx, ring_of_rx, put_of, taken_of}

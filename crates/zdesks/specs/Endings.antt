@@ -4,7 +4,7 @@ use Rattle.zprotocol.specs.declared.process.Process.{Process}
 use Rattle.zprotocol.specs.server.Machine.{kept_tree}
 use Rattle.ztraces.specs.Deeds.{GoesBy, trace_by, takes, puts, told_by}
 use Rattle.ztraces.specs.Lawful.{Begins}
-use Rattle.zlinks.specs.Places.{process_at}
+use Rattle.zprotocol.specs.Places.{process_at}
 use Rattle.zrings.specs.Ends.{put_of, ring_of_rx, ring_of_tx, taken_of}
 use Rattle.zdesks.specs.declared.desk.Desk.{Desk}
 use Rattle.zdesks.specs.declared.desk.Ending.{Ending}

@@ -102,6 +102,7 @@ impl Desk {
         ensures cut { is_cut_of self ≡ true → result.trace.is_cut ≡ true }
         ensures whole { IsSettled self → result.trace.is_cut ≡ is_cut_of self }
     {
+        // What finds no memory is no longer put: the trace tells that it is cut.
         let _ = self.settle();
         self.leave()
     }

@@ -4,7 +4,6 @@ ghost use Rattle.std.specs.Prelude.{◌≡◌, ◌<◌, List};
 ghost use Rattle.zdesks.specs.Desks.{Keeps, SameRest, Stands, TreePost, TreeStanding, link_count};
 
 use crate::desk::{Desk, Stamped};
-use zlinks::place::process_at;
 use zprotocol::Process;
 
 impl Desk {
@@ -22,7 +21,7 @@ impl Desk {
             → Stands self.new s result waits }
         ensures same { SameRest self.old self.new }
     {
-        let Some(from) = process_at(link) else {
+        let Some(from) = Process::at(link) else {
             return None;
         };
         let Some(message) = self.ins[link].take() else {

@@ -7,7 +7,6 @@ ghost use Rattle.zdesks.specs.Desks.{IsSettled, Keeps, pending, SameBooks, SameD
 ghost use Rattle.zdesks.specs.Desks.{TreePost, TreeStamped, TreeStanding};
 
 use crate::desk::Desk;
-use zlinks::place::place;
 use zprotocol::{Message, Process};
 use zserver::Snapshot;
 
@@ -55,7 +54,7 @@ impl Desk {
         ensures same { SameDesk self.old self.new }
         ensures books { SameBooks self.old self.new }
     {
-        let place = place(&to);
+        let place = to.place();
         if place >= self.outs.len() {
             drop(message);
             return true;

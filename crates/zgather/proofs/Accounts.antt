@@ -10,7 +10,7 @@ use Rattle.ztraces.specs.declared.trace.Traces.{Traces}
 use Rattle.ztraces.specs.Traces.{client_count, record_of, trace_of}
 use Rattle.ztraces.specs.Deeds.{GoesBy, puts, standing_in, takes, told_by, trace_by}
 use Rattle.ztraces.specs.Lawful.{AreLawful, Begins}
-use Rattle.zlinks.specs.Places.{process_at}
+use Rattle.zprotocol.specs.Places.{process_at}
 use Rattle.zrings.specs.declared.ends.Tx.{Tx}
 use Rattle.zrings.specs.declared.ends.Rx.{Rx}
 use Rattle.zrings.specs.Ends.{put_of, taken_of}

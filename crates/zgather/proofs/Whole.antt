@@ -8,6 +8,7 @@ use Rattle.std.proofs.lemmas.Simd.{map-map}
 use Rattle.std.specs.List.{list_any}
 use Rattle.std.specs.declared.alloc.Global.{Global}
 use Rattle.std.specs.declared.vec.Vec.{Vec}
+use Rattle.zprotocol.specs.declared.limits.TheConstants.{MAX_SERVERS}
 use Rattle.zprotocol.specs.declared.process.Process.{Process}
 use Rattle.zprotocol.specs.declared.process.Process.TheVariants.{Master, Server, Client}
 use Rattle.ztraces.specs.declared.trace.Trace.{Trace}
@@ -15,7 +16,7 @@ use Rattle.ztraces.specs.declared.trace.ClientTrace.{ClientTrace}
 use Rattle.ztraces.specs.declared.trace.Traces.{Traces}
 use Rattle.ztraces.specs.Traces.{client_count, record_of, trace_of}
 use Rattle.ztraces.specs.Lawful.{AreLawful, Begins}
-use Rattle.zlinks.specs.Places.{process_at}
+use Rattle.zprotocol.specs.Places.{process_at}
 use Rattle.zrings.specs.declared.ends.Tx.{Tx}
 use Rattle.zrings.specs.declared.ends.Rx.{Rx}
 use Rattle.zrings.specs.Ends.{put_of, Ring, ring_of_rx, ring_of_tx, taken_of}
@@ -59,23 +60,23 @@ below i zero = inr (omega arith)
 below zero (suc n) = inl (omega arith)
 below (suc i) (suc n) = ⊎_elim (λ h. inl (omega (arith, h))) (λ h. inr (omega (arith, h))) (below i n)
 
-module _ (last : ℕ) (m : Ending) (ss cs : List Ending) (t : Traces) (eight : length ss ≡ 8)
+module _ (last : ℕ) (m : Ending) (ss cs : List Ending) (t : Traces) (all_servers : length ss ≡ MAX_SERVERS)
     (end : t.last ≡ last) (chief : t.master.events ≡ m.trace.events)
     (servers : t.servers.items ≡ map (λ (e : Ending). e.trace) ss) (clients : t.clients.items ≡ map client_trace_of cs) where
   abbrev es : List Ending
   es = by_place m ss cs
 
-  many : length es ≡ 9 + length cs
-  many = let two = length-append ss cs in omega (arith, two, eight)
+  many : length es ≡ MAX_SERVERS + 1 + length cs
+  many = let two = length-append ss cs in omega (arith, two, all_servers)
 
   -- where a server's ending is, and a client's
-  server_place : (k : ℕ) (e : Ending) → k < 8 → get_elem? es (suc k) ≡ some e → get_elem? ss k ≡ some e
-  server_place k e lt at = sym (element_left ss cs k (omega (arith, lt, eight))) ∙ at
+  server_place : (k : ℕ) (e : Ending) → k < MAX_SERVERS → get_elem? es (suc k) ≡ some e → get_elem? ss k ≡ some e
+  server_place k e lt at = sym (element_left ss cs k (omega (arith, lt, all_servers))) ∙ at
 
-  client_place : (c i : ℕ) (e : Ending) → i ≡ 9 + c → get_elem? es i ≡ some e → get_elem? cs c ≡ some e
+  client_place : (c i : ℕ) (e : Ending) → i ≡ MAX_SERVERS + 1 + c → get_elem? es i ≡ some e → get_elem? cs c ≡ some e
   client_place c i e is at =
-      let next : i ≡ suc (8 + c) = omega (arith, is) in
-      sym (element_right ss cs (8 + c) c (omega (arith, eight))) ∙ subst (λ k. get_elem? es k ≡ some e) next at
+      let next : i ≡ suc (MAX_SERVERS + c) = omega (arith, is) in
+      sym (element_right ss cs (MAX_SERVERS + c) c (omega (arith, all_servers))) ∙ subst (λ k. get_elem? es k ≡ some e) next at
 
   events : (p : Process) (i : ℕ) (e : Ending) → p ≡ process_at i → get_elem? es i ≡ some e → trace_of t p ≡ e.trace.events.items
   events Master i e is at =
@@ -101,8 +102,8 @@ module _ (last : ℕ) (m : Ending) (ss cs : List Ending) (t : Traces) (eight : l
       ap (λ l. get_or (map (λ (client : ClientTrace). client.«record».items) l) c []) clients
       ∙ element_or (λ (client : ClientTrace). client.«record».items) (map client_trace_of cs) c (client_trace_of e) [] (element_map client_trace_of cs c e there)
 
-  server_count : length t.servers.items ≡ 8
-  server_count = ap length servers ∙ length-map ss (λ (e : Ending). e.trace) ∙ eight
+  server_count : length t.servers.items ≡ MAX_SERVERS
+  server_count = ap length servers ∙ length-map ss (λ (e : Ending). e.trace) ∙ all_servers
 
   count : client_count t ≡ length cs
   count = ap length clients ∙ length-map cs client_trace_of
@@ -111,7 +112,7 @@ module _ (last : ℕ) (m : Ending) (ss cs : List Ending) (t : Traces) (eight : l
   none_beyond : {A : Type 0} (f : ClientTrace → List A) (c : ℕ) → IsOutside (Client c) (length es) → get_or (map f t.clients.items) c [] ≡ []
   none_beyond f c out =
       ⊎_elim
-      (λ lt. absurd (true≢false (sym (client_here (9 + c) c refl) ∙ out (9 + c) (omega (arith, lt, many)))))
+      (λ lt. absurd (true≢false (sym (client_here (MAX_SERVERS + 1 + c) c refl) ∙ out (MAX_SERVERS + 1 + c) (omega (arith, lt, many)))))
       (λ ge. get_or_past (map f t.clients.items) c [] (let long = length-map t.clients.items f in omega (arith, ge, long, count)))
       (below c (length cs))
 
@@ -123,7 +124,7 @@ module _ (last : ℕ) (m : Ending) (ss cs : List Ending) (t : Traces) (eight : l
       (λ lt. absurd (true≢false (sym (server_here (suc k) (omega arith) (omega (arith, lt))) ∙ out (suc k) (omega (arith, lt, many)))))
       (λ ge. get_or_past (map (λ (trace : Trace). trace.events.items) t.servers.items) k []
       (let long = length-map t.servers.items (λ (trace : Trace). trace.events.items) in omega (arith, ge, long, server_count)))
-      (below k 8)
+      (below k MAX_SERVERS)
   no_events (Client c) out = none_beyond (λ (client : ClientTrace). client.trace.events.items) c out
 
   module _ (wired : AreWired es) (outs : List (Vec (Tx TreeStamped) Global)) (ins : List (Vec (Rx TreeStamped) Global))

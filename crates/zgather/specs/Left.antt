@@ -2,7 +2,7 @@
 use Rattle.std.specs.Prelude.{ℕ, Bool, ◌||◌, List, ◌∷◌, ◌++◌, length, map}
 use Rattle.std.specs.List.{list_any}
 use Rattle.ztraces.specs.declared.trace.ClientTrace.{ClientTrace}
-use Rattle.zlinks.specs.Places.{process_at}
+use Rattle.zprotocol.specs.Places.{process_at}
 use Rattle.zrings.specs.Ends.{ring_of_rx, ring_of_tx}
 use Rattle.zmesh.specs.Woven.{IsWoven}
 use Rattle.zdesks.specs.declared.desk.Ending.{Ending}

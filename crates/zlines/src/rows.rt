@@ -2,15 +2,13 @@
 
 ghost use Rattle.std.specs.Prelude.{◌≡◌, [], ◌∷◌, Some, None, Ok, Err, codes};
 ghost use Rattle.zpath.specs.declared.fault.PathFault.TheVariants.{NotAbsolute};
-ghost use Rattle.zcalls.specs.declared.call.Kind.TheVariants.{Persistent, Ephemeral, EphemeralSequential};
-ghost use Rattle.zcalls.specs.declared.call.Update.TheVariants.{Create, Open, Ping, Close, Tick};
-ghost use Rattle.zcalls.specs.declared.call.Query.TheVariants.{GetData};
-ghost use Rattle.zcalls.specs.declared.call.Call.TheVariants.{Update, Query};
+ghost use Rattle.zcalls.specs.declared.call.Kind.TheVariants.{Ephemeral, EphemeralSequential};
+ghost use Rattle.zcalls.specs.declared.call.Update.TheVariants.{Open, Ping, Close, Tick};
+ghost use Rattle.zcalls.specs.declared.call.Call.TheVariants.{Update};
 ghost use Rattle.zcalls.specs.declared.refusal.Refusal.TheVariants.{NoNode, NodeExists, NotEmpty, BadVersion};
 ghost use Rattle.zcalls.specs.declared.refusal.Refusal.TheVariants.{NoChildrenForEphemerals, SessionGone};
 ghost use Rattle.zcalls.specs.declared.refusal.Refusal.TheVariants.{SequenceFull, PathLimit, RootFixed, Full};
 ghost use Rattle.zcalls.specs.declared.refusal.Refusal.TheVariants.{TooManySessions, Exhausted};
-ghost use Rattle.zcalls.specs.declared.reply.PartReply.TheVariants as part;
 ghost use Rattle.zcalls.specs.declared.reply.Reply.TheVariants as reply;
 ghost use Rattle.zcalls.specs.declared.reply.Reply.TheVariants.{Created, Opened, Ticked, Refused};
 ghost use Rattle.zlines.specs.declared.limits.TheConstants.{MAX_LINE, NUMBER_BOUND};
@@ -23,6 +21,8 @@ ghost use Rattle.zlines.specs.ProcessWords.{process_of, server_of, client_proces
 ghost use Rattle.zlines.specs.Line.{line_of};
 ghost use Rattle.zlines.specs.Shape.{kind_of};
 ghost use Rattle.zlines.specs.Reply.{reply_text, stat_text};
+ghost use Rattle.zlines.specs.support.Rows.{asks, begins, get_a, create_root, first_stat};
+ghost use Rattle.zlines.specs.support.Rows.{three_parts, one_part, two_bytes, no_bytes};
 
 /// Worked rows of the words: numbers, clients and data.
 #[tactic(auto, unfolding(crate::specs::Shape::kind_of, base64::proofs::OnLiterals::base64_on_literals))]
@@ -60,15 +60,11 @@ pub fn lines()
     ensures clock_alone { line_of (codes "0 get a") ≡ Err BadLine }
     ensures tick_alone { line_of (codes "1 tick") ≡ Err BadLine }
     ensures one_tick { line_of (codes "0 tick 1") ≡ Err BadLine }
-    ensures tick { line_of (codes "0 tick")
-        ≡ Ok (line.Call (record { client = 0; call = Update Tick })) }
-    ensures open_nothing { line_of (codes "1 open 0")
-        ≡ Ok (line.Call (record { client = 1; call = Update (Open 0) })) }
+    ensures tick { line_of (codes "0 tick") ≡ asks 0 (Update Tick) }
+    ensures open_nothing { line_of (codes "1 open 0") ≡ asks 1 (Update (Open 0)) }
     ensures open_too_much { line_of (codes "1 open 4611686018427387904") ≡ Err BadLine }
-    ensures ping { line_of (codes "2 ping 7")
-        ≡ Ok (line.Call (record { client = 2; call = Update (Ping 7) })) }
-    ensures close { line_of (codes "2 close 7")
-        ≡ Ok (line.Call (record { client = 2; call = Update (Close 7) })) }
+    ensures ping { line_of (codes "2 ping 7") ≡ asks 2 (Update (Ping 7)) }
+    ensures close { line_of (codes "2 close 7") ≡ asks 2 (Update (Close 7)) }
     ensures close_two { line_of (codes "2 close 7 8") ≡ Err BadLine }
     ensures session_first { line_of (codes "1 create a e: aGk") ≡ Err BadLine }
     ensures relative { line_of (codes "1 get a") ≡ Err (BadPath NotAbsolute) }
@@ -79,13 +75,8 @@ pub fn lines()
     ensures mark_is_data { line_of (codes "1 multi create /a p ; ; check /a any") ≡ Err BadData }
     ensures mark_ends { line_of (codes "1 multi check /a any ;") ≡ Err BadLine }
     ensures lone_check { line_of (codes "1 check /a any") ≡ Err BadLine }
-    ensures get { line_of (codes "1 get /a")
-        ≡ Ok (line.Call (record { client = 1; call = Query (GetData ((97 ∷ []) ∷ [])) })) }
-    ensures create { line_of (codes "31 create / p -")
-        ≡ Ok (line.Call (record {
-          client = 31;
-          call = Update (Create (record { path = []; kind = Persistent; bytes = [] }));
-        })) }
+    ensures get { line_of (codes "1 get /a") ≡ asks 1 get_a }
+    ensures create { line_of (codes "31 create / p -") ≡ asks 31 create_root }
 {}
 
 /// Worked rows of the words that name processes.
@@ -119,8 +110,7 @@ pub fn event_lines()
     ensures server_retries { line_of (codes "retry s1") ≡ Err BadLine }
     ensures settle { line_of (codes "settle") ≡ Ok line.Settle }
     ensures settle_more { line_of (codes "settle 1") ≡ Err BadLine }
-    ensures begin { line_of (codes "0 begin tick")
-        ≡ Ok (line.Begin (record { client = 0; call = Update Tick })) }
+    ensures begin { line_of (codes "0 begin tick") ≡ begins 0 (Update Tick) }
     ensures clock_alone { line_of (codes "0 begin get /") ≡ Err BadLine }
     ensures tick_alone { line_of (codes "1 begin tick") ≡ Err BadLine }
     ensures begin_alone { line_of (codes "1 begin") ≡ Err BadLine }
@@ -133,19 +123,7 @@ pub fn replies()
     ensures opened { reply_text (Opened 1 2) ≡ codes "ok session 1 timeout 2" }
     ensures ticked { reply_text (Ticked 2 1) ≡ codes "ok tick 2 ended 1" }
     ensures created { reply_text (Created ((97 ∷ []) ∷ (98 ∷ []) ∷ [])) ≡ codes "ok /a/b" }
-    ensures stat { stat_text (record {
-      czxid = 1;
-      mzxid = 1;
-      pzxid = 1;
-      ctime = 0;
-      mtime = 0;
-      version = 0;
-      cversion = 0;
-      owner = 0;
-      length = 2;
-      children = 0;
-    })
-        ≡ codes " 1 1 1 0 0 0 0 0 2 0" }
+    ensures stat { stat_text first_stat ≡ codes " 1 1 1 0 0 0 0 0 2 0" }
 {}
 
 /// Worked rows of the texts of replies that tell what was done, each under its own word.
@@ -153,17 +131,12 @@ pub fn replies()
 pub fn done_replies()
     ensures deleted { reply_text reply.Deleted ≡ codes "ok deleted" }
     ensures set { reply_text (reply.Set some_stat) ≡ codes "ok stat 1 2 3 4 5 6 8 9 2 11" }
-    ensures multi { reply_text
-        (reply.Multi (part.Created (a ∷ []) ∷ part.Deleted ∷ part.Checked ∷ []))
-        ≡ codes "ok multi /a ; deleted ; checked" }
-    ensures multi_set { reply_text (reply.Multi (part.Set some_stat ∷ []))
-        ≡ codes "ok multi stat 1 2 3 4 5 6 8 9 2 11" }
+    ensures multi { reply_text three_parts ≡ codes "ok multi /a ; deleted ; checked" }
+    ensures multi_set { reply_text one_part ≡ codes "ok multi stat 1 2 3 4 5 6 8 9 2 11" }
     ensures pinged { reply_text reply.Pinged ≡ codes "ok pinged" }
     ensures closed { reply_text reply.Closed ≡ codes "ok closed" }
-    ensures data { reply_text (reply.Data (104 ∷ (105 ∷ [])) some_stat)
-        ≡ codes "ok data aGk= stat 1 2 3 4 5 6 8 9 2 11" }
-    ensures no_data { reply_text (reply.Data [] some_stat)
-        ≡ codes "ok data - stat 1 2 3 4 5 6 8 9 2 11" }
+    ensures data { reply_text two_bytes ≡ codes "ok data aGk= stat 1 2 3 4 5 6 8 9 2 11" }
+    ensures no_data { reply_text no_bytes ≡ codes "ok data - stat 1 2 3 4 5 6 8 9 2 11" }
     ensures exists { reply_text (reply.Exists some_stat) ≡ codes "ok stat 1 2 3 4 5 6 8 9 2 11" }
     ensures children { reply_text (reply.Children (a ∷ (a ∷ []))) ≡ codes "ok 2 a a" }
 {}

@@ -8,14 +8,13 @@ use Rattle.std.proofs.Math.Nat.{eq-or-lt_of_le}
 use Rattle.zworld_model.proofs.Visited.{at_least_one, at_most}
 use Rattle.zcalls.proofs.Among.{test}
 use Rattle.ztree.specs.declared.limits.TheConstants.{MAX_CLIENTS}
-use Rattle.zprotocol.specs.declared.limits.TheConstants.{MAX_SERVERS}
+use Rattle.zprotocol.specs.declared.limits.TheConstants.{MAX_SERVERS, PROCESSES}
 use Rattle.zprotocol.specs.declared.message.Message.{Message}
 use Rattle.zprotocol.specs.declared.process.Process.{Process}
 use Rattle.zprotocol.specs.declared.process.Process.TheVariants.{Master, Server, Client}
-use Rattle.zworld_model.specs.Events.{is_server}
+use Rattle.zprotocol.specs.Places.{is_server, place_of}
 use Rattle.zworld_model.specs.Links.{is_same}
-use Rattle.zlinks.specs.declared.limits.TheConstants.{PROCESSES}
-use Rattle.zlinks.specs.Places.{place_of, links_of, with_link, without_receiver, is_silent}
+use Rattle.zlinks.specs.Places.{links_of, with_link, without_receiver, is_silent}
 use Rattle.zlinks.specs.support.Rows.{ClearedTo}
 use Rattle.zlinks.proofs.Rows.{silent_at}
 

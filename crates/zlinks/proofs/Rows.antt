@@ -6,7 +6,7 @@ use Rattle.std.proofs.lemmas.Bool.Decides.{nat_tests}
 use Rattle.std.specs.Prelude.{not, ◌==◌, ◌||◌}
 use Rattle.std.specs.List.{list_any}
 use Rattle.zlinks.specs.Places.{holds}
-use Rattle.zlinks.specs.declared.limits.TheConstants.{PROCESSES}
+use Rattle.zprotocol.specs.declared.limits.TheConstants.{PROCESSES}
 use Rattle.zlinks.specs.support.Rows.{share, passing, Counts, IsBlank, AreBlank}
 
 -- the share of what passes a test, and of what doesn't

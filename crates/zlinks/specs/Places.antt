@@ -1,28 +1,11 @@
 -- The links as they are kept: a row for each process of what it has put, and in it a queue for each receiver.
 -- Van Renesse and Schneider, "Chain Replication for Supporting High Throughput and Availability" (OSDI 2004), section 3.
-use Rattle.std.specs.Prelude.{ℕ, ◌+◌, ◌-◌, ◌==◌, Bool, true, false, not, ◌&&◌, nat_lt, nat_le, if◌then◌else◌, List, [], ◌∷◌, get_or}
+use Rattle.std.specs.Prelude.{Bool, true, false, not, ◌&&◌, if◌then◌else◌, List, [], ◌∷◌, get_or}
 use Rattle.std.specs.List.{list_any}
-use Rattle.ztree.specs.declared.limits.TheConstants.{MAX_CLIENTS}
-use Rattle.zprotocol.specs.declared.limits.TheConstants.{MAX_SERVERS}
 use Rattle.zprotocol.specs.declared.message.Message.{Message}
 use Rattle.zprotocol.specs.declared.process.Process.{Process}
-use Rattle.zprotocol.specs.declared.process.Process.TheVariants.{Master, Server, Client}
-use Rattle.zworld_model.specs.Events.{is_server}
+use Rattle.zprotocol.specs.Places.{place_of}
 use Rattle.zworld_model.specs.Links.{is_same}
-use Rattle.zlinks.specs.declared.limits.TheConstants.{PROCESSES}
-
--- the place of a process: the master, the servers and the clients in turn; what is no process is behind them all
-abbrev pub place_of : Process → ℕ
-place_of Master = 0
-place_of (Server s) = if is_server s then s else PROCESSES
-place_of (Client c) = if nat_lt c MAX_CLIENTS then MAX_SERVERS + 1 + c else PROCESSES
-
--- the process of a place
-abbrev pub process_at : ℕ → Process
-process_at place =
-    if place == 0 then Master else
-    if nat_le place MAX_SERVERS then Server place else
-    Client (place - (MAX_SERVERS + 1))
 
 -- the messages on each link
 abbrev pub Queues : Type 0 → Type 0

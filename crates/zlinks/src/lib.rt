@@ -5,11 +5,8 @@
 //! messages passes by the others. What a `Snapshot` hands over is a type parameter.
 #![tactic(auto)]
 
-mod limits;
 mod link;
 mod links;
-pub mod place;
 mod row;
 
-pub use limits::PROCESSES;
 pub use links::Links;

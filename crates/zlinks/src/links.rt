@@ -3,16 +3,15 @@
 ghost use Rattle.std.specs.Prelude.{◌≡◌, ◌<◌, ◌≤◌, true, false, [], ◌∷◌, ◌++◌, List, MatchOption, IfNone, IfOk, OnErr, OnOk, drop};
 ghost use Rattle.zprotocol.specs.declared.message.Message.{Message};
 ghost use Rattle.zprotocol.specs.declared.process.Process.{Process};
-ghost use Rattle.zlinks.specs.declared.limits.TheConstants.{PROCESSES};
-ghost use Rattle.zlinks.specs.Places.{place_of, links_of, with_link, without_receiver, is_silent, holds};
+ghost use Rattle.zprotocol.specs.declared.limits.TheConstants.{PROCESSES};
+ghost use Rattle.zprotocol.specs.Places.{place_of};
+ghost use Rattle.zlinks.specs.Places.{links_of, with_link, without_receiver, is_silent, holds};
 
-use crate::limits::PROCESSES;
-use crate::place::place;
 use crate::row::Row;
 use std::alloc::Global;
 use std::marker::Model;
 use zpath::Memory;
-use zprotocol::{Message, Process};
+use zprotocol::{Message, PROCESSES, Process};
 
 /// The links between all processes, and how many processes have put something that is still on one.
 #[derive(Drop)]
@@ -77,7 +76,7 @@ impl<T: Drop> Links<T> {
         ensures held { (to : Process) → place_of to ≡ result → result < PROCESSES
             → holds (links_of self.now from.now to) ≡ true }
     {
-        self.rows[place(from)].next_held(at)
+        self.rows[from.place()].next_held(at)
     }
 
     /// Puts a message last on a link.
@@ -88,9 +87,9 @@ impl<T: Drop> Links<T> {
         ensures same { OnErr result ((p q : Process) → links_of self.new p q
             ≡ links_of self.old p q) }
     {
-        let row = &mut self.rows[place(from)];
+        let row = &mut self.rows[from.place()];
         let was_silent = row.is_silent();
-        row.put(place(to), message)?;
+        row.put(to.place(), message)?;
         if was_silent {
             self.held += 1;
         }
@@ -103,7 +102,7 @@ impl<T: Drop> Links<T> {
             (λ front. (rest : List (Message T))
             × (links_of self.now from.now to.now ≡ front.now ∷ rest)) }
     {
-        self.rows[place(from)].front(place(to))
+        self.rows[from.place()].front(to.place())
     }
 
     /// Takes out the front of a link.
@@ -116,8 +115,8 @@ impl<T: Drop> Links<T> {
             ≡ front ∷ drop 1 (links_of self.old from.now to.now)) }
         ensures same { IfNone result (self.new ≡ self.old) }
     {
-        let row = &mut self.rows[place(from)];
-        let front = row.next(place(to))?;
+        let row = &mut self.rows[from.place()];
+        let front = row.next(to.place())?;
         if row.is_silent() {
             self.held -= 1;
         }
@@ -129,7 +128,7 @@ impl<T: Drop> Links<T> {
         ensures { (p q : Process) → links_of self.new p q
             ≡ without_receiver (links_of self.old) to.now p q }
     {
-        let at = place(to);
+        let at = to.place();
         for from in 0..PROCESSES {
             let row = &mut self.rows[from];
             if row.clear(at) {

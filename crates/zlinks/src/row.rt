@@ -3,16 +3,15 @@
 ghost use Rattle.std.specs.Prelude.{◌≡◌, ◌+◌, ◌<◌, ◌≤◌, ℕ, true, [], ◌∷◌, ◌++◌, List, MatchOption, IfNone, IfOk, OnErr, OnOk, length, get_or, set, drop, not};
 ghost use Rattle.std.specs.List.{list_any};
 ghost use Rattle.zprotocol.specs.declared.message.Message.{Message};
-ghost use Rattle.zlinks.specs.declared.limits.TheConstants.{PROCESSES};
+ghost use Rattle.zprotocol.specs.declared.limits.TheConstants.{PROCESSES};
 ghost use Rattle.zlinks.specs.Places.{holds};
 ghost use Rattle.zlinks.specs.support.Rows.{IsBlank, share};
 
-use crate::limits::PROCESSES;
 use crate::link::Link;
 use std::alloc::Global;
 use std::marker::Model;
 use zpath::Memory;
-use zprotocol::Message;
+use zprotocol::{Message, PROCESSES};
 
 /// The links from one process, by the places of the receivers, and how many of them hold something.
 #[derive(Drop)]

@@ -15,8 +15,8 @@ use zprotocol::{Epoch, JoinFault, Message, Out, Process, ServerId};
 pub(crate) type Members = ArrayVec<Member, SERVERS>;
 
 /// Where the server stands in the chain.
-pub(crate) fn place_of(members: &[Member], server: &ServerId) -> Option<usize>
-    ensures { result ≡ position (λ member. member.0 == server.now) members.now }
+pub(crate) fn position_of(members: &[Member], server: ServerId) -> Option<usize>
+    ensures { result ≡ position (λ member. member.0 == server) members.now }
 {
     members
         .iter()
@@ -24,12 +24,8 @@ pub(crate) fn place_of(members: &[Member], server: &ServerId) -> Option<usize>
 }
 
 /// The member before the server, where their pair has this epoch; none before the first.
-pub(crate) fn member_before(
-    members: &[Member],
-    server: &ServerId,
-    epoch: &Epoch,
-) -> Option<ServerId>
-    ensures { result ≡ before server.now epoch.now members.now }
+pub(crate) fn member_before(members: &[Member], server: ServerId, epoch: Epoch) -> Option<ServerId>
+    ensures { result ≡ before server epoch members.now }
 {
     let (first, rest) = members.split_first()?;
     let next = rest.first()?;
@@ -40,8 +36,8 @@ pub(crate) fn member_before(
 }
 
 /// Whether this is the one that joins.
-pub(crate) fn is_the_joining(joining: &Option<ServerId>, server: &ServerId) -> bool
-    ensures { result ≡ joins joining.now server.now }
+pub(crate) fn is_the_joining(joining: &Option<ServerId>, server: ServerId) -> bool
+    ensures { result ≡ joins joining.now server }
 {
     match joining {
         Some(joining) => joining.number() == server.number(),
@@ -55,7 +51,7 @@ pub(crate) fn chain_fault(members: &[Member], joining: &Option<ServerId>) -> Opt
 {
     match members {
         [] => Some(JoinFault::NoChain),
-        [only] if is_the_joining(joining, &only.id()) => Some(JoinFault::Lost),
+        [only] if is_the_joining(joining, only.id()) => Some(JoinFault::Lost),
         [_] => None,
         _ if joining.is_some() => Some(JoinFault::Joining),
         _ => None,
@@ -74,7 +70,7 @@ pub(crate) fn last_with_state(
     let Some((first, rest)) = members.split_first() else {
         return found;
     };
-    if is_the_joining(joining, &first.id()) {
+    if is_the_joining(joining, first.id()) {
         return last_with_state(rest, joining, found);
     }
     last_with_state(rest, joining, Some(first.id()))
@@ -91,27 +87,27 @@ pub(crate) fn last_member(members: &[Member], found: Option<ServerId>) -> Option
 }
 
 /// Mends a chain from which the member at this place has gone, and tells its neighbours.
-pub(crate) fn mend<T: Drop>(members: &mut Members, at: usize, epoch: &Epoch, out: &mut Out<T>)
+pub(crate) fn mend<T: Drop>(members: &mut Members, at: usize, epoch: Epoch, out: &mut Out<T>)
     requires within { at ≤ length members.old.items }
     requires room { 0 < out.old.room }
-    ensures chain { members.new.items ≡ (mended_at {T = T} epoch.now at members.old.items).0 }
-    ensures puts { PutsInRoom out.old out.new (mended_at epoch.now at members.old.items).1 }
+    ensures chain { members.new.items ≡ (mended_at {T = T} epoch at members.old.items).0 }
+    ensures puts { PutsInRoom out.old out.new (mended_at epoch at members.old.items).1 }
 {
     if at == 0 {
         if let Some(head) = members.first() {
-            out.put_reserved(Process::Server(head.id()), Message::BecomeHead(*epoch));
+            out.put_reserved(Process::Server(head.id()), Message::BecomeHead(epoch));
         }
         return;
     }
     let before = members[at - 1].id();
     if at == members.len() {
-        out.put_reserved(Process::Server(before), Message::BecomeTail(*epoch));
+        out.put_reserved(Process::Server(before), Message::BecomeTail(epoch));
         return;
     }
     out.put_reserved(
         Process::Server(members[at].id()),
-        Message::NewPred(*epoch, before),
+        Message::NewPred(epoch, before),
     );
     let next = members[at].id();
-    members[at] = Member::new(next, *epoch);
+    members[at] = Member::new(next, epoch);
 }

@@ -10,10 +10,10 @@ ghost use Rattle.zmaster.specs.declared.limits.TheConstants.{MAX_POSTS};
 
 use crate::chain::{
     Members, chain_fault, is_the_joining, last_member, last_with_state, member_before, mend,
-    place_of,
+    position_of,
 };
 use crate::limits::{MAX_POSTS, SERVERS};
-use crate::member::{Member, first_epoch};
+use crate::member::Member;
 use crate::used::{is_used, mark_used, width};
 use std::marker::Model;
 use zprotocol::{ClientId, Epoch, JoinFault, LogNumber, Message, Out, Process, ServerId};
@@ -59,14 +59,14 @@ impl Knowledge {
             let Some(server) = ServerId::new(number) else {
                 unreachable!();
             };
-            mark_used(&mut used, &server);
-            chain.push(Member::new(server, first_epoch()));
+            mark_used(&mut used, server);
+            chain.push(Member::new(server, Epoch::opening()));
         }
         Knowledge {
             chain,
             joining: None,
             used,
-            epoch: first_epoch(),
+            epoch: Epoch::opening(),
             clients,
         }
     }
@@ -84,24 +84,25 @@ impl Knowledge {
         ensures chain { result ≡ length self.now.chain }
         ensures used { length self.now.used ≤ MAX_SERVERS }
     {
+        // No more numbers are used than there are marks: the clause of `width` tells it.
         let _ = width(&self.used);
         self.chain.len()
     }
 
     /// Takes a message: the master table.
     #[tactic(auto, using(zprotocol::proofs::Posts::put_none), unfolding(zprotocol::specs::master::Table::master_step))]
-    pub(crate) fn take<T: Drop>(&mut self, from: &Process, message: &Message<T>, out: &mut Out<T>)
+    pub(crate) fn take<T: Drop>(&mut self, from: Process, message: &Message<T>, out: &mut Out<T>)
         requires epochs { self.old.epoch < MAX_EPOCH }
         requires room { MAX_POSTS ≤ out.old.room }
-        ensures next { self.new ≡ (master_step self.old from.now message.now).0 }
+        ensures next { self.new ≡ (master_step self.old from message.now).0 }
         ensures puts { PutsInRoom out.old out.new
-            (master_step self.old from.now message.now).1 }
+            (master_step self.old from message.now).1 }
     {
         let Process::Server(server) = from else {
             return;
         };
         match message {
-            Message::Have(epoch, last) => self.have(server, epoch, last, out),
+            Message::Have(epoch, last) => self.have(server, *epoch, *last, out),
             Message::Joined(_) => self.joined(server, out),
             Message::Gone => self.gone(server, out),
             _ => {}
@@ -111,52 +112,52 @@ impl Knowledge {
     // Have: the server before the sender hears of its new successor, and what that has.
     fn have<T: Drop>(
         &self,
-        server: &ServerId,
-        epoch: &Epoch,
-        last: &Option<LogNumber>,
+        server: ServerId,
+        epoch: Epoch,
+        last: Option<LogNumber>,
         out: &mut Out<T>,
     )
         requires { 0 < out.old.room }
-        ensures same { (have_row {T = T} self.now server.now epoch.now last.now).0 ≡ self.now }
+        ensures same { (have_row {T = T} self.now server epoch last).0 ≡ self.now }
         ensures puts { PutsInRoom out.old out.new
-            (have_row self.now server.now epoch.now last.now).1 }
+            (have_row self.now server epoch last).1 }
     {
         if let Some(before) = member_before(&self.chain, server, epoch) {
             out.put_reserved(
                 Process::Server(before),
-                Message::NewSucc(*epoch, *server, *last),
+                Message::NewSucc(epoch, server, last),
             );
         }
     }
 
     // Joined: from the one that is joining; the clients hear of it.
-    fn joined<T: Drop>(&mut self, server: &ServerId, out: &mut Out<T>)
+    fn joined<T: Drop>(&mut self, server: ServerId, out: &mut Out<T>)
         requires epochs { self.old.epoch < MAX_EPOCH }
         requires room { MAX_POSTS ≤ out.old.room }
-        ensures next { self.new ≡ (joined_row {T = T} self.old server.now).0 }
-        ensures puts { PutsInRoom out.old out.new (joined_row self.old server.now).1 }
+        ensures next { self.new ≡ (joined_row {T = T} self.old server).0 }
+        ensures puts { PutsInRoom out.old out.new (joined_row self.old server).1 }
     {
         if is_the_joining(&self.joining, server) {
             self.joining = None;
-            self.epoch = next_epoch(&self.epoch);
+            self.epoch = next_epoch(self.epoch);
             self.tell(out);
         }
     }
 
     // Gone: outside the chain the number is used; in the chain, it is mended in a new epoch, and told.
-    fn gone<T: Drop>(&mut self, server: &ServerId, out: &mut Out<T>)
+    fn gone<T: Drop>(&mut self, server: ServerId, out: &mut Out<T>)
         requires epochs { self.old.epoch < MAX_EPOCH }
         requires room { MAX_POSTS ≤ out.old.room }
-        ensures next { self.new ≡ (gone_row {T = T} self.old server.now).0 }
-        ensures puts { PutsInRoom out.old out.new (gone_row self.old server.now).1 }
+        ensures next { self.new ≡ (gone_row {T = T} self.old server).0 }
+        ensures puts { PutsInRoom out.old out.new (gone_row self.old server).1 }
     {
-        let Some(at) = place_of(&self.chain, server) else {
+        let Some(at) = position_of(&self.chain, server) else {
             mark_used(&mut self.used, server);
             return;
         };
-        let epoch = next_epoch(&self.epoch);
+        let epoch = next_epoch(self.epoch);
         self.chain.remove(at);
-        mend(&mut self.chain, at, &epoch, out);
+        mend(&mut self.chain, at, epoch, out);
         if is_the_joining(&self.joining, server) {
             self.joining = None;
         }
@@ -165,8 +166,8 @@ impl Knowledge {
     }
 
     /// Why a server can't join.
-    pub(crate) fn join_fault(&self, server: &ServerId) -> Option<JoinFault>
-        ensures { result ≡ join_fault self.now server.now }
+    pub(crate) fn join_fault(&self, server: ServerId) -> Option<JoinFault>
+        ensures { result ≡ join_fault self.now server }
     {
         if is_used(&self.used, server) {
             return Some(JoinFault::Used);
@@ -185,8 +186,8 @@ impl Knowledge {
         let Some(before) = last_member(&self.chain, None) else {
             return;
         };
-        let epoch = next_epoch(&self.epoch);
-        mark_used(&mut self.used, &server);
+        let epoch = next_epoch(self.epoch);
+        mark_used(&mut self.used, server);
         self.epoch = epoch;
         self.joining = Some(server);
         self.chain.push(Member::new(server, epoch));
@@ -225,9 +226,9 @@ impl Knowledge {
 }
 
 // The next epoch.
-fn next_epoch(epoch: &Epoch) -> Epoch
-    requires { epoch.now < MAX_EPOCH }
-    ensures { result ≡ epoch.now + 1 }
+fn next_epoch(epoch: Epoch) -> Epoch
+    requires { epoch < MAX_EPOCH }
+    ensures { result ≡ epoch + 1 }
 {
     match Epoch::new(epoch.number() + 1) {
         Some(next) => next,

@@ -39,6 +39,7 @@ impl Master {
         ensures { result ≡ opening_master last clients }
     {
         let known = Knowledge::new(last, clients);
+        // The invariant bounds the numbers that are used, and the clause of `count` tells that they are few.
         let _ = known.count();
         Master { known }
     }
@@ -58,8 +59,9 @@ impl Master {
         ensures puts { PutsInRoom out.old out.new
             (master_step self.old from message).1 }
     {
-        self.known.take(&from, &message, out);
+        self.known.take(from, &message, out);
         drop(message);
+        // (as in `new`)
         let _ = self.known.count();
     }
 
@@ -67,7 +69,7 @@ impl Master {
     pub fn join_fault(&self, server: ServerId) -> Option<JoinFault>
         ensures { result ≡ join_fault self.now server }
     {
-        self.known.join_fault(&server)
+        self.known.join_fault(server)
     }
 
     /// Lets a server join behind the last of the chain, or says why it can't. It takes no memory.
@@ -80,10 +82,11 @@ impl Master {
         ensures same { OnErr result (self.new ≡ self.old) }
         ensures silent { OnErr result (out.new ≡ out.old) }
     {
-        if let Some(fault) = self.known.join_fault(&server) {
+        if let Some(fault) = self.known.join_fault(server) {
             return Err(fault);
         }
         self.known.join(server, out);
+        // (as in `new`)
         let _ = self.known.count();
         Ok(())
     }

@@ -44,28 +44,8 @@ impl Member {
 impl Default for Member {
     fn default() -> Member {
         Member {
-            id: first_server(),
-            epoch: first_epoch(),
+            id: ServerId::first(),
+            epoch: Epoch::opening(),
         }
-    }
-}
-
-/// The opening chain's first server.
-pub(crate) fn first_server() -> ServerId
-    ensures { result ≡ 1 }
-{
-    match ServerId::new(1) {
-        Some(server) => server,
-        None => unreachable!(),
-    }
-}
-
-/// The epoch of the opening chain.
-pub(crate) fn first_epoch() -> Epoch
-    ensures { result ≡ 0 }
-{
-    match Epoch::new(0) {
-        Some(epoch) => epoch,
-        None => unreachable!(),
     }
 }

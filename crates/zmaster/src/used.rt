@@ -9,15 +9,15 @@ use crate::limits::SERVERS;
 use zprotocol::ServerId;
 
 /// Whether the number is marked.
-pub(crate) fn is_used(used: &[bool; SERVERS], server: &ServerId) -> bool
-    ensures { result ≡ is_among server.now (numbers_from 1 used.now) }
+pub(crate) fn is_used(used: &[bool; SERVERS], server: ServerId) -> bool
+    ensures { result ≡ is_among server (numbers_from 1 used.now) }
 {
     used[server.number() as usize - 1]
 }
 
 /// Marks the number.
-pub(crate) fn mark_used(used: &mut [bool; SERVERS], server: &ServerId)
-    ensures { numbers_from 1 used.new ≡ with_number server.now (numbers_from 1 used.old) }
+pub(crate) fn mark_used(used: &mut [bool; SERVERS], server: ServerId)
+    ensures { numbers_from 1 used.new ≡ with_number server (numbers_from 1 used.old) }
 {
     used[server.number() as usize - 1] = true;
 }

@@ -43,6 +43,7 @@ fn handed_over(alloc: Global) -> Option<Message<Snapshot>> {
         return None;
     };
     let mut out = Out::new(alloc);
+    // Where it hears neither, it has put nothing.
     let _ = hears(alloc, &mut only, Word::Submit)
         && hears_at(alloc, &mut only, Word::JoinedBy, &mut out);
     drop(only);

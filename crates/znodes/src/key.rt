@@ -45,8 +45,8 @@ impl Key {
     }
 }
 
-// What is kept of the index's key.
-pub(crate) fn kept(names: Option<Vec<Name>>) -> Option<Key>
+// The key of these names.
+pub(crate) fn key_of(names: Option<Vec<Name>>) -> Option<Key>
     ensures { result ≡ names_of names }
 {
     match names {

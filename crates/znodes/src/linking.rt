@@ -12,7 +12,7 @@ ghost use Rattle.znodes.specs.support.KeyNames.{names_of};
 ghost use Rattle.znodes.specs.support.Linking.{with_key, kept_key, with_child, without_child, with_owned, without_owned, owners_with, owners_without};
 
 use crate::index::Index;
-use crate::key::{Key, kept};
+use crate::key::{Key, key_of};
 use crate::owners::Owners;
 use crate::row::Row;
 use zpath::Name;
@@ -97,7 +97,7 @@ pub(crate) fn set_key(slots: &mut Slots<Row>, id: Id, names: Option<Vec<Name>>)
         (with_key slots.old.items id (names_of names)) }
 {
     if let Some(row) = slots.get_mut(id) {
-        row.key = kept(names);
+        row.key = key_of(names);
     }
 }
 

@@ -1,3 +1,4 @@
+pub mod Places
 pub mod server_lemmas
 pub mod master_lemmas
 pub mod client_lemmas

@@ -1,3 +1,4 @@
+pub mod Places
 pub mod server
 pub mod master
 pub mod client

@@ -39,6 +39,13 @@ impl Epoch {
         }
     }
 
+    /// The epoch of the opening chain.
+    pub fn opening() -> Epoch
+        ensures { result ≡ 0 }
+    {
+        Epoch { number: 0 }
+    }
+
     /// Its number.
     pub fn number(self) -> u64
         ensures same { result ≡ self }

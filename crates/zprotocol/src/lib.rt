@@ -11,13 +11,14 @@ mod log_number;
 pub mod master;
 mod message;
 mod out_list;
+mod place;
 mod process;
 pub mod server;
 mod server_id;
 
 pub use client::BeginFault;
 pub use epoch::Epoch;
-pub use limits::{MAX_EPOCH, MAX_LOG_NUMBER, MAX_SERVERS};
+pub use limits::{MAX_EPOCH, MAX_LOG_NUMBER, MAX_SERVERS, PROCESSES};
 pub use log_number::LogNumber;
 pub use master::JoinFault;
 pub use message::Message;

@@ -37,6 +37,13 @@ impl ServerId {
         }
     }
 
+    /// The first one: the head of the opening chain.
+    pub fn first() -> ServerId
+        ensures { result ≡ 1 }
+    {
+        ServerId { number: 1 }
+    }
+
     /// Its number.
     pub fn number(self) -> u8
         ensures same { result ≡ self }

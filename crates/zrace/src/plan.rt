@@ -4,9 +4,10 @@ ghost use Rattle.std.specs.Prelude.{◌≡◌, ◌<◌, ◌≤◌, IfNone, IfSom
 ghost use Rattle.zrace.specs.declared.plan.TheConstants.{MAX_RACERS, MAX_ROUNDS};
 
 use zprotocol::ServerId;
+use ztree::limits::MAX_CLIENTS;
 
 /// The most clients that race: the client 0 stands aside.
-pub const MAX_RACERS: u8 = 31;
+pub const MAX_RACERS: u8 = MAX_CLIENTS - 1;
 
 /// The most nodes that are raced for.
 pub const MAX_ROUNDS: u16 = 1_000;
@@ -31,8 +32,8 @@ pub struct Race {
 impl Race {
     ghost use Rattle.zrace.specs.Ranges.{AreInRange, halted_server};
 
-    /// The race of these numbers, where 0 halts no server. None where one is out of its range: 1 to 31 clients, 1 to 1,000
-    /// rounds, and to be halted a server of a chain of two and more.
+    /// The race of these numbers, where 0 halts no server. None where one is out of its range: 1 to `MAX_RACERS` clients, 1 to
+    /// `MAX_ROUNDS` rounds, and to be halted a server of a chain of two and more.
     pub fn new(last: ServerId, clients: u8, rounds: u16, halt: u8) -> Option<Race>
         ensures known { IfSome result (λ _. AreInRange last clients rounds halt) }
         ensures refused { IfNone result (AreInRange last clients rounds halt → ⊥) }

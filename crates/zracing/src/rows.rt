@@ -9,7 +9,7 @@ ghost use Rattle.zracing.specs.support.Rows.{text_numbers};
 pub fn words_give_four_numbers()
     ensures none { text_numbers (codes "zk race") ≡ Some (3 ∷ 4 ∷ 100 ∷ 0 ∷ []) }
     ensures one { text_numbers (codes "zk race --halt 2") ≡ Some (3 ∷ 4 ∷ 100 ∷ 2 ∷ []) }
-    ensures in_any_order { text_numbers (codes "zk race --halt 5 --rounds=7 --clients 31 --servers 8")
+    ensures swapped { text_numbers (codes "zk race --halt 5 --rounds=7 --clients 31 --servers 8")
         ≡ Some (8 ∷ 31 ∷ 7 ∷ 5 ∷ []) }
 {}
 

@@ -1,10 +1,11 @@
 -- The desks of a run, one behind the other, and the links that they were handed.
 use Rattle.std.proofs.Common.{◌≡◌, ◌<◌, ◌≤◌, ◌+◌, ℕ, zero, suc, List, [], ◌∷◌, ◌++◌, length, map, reverse, refl, sym, ap, subst, ◌∙◌, append-nil, append_assoc, arith}
 use Rattle.std.proofs.lemmas.List.{length-map, length-reverse, map-append, nil_from_length, reverse-append}
+use Rattle.zprotocol.specs.declared.limits.TheConstants.{MAX_SERVERS}
 use mathlib.Core.Option.{some-injective, some-ne-none}
 use Rattle.zprotocol.specs.declared.process.Process.TheVariants.{Server, Client}
 use Rattle.ztraces.proofs.Rows.{same_process}
-use Rattle.zlinks.specs.Places.{process_at}
+use Rattle.zprotocol.specs.Places.{process_at}
 use Rattle.zgather.proofs.Elements.{element_right}
 use Rattle.zgather.proofs.Stands.{client_here, server_here}
 use Rattle.zthreads.specs.Owned.{server_desk}
@@ -27,10 +28,10 @@ pub reverse_push : {X : Type 0} (xs : List X) (x : X) → reverse (xs ++ x ∷ [
 reverse_push xs x = reverse-append xs (x ∷ [])
 
 -- who is at the place of a client, and at that of a server
-pub client_process : (i c : ℕ) → i ≡ 9 + c → Client c ≡ process_at i
+pub client_process : (i c : ℕ) → i ≡ MAX_SERVERS + 1 + c → Client c ≡ process_at i
 client_process i c at = same_process (Client c) (process_at i) (client_here i c at)
 
-pub server_process : (i s : ℕ) → i ≡ s → 0 < s → s ≤ 8 → Server s ≡ process_at i
+pub server_process : (i s : ℕ) → i ≡ s → 0 < s → s ≤ MAX_SERVERS → Server s ≡ process_at i
 server_process i s at first few = same_process (Server s) (process_at s) (server_here s first few) ∙ ap process_at (sym at)
 
 -- the desks of what was put behind others, and is seen from behind

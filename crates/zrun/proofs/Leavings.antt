@@ -3,12 +3,13 @@ use Rattle.std.proofs.Common.{◌≡◌, ◌<◌, ◌+◌, ◌||◌, inl, inr, �
 use Rattle.std.specs.List.{list_any}
 use Rattle.std.proofs.lemmas.List.Folds.{list_any-append}
 use Rattle.std.proofs.lemmas.List.{length-map}
+use Rattle.zprotocol.specs.declared.limits.TheConstants.{MAX_SERVERS}
 use mathlib.Core.Option.{some, some-injective, some-ne-none}
 use lib.ListN.{get_elem?}
 use Rattle.zprotocol.specs.declared.process.Process.TheVariants.{Client}
 use Rattle.ztraces.specs.declared.trace.ClientTrace.{ClientTrace}
 use Rattle.ztraces.specs.declared.trace.Traces.{Traces}
-use Rattle.zlinks.specs.Places.{process_at}
+use Rattle.zprotocol.specs.Places.{process_at}
 use Rattle.zrings.specs.Ends.{Ring, ring_of_rx, ring_of_tx}
 use Rattle.zmesh.specs.Woven.{IsWoven}
 use Rattle.zmesh.proofs.Said.{within}
@@ -85,11 +86,11 @@ wired_is last n ds m ss cs is all uncut =
     let same = same_wires ds (by_place m ss cs) none all in
     subst (λ (w : ℕ × List (List Ring) × List (List Ring)). IsWoven w.0 w.1 w.2) (λ k. (sym (pairs_count IsLeftBy ds (by_place m ss cs) all) k, same.0 k, same.1 k)) is.wired
 
-same_number : (i c : ℕ) → Client c ≡ process_at (9 + i) → c ≡ i
-same_number i c at = let here = client_at (9 + i) c (same_at (Client c) (9 + i) at) in omega (arith, here)
+same_number : (i c : ℕ) → Client c ≡ process_at (MAX_SERVERS + 1 + i) → c ≡ i
+same_number i c at = let here = client_at (MAX_SERVERS + 1 + i) c (same_at (Client c) (MAX_SERVERS + 1 + i) at) in omega (arith, here)
 
 -- a client's number is its place among those of its run
-pub number_at : (last n : ℕ) (run : Run) → AreDesks last n 9 (client_desks run) → Each (λ i p. caller_id p.caller ≡ i) run
+pub number_at : (last n : ℕ) (run : Run) → AreDesks last n (MAX_SERVERS + 1) (client_desks run) → Each (λ i p. caller_id p.caller ≡ i) run
 number_at last n run each i p at =
     let desk_of : ClientPost → Desk = λ p. caller_desk p.caller in
     same_number i (caller_id p.caller) (sym p.caller.is_client ∙ (each i (desk_of p) (element_map desk_of run i p at)).0)

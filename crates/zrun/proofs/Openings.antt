@@ -8,7 +8,7 @@ use Rattle.zprotocol.specs.server.Machine.{kept_tree}
 use Rattle.zprotocol.specs.server.View.{opening_server}
 use Rattle.zprotocol.specs.master.View.{opening_master}
 use Rattle.zprotocol.specs.client.View.{opening_client}
-use Rattle.zworld_model.specs.Events.{is_server}
+use Rattle.zprotocol.specs.Places.{is_server}
 use Rattle.ztraces.specs.Deeds.{AtMaster, AtServer, AtClient}
 use Rattle.zdesks.specs.Desks.{Each, opening_of}
 

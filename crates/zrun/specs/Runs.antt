@@ -1,6 +1,6 @@
 -- The desks of a run, by place, and what they left.
 use Rattle.std.specs.Prelude.{◌≡◌, ◌⊎◌, ℕ, ◌+◌, true, List, [], ◌∷◌, length, map}
-use Rattle.zlinks.specs.Places.{process_at}
+use Rattle.zprotocol.specs.Places.{process_at}
 use Rattle.zrings.specs.Ends.{Ring, ring_of_rx, ring_of_tx}
 use Rattle.zmesh.specs.Woven.{IsWoven}
 use Rattle.zdesks.specs.declared.desk.Desk.{Desk}

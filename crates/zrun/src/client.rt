@@ -108,6 +108,7 @@ impl Client {
             × SameCaller (caller_of self.old) (caller_of self.new)) }
         ensures same { SameClient self.old self.new }
     {
+        // (the number of the call is asked for by nobody here)
         let _ = self.begin(call)?;
         self.wait(turns)
     }
@@ -124,6 +125,7 @@ impl Client {
             × SameCaller (caller_of self.old) (caller_of self.new)) }
         ensures same { SameClient self.old self.new }
     {
+        // (the number of the call is asked for by nobody here)
         let _ = self.begin(call)?;
         if let Ok(reply) = self.wait(patience.turns) {
             return Ok(reply);

@@ -64,6 +64,7 @@ impl Opening {
             IsDeskOf (process.Server id) self.now.last self.now.clients (server_desk server)) }
         ensures ends { IfOk result (λ server. HasEnds ends (server_desk server)) }
     {
+        // The number of a server is one of a chain: its clause tells that.
         let _ = id.number();
         let server = server_at(alloc, id, self.last)?;
         let Ends { ins, outs } = ends;

@@ -95,7 +95,8 @@ fn prepare_clients(
     ensures clients { IfOk result (λ clients. length clients.items ≡ opening.now.clients) }
     ensures left { OnOk result (left supply.new + opening.now.clients ≡ left supply.old) }
     ensures desks { IfOk result (λ clients.
-        AreDesks opening.now.last opening.now.clients 9 (client_desks clients.items)) }
+        AreDesks opening.now.last opening.now.clients (MAX_SERVERS + 1)
+        (client_desks clients.items)) }
     ensures rings { IfOk result (λ clients.
         HandsOut supply.old supply.new (client_desks clients.items)) }
 {

@@ -13,6 +13,7 @@ use std::thread::Threads;
 use zaudit::{AuditFault, audit};
 use zcalls::Reply;
 use zliterals::{call_number, client, server};
+use zprotocol::MAX_SERVERS;
 use zrun::{Client, Clients};
 use ztraces::Traces;
 use zworld_model::CallEvent;
@@ -109,7 +110,9 @@ fn another_reply_is_a_mismatch(rt: HostRuntime) -> Result<(), Fail> {
 #[test]
 fn one_stamp_twice_is_disorder(rt: HostRuntime) -> Result<(), Fail> {
     let mut traces = traces_of(rt, rt.alloc(), Work::CreatesAndGets)?;
-    assert!(rt; traces.servers.len() == 8 && traces.servers[0].events.len() == 2);
+    assert!(rt;
+        traces.servers.len() == MAX_SERVERS as usize && traces.servers[0].events.len() == 2
+    );
     let first = traces.servers[0].events[0].stamp;
     traces.servers[0].events[1].stamp = first;
     assert!(rt; verdict(rt.alloc(), &traces) == Err(AuditFault::Disorder));

@@ -1,19 +1,10 @@
-//! Worked scripts over chains: servers fail and join, and messages are delivered by hand, or lost. An answer has the
-//! lines of the answers that clients took first.
+//! Worked scripts over chains: each kind of event is done once. An answer has the lines of the answers that clients took
+//! first. The stories of failures and joins stand in `rows/`, which the program plays.
 
 use crate::playing::{Row, plays_rows};
 use zscript::Servers;
 
 const OVER_ONE: &[Row] = &[
-    // The only server fails: the state is lost, and the server that joined meanwhile holds nothing.
-    &[
-        ("join s2", "done"),
-        ("fail s1", "done"),
-        ("1 exists /", "unanswered"),
-        ("join s3", "no Lost"),
-        ("1 exists /", "busy"),
-        ("2 exists /", "unanswered"),
-    ],
     // A request is lost, and sent again where the world settles.
     &[
         ("1 begin create /a p -", "begun"),
@@ -43,34 +34,6 @@ const OVER_TWO: &[Row] = &[
 ];
 
 const OVER_THREE: &[Row] = &[
-    // A server in the middle fails.
-    &[
-        ("1 create /a p -", "ok /a"),
-        ("fail s2", "done"),
-        ("settle", "quiet"),
-        ("1 create /b p -", "ok /b"),
-        ("1 ls /", "ok 2 a b"),
-    ],
-    // The head fails when its change is on the next server: the change is kept, and made once.
-    &[
-        ("1 create /q p -", "ok /q"),
-        ("1 begin create /q/n- ps -", "begun"),
-        ("take c1 s1", "done"),
-        ("take s1 s2", "done"),
-        ("fail s1", "done"),
-        ("settle", "c1 ok /q/n-0000000000\nquiet"),
-        ("1 ls /q", "ok 1 n-0000000000"),
-    ],
-    // The tail fails before it heard of the change: the reply that is kept answers the call when it is sent again.
-    &[
-        ("1 create /q p -", "ok /q"),
-        ("1 begin create /q/n- ps -", "begun"),
-        ("take c1 s1", "done"),
-        ("take s1 s2", "done"),
-        ("fail s3", "done"),
-        ("settle", "c1 ok /q/n-0000000000\nquiet"),
-        ("1 ls /q", "ok 1 n-0000000000"),
-    ],
     // A call that is sent twice acts once.
     &[
         ("1 create /q p -", "ok /q"),

@@ -1,4 +1,5 @@
-//! Worked scripts, each a script of its own: lines, and beside each its answer.
+//! Worked scripts, each a script of its own: lines, and beside each its answer. Others stand in `rows/`, which the program
+//! plays.
 
 use crate::playing::{Row, plays_rows};
 use zscript::Servers;
@@ -32,61 +33,6 @@ const ROWS: &[Row] = &[
             "1 get /a/a/a/a/a/a/a/a/a/a/a/a/a/a/a/a/a/a/a/a/a/a/a/a/a/a/a/a/a/a/a/a/a",
             "bad path TooDeep",
         ),
-    ],
-    // A path that is read is looked at before the counter is added to it.
-    &[
-        ("1 create /q p -", "ok /q"),
-        ("1 create /q/. ps -", "bad path DotName"),
-    ],
-    // Sequential names have their parent's counter, and stand in order.
-    &[
-        ("1 create /q p -", "ok /q"),
-        ("1 create /q/n- ps -", "ok /q/n-0000000000"),
-        ("1 create /q/n- ps -", "ok /q/n-0000000001"),
-        ("1 ls /q", "ok 2 n-0000000000 n-0000000001"),
-        ("1 exists /q", "ok stat 1 1 3 0 0 0 2 0 0 2"),
-    ],
-    // A version that isn't the node's changes nothing.
-    &[
-        ("1 create /a p aGk=", "ok /a"),
-        ("1 set /a 1 -", "no BadVersion"),
-        ("1 set /a any -", "ok stat 1 2 1 0 0 1 0 0 0 0"),
-        ("1 delete /a 0", "no BadVersion"),
-        ("1 delete /a 1", "ok deleted"),
-        ("1 exists /", "ok stat 0 0 3 0 0 0 2 0 0 0"),
-    ],
-    // A multi that is refused leaves nothing of its parts; one that is done takes one zxid.
-    &[
-        ("1 create /a p aGk=", "ok /a"),
-        (
-            "1 multi create /m p - ; set /none any - ; delete /a any",
-            "no multi 2 NoNode",
-        ),
-        ("1 exists /m", "no NoNode"),
-        ("1 exists /", "ok stat 0 0 1 0 0 0 1 0 0 1"),
-        (
-            "1 multi create /m p - ; check /a 0 ; set /a 0 eA== ; delete /m any",
-            "ok multi /m ; checked ; stat 1 2 1 0 0 1 0 0 1 0 ; deleted",
-        ),
-        ("1 exists /", "ok stat 0 0 2 0 0 0 3 0 0 1"),
-    ],
-    // Each part finds what those before it did, and one that is refused gives back the counter.
-    &[
-        (
-            "1 multi create /q p - ; create /q/n- ps - ; create /q/n- ps -",
-            "ok multi /q ; /q/n-0000000000 ; /q/n-0000000001",
-        ),
-        ("1 exists /q", "ok stat 1 1 1 0 0 0 2 0 0 2"),
-        (
-            "1 multi check /q 0 ; check /q 0",
-            "ok multi checked ; checked",
-        ),
-        (
-            "1 multi create /q/n- ps - ; check /q 7",
-            "no multi 2 BadVersion",
-        ),
-        ("1 create /q/n- ps -", "ok /q/n-0000000002"),
-        ("1 exists /q/n-0000000002", "ok stat 3 3 3 0 0 0 0 0 0 0"),
     ],
     // Creates and deletes that are refused. A sequential create that is refused doesn't raise the counter.
     &[

@@ -56,7 +56,7 @@ impl Replica {
         ensures grows { OnErr result
             (grows_by self.old (update_row kept_tree self.old from epoch n entry) ≡ true) }
     {
-        match self.number_below(&from, &epoch) {
+        match self.number_below(from, epoch) {
             Some(next) if next.number() == n.number() => self.accept(n, entry, out),
             _ => {
                 drop(entry);
@@ -76,9 +76,9 @@ impl Replica {
     }
 
     // The number of the next entry, at a server whose predecessor is this one, in this epoch.
-    fn number_below(&self, pred: &ServerId, epoch: &Epoch) -> Option<LogNumber>
+    fn number_below(&self, pred: ServerId, epoch: Epoch) -> Option<LogNumber>
         ensures { result
-            ≡ if is_neighbour self.now.pred pred.now epoch.now then next_number self.now else None }
+            ≡ if is_neighbour self.now.pred pred epoch then next_number self.now else None }
     {
         if !is_neighbour(&self.pred, pred, epoch) {
             return None;

@@ -32,7 +32,7 @@ impl Replica {
         ensures grows { OnErr result
             (grows_by self.old (snapshot_row self.old from epoch snapshot) ≡ true) }
     {
-        if self.machine.is_some() || !is_neighbour(&self.pred, &from, &epoch) {
+        if self.machine.is_some() || !is_neighbour(&self.pred, from, epoch) {
             drop(snapshot);
             return Ok(());
         }

@@ -42,8 +42,8 @@ impl Neighbour {
 }
 
 /// Whether the neighbour is this server, in this epoch.
-pub(crate) fn is_neighbour(neighbour: &Option<Neighbour>, server: &ServerId, epoch: &Epoch) -> bool
-    ensures { result ≡ is_neighbour neighbour.now server.now epoch.now }
+pub(crate) fn is_neighbour(neighbour: &Option<Neighbour>, server: ServerId, epoch: Epoch) -> bool
+    ensures { result ≡ is_neighbour neighbour.now server epoch }
 {
     match neighbour {
         Some(neighbour) => {

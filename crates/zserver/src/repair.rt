@@ -16,7 +16,7 @@ use zprotocol::{Epoch, LogNumber, Message, Out, Process, ServerId};
 impl Replica {
     /// Ack: from the successor; what the tail has processed leaves Sent, and the predecessor is told.
     #[tactic(auto, unfolding(zprotocol::specs::server::Table::ack_row))]
-    pub(crate) fn ack(
+    pub(crate) fn pass_ack_up(
         &mut self,
         from: ServerId,
         epoch: Epoch,
@@ -30,7 +30,7 @@ impl Replica {
         ensures grows { OnErr result
             (grows_by self.old (ack_row self.old from epoch n) ≡ true) }
     {
-        if !is_neighbour(&self.succ, &from, &epoch) {
+        if !is_neighbour(&self.succ, from, epoch) {
             return Ok(());
         }
         acknowledge(&self.pred, n, out)?;

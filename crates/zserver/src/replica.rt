@@ -122,17 +122,7 @@ fn first_neighbour(server: Option<ServerId>) -> Option<Neighbour>
     ensures { result ≡ first_neighbour server }
 {
     match server {
-        Some(server) => Some(Neighbour::new(server, first_epoch())),
+        Some(server) => Some(Neighbour::new(server, Epoch::opening())),
         None => None,
-    }
-}
-
-// The epoch of the opening chain.
-fn first_epoch() -> Epoch
-    ensures { result ≡ 0 }
-{
-    match Epoch::new(0) {
-        Some(epoch) => epoch,
-        None => unreachable!(),
     }
 }

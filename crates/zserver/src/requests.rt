@@ -18,17 +18,17 @@ impl Replica {
     #[tactic(auto, unfolding(zprotocol::specs::server::Table::query_row))]
     pub(crate) fn query(
         &self,
-        client: &ClientId,
+        client: ClientId,
         number: CallNumber,
         query: &Query,
         out: &mut Out<Snapshot>,
     ) -> Taken
-        ensures same { (query_row kept_tree self.now client.now number query.now).0 ≡ self.now }
+        ensures same { (query_row kept_tree self.now client number query.now).0 ≡ self.now }
         ensures puts { result ≡ Acted → Puts out.old out.new
-            (query_row kept_tree self.now client.now number query.now).1 }
+            (query_row kept_tree self.now client number query.now).1 }
         ensures silent { result ≡ Unheard → out.new.posts ≡ out.old.posts }
         ensures grows { result ≡ Unheard
-            → grows_by self.now (query_row kept_tree self.now client.now number query.now) ≡ true }
+            → grows_by self.now (query_row kept_tree self.now client number query.now) ≡ true }
     {
         if self.succ.is_some() {
             return Taken::Acted;
@@ -42,7 +42,7 @@ impl Replica {
         let Ok(reply) = machine.ask(query) else {
             return Taken::Unheard;
         };
-        out.put_reserved(Process::Client(*client), Message::Answer(number, reply));
+        out.put_reserved(Process::Client(client), Message::Answer(number, reply));
         Taken::Acted
     }
 }

@@ -14,31 +14,26 @@ use crate::stopped::Stopped;
 use crate::taken::Taken;
 use std::alloc::Global;
 use std::marker::Model;
-use std::mem;
 use zpath::Memory;
 use zprotocol::{Message, Out, Process, ServerId};
 
 /// One server of the chain, or a spare one. It doesn't know its own number: no row of its table asks
-/// for it.
+/// for it. One that has stopped has no replica: what it knew was let go.
 #[derive(Drop)]
 pub struct Server {
-    alloc: Global,
-    replica: Replica,
-    is_stopped: bool,
+    replica: Option<Replica>,
 }
 
 impl Model for Server {
     ghost use Rattle.zserver.specs.Server.{ServerState};
     ghost use Rattle.zserver.specs.support.Codes.{coded_server};
+    ghost use Rattle.zserver.specs.support.Replicas.{server_of};
 
     ghost Value = { ServerState };
 
     ghost coded = { coded_server };
 
-    ghost view = { λ server. record {
-      view = server.replica;
-      is_stopped = server.is_stopped;
-    } };
+    ghost view = { λ server. server_of server.replica };
 }
 
 impl Server {
@@ -51,25 +46,16 @@ impl Server {
         ensures { IfOk result (λ server. server
             ≡ running (member kept_tree (first_neighbour pred) (first_neighbour succ))) }
     {
-        let replica = Replica::member(alloc, pred, succ)?;
-        Ok(Server::running(alloc, replica))
+        let replica = Some(Replica::member(alloc, pred, succ)?);
+        Ok(Server { replica })
     }
 
     /// A server outside the chain, which has no state. It takes no memory.
     pub fn spare(alloc: Global) -> Server
         ensures { result ≡ running spare }
     {
-        Server::running(alloc, Replica::spare(alloc))
-    }
-
-    // A server that goes on.
-    fn running(alloc: Global, replica: Replica) -> Server
-        ensures { result ≡ running replica }
-    {
         Server {
-            alloc,
-            replica,
-            is_stopped: false,
+            replica: Some(Replica::spare(alloc)),
         }
     }
 
@@ -96,11 +82,11 @@ impl Server {
         ensures grows { OnErr result ((self.old.is_stopped ≡ true)
             ⊎ (may_stop kept_tree self.old.view from message ≡ true)) }
     {
-        if self.is_stopped {
+        let Some(replica) = &mut self.replica else {
             drop(message);
             return Err(Stopped);
-        }
-        match self.replica.take(&from, message, out) {
+        };
+        match replica.take(from, message, out) {
             Ok(taken) => Ok(taken),
             Err(Memory) => Err(self.stop()),
         }
@@ -110,8 +96,7 @@ impl Server {
     fn stop(&mut self) -> Stopped
         ensures { self.new.is_stopped ≡ true }
     {
-        self.is_stopped = true;
-        drop(mem::replace(&mut self.replica, Replica::spare(self.alloc)));
+        drop(self.replica.take());
         Stopped
     }
 }

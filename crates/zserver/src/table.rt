@@ -21,18 +21,18 @@ impl Replica {
     /// more.
     pub(crate) fn take(
         &mut self,
-        from: &Process,
+        from: Process,
         message: Message<Snapshot>,
         out: &mut Out<Snapshot>,
     ) -> Result<Taken, Memory>
         ensures next { IfOk result
-            (λ taken. self.new ≡ (taken_result taken self.old from.now message).0) }
+            (λ taken. self.new ≡ (taken_result taken self.old from message).0) }
         ensures puts { IfOk result
-            (λ taken. Puts out.old out.new (taken_result taken self.old from.now message).1) }
+            (λ taken. Puts out.old out.new (taken_result taken self.old from message).1) }
         ensures unheard { IfOk result
-            (λ taken. taken ≡ Unheard → may_be_unheard kept_tree self.old from.now message ≡ true) }
+            (λ taken. taken ≡ Unheard → may_be_unheard kept_tree self.old from message ≡ true) }
         ensures silent { OnErr result (out.new.posts ≡ out.old.posts) }
-        ensures grows { OnErr result (may_stop kept_tree self.old from.now message ≡ true) }
+        ensures grows { OnErr result (may_stop kept_tree self.old from message ≡ true) }
     {
         match from {
             Process::Client(client) => self.take_call(client, message, out),
@@ -51,24 +51,24 @@ impl Replica {
     #[tactic(auto, unfolding(zprotocol::specs::server::Table::server_step))]
     fn take_call(
         &mut self,
-        client: &ClientId,
+        client: ClientId,
         message: Message<Snapshot>,
         out: &mut Out<Snapshot>,
     ) -> Result<Taken, Memory>
         ensures next { IfOk result (λ taken. self.new
-            ≡ (taken_result taken self.old (process.Client client.now) message).0) }
+            ≡ (taken_result taken self.old (process.Client client) message).0) }
         ensures puts { IfOk result (λ taken. Puts out.old out.new
-            (taken_result taken self.old (process.Client client.now) message).1) }
+            (taken_result taken self.old (process.Client client) message).1) }
         ensures unheard { IfOk result (λ taken. taken ≡ Unheard
-            → may_be_unheard kept_tree self.old (process.Client client.now) message ≡ true) }
+            → may_be_unheard kept_tree self.old (process.Client client) message ≡ true) }
         ensures silent { OnErr result (out.new.posts ≡ out.old.posts) }
         ensures grows { OnErr result
-            (may_stop kept_tree self.old (process.Client client.now) message ≡ true) }
+            (may_stop kept_tree self.old (process.Client client) message ≡ true) }
     {
         match message {
             Message::Submit(number, update) => {
                 let entry = Entry {
-                    client: *client,
+                    client,
                     number,
                     update,
                 };
@@ -93,22 +93,22 @@ impl Replica {
     #[tactic(auto, unfolding(zprotocol::specs::server::Table::server_step))]
     fn take_of_server(
         &mut self,
-        server: &ServerId,
+        server: ServerId,
         message: Message<Snapshot>,
         out: &mut Out<Snapshot>,
     ) -> Result<(), Memory>
         ensures next { OnOk result
-            (self.new ≡ (server_step kept_tree self.old (process.Server server.now) message).0) }
+            (self.new ≡ (server_step kept_tree self.old (process.Server server) message).0) }
         ensures puts { OnOk result (Puts out.old out.new
-            (server_step kept_tree self.old (process.Server server.now) message).1) }
+            (server_step kept_tree self.old (process.Server server) message).1) }
         ensures silent { OnErr result (out.new.posts ≡ out.old.posts) }
         ensures grows { OnErr result
-            (may_stop kept_tree self.old (process.Server server.now) message ≡ true) }
+            (may_stop kept_tree self.old (process.Server server) message ≡ true) }
     {
         match message {
-            Message::Update(epoch, n, entry) => self.update(*server, epoch, n, entry, out),
-            Message::Ack(epoch, n) => self.ack(*server, epoch, n, out),
-            Message::Snapshot(epoch, snapshot) => self.snapshot(*server, epoch, snapshot, out),
+            Message::Update(epoch, n, entry) => self.update(server, epoch, n, entry, out),
+            Message::Ack(epoch, n) => self.pass_ack_up(server, epoch, n, out),
+            Message::Snapshot(epoch, snapshot) => self.snapshot(server, epoch, snapshot, out),
             other => {
                 drop(other);
                 Ok(())

@@ -2,8 +2,8 @@
 
 use std::test::Fail;
 use zcalls::{CallNumber, Update};
-use zlinks::{Links, PROCESSES};
-use zprotocol::{Message, Process, ServerId};
+use zlinks::Links;
+use zprotocol::{Message, PROCESSES, Process, ServerId};
 
 #[test]
 fn takes_what_was_put(rt: HostRuntime) -> Result<(), Fail> {

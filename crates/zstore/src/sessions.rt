@@ -113,6 +113,7 @@ impl Store {
     fn is_kept_named(&self)
         ensures { ForgetsGone self.now self.now }
     {
+        // The store is read, so that what it keeps is at hand.
         let _ = &self.time;
     }
 

@@ -48,18 +48,7 @@ impl Store {
         ensures unmarked { IfOk result (λ s. s.marked ≡ None) }
     {
         let zxid = Zxid::new(0);
-        let root = Node {
-            bytes: Data::empty(alloc),
-            czxid: zxid,
-            mzxid: zxid,
-            pzxid: zxid,
-            ctime: 0,
-            mtime: 0,
-            version: 0,
-            cversion: 0,
-            owner: 0,
-            seq: 0,
-        };
+        let root = Node::new(Data::empty(alloc), 0, zxid, 0);
         Ok(Store {
             nodes: Nodes::new(alloc, root)?,
             sessions: Sessions::new(alloc),
@@ -102,6 +91,7 @@ impl Store {
     pub fn keeps_lawful(&self)
         ensures { IsLawful self.now.tree }
     {
+        // The store is read, so that what it keeps is at hand.
         let _ = &self.time;
     }
 
@@ -109,6 +99,7 @@ impl Store {
     pub fn keeps_paths(&self)
         ensures { HasPaths self.now.tree.nodes }
     {
+        // The store is read, so that what it keeps is at hand.
         let _ = &self.time;
     }
 

@@ -55,19 +55,7 @@ impl Store {
         ensures marked { OnOk result (self.new.marked ≡ mark_left 2 self.old.marked) }
         ensures err { OnErr result (self.new ≡ self.old) }
     {
-        let zxid = self.zxid.next();
-        let node = Node {
-            bytes,
-            czxid: zxid,
-            mzxid: zxid,
-            pzxid: zxid,
-            ctime: self.time,
-            mtime: self.time,
-            version: 0,
-            cversion: 0,
-            owner,
-            seq: 0,
-        };
+        let node = Node::new(bytes, owner, self.zxid.next(), self.time);
         let id = self.insert(parent, path, node)?;
         self.child_changed(parent, sequential);
         Ok(id)

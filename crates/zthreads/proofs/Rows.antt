@@ -16,7 +16,7 @@ use Rattle.zprotocol.specs.master.Table.{join_fault, join_step, master_step}
 use Rattle.zserver.specs.Server.{TreeView, TreeMessage, taken_result}
 use Rattle.zserver.specs.declared.taken.Taken.{Taken}
 use Rattle.zserver.specs.declared.taken.Taken.TheVariants as taken
-use Rattle.zworld_model.specs.Events.{is_server}
+use Rattle.zprotocol.specs.Places.{is_server}
 use Rattle.zworld_model.specs.declared.outcome.Outcome.TheVariants as outcome
 use Rattle.ztraces.specs.declared.trace.Act.TheVariants.{Took, Halted, Joined}
 use Rattle.ztraces.specs.Deeds.{AtServer, AtMaster, Out, last_post, ServerTakes, ServerIgnores, ServerStops, ServerHalts, MasterTakes, MasterJoins, MasterRefuses}

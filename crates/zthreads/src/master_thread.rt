@@ -48,6 +48,7 @@ impl MasterThread {
     pub fn flush(&mut self)
         ensures same { SameDesk (master_desk self.old) (master_desk self.new) }
     {
+        // What finds no memory now is kept for the next time.
         let _ = self.desk.settle();
         self.desk.flush();
     }
@@ -129,6 +130,7 @@ fn admit(desk: &mut Desk, master: &mut Master, server: ServerId)
         → IsAt desk.new (AtMaster master.new) }
     ensures same { SameDesk desk.old desk.new }
 {
+    // The number of a server is one of a chain: its clause tells that.
     let _ = server.number();
     let next = desk.next_stamp(Stamp::zero());
     match master.join(server, &mut desk.out) {

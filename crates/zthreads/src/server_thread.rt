@@ -54,6 +54,7 @@ impl ServerThread {
     pub fn flush(&mut self)
         ensures same { SameDesk (server_desk self.old) (server_desk self.new) }
     {
+        // What finds no memory now is kept for the next time.
         let _ = self.desk.settle();
         self.desk.flush();
     }

@@ -8,10 +8,13 @@ use Rattle.std.proofs.lemmas.Bool.Decides.{nat_tests}
 use Rattle.ztree.specs.Tree.{Tree}
 use Rattle.zcalls.specs.Kept.{KeptState}
 use Rattle.zcalls.proofs.Among.{test}
+use Rattle.ztree.specs.declared.limits.TheConstants.{MAX_CLIENTS}
 use Rattle.zprotocol.specs.declared.limits.TheConstants.{MAX_SERVERS}
 use Rattle.zprotocol.specs.declared.process.Process.{Process}
 use Rattle.zprotocol.specs.declared.process.Process.TheVariants.{Master, Server, Client}
 use Rattle.zprotocol.specs.server.Machine.{kept_tree}
+use Rattle.zprotocol.specs.Places.{place_of}
+use Rattle.zprotocol.proofs.Places.{place_of-server, place_of-client}
 use Rattle.zworld_model.specs.Links.{is_same}
 use Rattle.zworld_model.specs.World.{World}
 use Rattle.zworld_model.specs.Alike.{IsAlike}
@@ -19,7 +22,7 @@ use Rattle.ztraces.specs.declared.trace.Trace.{Trace}
 use Rattle.ztraces.specs.declared.trace.ClientTrace.{ClientTrace}
 use Rattle.ztraces.specs.declared.trace.TraceEvent.{TraceEvent}
 use Rattle.ztraces.specs.declared.trace.Traces.{Traces}
-use Rattle.ztraces.specs.Traces.{trace_of, record_of, event_of, Step, place_of, comes_before, at_process, Merges, BeginsMerge, is_step_in_place, step_happens, are_in_place}
+use Rattle.ztraces.specs.Traces.{trace_of, record_of, event_of, Step, comes_before, at_process, Merges, BeginsMerge, is_step_in_place, step_happens, are_in_place}
 use Rattle.ztraces.specs.Audit.{opening_of}
 use Rattle.ztraces.specs.support.Places.{place_count, process_at, index_of, rest_of, stamp_at_front, head_at, chosen, IsLeast, unread, HasReplayed, IsAllRead, IsReplayFault}
 use Rattle.ztraces.proofs.Rows.{same_process, same_itself}
@@ -103,21 +106,28 @@ module _ (t : Traces) where
   ]
 
   -- in the order of places, too, the master is first, then the servers, then the clients
-  pub where_at : (j : ℕ) → ((j ≤ servers) × (place_of (process_at t j) ≡ j)) ⊎ ((servers < j) × (place_of (process_at t j) + servers ≡ MAX_SERVERS + j))
-  where_at j = elim (test (j == 0)) [
+  pub where_at : (j : ℕ) → j < place_count t
+      → ((j ≤ servers) × (place_of (process_at t j) ≡ j)) ⊎ ((servers < j) × (place_of (process_at t j) + servers ≡ MAX_SERVERS + j))
+  where_at j inside = elim (test (j == 0)) [
     | inl z ↦ inl (let none : j ≡ 0 = eqb-true j 0 z in omega (arith, none), rw z (sym (eqb-true j 0 z)))
     | inr p ↦ elim (test (nat_le j servers)) [
-      | inl y ↦ inl (grind (arith, nat_tests, y), rw (p, y) refl)
+      | inl y ↦
+          let few : j ≤ servers = grind (arith, nat_tests, y) in
+          let some : 0 < j = grind (arith, nat_tests, p) in
+          inl (few, rw (p, y) (place_of-server j some (omega (arith, few, t.few_servers))))
       | inr f ↦
           let above : servers < j = grind (arith, nat_tests, f) in
-          inr (above, rw (p, f) (omega (arith, above)))
+          let number = j - (1 + servers) in
+          let few : number < MAX_CLIENTS = omega (arith, above, inside, t.few_clients) in
+          let place = place_of-client number few in
+          inr (above, rw (p, f) (omega (arith, above, place)))
     ]
   ]
 
-  places_rise : (i j : ℕ) → i ≤ j → place_of (process_at t i) ≤ place_of (process_at t j)
-  places_rise i j le = elim (where_at i) [
-    | inl x ↦ elim (where_at j) [ inl y ↦ omega (arith, x.1, y.1, le) | inr y ↦ omega (arith, x.0, x.1, y.0, y.1, le, t.few_servers) ]
-    | inr x ↦ elim (where_at j) [ inl y ↦ omega (arith, x.0, y.0, le) | inr y ↦ omega (arith, x.1, y.1, le) ]
+  places_rise : (i j : ℕ) → j < place_count t → i ≤ j → place_of (process_at t i) ≤ place_of (process_at t j)
+  places_rise i j inside le = elim (where_at i (omega (arith, le, inside))) [
+    | inl x ↦ elim (where_at j inside) [ inl y ↦ omega (arith, x.1, y.1, le) | inr y ↦ omega (arith, x.0, x.1, y.0, y.1, le, t.few_servers) ]
+    | inr x ↦ elim (where_at j inside) [ inl y ↦ omega (arith, x.0, y.0, le) | inr y ↦ omega (arith, x.1, y.1, le) ]
   ]
 
   server_place : (n : ℕ) → n < servers → process_at t (suc n) ≡ Server (suc n)
@@ -201,18 +211,18 @@ module _ (t : Traces) where
           let both : ◌≡◌ {A = List TraceEvent} [] (e' ∷ others) = sym (nothing_of q none) ∙ is in
           absurd (cc both)
       | inr j ↦ subst (λ z. comes_before (record { process = z; event = e' }) (record { process = process_at t best.0; event = e }) ≡ false) j.2
-          (at j.0 (least.2 j.0 e'.stamp j.1 (head_is j.0 ∙ ap (λ z. stamp_at_front (rest_of t read z)) j.2 ∙ ap stamp_at_front is)))
+          (at j.0 j.1 (least.2 j.0 e'.stamp j.1 (head_is j.0 ∙ ap (λ z. stamp_at_front (rest_of t read z)) j.2 ∙ ap stamp_at_front is)))
     ]
       where
-        at : (j : ℕ) → (best.1 < e'.stamp) ⊎ ((e'.stamp ≡ best.1) × (best.0 ≤ j))
+        at : (j : ℕ) → j < place_count t → (best.1 < e'.stamp) ⊎ ((e'.stamp ≡ best.1) × (best.0 ≤ j))
             → comes_before (record { process = process_at t j; event = e' }) (record { process = process_at t best.0; event = e }) ≡ false
-        at j (inl above) =
+        at j inside (inl above) =
             let later : nat_lt e'.stamp e.stamp ≡ false = grind (arith, nat_tests, above, stamp) in
             let other : (e'.stamp == e.stamp) ≡ false = grind (arith, nat_tests, above, stamp) in
             rw (later, other) refl
-        at j (inr tie) =
+        at j inside (inr tie) =
             let later : nat_lt e'.stamp e.stamp ≡ false = grind (arith, nat_tests, tie.0, stamp) in
-            let up = places_rise best.0 j tie.1 in
+            let up = places_rise best.0 j inside tie.1 in
             let behind : nat_lt (place_of (process_at t j)) (place_of (process_at t best.0)) ≡ false = grind (arith, nat_tests, up) in
             neither (nat_lt e'.stamp e.stamp) (e'.stamp == e.stamp) _ later behind
 

@@ -26,7 +26,8 @@ use Rattle.zworld_model.specs.declared.outcome.Outcome.TheVariants.{Acted, Stopp
 use Rattle.zworld_model.specs.History.{History}
 use Rattle.zworld_model.specs.Links.{Links, is_same, messages_to, put, without_front}
 use Rattle.zworld_model.specs.World.{World, at}
-use Rattle.zworld_model.specs.Events.{is_server, has_failed, is_enabled, happens, process_step, client_does, with_answer, acts, is_request}
+use Rattle.zprotocol.specs.Places.{is_server}
+use Rattle.zworld_model.specs.Events.{has_failed, is_enabled, happens, process_step, client_does, with_answer, acts, is_request}
 use Rattle.zprotocol.specs.server.Memory.{is_query}
 use Rattle.ztraces.specs.declared.trace.Act.{Act}
 use Rattle.ztraces.specs.declared.trace.Act.TheVariants.{Took, Began, Retried, Joined, Halted}

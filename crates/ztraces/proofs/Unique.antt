@@ -1,5 +1,5 @@
 -- The merge of traces is one list.
-use Rattle.std.proofs.Common.{◌≡◌, ℕ, Bool, true, false, cond, ◌==◌, nat_lt, List, [], ◌∷◌, refl, sym, ap, ◌∙◌, subst, inl, inr, eq-eqb, arith}
+use Rattle.std.proofs.Common.{◌≡◌, ◌<◌, ℕ, Bool, true, false, cond, ◌==◌, nat_lt, List, [], ◌∷◌, refl, sym, ap, ◌∙◌, subst, inl, inr, eq-eqb, arith}
 use Rattle.std.specs.Prelude.{◌&&◌, ◌||◌}
 use Rattle.std.proofs.lemmas.Bool.Decides.{nat_tests}
 use Rattle.zcalls.proofs.Among.{test}
@@ -7,8 +7,9 @@ use Rattle.zprotocol.specs.declared.process.Process.{Process}
 use Rattle.zworld_model.specs.Links.{is_same}
 use Rattle.ztraces.specs.declared.trace.TraceEvent.{TraceEvent}
 use Rattle.ztraces.specs.declared.trace.Traces.{Traces}
-use Rattle.ztraces.specs.Traces.{Step, trace_of, place_of, at_process, Merges, IsMerge}
-use Rattle.ztraces.specs.support.Places.{process_at}
+use Rattle.zprotocol.specs.Places.{place_of}
+use Rattle.ztraces.specs.Traces.{Step, trace_of, at_process, Merges, IsMerge}
+use Rattle.ztraces.specs.support.Places.{place_count, process_at}
 use Rattle.ztraces.proofs.Rows.{same_process}
 use Rattle.ztraces.proofs.Places.{placed, where_at}
 
@@ -78,14 +79,14 @@ apart_in t p q e f es fs is it place = elim (placed t p) [
     | inl none ↦
         let both : ◌≡◌ {A = List TraceEvent} [] (f ∷ fs) = sym none ∙ it in
         absurd (cc both)
-    | inr j ↦ sym i.2 ∙ ap (process_at t) (same i.0 j.0 (ap place_of i.2 ∙ place ∙ sym (ap place_of j.2))) ∙ j.2
+    | inr j ↦ sym i.2 ∙ ap (process_at t) (same i.0 j.0 i.1 j.1 (ap place_of i.2 ∙ place ∙ sym (ap place_of j.2))) ∙ j.2
   ]
 ]
   where
-    same : (i j : ℕ) → place_of (process_at t i) ≡ place_of (process_at t j) → i ≡ j
-    same i j is = elim (where_at t i) [
-      | inl x ↦ elim (where_at t j) [ inl y ↦ omega (arith, x.1, y.1, is) | inr y ↦ omega (arith, x.0, x.1, y.0, y.1, is, t.few_servers) ]
-      | inr x ↦ elim (where_at t j) [ inl y ↦ omega (arith, x.0, x.1, y.0, y.1, is, t.few_servers) | inr y ↦ omega (arith, x.1, y.1, is) ]
+    same : (i j : ℕ) → i < place_count t → j < place_count t → place_of (process_at t i) ≡ place_of (process_at t j) → i ≡ j
+    same i j first second is = elim (where_at t i first) [
+      | inl x ↦ elim (where_at t j second) [ inl y ↦ omega (arith, x.1, y.1, is) | inr y ↦ omega (arith, x.0, x.1, y.0, y.1, is, t.few_servers) ]
+      | inr x ↦ elim (where_at t j second) [ inl y ↦ omega (arith, x.0, x.1, y.0, y.1, is, t.few_servers) | inr y ↦ omega (arith, x.1, y.1, is) ]
     ]
 
 pub merge_is_one : (t : Traces) (xs ys : List Step) → IsMerge t xs → IsMerge t ys → xs ≡ ys

@@ -1,9 +1,9 @@
 -- Traces as events of the world: the merge of all traces by stamps, and what it is for its events to be in their places.
-use Rattle.std.specs.Prelude.{◌≡◌, ℕ, zero, suc, ◌+◌, Bool, true, false, ◌&&◌, ◌||◌, ◌==◌, nat_lt, if◌then◌else◌, List, [], ◌∷◌, ◌++◌, Option, None, Some, map, filter, length, get_or}
-use Rattle.zprotocol.specs.declared.limits.TheConstants.{MAX_SERVERS}
+use Rattle.std.specs.Prelude.{if◌then◌else◌, ◌≡◌, ℕ, zero, suc, ◌+◌, Bool, true, false, ◌&&◌, ◌||◌, ◌==◌, nat_lt, List, [], ◌∷◌, ◌++◌, Option, None, Some, map, filter, length, get_or}
 use Rattle.zprotocol.specs.declared.process.Process.{Process}
 use Rattle.zprotocol.specs.declared.process.Process.TheVariants.{Master, Server, Client}
 use Rattle.zprotocol.specs.server.Machine.{Does}
+use Rattle.zprotocol.specs.Places.{place_of}
 use Rattle.zworld_model.specs.declared.event.Event.{Event}
 use Rattle.zworld_model.specs.declared.event.Event.TheVariants as event
 use Rattle.zworld_model.specs.declared.history.CallEvent.{CallEvent}
@@ -50,12 +50,6 @@ event_of p act = None
 pub record Step : Type 0 where
   pub process : Process
   pub event : TraceEvent
-
--- the order of processes: the master, the servers, the clients
-abbrev pub place_of : Process → ℕ
-place_of Master = 0
-place_of (Server s) = s
-place_of (Client c) = MAX_SERVERS + 1 + c
 
 -- the order of steps: by stamp, and at one stamp by process
 abbrev pub comes_before : Step → Step → Bool

@@ -2,27 +2,26 @@
 
 ghost use Rattle.std.specs.Prelude.{◌≡◌, ℕ, true, false, None, Some, [], ◌∷◌, ◌++◌, take, drop};
 ghost use Rattle.std.specs.List.{list_any};
-ghost use Rattle.zprotocol.specs.declared.message.Message.TheVariants as message;
 ghost use Rattle.zprotocol.specs.declared.process.Process.TheVariants.{Master, Server, Client};
 ghost use Rattle.zprotocol.specs.server.support.Rows.{counting_machine};
 ghost use Rattle.zworld_model.specs.declared.event.Event.TheVariants as event;
-ghost use Rattle.zworld_model.specs.declared.history.CallEvent.TheVariants as call_event;
 ghost use Rattle.zworld_model.specs.declared.outcome.Outcome.TheVariants.{Acted, Stopped, Unheard};
 ghost use Rattle.zworld_model.specs.World.{at};
 ghost use Rattle.ztraces.specs.declared.trace.Act.TheVariants.{Took, Began, Retried, Joined, Halted};
 ghost use Rattle.ztraces.specs.declared.trace.Trace.{Trace};
 ghost use Rattle.ztraces.specs.declared.trace.ClientTrace.{ClientTrace};
 ghost use Rattle.ztraces.specs.declared.trace.Traces.{Traces};
-ghost use Rattle.ztraces.specs.Traces.{event_of, comes_before, stamps_rise, is_in_place, are_in_place};
+ghost use Rattle.ztraces.specs.Traces.{event_of, comes_before, stamps_rise, is_in_place};
 ghost use Rattle.ztraces.specs.Traces.{is_step_in_place, told_of, Merges};
-ghost use Rattle.ztraces.specs.Deeds.{Deed, Row, GoesBy, Standing, AtServer, AtClient, Out, IsStamped};
+ghost use Rattle.ztraces.specs.Deeds.{Deed, GoesBy, AtServer, Out, IsStamped};
 ghost use Rattle.ztraces.specs.Deeds.{standing_in, last_post, takes, puts, told_by};
 ghost use Rattle.ztraces.specs.Audit.{is_any_cut};
-ghost use Rattle.ztraces.specs.support.TraceRows.{s1, c0, write, read, opening, event_at, step_of, tick};
+ghost use Rattle.ztraces.specs.support.TraceRows.{s1, c0, write, read, opening, step_of, tick};
 ghost use Rattle.ztraces.specs.support.TraceRows.{tick_of, both_at_1, written_and_read, seen};
-ghost use Rattle.ztraces.specs.support.TraceRows.{after_steps, mended, opening_of_three};
-ghost use Rattle.ztraces.specs.support.TraceRows.{server_with, old_tail, request, asked, answer};
+ghost use Rattle.ztraces.specs.support.TraceRows.{after_steps, mended};
+ghost use Rattle.ztraces.specs.support.TraceRows.{old_tail, request, asked, answer};
 ghost use Rattle.ztraces.specs.support.TraceRows.{client_deeds, server_deeds};
+ghost use Rattle.ztraces.specs.support.TraceRows.{runs, runs_over_three, at_opening, Goes};
 
 /// The event that an act stands for; an act of another kind of process stands for none.
 pub fn acts_are_events()
@@ -64,46 +63,33 @@ pub fn stamps_rise_by_events()
 
 /// A write and a read of one client at one server: each event is in its place, and the history is what the caller sees.
 pub fn written_and_read_is_a_run()
-    ensures in_place { are_in_place counting_machine opening written_and_read ≡ true }
+    ensures in_place { runs written_and_read ≡ true }
     ensures told { told_of 0 (after_steps written_and_read).history ≡ seen }
     ensures of_nobody_else { told_of 1 (after_steps written_and_read).history ≡ [] }
-    ensures without_its_beginning { are_in_place counting_machine opening (drop 1 written_and_read)
+    ensures without_its_beginning { runs (drop 1 written_and_read) ≡ false }
+    ensures answer_before_the_deed { runs (step_of c0 1 (Began write)
+        ∷ step_of c0 3 (Took s1 Acted) ∷ []) ≡ false }
+    ensures begun_twice { runs (step_of c0 1 (Began write) ∷ step_of c0 2 (Began read) ∷ [])
         ≡ false }
-    ensures answer_before_the_deed { are_in_place counting_machine opening
-        (step_of c0 1 (Began write) ∷ step_of c0 3 (Took s1 Acted) ∷ [])
-        ≡ false }
-    ensures begun_twice { are_in_place counting_machine opening
-        (step_of c0 1 (Began write) ∷ step_of c0 2 (Began read) ∷ [])
-        ≡ false }
-    ensures retried { are_in_place counting_machine opening
-        (step_of c0 1 (Began write) ∷ step_of c0 2 Retried ∷ [])
-        ≡ true }
-    ensures update_is_not_unheard { are_in_place counting_machine opening
-        (step_of c0 1 (Began write) ∷ step_of s1 2 (Took (Client 1) Unheard) ∷ [])
-        ≡ false }
-    ensures ignored_query { are_in_place counting_machine opening
-        (step_of c0 1 (Began read) ∷ step_of s1 2 (Took c0 Unheard) ∷ [])
-        ≡ true }
-    ensures ignored_twice { are_in_place counting_machine opening
-        (step_of c0 1 (Began read) ∷ step_of s1 2 (Took c0 Unheard)
-        ∷ step_of s1 3 (Took c0 Unheard) ∷ [])
-        ≡ false }
-    ensures stopped { are_in_place counting_machine opening
-        (step_of c0 1 (Began write) ∷ step_of s1 2 (Took c0 Stopped)
-        ∷ step_of s1 3 (Took c0 Acted) ∷ [])
-        ≡ false }
+    ensures retried { runs (step_of c0 1 (Began write) ∷ step_of c0 2 Retried ∷ []) ≡ true }
+    ensures update_is_not_unheard { runs (step_of c0 1 (Began write)
+        ∷ step_of s1 2 (Took (Client 1) Unheard) ∷ []) ≡ false }
+    ensures ignored_query { runs (step_of c0 1 (Began read) ∷ step_of s1 2 (Took c0 Unheard)
+        ∷ []) ≡ true }
+    ensures ignored_twice { runs (step_of c0 1 (Began read) ∷ step_of s1 2 (Took c0 Unheard)
+        ∷ step_of s1 3 (Took c0 Unheard) ∷ []) ≡ false }
+    ensures stopped { runs (step_of c0 1 (Began write) ∷ step_of s1 2 (Took c0 Stopped)
+        ∷ step_of s1 3 (Took c0 Acted) ∷ []) ≡ false }
 {}
 
 /// A chain of three in which two servers are halted, the second of them while the chain is mended, is a run; it is none where
 /// a server that was halted takes once more.
 pub fn mended_chain_is_a_run()
-    ensures in_place { are_in_place counting_machine opening_of_three mended ≡ true }
-    ensures nothing_after_the_halt { are_in_place counting_machine opening_of_three
-        (take 6 mended ++ step_of s1 7 (Took c0 Acted) ∷ [])
-        ≡ false }
-    ensures gone_is_last { are_in_place counting_machine opening_of_three
-        (take 4 mended ++ step_of Master 5 (Took (Server 2) Acted) ∷ [])
-        ≡ false }
+    ensures in_place { runs_over_three mended ≡ true }
+    ensures nothing_after_the_halt { runs_over_three (take 6 mended ++ step_of s1 7 (Took c0 Acted)
+        ∷ []) ≡ false }
+    ensures gone_is_last { runs_over_three (take 4 mended ++ step_of Master 5 (Took (Server 2)
+        Acted) ∷ []) ≡ false }
 {}
 
 /// What is in its place in the opening of one server and one client: a join too, which the master refuses.
@@ -140,16 +126,13 @@ pub fn write_goes_by_the_tables()
 /// How a server ends: it stops or is halted, its last words are all that it puts, and nothing follows. A number that isn't a
 /// server's or a client's of this world takes no part, nor does a server that has failed.
 pub fn servers_end_by_their_rows()
-    ensures stops { Row counting_machine s1 (AtServer (server_with 0)) (Took c0 Stopped)
-        (Some (1, request)) Out ((Master, message.Gone) ∷ []) [] }
-    ensures halts { Row counting_machine s1 (AtServer (server_with 0)) Halted None Out
-        ((Master, message.Gone) ∷ []) [] }
-    ensures hears_an_update { Row counting_machine s1 (AtServer (server_with 0)) (Took c0 Unheard)
-        (Some (1, request)) (AtServer (server_with 0)) [] [] → ⊥ }
-    ensures ignores { Row counting_machine s1 (AtServer (server_with 0)) (Took c0 Unheard)
-        (Some (1, asked)) (AtServer (server_with 0)) [] [] }
-    ensures ignores_at_no_tail { Row counting_machine s1 (AtServer old_tail) (Took c0 Unheard)
-        (Some (1, asked)) (AtServer old_tail) [] [] → ⊥ }
+    ensures stops { Goes at_opening (Took c0 Stopped) (Some (1, request)) Out last_post }
+    ensures halts { Goes at_opening Halted None Out last_post }
+    ensures hears_an_update { Goes at_opening (Took c0 Unheard) (Some (1, request)) at_opening []
+        → ⊥ }
+    ensures ignores { Goes at_opening (Took c0 Unheard) (Some (1, asked)) at_opening [] }
+    ensures ignores_at_no_tail { Goes (AtServer old_tail) (Took c0 Unheard) (Some (1, asked))
+        (AtServer old_tail) [] → ⊥ }
     ensures nothing_follows { (last : ℕ) (d : Deed ℕ)
         → GoesBy counting_machine s1 Out last (d ∷ []) → ⊥ }
     ensures server_9 { standing_in opening (Server 9) ≡ Out }

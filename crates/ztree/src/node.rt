@@ -59,7 +59,25 @@ pub struct Stat {
 
 impl Node {
     ghost use Rattle.std.specs.Prelude.{◌≡◌, IfOk};
-    ghost use Rattle.ztree.specs.Tree.{stat_with};
+    ghost use Rattle.ztree.specs.Tree.{new_node, stat_with};
+
+    /// A node made by this change, at this tick; its owner is a session, or 0.
+    pub fn new(bytes: Data, owner: u64, zxid: Zxid, time: u64) -> Node
+        ensures { result ≡ new_node bytes owner zxid time }
+    {
+        Node {
+            bytes,
+            czxid: zxid,
+            mzxid: zxid,
+            pzxid: zxid,
+            ctime: time,
+            mtime: time,
+            version: 0,
+            cversion: 0,
+            owner,
+            seq: 0,
+        }
+    }
 
     /// What is told of the node where it has so many children.
     pub fn stat(&self, children: u64) -> Stat

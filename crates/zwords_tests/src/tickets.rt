@@ -18,6 +18,7 @@ fn draw_all(tickets: &Tickets, mut pass: Pass) -> Pass
 {
     for _ in 0..DRAWS {
         if pass.count() < 1 << 32 {
+            // Which ticket it is is no matter: the pass counts it.
             let _ = tickets.draw(&mut pass);
         }
     }
@@ -74,6 +75,7 @@ fn last_two(tickets: &Tickets, passes: &mut Vec<Pass>) -> Option<(Pass, Pass)>
     ensures two { IfSome result (AreOf tickets.now) }
     ensures others { AreAllOf tickets.now passes.new.items }
 {
+    // Only the clauses speak of them.
     let _ = tickets;
     let one = passes.pop()?;
     let other = passes.pop()?;

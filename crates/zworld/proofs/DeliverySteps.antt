@@ -16,7 +16,8 @@ use Rattle.zworld_model.specs.declared.outcome.Outcome.TheVariants as outcome
 use Rattle.zworld_model.specs.History.{History}
 use Rattle.zworld_model.specs.Links.{is_same, messages_to, without_front}
 use Rattle.zworld_model.specs.World.{World}
-use Rattle.zworld_model.specs.Events.{is_request, has_failed, is_enabled, is_server, happens, acts, front_step, process_step}
+use Rattle.zprotocol.specs.Places.{is_server}
+use Rattle.zworld_model.specs.Events.{is_request, has_failed, is_enabled, happens, acts, front_step, process_step}
 use Rattle.zworld_model.specs.Reading.{is_fitting, read}
 use Rattle.zworld_model.specs.Alike.{IsAlike}
 use Rattle.zworld_model.proofs.Alike.{alike_itself, alike_through}

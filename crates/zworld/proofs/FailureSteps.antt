@@ -20,7 +20,8 @@ use Rattle.zworld_model.specs.declared.event.Event.TheVariants as event
 use Rattle.zworld_model.specs.History.{History}
 use Rattle.zworld_model.specs.Links.{Links, is_same, put}
 use Rattle.zworld_model.specs.World.{at}
-use Rattle.zworld_model.specs.Events.{has_failed, is_server, master_does, acts}
+use Rattle.zprotocol.specs.Places.{is_server}
+use Rattle.zworld_model.specs.Events.{has_failed, master_does, acts}
 use Rattle.zworld_model.specs.Alike.{IsAlike}
 use Rattle.zworld.specs.declared.did.Did.TheVariants as became
 use Rattle.zworld.specs.declared.did.IdleCause.TheVariants as cause

@@ -23,7 +23,8 @@ use Rattle.zworld_model.specs.declared.history.CallEvent.TheVariants as call_eve
 use Rattle.zworld_model.specs.History.{History}
 use Rattle.zworld_model.specs.Links.{is_same, messages_to}
 use Rattle.zworld_model.specs.World.{at}
-use Rattle.zworld_model.specs.Events.{has_failed, is_server, acts, process_step, server_does, client_does, with_answer}
+use Rattle.zprotocol.specs.Places.{is_server}
+use Rattle.zworld_model.specs.Events.{has_failed, acts, process_step, server_does, client_does, with_answer}
 use Rattle.zworld_model.specs.Alike.{IsAlike}
 use Rattle.zlinks.specs.Places.{links_of, without_receiver}
 use Rattle.zworld.specs.Held.{Held, MemberView, bystander, nobody, is_gone, owes, view_of, member_at, last_words, world_of}

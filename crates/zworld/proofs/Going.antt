@@ -12,7 +12,8 @@ use Rattle.zworld_model.specs.declared.outcome.Outcome.{Outcome}
 use Rattle.zworld_model.specs.declared.outcome.Outcome.TheVariants.{Acted}
 use Rattle.zworld_model.specs.History.{History}
 use Rattle.zworld_model.specs.World.{World, opening_world}
-use Rattle.zworld_model.specs.Events.{is_server, is_enabled, happens, run}
+use Rattle.zprotocol.specs.Places.{is_server}
+use Rattle.zworld_model.specs.Events.{is_enabled, happens, run}
 use Rattle.zworld_model.specs.Reading.{read, read_all}
 use Rattle.zworld_model.specs.Alike.{IsAlike}
 use Rattle.zworld_model.specs.PlainTree.{IsExplained}

@@ -1,79 +1,36 @@
 -- Places that are passed by: nothing is under way from them, or to them.
-use Rattle.std.proofs.Common.{◌≡◌, ℕ, ◌+◌, ◌-◌, ◌<◌, ◌≤◌, zero, suc, true, false, if◌then◌else◌, List, [], length, map, take, get_or, inl, inr, refl, sym, ap, subst, ◌∙◌, arith, length-append}
+use Rattle.std.proofs.Common.{◌≡◌, ℕ, ◌+◌, ◌-◌, ◌<◌, ◌≤◌, zero, suc, true, false, List, [], ◌∷◌, length, map, take, get_or, inl, inr, refl, sym, ap, subst, ◌∙◌, arith}
 use Rattle.std.proofs.lemmas.List.{take_all}
 use Rattle.std.proofs.lemmas.List.FromFn.{get_or-map-range_with_len, length-map-range_with_len}
-use Rattle.std.proofs.Math.ListN.{get_or-append}
-use Rattle.std.proofs.Math.Seq.{get_or-append_right}
 use Rattle.std.proofs.lemmas.Bool.Decides.{nat_tests}
-use Rattle.std.specs.Prelude.{◌==◌, nat_le, nat_lt}
+use Rattle.std.specs.Prelude.{nat_lt}
 use Rattle.std.specs.List.{range_with_len}
 use Rattle.zcalls.proofs.Among.{test}
-use Rattle.ztree.specs.declared.limits.TheConstants.{MAX_CLIENTS}
-use Rattle.zprotocol.specs.declared.limits.TheConstants.{MAX_SERVERS}
+use Rattle.zprotocol.specs.declared.limits.TheConstants.{MAX_SERVERS, PROCESSES}
 use Rattle.zprotocol.specs.declared.process.Process.{Process}
 use Rattle.zprotocol.specs.declared.process.Process.TheVariants.{Master, Server, Client}
-use Rattle.zworld_model.specs.Events.{is_server}
+use Rattle.zprotocol.specs.Places.{place_of, process_at}
+use Rattle.zprotocol.proofs.Places.{place_of-process_at}
 use Rattle.zworld_model.specs.Settle.{processes}
-use Rattle.zlinks.specs.Places.{place_of, links_of, is_silent}
+use Rattle.zlinks.specs.Places.{links_of, is_silent}
 use Rattle.zlinks.proofs.Places.{silent_links, server_place}
-use Rattle.zlinks.specs.declared.limits.TheConstants.{PROCESSES}
 use Rattle.zworld.specs.Held.{MemberView, Held, member_at, owes, last_words, world_of}
-use Rattle.zworld.specs.support.Settling.{Point, Tries, takes, takes_from, process_at}
+use Rattle.zworld.specs.support.Settling.{Point, Tries, takes, takes_from}
 use Rattle.zworld.proofs.Tries.{silent_tries, empty_try, one_more_receiver, one_more_sender}
 
--- the process in a place of the servers, and of the clients
-at_server : (n : ℕ) → n < 8 → process_at (suc n) ≡ Server (suc n)
-at_server n few =
-    let some : (suc n == 0) ≡ false = grind (arith, nat_tests) in
-    let small : nat_le (suc n) MAX_SERVERS ≡ true = grind (arith, nat_tests, few) in rw (some, small) refl
+-- there are so many processes
+pub length-processes : (clients : ℕ) → length (processes clients) ≡ MAX_SERVERS + 1 + clients
+length-processes clients = length-map-range_with_len process_at 0 (MAX_SERVERS + 1 + clients)
 
-at_client : (n : ℕ) → 8 ≤ n → process_at (suc n) ≡ Client ((suc n - MAX_SERVERS) - 1)
-at_client n many =
-    let some : (suc n == 0) ≡ false = grind (arith, nat_tests) in
-    let large : nat_le (suc n) MAX_SERVERS ≡ false = grind (arith, nat_tests, many) in rw (some, large) refl
-
--- who stands in a place of the list
-server_in : (clients n : ℕ) (d : Process) → n < 8 → get_or (processes clients) (suc n) d ≡ Server (suc n)
-server_in clients n d few =
-    get_or-append (map Server (range_with_len 1 MAX_SERVERS)) (map Client (range_with_len 0 clients)) d n (omega (arith, few, length-map-range_with_len Server 1 MAX_SERVERS))
-    ∙ get_or-map-range_with_len Server 1 MAX_SERVERS n (suc n) d few (omega arith)
-
-client_in : (clients n : ℕ) (d : Process) → 8 ≤ n → n < 8 + clients → get_or (processes clients) (suc n) d ≡ Client ((suc n - MAX_SERVERS) - 1)
-client_in clients n d many inside =
-    get_or-append_right (map Server (range_with_len 1 MAX_SERVERS)) (map Client (range_with_len 0 clients)) n d (omega (arith, many, length-map-range_with_len Server 1 MAX_SERVERS))
-    ∙ get_or-map-range_with_len Client 0 clients (n - 8) ((suc n - MAX_SERVERS) - 1) d (omega (arith, many, inside)) (omega (arith, many))
-
--- there are so many
-pub length-processes : (clients : ℕ) → length (processes clients) ≡ 9 + clients
-length-processes clients =
-    let servers = length-map-range_with_len Server 1 MAX_SERVERS in
-    let rest = length-map-range_with_len Client 0 clients in
-    let both = length-append (map Server (range_with_len 1 MAX_SERVERS)) (map Client (range_with_len 0 clients)) in
-    omega (arith, servers, rest, both)
+-- the master is the first
+pub first_receiver : (clients : ℕ) → take 1 (processes clients) ≡ Master ∷ []
+first_receiver clients =
+    let more : MAX_SERVERS + 1 + clients ≡ suc (MAX_SERVERS + clients) = omega arith in
+    ap (λ n. take 1 (map process_at (range_with_len 0 n))) more
 
 -- each stands in its place
-pub listed : (clients place : ℕ) → place < 9 + clients → process_at place ≡ get_or (processes clients) place (process_at place)
-listed clients zero inside = refl
-listed clients (suc n) inside = elim (test (nat_lt n 8)) [
-  | inl small ↦ let few : n < 8 = grind (arith, nat_tests, small) in at_server n few ∙ sym (server_in clients n (process_at (suc n)) few)
-  | inr large ↦
-      let many : 8 ≤ n = grind (arith, nat_tests, large) in
-      at_client n many ∙ sym (client_in clients n (process_at (suc n)) many (omega (arith, inside)))
-]
-
-pub placed : (place : ℕ) → place < PROCESSES → place_of (process_at place) ≡ place
-placed zero inside = refl
-placed (suc n) inside = elim (test (nat_lt n 8)) [
-  | inl small ↦
-      let few : n < 8 = grind (arith, nat_tests, small) in
-      let is : is_server (suc n) ≡ true = grind (arith, nat_tests, few) in
-      ap place_of (at_server n few) ∙ ap (λ b. if b then suc n else PROCESSES) is
-  | inr large ↦
-      let many : 8 ≤ n = grind (arith, nat_tests, large) in
-      let c = (suc n - MAX_SERVERS) - 1 in
-      let is : nat_lt c MAX_CLIENTS ≡ true = grind (arith, nat_tests, many, inside) in
-      ap place_of (at_client n many) ∙ ap (λ b. if b then MAX_SERVERS + 1 + c else PROCESSES) is ∙ (let same : MAX_SERVERS + 1 + c ≡ suc n = omega (arith, many) in same)
-]
+pub listed : (clients place : ℕ) → place < MAX_SERVERS + 1 + clients → process_at place ≡ get_or (processes clients) place (process_at place)
+listed clients place inside = sym (get_or-map-range_with_len process_at 0 (MAX_SERVERS + 1 + clients) place place (process_at place) inside (omega arith))
 
 -- the last words of a server are for the master
 pub no_words : (members : List MemberView) (from to : Process) → 0 < place_of to → last_words members from to ≡ []
@@ -130,15 +87,15 @@ module _ (clients : ℕ) (p : Point) where
       let next : (place + k) + 1 ≡ place + suc k = omega arith in
       let before = skipped_receivers from a place k (omega (arith, few)) (λ to behind here. none to behind (omega (arith, here))) tries in
       let to = process_at (place + k) in
-      let at : place_of to ≡ place + k = placed (place + k) (omega (arith, few)) in
+      let at : place_of to ≡ place + k = place_of-process_at (place + k) (omega (arith, few)) in
       subst (λ n. Tries (takes_from (take n (processes clients)) from) a p) next
-      (elim (test (nat_lt (place + k) (9 + clients))) [
+      (elim (test (nat_lt (place + k) (MAX_SERVERS + 1 + clients))) [
         | inl inside ↦
-            let small : place + k < 9 + clients = grind (arith, nat_tests, inside) in
+            let small : place + k < MAX_SERVERS + 1 + clients = grind (arith, nat_tests, inside) in
             one_more_receiver (processes clients) (place + k) from to a p p (omega (arith, small, length-processes clients)) (listed clients (place + k) small) before
             (empty_try from to p (none to (omega (arith, at)) (omega (arith, at))))
         | inr outside ↦
-            let large : 9 + clients ≤ place + k = grind (arith, nat_tests, outside) in
+            let large : MAX_SERVERS + 1 + clients ≤ place + k = grind (arith, nat_tests, outside) in
             subst (λ ps. Tries (takes_from ps from) a p) (sym (past (processes clients) (place + k) (omega (arith, large, length-processes clients)))) before
       ])
 
@@ -159,15 +116,15 @@ module _ (clients : ℕ) (p : Point) where
       let next : (place + k) + 1 ≡ place + suc k = omega arith in
       let before = skipped_senders a place k (omega (arith, few)) (λ from to behind here. none from to behind (omega (arith, here))) tries in
       let from = process_at (place + k) in
-      let at : place_of from ≡ place + k = placed (place + k) (omega (arith, few)) in
+      let at : place_of from ≡ place + k = place_of-process_at (place + k) (omega (arith, few)) in
       subst (λ n. Tries (takes (processes clients) (take n (processes clients))) a p) next
-      (elim (test (nat_lt (place + k) (9 + clients))) [
+      (elim (test (nat_lt (place + k) (MAX_SERVERS + 1 + clients))) [
         | inl inside ↦
-            let small : place + k < 9 + clients = grind (arith, nat_tests, inside) in
+            let small : place + k < MAX_SERVERS + 1 + clients = grind (arith, nat_tests, inside) in
             one_more_sender (processes clients) (processes clients) (place + k) from a p p (omega (arith, small, length-processes clients)) (listed clients (place + k) small) before
             (silent_tries from (processes clients) p (λ to. none from to (omega (arith, at)) (omega (arith, at))))
         | inr outside ↦
-            let large : 9 + clients ≤ place + k = grind (arith, nat_tests, outside) in
+            let large : MAX_SERVERS + 1 + clients ≤ place + k = grind (arith, nat_tests, outside) in
             subst (λ ps. Tries (takes (processes clients) ps) a p) (sym (past (processes clients) (place + k) (omega (arith, large, length-processes clients)))) before
       ])
 

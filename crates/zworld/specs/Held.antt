@@ -61,13 +61,13 @@ last_words members from to = []
 abbrev pub nobody : ClientView
 nobody = record { number = 0; outstanding = None; epoch = 0; head = None; tail = None }
 
--- the world that is held, with this history
+-- the world that is held, with this history; a server that has failed has let go what it held
 abbrev pub world_of : Held → History → World (KeptState Tree)
 world_of held history = record {
-  servers = λ s. view_of (member_at held.members s);
+  servers = λ s. elim (member_at held.members s).view [ None ↦ spare | Some view ↦ view ];
   clients = λ c. get_or held.clients c nobody;
   master = held.master;
-  failed = λ s. is_gone (member_at held.members s);
+  failed = λ s. is_none (member_at held.members s).view;
   links = λ from to. links_of held.links from to ++ last_words held.members from to;
   history = history;
 }

@@ -4,8 +4,8 @@ ghost use Rattle.std.specs.Prelude.{◌≡◌, ◌==◌, ◌≤◌, ◌<◌, ◌
 ghost use Rattle.ztree.specs.declared.limits.TheConstants.{MAX_CLIENTS};
 ghost use Rattle.zprotocol.specs.server.Machine.{kept_tree};
 ghost use Rattle.zprotocol.specs.declared.process.Process.{Process};
-ghost use Rattle.zlinks.specs.declared.limits.TheConstants.{PROCESSES};
-ghost use Rattle.zlinks.specs.Places.{place_of};
+ghost use Rattle.zprotocol.specs.declared.limits.TheConstants.{PROCESSES};
+ghost use Rattle.zprotocol.specs.Places.{place_of, process_at};
 ghost use Rattle.zworld_model.specs.declared.event.Event.TheVariants.{Retry, Take};
 ghost use Rattle.zworld_model.specs.declared.outcome.Outcome.{Outcome};
 ghost use Rattle.zworld_model.specs.declared.settled.Settled.TheVariants.{Limit, Quiet};
@@ -14,13 +14,13 @@ ghost use Rattle.zworld_model.specs.History.{History};
 ghost use Rattle.zworld.specs.Held.{world_of};
 ghost use Rattle.zworld.specs.Did.{is_idle};
 ghost use Rattle.zworld.specs.support.Stepped.{Settles};
-ghost use Rattle.zworld.specs.support.Settling.{Does, GoOn, Tries, process_at, takes_from};
+ghost use Rattle.zworld.specs.support.Settling.{Does, GoOn, Tries, takes_from};
 
 use crate::did::Did;
 use crate::processes::Processes;
 use zcalls::ClientId;
 use zpath::Memory;
-use zprotocol::{MAX_SERVERS, Process, ServerId};
+use zprotocol::{MAX_SERVERS, Process};
 use zworld_model::{CallEvent, Settled};
 
 impl Processes {
@@ -206,23 +206,13 @@ fn count_of(clients: u8) -> usize
     1 + MAX_SERVERS as usize + clients as usize
 }
 
-// The process in a place: the master is first, then the servers and the clients, each by number.
+// The process in a place.
 fn process_at(place: usize) -> Process
     requires { place < PROCESSES }
     ensures { result ≡ process_at place }
 {
-    let number = place as u8;
-    if number == 0 {
-        return Process::Master;
+    match Process::at(place) {
+        Some(process) => process,
+        None => unreachable!(),
     }
-    if number <= MAX_SERVERS {
-        let Some(server) = ServerId::new(number) else {
-            unreachable!();
-        };
-        return Process::Server(server);
-    }
-    let Some(client) = ClientId::new(number - MAX_SERVERS - 1) else {
-        unreachable!();
-    };
-    Process::Client(client)
 }

@@ -62,7 +62,7 @@ impl World {
         ensures whole { IfOk result (λ w. w.has_forgotten ≡ false) }
         ensures sound { IfOk result (λ w. w.is_broken ≡ false) }
     {
-        // (the number of a server is one of a chain, which the invariant asks for)
+        // The number of a server is one of a chain, which the invariant asks for: its clause tells that.
         let _ = last.number();
         Ok(World {
             processes: Processes::new(alloc, last, clients)?,

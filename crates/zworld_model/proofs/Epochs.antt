@@ -18,7 +18,8 @@ use Rattle.zworld_model.specs.declared.event.Event.{Event}
 use Rattle.zworld_model.specs.declared.event.Event.TheVariants.{Begin, Retry, Take, Ignore, Fail, Join}
 use Rattle.zworld_model.specs.Links.{without_front}
 use Rattle.zworld_model.specs.World.{World, opening_world}
-use Rattle.zworld_model.specs.Events.{is_server, is_enabled, process_step, front_step, acts, happens, run, with_answer, client_does}
+use Rattle.zprotocol.specs.Places.{is_server}
+use Rattle.zworld_model.specs.Events.{is_enabled, process_step, front_step, acts, happens, run, with_answer, client_does}
 use Rattle.zworld_model.specs.Laws.{world_after, EpochsAreFew}
 use Rattle.zworld_model.specs.support.Within.{IsServer}
 use Rattle.zworld_model.proofs.Tests.{both}

@@ -1,5 +1,5 @@
 -- Settling visits every link that holds a message.
-use Rattle.std.proofs.Common.{◌≡◌, ℕ, ◌+◌, ◌-◌, ◌<◌, ◌≤◌, zero, suc, Bool, true, false, if◌then◌else◌, nat_lt, nat_le, ◌==◌, List, [], ◌∷◌, ◌++◌, map, Option, Some, None, refl, sym, ap, subst, inl, inr, arith, ltb-true, eqb-true}
+use Rattle.std.proofs.Common.{if◌then◌else◌, ◌≡◌, ℕ, ◌+◌, ◌-◌, ◌<◌, ◌≤◌, zero, suc, Bool, true, false, nat_lt, nat_le, ◌==◌, List, [], ◌∷◌, ◌++◌, map, Option, Some, None, refl, sym, ap, subst, inl, inr, arith, ltb-true, eqb-true}
 use mathlib.Core.Bool.{true≢false}
 use Rattle.std.specs.Prelude.{◌⊎◌, ◌||◌, flat_map}
 use Rattle.std.specs.List.{AllByRecursion, range_with_len, list_any}
@@ -10,11 +10,13 @@ use Rattle.zprotocol.specs.declared.limits.TheConstants.{MAX_SERVERS}
 use Rattle.zprotocol.specs.declared.process.Process.{Process}
 use Rattle.zprotocol.specs.declared.process.Process.TheVariants.{Master, Server, Client}
 use Rattle.zprotocol.specs.server.Machine.{Does, kept_tree}
+use Rattle.zprotocol.specs.Places.{is_server, process_at}
+use Rattle.zprotocol.proofs.Places.{process_at-server, process_at-client}
 use Rattle.zprotocol.specs.server.View.{Neighbour, MessageOf, spare, member, opening_server}
 use Rattle.zworld_model.specs.declared.event.Event.{Event}
 use Rattle.zworld_model.specs.declared.event.Event.TheVariants.{Take}
 use Rattle.zworld_model.specs.World.{World, opening_world}
-use Rattle.zworld_model.specs.Events.{is_server, is_enabled}
+use Rattle.zworld_model.specs.Events.{is_enabled}
 use Rattle.zworld_model.specs.Settle.{processes, deliveries}
 use Rattle.zworld_model.specs.Laws.{world_after, settling_of, LinksAreVisited, QuietIsQuiet}
 use Rattle.zworld_model.specs.support.Within.{is_process, IsServer, IsNear, IsNamed, IsViewWithin, IsMemberWithin, IsWithin}
@@ -126,15 +128,17 @@ among_range x from (suc count) low high = elim (test (from == x)) [
 
 -- a process of the world is visited
 among_processes : (clients : ℕ) (p : Process) → is_process clients p ≡ true → Among p (processes clients)
-among_processes clients Master is = inl refl
-among_processes clients (Server s) is =
-    let limit : s ≤ MAX_SERVERS = at_most s is in
-    inr (among_first (Server s) (map Server (range_with_len 1 MAX_SERVERS)) (map Client (range_with_len 0 clients))
-    (among_map Server s (range_with_len 1 MAX_SERVERS) (among_range s 1 MAX_SERVERS (at_least_one s is) (omega (arith, limit)))))
-among_processes clients (Client c) is =
-    let few : c < clients = ltb-true c clients is in
-    inr (among_second (Client c) (map Server (range_with_len 1 MAX_SERVERS)) (map Client (range_with_len 0 clients))
-    (among_map Client c (range_with_len 0 clients) (among_range c 0 clients (omega arith) (omega (arith, few)))))
+among_processes clients p is =
+    let place = where_is p is in
+    subst (λ q. Among q (processes clients)) place.2
+    (among_map process_at place.0 (range_with_len 0 (MAX_SERVERS + 1 + clients)) (among_range place.0 0 (MAX_SERVERS + 1 + clients) (omega arith) place.1))
+  where
+    where_is : (q : Process) → is_process clients q ≡ true → (place : ℕ) × (place < 0 + (MAX_SERVERS + 1 + clients)) × (process_at place ≡ q)
+    where_is Master is = (0, omega arith, refl)
+    where_is (Server s) is =
+        let limit : s ≤ MAX_SERVERS = at_most s is in (s, omega (arith, limit), process_at-server s (at_least_one s is) limit)
+    where_is (Client c) is =
+        let few : c < clients = ltb-true c clients is in (MAX_SERVERS + 1 + c, omega (arith, few), process_at-client c (MAX_SERVERS + 1 + c) refl)
 
 -- and so is the link between two
 among_deliveries : (clients : ℕ) (from to : Process) → is_process clients from ≡ true → is_process clients to ≡ true

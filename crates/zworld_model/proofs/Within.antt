@@ -25,7 +25,8 @@ use Rattle.zworld_model.specs.declared.event.Event.{Event}
 use Rattle.zworld_model.specs.declared.event.Event.TheVariants.{Begin, Retry, Take, Ignore, Fail, Join}
 use Rattle.zworld_model.specs.Links.{Links, put, without_front, is_same, messages_to}
 use Rattle.zworld_model.specs.World.{World, at}
-use Rattle.zworld_model.specs.Events.{is_server, is_enabled, process_step, front_step, acts, happens, run, with_answer, client_does}
+use Rattle.zprotocol.specs.Places.{is_server}
+use Rattle.zworld_model.specs.Events.{is_enabled, process_step, front_step, acts, happens, run, with_answer, client_does}
 use Rattle.zworld_model.specs.support.Within.{is_process, SpeaksWithin, GoesWithin, IsViewWithin, IsClientWithin, AreLinksWithin, IsWithin}
 use Rattle.zworld_model.proofs.Tests.{both}
 use Rattle.zworld_model.proofs.WithinTables.{row_within, outstanding_within, IsMasterWithin, master_within, join_within}

@@ -19,7 +19,7 @@ use Rattle.zprotocol.specs.client.Table.{call_posts, outstanding_posts}
 use Rattle.zprotocol.specs.master.View.{MasterView, with_number, members, is_joining, first_of, head_of, tail_of}
 use Rattle.zprotocol.specs.master.Table.{before, config_posts, MendedChain, join_step}
 use Rattle.zprotocol.specs.master.support.Cases as master
-use Rattle.zworld_model.specs.Events.{is_server}
+use Rattle.zprotocol.specs.Places.{is_server}
 use Rattle.zworld_model.specs.support.Within.{is_process, IsServer, IsNamed, IsNear, IsOfClient, SpeaksWithin, GoesWithin, IsViewWithin, IsMemberWithin}
 
 -- a fact of all that two lists hold

@@ -5,11 +5,11 @@
 use Rattle.std.specs.Prelude.{ℕ, Bool, true, false, ◌&&◌, not, nat_lt, nat_le, is_some, is_none, if◌then◌else◌, List, [], ◌∷◌, ◌++◌, Option, None, Some}
 use Rattle.zcalls.specs.declared.call.Call.{Call}
 use Rattle.zcalls.specs.declared.reply.Reply.{Reply}
-use Rattle.zprotocol.specs.declared.limits.TheConstants.{MAX_SERVERS}
 use Rattle.zprotocol.specs.declared.message.Message.TheVariants as message
 use Rattle.zprotocol.specs.declared.process.Process.{Process}
 use Rattle.zprotocol.specs.declared.process.Process.TheVariants.{Master, Server, Client}
 use Rattle.zprotocol.specs.server.Machine.{Does}
+use Rattle.zprotocol.specs.Places.{is_server}
 use Rattle.zprotocol.specs.server.View.{ServerView, Transfer, MessageOf, Post}
 use Rattle.zprotocol.specs.server.Table as server
 use Rattle.zprotocol.specs.master.View.{MasterView}
@@ -38,10 +38,6 @@ abbrev pub has_failed : {M : Type 0} → World M → Process → Bool
 has_failed w Master = false
 has_failed w (Server s) = w.failed s
 has_failed w (Client c) = false
-
--- there is a server of this number
-abbrev pub is_server : ℕ → Bool
-is_server s = nat_lt 0 s && nat_le s MAX_SERVERS
 
 -- the event can happen
 abbrev pub is_enabled : {M : Type 0} → World M → Event → Bool

@@ -13,7 +13,8 @@ use Rattle.zprotocol.specs.declared.limits.TheConstants.{MAX_SERVERS}
 use Rattle.zprotocol.specs.declared.process.Process.{Process}
 use Rattle.zworld_model.specs.World.{World, opening_world}
 use Rattle.zworld_model.specs.Reading.{read, reading_by, is_fitting}
-use Rattle.zworld_model.specs.Events.{is_server, is_enabled, run}
+use Rattle.zprotocol.specs.Places.{is_server}
+use Rattle.zworld_model.specs.Events.{is_enabled, run}
 use Rattle.zworld_model.specs.Settle.{Settling, settle, settling_end, deliveries}
 
 -- settling the world of the service

@@ -2,13 +2,13 @@
 -- and takes one message from each that can be taken when the pass comes to it. Passes are made until no message can be
 -- taken; then each client with an outstanding call sends it once more; then passes are made again. It ends early, at its
 -- limit, as soon as so many events were done. The order, the one retry and the limit are this project's profile.
-use Rattle.std.specs.Prelude.{ℕ, zero, suc, ◌-◌, Bool, true, false, ◌&&◌, ◌||◌, not, nat_lt, ◌==◌, if◌then◌else◌}
+use Rattle.std.specs.Prelude.{◌+◌, if◌then◌else◌, ℕ, zero, suc, ◌-◌, Bool, true, false, ◌&&◌, ◌||◌, not, nat_lt, ◌==◌}
 use Rattle.std.specs.Prelude.{List, [], ◌∷◌, ◌++◌, map, flat_map, drop}
 use Rattle.std.specs.List.{range_with_len, list_any}
 use Rattle.zprotocol.specs.declared.limits.TheConstants.{MAX_SERVERS}
 use Rattle.zprotocol.specs.declared.process.Process.{Process}
-use Rattle.zprotocol.specs.declared.process.Process.TheVariants.{Master, Server, Client}
 use Rattle.zprotocol.specs.server.Machine.{Does}
+use Rattle.zprotocol.specs.Places.{process_at}
 use Rattle.zworld_model.specs.declared.event.Event.{Event}
 use Rattle.zworld_model.specs.declared.event.Event.TheVariants.{Retry, Take}
 use Rattle.zworld_model.specs.declared.outcome.Outcome.{Outcome}
@@ -19,9 +19,9 @@ use Rattle.zworld_model.specs.World.{World}
 use Rattle.zworld_model.specs.Events.{is_enabled, happens}
 use Rattle.zworld_model.specs.Reading.{read}
 
--- the processes in order: the master, the servers, the clients, each by number
+-- the processes in order: the master, the servers, and so many clients
 abbrev pub processes : ℕ → List Process
-processes client_count = Master ∷ map Server (range_with_len 1 MAX_SERVERS) ++ map Client (range_with_len 0 client_count)
+processes client_count = map process_at (range_with_len 0 (MAX_SERVERS + 1 + client_count))
 
 -- a delivery on each link, in the order of (from, to)
 abbrev pub deliveries : ℕ → List Event

@@ -1,6 +1,6 @@
 -- What rows know of themselves.
 use Rattle.std.specs.Prelude.{◌≡◌, ℕ, ◌+◌, Bool, true, false, List, [], ◌∷◌, length, get_or, set, nat_lt, if◌then◌else◌}
-use Rattle.zlinks.specs.declared.limits.TheConstants.{PROCESSES}
+use Rattle.zprotocol.specs.declared.limits.TheConstants.{PROCESSES}
 
 -- 1 for what passes a test
 abbrev pub share : Bool → ℕ

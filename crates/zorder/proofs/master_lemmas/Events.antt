@@ -12,7 +12,8 @@ use Rattle.zprotocol.specs.master.View.{MasterView, is_among}
 use Rattle.zprotocol.specs.master.Table as master
 use Rattle.zworld_model.specs.declared.event.Event.TheVariants.{Take, Join}
 use Rattle.zworld_model.specs.Links.{without_front}
-use Rattle.zworld_model.specs.Events.{front_step, is_server}
+use Rattle.zprotocol.specs.Places.{is_server}
+use Rattle.zworld_model.specs.Events.{front_step}
 use Rattle.zorder.proofs.legal_lemmas.lists.Tests.{right_of}
 use Rattle.zorder.specs.chain.Flow.{log_machine, LogMessage}
 use Rattle.zorder.specs.chain.Messages.{IsJustified}

@@ -36,12 +36,12 @@ place_from before [] s = None
 place_from before (t ∷ rest) s = if t.0 == s then Some (place_behind before t.1) else place_from (Some t.0) rest s
 
 -- the place that the master has in mind for a server, where it has one
-abbrev pub place_of : LogWorld → ℕ → Option Place
-place_of w s = place_from None w.master.chain s
+abbrev pub place_in_chain : LogWorld → ℕ → Option Place
+place_in_chain w s = place_from None w.master.chain s
 
 -- p stands right before t in the master's mind, as a pair of this epoch
 abbrev pub IsPair : LogWorld → ℕ → ℕ → ℕ → Type 0
-IsPair w p t epoch = place_of w t ≡ Some (Some (p, epoch))
+IsPair w p t epoch = place_in_chain w t ≡ Some (Some (p, epoch))
 
 -- a predecessor that can't put anything that matters any more: it was a member, and is none
 abbrev pub IsPast : LogWorld → Place → Type 0

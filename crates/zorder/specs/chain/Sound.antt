@@ -15,7 +15,7 @@ use Rattle.zworld_model.specs.PlainTree.{service_of}
 use Rattle.zorder.specs.legal.Prefix.{IsPrefix, IsEntry}
 use Rattle.zorder.specs.legal.Items.{Item, Replays, AreCommitted, TimesRise, AreBegunInTime, AreAnsweredInTime, EventsDiffer, AreNumbered, AllBegun}
 use Rattle.zorder.specs.chain.Flow.{LogWorld, log_at, first_log}
-use Rattle.zorder.specs.chain.Chain.{queue, IsUsed, IsMember, Place, place_of, IsPast, LeadsTo, is_fresh, IsOpened, HasNoTailOrderBehind, HasDistinctEpochs, IsBehind}
+use Rattle.zorder.specs.chain.Chain.{queue, IsUsed, IsMember, Place, place_in_chain, IsPast, LeadsTo, is_fresh, IsOpened, HasNoTailOrderBehind, HasDistinctEpochs, IsBehind}
 use Rattle.zorder.specs.chain.Messages.{IsJustified}
 use Rattle.zorder.specs.chain.Account.{Account}
 
@@ -37,7 +37,7 @@ LiveAreMembers w = (s : ℕ) → IsUsed w s → w.failed s ≡ false → IsMembe
 
 -- a member's orders lead from its predecessor to the one that the master has in mind
 abbrev pub OrdersLead : LogWorld → Type 0
-OrdersLead w = (s : ℕ) (place : Place) → place_of w s ≡ Some place → LeadsTo (IsPast w) (is_fresh w s) (w.servers s).pred (queue w s) place
+OrdersLead w = (s : ℕ) (place : Place) → place_in_chain w s ≡ Some place → LeadsTo (IsPast w) (is_fresh w s) (w.servers s).pred (queue w s) place
 
 -- a server that is somebody's successor has taken the epoch of the pair
 abbrev pub SuccessorsAreOpened : LogWorld → Type 0

@@ -10,20 +10,21 @@ ghost use Rattle.zprotocol.specs.declared.process.Process.TheVariants.{Master, S
 ghost use Rattle.zprotocol.specs.declared.client.begin_fault.BeginFault.TheVariants.{Busy, Exhausted};
 ghost use Rattle.zprotocol.specs.client.View.{opening_client};
 ghost use Rattle.zprotocol.specs.client.Table.{begin_fault};
-ghost use Rattle.zprotocol.specs.client.support.Rows.{after, Ignores, after_call, beginner, after_retry};
+ghost use Rattle.zprotocol.specs.client.support.Rows.{Ignores, after_call, beginner, after_retry};
 ghost use Rattle.zprotocol.specs.client.support.Rows.{update};
 ghost use Rattle.zprotocol.specs.client.support.Rows.{query, client, idle, updating, asking};
+ghost use Rattle.zprotocol.specs.client.support.Rows.{eighth, told, submit_to, query_to, after_answer, after_config};
 
 /// How a call begins: an update goes to the head and a query to the tail; and why it can't.
 pub fn calls_begin()
     ensures first_call { after_call (opening_client 2 3 1) (call.Update update)
-        ≡ (beginner, (Server 1, message.Submit 1 update) ∷ []) }
+        ≡ (beginner, submit_to 1 1 ∷ []) }
     ensures update { after_call idle (call.Update update)
-        ≡ (client 8 (Some (8, call.Update update)), (Server 1, message.Submit 8 update) ∷ []) }
+        ≡ (eighth (call.Update update), submit_to 1 8 ∷ []) }
     ensures query { after_call idle (call.Query query)
-        ≡ (client 8 (Some (8, call.Query query)), (Server 3, message.Query 8 query) ∷ []) }
+        ≡ (eighth (call.Query query), query_to 3 8 ∷ []) }
     ensures no_head { after_call (record idle { head = None }) (call.Update update)
-        ≡ (record (client 8 (Some (8, call.Update update))) { head = None }, []) }
+        ≡ (record (eighth (call.Update update)) { head = None }, []) }
     ensures allowed { begin_fault idle ≡ None }
     ensures busy { begin_fault updating ≡ Some Busy }
     ensures exhausted { begin_fault (client MAX_CALL_NUMBER None) ≡ Some Exhausted }
@@ -34,29 +35,19 @@ pub fn calls_begin()
 
 /// What a client does with a server's answer, and with what it is told of the chain.
 pub fn answers_are_taken()
-    ensures answer { after updating (Server 3) (message.Answer 7 Deleted)
-        ≡ (idle, [], Some (7, Deleted)) }
-    ensures answer_of_any_server { after updating (Server 2) (message.Answer 7 Deleted)
-        ≡ (idle, [], Some (7, Deleted)) }
+    ensures answer { after_answer updating 3 ≡ (idle, [], Some (7, Deleted)) }
+    ensures answer_of_any_server { after_answer updating 2 ≡ (idle, [], Some (7, Deleted)) }
     ensures old_answer { Ignores updating (Server 3) (message.Answer 6 Deleted) }
     ensures answer_again { Ignores idle (Server 3) (message.Answer 7 Deleted) }
     ensures answer_of_the_master { Ignores updating Master (message.Answer 7 Deleted) }
-    ensures config_and_update { after updating Master (message.Config 5 (Some 2) (Some 4))
-        ≡ (
-          record updating { epoch = 5; head = Some 2; tail = Some 4 },
-          (Server 2, message.Submit 7 update) ∷ [],
-          None,
-        ) }
-    ensures config_and_query { after asking Master (message.Config 5 (Some 2) (Some 4))
-        ≡ (
-          record asking { epoch = 5; head = Some 2; tail = Some 4 },
-          (Server 4, message.Query 7 query) ∷ [],
-          None,
-        ) }
-    ensures config_and_no_call { after idle Master (message.Config 5 (Some 2) (Some 4))
-        ≡ (record idle { epoch = 5; head = Some 2; tail = Some 4 }, [], None) }
-    ensures config_without_chain { after asking Master (message.Config 5 None None)
-        ≡ (record asking { epoch = 5; head = None; tail = None }, [], None) }
+    ensures config_and_update { after_config updating (Some 2) (Some 4)
+        ≡ (told (Some 2) (Some 4) updating, submit_to 2 7 ∷ [], None) }
+    ensures config_and_query { after_config asking (Some 2) (Some 4)
+        ≡ (told (Some 2) (Some 4) asking, query_to 4 7 ∷ [], None) }
+    ensures config_and_no_call { after_config idle (Some 2) (Some 4)
+        ≡ (told (Some 2) (Some 4) idle, [], None) }
+    ensures config_without_chain { after_config asking None None
+        ≡ (told None None asking, [], None) }
     ensures config_of_same_epoch { Ignores asking Master (message.Config 4 (Some 2) (Some 4)) }
     ensures config_of_a_server { Ignores asking (Server 1) (message.Config 5 (Some 2) (Some 4)) }
     ensures other_message { Ignores asking (Server 1) (message.Ack 4 7) }
@@ -72,8 +63,8 @@ pub fn opening_views()
 
 /// A retry sends the call again, under its number.
 pub fn calls_are_retried()
-    ensures update { after_retry updating ≡ (Server 1, message.Submit 7 update) ∷ [] }
-    ensures query { after_retry asking ≡ (Server 3, message.Query 7 query) ∷ [] }
+    ensures update { after_retry updating ≡ submit_to 1 7 ∷ [] }
+    ensures query { after_retry asking ≡ query_to 3 7 ∷ [] }
     ensures no_call { after_retry idle ≡ [] }
     ensures no_tail { after_retry (record asking { tail = None }) ≡ [] }
 {}

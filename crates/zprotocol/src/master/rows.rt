@@ -11,6 +11,7 @@ ghost use Rattle.zprotocol.specs.master.Table.{join_fault};
 ghost use Rattle.zprotocol.specs.master.support.Rows.{after, Ignores, after_join, with_fifth};
 ghost use Rattle.zprotocol.specs.master.support.Rows.{opening_of_two, three, four, growing, one};
 ghost use Rattle.zprotocol.specs.master.support.Rows.{lost, empty, tells};
+ghost use Rattle.zprotocol.specs.master.support.Rows.{after_gone, with_chain, without_joining, hears_pred};
 
 /// What the master does with a server's report of its log, and when a new server has the state.
 pub fn reports_are_passed_on()
@@ -23,7 +24,7 @@ pub fn reports_are_passed_on()
     ensures have_of_a_stranger { Ignores three (Server 3) (message.Have 5 (Some 9)) }
     ensures have_of_a_client { Ignores three (Client 4) (message.Have 5 (Some 9)) }
     ensures joined { after growing (Server 4) (message.Joined 5)
-        ≡ (record growing { joining = None; epoch = 7 }, tells (Some 1) (Some 4)) }
+        ≡ (without_joining growing, tells (Some 1) (Some 4)) }
     ensures joined_of_another { Ignores growing (Server 2) (message.Joined 5) }
     ensures joined_again { Ignores three (Server 4) (message.Joined 5) }
     ensures order_of_a_server { Ignores three (Server 1) (message.BecomeTail 7) }
@@ -31,46 +32,34 @@ pub fn reports_are_passed_on()
 
 /// How the master mends the chain when a server has failed, and whom it tells.
 pub fn chain_is_mended()
-    ensures first { after three (Server 1) message.Gone
+    ensures first { after_gone three 1
         ≡ (
-          record three { chain = (2, 3) ∷ (4, 5) ∷ []; epoch = 7 },
-          (Server 2, message.BecomeHead 7) ∷ tells (Some 2) (Some 4),
+          with_chain ((2, 3) ∷ (4, 5) ∷ []) three,
+          (Server 2, message.BecomeHead 7)
+              ∷ tells (Some 2) (Some 4),
         ) }
-    ensures last { after three (Server 4) message.Gone
+    ensures last { after_gone three 4
         ≡ (
-          record three { chain = (1, 0) ∷ (2, 3) ∷ []; epoch = 7 },
+          with_chain ((1, 0) ∷ (2, 3) ∷ []) three,
+          (Server 2, message.BecomeTail 7)
+              ∷ tells (Some 1) (Some 2),
+        ) }
+    ensures middle { after_gone three 2
+        ≡ (with_chain ((1, 0) ∷ (4, 7) ∷ []) three, hears_pred 4 1 1 4) }
+    ensures middle_of_four { after_gone four 3
+        ≡ (with_chain ((1, 0) ∷ (2, 3) ∷ (4, 7) ∷ []) four, hears_pred 4 2 1 4) }
+    ensures second_of_four { after_gone four 2
+        ≡ (with_chain ((1, 0) ∷ (3, 7) ∷ (4, 5) ∷ []) four, hears_pred 3 1 1 4) }
+    ensures joining { after_gone growing 4
+        ≡ (
+          with_chain ((1, 0) ∷ (2, 3) ∷ []) (without_joining growing),
           (Server 2, message.BecomeTail 7) ∷ tells (Some 1) (Some 2),
         ) }
-    ensures middle { after three (Server 2) message.Gone
-        ≡ (
-          record three { chain = (1, 0) ∷ (4, 7) ∷ []; epoch = 7 },
-          (Server 4, message.NewPred 7 1) ∷ tells (Some 1) (Some 4),
-        ) }
-    ensures middle_of_four { after four (Server 3) message.Gone
-        ≡ (
-          record four { chain = (1, 0) ∷ (2, 3) ∷ (4, 7) ∷ []; epoch = 7 },
-          (Server 4, message.NewPred 7 2) ∷ tells (Some 1) (Some 4),
-        ) }
-    ensures second_of_four { after four (Server 2) message.Gone
-        ≡ (
-          record four { chain = (1, 0) ∷ (3, 7) ∷ (4, 5) ∷ []; epoch = 7 },
-          (Server 3, message.NewPred 7 1) ∷ tells (Some 1) (Some 4),
-        ) }
-    ensures joining { after growing (Server 4) message.Gone
-        ≡ (
-          record growing { chain = (1, 0) ∷ (2, 3) ∷ []; joining = None; epoch = 7 },
-          (Server 2, message.BecomeTail 7) ∷ tells (Some 1) (Some 2),
-        ) }
-    ensures beneath_one_that_joins { after growing (Server 2) message.Gone
-        ≡ (
-          record growing { chain = (1, 0) ∷ (4, 7) ∷ []; epoch = 7 },
-          (Server 4, message.NewPred 7 1) ∷ tells (Some 1) (Some 1),
-        ) }
-    ensures only { after one (Server 2) message.Gone
-        ≡ (record one { chain = []; epoch = 7 }, tells None None) }
+    ensures beneath_one_that_joins { after_gone growing 2
+        ≡ (with_chain ((1, 0) ∷ (4, 7) ∷ []) growing, hears_pred 4 1 1 1) }
+    ensures only { after_gone one 2 ≡ (with_chain [] one, tells None None) }
     ensures outside { Ignores three (Server 3) message.Gone }
-    ensures spare { after three (Server 5) message.Gone
-        ≡ (record three { used = 1 ∷ 2 ∷ 3 ∷ 4 ∷ 5 ∷ [] }, []) }
+    ensures spare { after_gone three 5 ≡ (record three { used = 1 ∷ 2 ∷ 3 ∷ 4 ∷ 5 ∷ [] }, []) }
 {}
 
 /// How a server joins, and why it can't.

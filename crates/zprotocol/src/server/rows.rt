@@ -1,34 +1,41 @@
 //! Worked rows of the server table, of views and of machines: each clause is one, and the bodies do
 //! nothing. The machine counts its entries, and the servers are those of `specs/support/Rows.antt`.
 
-ghost use Rattle.std.specs.Prelude.{◌≡◌, ◌-◌, ℕ, true, false, None, Some, [], ◌∷◌};
-ghost use Rattle.zprotocol.specs.declared.limits.TheConstants.{MAX_SERVERS, MAX_LOG_NUMBER, MAX_EPOCH};
+ghost use Rattle.std.specs.Prelude.{◌≡◌, ◌+◌, ◌-◌, ℕ, true, false, None, Some, [], ◌∷◌};
+ghost use Rattle.ztree.specs.declared.limits.TheConstants.{MAX_CLIENTS};
+ghost use Rattle.zprotocol.specs.declared.limits.TheConstants.{MAX_SERVERS, MAX_LOG_NUMBER, MAX_EPOCH, PROCESSES};
 ghost use Rattle.zprotocol.specs.server.Laws.{is_answer};
 ghost use Rattle.zprotocol.specs.declared.message.Message.TheVariants as message;
 ghost use Rattle.zprotocol.specs.declared.process.Process.TheVariants.{Master, Server, Client};
-ghost use Rattle.zprotocol.specs.server.Machine.{replay, log_of};
-ghost use Rattle.zprotocol.specs.server.Memory.{may_be_unheard, may_stop};
+ghost use Rattle.zprotocol.specs.server.Machine.{replay};
+ghost use Rattle.zprotocol.specs.Places.{is_server, place_of, process_at};
 ghost use Rattle.zprotocol.specs.server.View.{spare, member, opening_server, is_initialised, is_head};
 ghost use Rattle.zprotocol.specs.server.View.{is_tail};
 ghost use Rattle.zprotocol.specs.server.Table.{server_step};
-ghost use Rattle.zprotocol.specs.server.support.Rows.{after, Ignores, counting_machine, number_reply};
-ghost use Rattle.zprotocol.specs.server.support.Rows.{update, query, call};
-ghost use Rattle.zprotocol.specs.server.support.Rows.{middle, head, tail, single, joining_server, nine};
-ghost use Rattle.zprotocol.specs.server.support.Rows.{on_log};
+ghost use Rattle.zprotocol.specs.server.support.Rows.{number_reply, counting_machine, update, query};
+ghost use Rattle.zprotocol.specs.server.support.Rows.{call, submit, ask, answer, update_of, update_to};
+ghost use Rattle.zprotocol.specs.server.support.Rows.{ack_to, have, with_pred, before_4, as_tail};
+ghost use Rattle.zprotocol.specs.server.support.Rows.{with_sent, middle, head, tail, single, at_start};
 ghost use Rattle.zprotocol.specs.server.support.Rows.{with_last, with_entry_kept, with_entry};
+ghost use Rattle.zprotocol.specs.server.support.Rows.{joining_server, nine, has_joined, joined_posts};
+ghost use Rattle.zprotocol.specs.server.support.Rows.{old_tail, tail_that_hands_over, snapshot_post};
+ghost use Rattle.zprotocol.specs.server.support.Rows.{on_log, after, Ignores, after_submit, after_ask};
+ghost use Rattle.zprotocol.specs.server.support.Rows.{after_update, after_ack, after_snapshot};
+ghost use Rattle.zprotocol.specs.server.support.Rows.{after_pred, after_succ, after_head, after_tail};
+ghost use Rattle.zprotocol.specs.server.support.Rows.{stops, is_unheard, one, two, counted_log};
 
 /// What an initialised server between two others ignores: it changes nothing, and nothing is put.
 pub fn middle_ignores()
-    ensures update_of_old_epoch { Ignores middle (Server 1) (message.Update 3 8 (call 18)) }
-    ensures update_beyond_the_next { Ignores middle (Server 1) (message.Update 4 9 (call 19)) }
-    ensures update_again { Ignores middle (Server 1) (message.Update 4 7 (call 17)) }
-    ensures update_of_a_stranger { Ignores middle (Server 2) (message.Update 4 8 (call 18)) }
-    ensures update_of_the_successor { Ignores middle (Server 3) (message.Update 5 8 (call 18)) }
+    ensures update_of_old_epoch { Ignores middle (Server 1) (update_of 3 8) }
+    ensures update_beyond_the_next { Ignores middle (Server 1) (update_of 4 9) }
+    ensures update_again { Ignores middle (Server 1) (update_of 4 7) }
+    ensures update_of_a_stranger { Ignores middle (Server 2) (update_of 4 8) }
+    ensures update_of_the_successor { Ignores middle (Server 3) (update_of 5 8) }
     ensures ack_of_old_epoch { Ignores middle (Server 3) (message.Ack 4 7) }
     ensures ack_of_the_predecessor { Ignores middle (Server 1) (message.Ack 4 7) }
     ensures snapshot { Ignores middle (Server 1) (message.Snapshot 4 nine) }
-    ensures query { Ignores middle (Client 5) (message.Query 18 query) }
-    ensures submit { Ignores middle (Client 5) (message.Submit 18 update) }
+    ensures query { Ignores middle (Client 5) ask }
+    ensures submit { Ignores middle (Client 5) submit }
     ensures joined { Ignores middle (Server 3) (message.Joined 5) }
     ensures gone { Ignores middle (Server 1) message.Gone }
     ensures order_of_a_server { Ignores middle (Server 1) (message.BecomeHead 6) }
@@ -38,110 +45,68 @@ pub fn middle_ignores()
 /// Updates go down the chain: a head forwards and answers nobody, and a tail answers the client and
 /// acknowledges.
 pub fn updates_go_down()
-    ensures head_forwards { after head (Client 5) (message.Submit 18 update)
-        ≡ (with_entry_kept head, (Server 3, message.Update 5 8 (call 18)) ∷ []) }
-    ensures alone_answers { after single (Client 5) (message.Submit 18 update)
-        ≡ (with_entry single, (Client 5, message.Answer 18 (number_reply 8)) ∷ []) }
+    ensures head_forwards { after_submit head ≡ (with_entry_kept head, update_to 3 5 8 ∷ []) }
+    ensures alone_answers { after_submit single ≡ (with_entry single, answer 8 ∷ []) }
     ensures alone_has_no_reply { after single (Client 5) (message.Submit 0 update)
         ≡ (with_entry single, []) }
-    ensures last_number { after (with_last (MAX_LOG_NUMBER - 1)) (Client 5)
-        (message.Submit 18 update)
-        ≡ (
-          record single { machine = Some 8; last = MAX_LOG_NUMBER },
-          (Client 5, message.Answer 18 (number_reply 8)) ∷ [],
-        ) }
-    ensures no_number_left { after (with_last MAX_LOG_NUMBER) (Client 5) (message.Submit 18 update)
+    ensures last_number { after_submit (with_last (MAX_LOG_NUMBER - 1))
+        ≡ (record single { machine = Some 8; last = MAX_LOG_NUMBER }, answer 8 ∷ []) }
+    ensures no_number_left { after_submit (with_last MAX_LOG_NUMBER)
         ≡ (with_last MAX_LOG_NUMBER, []) }
-    ensures middle_forwards { after middle (Server 1) (message.Update 4 8 (call 18))
-        ≡ (with_entry_kept middle, (Server 3, message.Update 5 8 (call 18)) ∷ []) }
-    ensures tail_answers_and_acknowledges { after tail (Server 1) (message.Update 4 8 (call 18))
-        ≡ (
-          with_entry tail,
-          (Client 5, message.Answer 18 (number_reply 8)) ∷ (Server 1, message.Ack 4 8) ∷ [],
-        ) }
-    ensures tail_acknowledges_without_reply { after tail (Server 1) (message.Update 4 8 (call 0))
-        ≡ (with_entry tail, (Server 1, message.Ack 4 8) ∷ []) }
-    ensures joining_has_no_state { Ignores joining_server (Server 1)
-        (message.Update 4 1 (call 11)) }
-    ensures spare_has_no_state { Ignores spare (Client 5) (message.Submit 18 update) }
+    ensures middle_forwards { after_update middle 8
+        ≡ (with_entry_kept middle, update_to 3 5 8 ∷ []) }
+    ensures tail_acknowledges { after_update tail 8
+        ≡ (with_entry tail, answer 8 ∷ ack_to 1 4 8 ∷ []) }
+    ensures tail_without_reply { after tail (Server 1) (message.Update 4 8 (call 0))
+        ≡ (with_entry tail, ack_to 1 4 8 ∷ []) }
+    ensures joining_has_no_state { Ignores joining_server (Server 1) (update_of 4 1) }
+    ensures spare_has_no_state { Ignores spare (Client 5) submit }
 {}
 
 /// Queries are answered by a tail alone, and acknowledgements go up the chain.
 pub fn tail_answers()
-    ensures tail_answers { after tail (Client 5) (message.Query 18 query)
-        ≡ (tail, (Client 5, message.Answer 18 (number_reply 7)) ∷ []) }
-    ensures alone_answers { after single (Client 5) (message.Query 18 query)
-        ≡ (single, (Client 5, message.Answer 18 (number_reply 7)) ∷ []) }
-    ensures head_is_silent { Ignores head (Client 5) (message.Query 18 query) }
-    ensures joining_is_silent { Ignores joining_server (Client 5) (message.Query 18 query) }
-    ensures ack_goes_up { after middle (Server 3) (message.Ack 5 6)
-        ≡ (record middle { sent = (7, call 17) ∷ [] }, (Server 1, message.Ack 4 6) ∷ []) }
-    ensures ack_of_all { after middle (Server 3) (message.Ack 5 7)
-        ≡ (record middle { sent = [] }, (Server 1, message.Ack 4 7) ∷ []) }
-    ensures ack_ends_at_the_head { after head (Server 3) (message.Ack 5 7)
-        ≡ (record head { sent = [] }, []) }
+    ensures tail_answers { after_ask tail ≡ (tail, answer 7 ∷ []) }
+    ensures alone_answers { after_ask single ≡ (single, answer 7 ∷ []) }
+    ensures head_is_silent { Ignores head (Client 5) ask }
+    ensures joining_is_silent { Ignores joining_server (Client 5) ask }
+    ensures ack_goes_up { after_ack middle 6
+        ≡ (with_sent ((7, call 17) ∷ []) middle, ack_to 1 4 6 ∷ []) }
+    ensures ack_of_all { after_ack middle 7 ≡ (with_sent [] middle, ack_to 1 4 7 ∷ []) }
+    ensures ack_ends_at_the_head { after_ack head 7 ≡ (with_sent [] head, []) }
     ensures tail_has_no_successor { Ignores tail (Server 3) (message.Ack 5 7) }
 {}
 
 /// What a server does when the master tells it a new neighbour, or that it has none.
 pub fn neighbours_change()
-    ensures new_pred { after middle Master (message.NewPred 8 2)
-        ≡ (record middle { pred = Some (2, 8) }, (Master, message.Have 8 (Some 7)) ∷ []) }
-    ensures new_pred_without_state { after joining_server Master (message.NewPred 8 2)
-        ≡ (record joining_server { pred = Some (2, 8) }, (Master, message.Have 8 None) ∷ []) }
-    ensures new_succ_lacks_nothing { after middle Master (message.NewSucc 8 4 (Some 7))
-        ≡ (record middle { succ = Some (4, 8) }, []) }
-    ensures new_succ_lacks_one { after middle Master (message.NewSucc 8 4 (Some 6))
-        ≡ (record middle { succ = Some (4, 8) }, (Server 4, message.Update 8 7 (call 17)) ∷ []) }
-    ensures new_succ_lacks_two { after middle Master (message.NewSucc 8 4 (Some 5))
-        ≡ (
-          record middle { succ = Some (4, 8) },
-          (Server 4, message.Update 8 6 (call 16)) ∷ (Server 4, message.Update 8 7 (call 17)) ∷ [],
-        ) }
-    ensures new_succ_has_no_state { after middle Master (message.NewSucc 8 4 None)
-        ≡ (
-          record middle { succ = Some (4, 8) },
-          (Server 4, message.Snapshot 8 (record { last = 7; machine = 7 })) ∷ [],
-        ) }
+    ensures new_pred { after_pred middle ≡ (with_pred (Some (2, 8)) middle, have 8 (Some 7) ∷ []) }
+    ensures new_pred_without_state { after_pred joining_server
+        ≡ (with_pred (Some (2, 8)) joining_server, have 8 None ∷ []) }
+    ensures new_succ_lacks_nothing { after_succ middle (Some 7) ≡ (before_4 middle, []) }
+    ensures new_succ_lacks_one { after_succ middle (Some 6)
+        ≡ (before_4 middle, update_to 4 8 7 ∷ []) }
+    ensures new_succ_lacks_two { after_succ middle (Some 5)
+        ≡ (before_4 middle, update_to 4 8 6 ∷ update_to 4 8 7 ∷ []) }
+    ensures new_succ_has_no_state { after_succ middle None ≡ (before_4 middle, snapshot_post ∷ []) }
     ensures joining_has_no_successor { Ignores joining_server Master (message.NewSucc 8 4 None) }
-    ensures middle_becomes_head { after middle Master (message.BecomeHead 8)
-        ≡ (record middle { pred = None }, []) }
-    ensures joining_becomes_head { after joining_server Master (message.BecomeHead 8)
-        ≡ (record joining_server { pred = None }, []) }
-    ensures middle_becomes_tail { after middle Master (message.BecomeTail 8)
-        ≡ (record middle { sent = []; succ = None }, (Server 1, message.Ack 4 7) ∷ []) }
-    ensures head_becomes_tail { after head Master (message.BecomeTail 8)
-        ≡ (record head { sent = []; succ = None }, []) }
+    ensures middle_becomes_head { after_head middle ≡ (with_pred None middle, []) }
+    ensures joining_becomes_head { after_head joining_server ≡ (with_pred None joining_server, []) }
+    ensures middle_becomes_tail { after_tail middle ≡ (as_tail middle, ack_to 1 4 7 ∷ []) }
+    ensures head_becomes_tail { after_tail head ≡ (as_tail head, []) }
     ensures joining_becomes_tail { Ignores joining_server Master (message.BecomeTail 8) }
 {}
 
 /// What a server without state takes, and that the old tail answers nobody from the moment on that it
 /// handed over its state.
 pub fn state_is_handed_over()
-    ensures snapshot_is_taken { after joining_server (Server 1) (message.Snapshot 4 nine)
-        ≡ (
-          record joining_server { machine = Some 9; last = 9 },
-          (Server 1, message.Ack 4 9) ∷ (Master, message.Joined 4) ∷ [],
-        ) }
-    ensures nothing_stays_in_sent { after
-        (record joining_server { sent = (6, call 16) ∷ [] }) (Server 1)
-        (message.Snapshot 4 nine)
-        ≡ (
-          record joining_server { machine = Some 9; last = 9 },
-          (Server 1, message.Ack 4 9) ∷ (Master, message.Joined 4) ∷ [],
-        ) }
+    ensures snapshot_is_taken { after_snapshot joining_server ≡ (has_joined, joined_posts) }
+    ensures nothing_stays_in_sent { after_snapshot (with_sent ((6, call 16) ∷ []) joining_server)
+        ≡ (has_joined, joined_posts) }
     ensures snapshot_of_old_epoch { Ignores joining_server (Server 1) (message.Snapshot 3 nine) }
     ensures snapshot_of_a_stranger { Ignores joining_server (Server 2) (message.Snapshot 4 nine) }
     ensures snapshot_at_a_spare { Ignores spare (Server 1) (message.Snapshot 4 nine) }
-    ensures old_tail_is_silent { after (after tail Master (message.NewSucc 8 4 None)).0 (Client 5)
-        (message.Query 18 query)
-        ≡ (record tail { succ = Some (4, 8) }, []) }
-    ensures old_tail_forwards { after (after tail Master (message.NewSucc 8 4 None)).0 (Server 1)
-        (message.Update 4 8 (call 18))
-        ≡ (
-          with_entry_kept (record tail { succ = Some (4, 8) }),
-          (Server 4, message.Update 8 8 (call 18)) ∷ [],
-        ) }
+    ensures old_tail_is_silent { after_ask tail_that_hands_over ≡ (old_tail, []) }
+    ensures old_tail_forwards { after_update tail_that_hands_over 8
+        ≡ (with_entry_kept old_tail, update_to 4 8 8 ∷ []) }
 {}
 
 /// Which servers have the state, which is a head and which a tail.
@@ -168,25 +133,24 @@ pub fn opening_views()
         ≡ member counting_machine (Some (2, 0)) None }
     ensures fourth { opening_server counting_machine 3 4 ≡ spare }
     ensures only { opening_server counting_machine 1 1 ≡ member counting_machine None None }
-    ensures empty_log { opening_server counting_machine 1 1
-        ≡ record { machine = Some 0; last = 0; sent = []; pred = None; succ = None } }
+    ensures empty_log { opening_server counting_machine 1 1 ≡ at_start }
 {}
 
 /// The log of entries as a machine: it keeps the entries, and replies as the counting machine does
 /// after them.
 pub fn log_replies_as_its_machine()
     ensures replayed { replay counting_machine (call 11 ∷ call 0 ∷ call 12 ∷ []) ≡ 3 }
-    ensures starts_empty { (log_of counting_machine).start ≡ [] }
-    ensures keeps_an_entry { (log_of counting_machine).apply (call 11 ∷ []) (call 12)
-        ≡ (call 11 ∷ call 12 ∷ [], Some (number_reply 2)) }
-    ensures keeps_an_entry_without_reply { (log_of counting_machine).apply (call 11 ∷ []) (call 0)
+    ensures starts_empty { counted_log.start ≡ [] }
+    ensures keeps_an_entry { counted_log.apply one (call 12) ≡ (two, Some (number_reply 2)) }
+    ensures keeps_an_entry_without_reply { counted_log.apply one (call 0)
         ≡ (call 11 ∷ call 0 ∷ [], None) }
-    ensures asks_the_machine { (log_of counting_machine).ask (call 11 ∷ call 12 ∷ []) query
-        ≡ number_reply 2 }
-    ensures is_a_machine_of_the_table { server_step (log_of counting_machine)
-        (on_log (call 11 ∷ [])) (Client 5) (message.Submit 12 update)
-        ≡ (
-          record (on_log (call 11 ∷ call 12 ∷ [])) { sent = (2, call 12) ∷ [] },
+    ensures asks_the_machine { counted_log.ask two query ≡ number_reply 2 }
+    ensures goes_by_the_table { server_step counted_log (on_log one) (Client 5) (message.Submit 12
+        update) ≡ (
+          record (on_log two) {
+            sent = (2, call 12)
+                ∷ [];
+          },
           (Server 3, message.Update 5 2 (call 12)) ∷ [],
         ) }
 {}
@@ -194,49 +158,36 @@ pub fn log_replies_as_its_machine()
 /// At which messages a server may want memory, and stop: those that make its log longer, or at which it puts
 /// something.
 pub fn servers_stop_where_they_grow()
-    ensures next_entry { may_stop counting_machine middle (Server 1) (message.Update 4 8 (call 18))
-        ≡ true }
-    ensures entry_without_reply { may_stop counting_machine single (Client 5)
-        (message.Submit 0 update) ≡ true }
-    ensures entry_beyond_the_next { may_stop counting_machine middle (Server 1)
-        (message.Update 4 9 (call 19)) ≡ false }
-    ensures ack_goes_up { may_stop counting_machine middle (Server 3) (message.Ack 5 6) ≡ true }
-    ensures ack_ends_at_the_head { may_stop counting_machine head (Server 3) (message.Ack 5 7)
+    ensures next_entry { stops middle (Server 1) (update_of 4 8) ≡ true }
+    ensures entry_without_reply { stops single (Client 5) (message.Submit 0 update) ≡ true }
+    ensures entry_beyond_the_next { stops middle (Server 1) (update_of 4 9) ≡ false }
+    ensures ack_goes_up { stops middle (Server 3) (message.Ack 5 6) ≡ true }
+    ensures ack_ends_at_the_head { stops head (Server 3) (message.Ack 5 7) ≡ false }
+    ensures snapshot { stops joining_server (Server 1) (message.Snapshot 4 nine) ≡ true }
+    ensures snapshot_of_old_epoch { stops joining_server (Server 1) (message.Snapshot 3 nine)
         ≡ false }
-    ensures snapshot { may_stop counting_machine joining_server (Server 1)
-        (message.Snapshot 4 nine) ≡ true }
-    ensures snapshot_of_old_epoch { may_stop counting_machine joining_server (Server 1)
-        (message.Snapshot 3 nine) ≡ false }
-    ensures new_pred { may_stop counting_machine spare Master (message.NewPred 8 2) ≡ true }
-    ensures new_succ_lacks_one { may_stop counting_machine middle Master
-        (message.NewSucc 8 4 (Some 6)) ≡ true }
-    ensures new_succ_lacks_nothing { may_stop counting_machine middle Master
-        (message.NewSucc 8 4 (Some 7)) ≡ false }
-    ensures becomes_head { may_stop counting_machine middle Master (message.BecomeHead 8)
-        ≡ false }
-    ensures becomes_tail { may_stop counting_machine middle Master (message.BecomeTail 8) ≡ true }
-    ensures becomes_head_and_tail { may_stop counting_machine head Master (message.BecomeTail 8)
-        ≡ false }
+    ensures new_pred { stops spare Master (message.NewPred 8 2) ≡ true }
+    ensures new_succ_lacks_one { stops middle Master (message.NewSucc 8 4 (Some 6)) ≡ true }
+    ensures new_succ_lacks_nothing { stops middle Master (message.NewSucc 8 4 (Some 7)) ≡ false }
+    ensures becomes_head { stops middle Master (message.BecomeHead 8) ≡ false }
+    ensures becomes_tail { stops middle Master (message.BecomeTail 8) ≡ true }
+    ensures becomes_head_and_tail { stops head Master (message.BecomeTail 8) ≡ false }
 {}
 
 /// Where there is no memory for a query, it is lost at a tail, and no server stops at it.
 pub fn queries_are_lost_at_a_tail()
-    ensures unheard { may_be_unheard counting_machine tail (Client 5) (message.Query 18 query)
-        ≡ true }
-    ensures heard_by_others { may_be_unheard counting_machine middle (Client 5)
-        (message.Query 18 query) ≡ false }
-    ensures update_is_heard { may_be_unheard counting_machine single (Client 5)
-        (message.Submit 18 update) ≡ false }
-    ensures stops_nobody { may_stop counting_machine tail (Client 5) (message.Query 18 query)
-        ≡ false }
+    ensures unheard { is_unheard tail (Client 5) ask ≡ true }
+    ensures heard_by_others { is_unheard middle (Client 5) ask ≡ false }
+    ensures update_is_heard { is_unheard single (Client 5) submit ≡ false }
+    ensures stops_nobody { stops tail (Client 5) ask ≡ false }
 {}
 
 /// Which messages answer a call.
 pub fn answers_are_told_apart()
     ensures answer { is_answer {M = ℕ} (message.Answer 18 (number_reply 7)) ≡ true }
-    ensures submit { is_answer {M = ℕ} (message.Submit 18 update) ≡ false }
-    ensures query { is_answer {M = ℕ} (message.Query 18 query) ≡ false }
-    ensures update { is_answer {M = ℕ} (message.Update 4 8 (call 18)) ≡ false }
+    ensures submit { is_answer {M = ℕ} submit ≡ false }
+    ensures query { is_answer {M = ℕ} ask ≡ false }
+    ensures update { is_answer {M = ℕ} (update_of 4 8) ≡ false }
     ensures acknowledgement { is_answer {M = ℕ} (message.Ack 4 8) ≡ false }
     ensures snapshot { is_answer (message.Snapshot 4 nine) ≡ false }
     ensures gone { is_answer {M = ℕ} message.Gone ≡ false }
@@ -247,4 +198,21 @@ pub fn limits_are_numbers()
     ensures servers { MAX_SERVERS ≡ 8 }
     ensures log_number { MAX_LOG_NUMBER ≡ 4611686018427387903 }
     ensures epoch { MAX_EPOCH ≡ 4611686018427387903 }
+{}
+
+/// The order of processes: the master, the servers, the clients. What is no process is behind them all.
+pub fn processes_stand_in_order()
+    ensures server_0 { is_server 0 ≡ false }
+    ensures first_server { is_server 1 ≡ true }
+    ensures last_server { is_server MAX_SERVERS ≡ true }
+    ensures one_too_many { is_server (MAX_SERVERS + 1) ≡ false }
+    ensures master { place_of Master ≡ 0 }
+    ensures server { place_of (Server 3) ≡ 3 }
+    ensures no_server { place_of (Server (MAX_SERVERS + 1)) ≡ PROCESSES }
+    ensures client { place_of (Client 0) ≡ MAX_SERVERS + 1 }
+    ensures last_client { place_of (Client (MAX_CLIENTS - 1)) ≡ PROCESSES - 1 }
+    ensures no_client { place_of (Client MAX_CLIENTS) ≡ PROCESSES }
+    ensures at_0 { process_at 0 ≡ Master }
+    ensures at_the_last_server { process_at MAX_SERVERS ≡ Server MAX_SERVERS }
+    ensures behind_the_servers { process_at (MAX_SERVERS + 1) ≡ Client 0 }
 {}

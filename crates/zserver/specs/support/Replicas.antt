@@ -1,5 +1,5 @@
--- How the fields of a server's replica make its view.
-use Rattle.std.specs.Prelude.{◌≡◌, ℕ, ◌+◌, false, Option, None, Some, if◌then◌else◌}
+-- How a server's replica makes its state, and how the fields of the replica make its view.
+use Rattle.std.specs.Prelude.{◌≡◌, ℕ, ◌+◌, true, false, Option, None, Some, if◌then◌else◌}
 use Rattle.ztree.specs.Tree.{Tree}
 use Rattle.zcalls.specs.declared.call.Entry.{Entry}
 use Rattle.zcalls.specs.declared.reply.Reply.{Reply}
@@ -7,7 +7,13 @@ use Rattle.zcalls.specs.Kept.{KeptState}
 use Rattle.zops.specs.Machine.{MachineView}
 use Rattle.zprotocol.specs.server.Machine.{kept_tree}
 use Rattle.zprotocol.specs.server.Table.{ServerResult, accept_result, has_room, if_initialised}
-use Rattle.zserver.specs.Server.{TreeView}
+use Rattle.zprotocol.specs.server.View.{spare}
+use Rattle.zserver.specs.Server.{ServerState, TreeView, running}
+
+-- a server that has stopped has no replica
+abbrev pub server_of : Option TreeView → ServerState
+server_of None = record { view = spare; is_stopped = true }
+server_of (Some v) = running v
 
 -- the tree with kept replies that the machine stands for, where there is one
 abbrev pub state_of : Option MachineView → Option (KeptState Tree)

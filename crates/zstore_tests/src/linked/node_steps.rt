@@ -36,18 +36,7 @@ pub(crate) fn opened_with(rt: &impl Abort, alloc: Global, rows: &[(&str, u64)]) 
 fn node(alloc: Global, owner: u64) -> Node
     ensures { result.owner ≡ owner }
 {
-    Node {
-        bytes: Data::empty(alloc),
-        czxid: Zxid::new(0),
-        mzxid: Zxid::new(0),
-        pzxid: Zxid::new(0),
-        ctime: 0,
-        mtime: 0,
-        version: 0,
-        cversion: 0,
-        owner,
-        seq: 0,
-    }
+    Node::new(Data::empty(alloc), owner, Zxid::new(0), 0)
 }
 
 // Adds a node of an owner at a free path.

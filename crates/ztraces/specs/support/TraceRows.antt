@@ -1,11 +1,11 @@
 -- Worked traces: one server and one client, over a machine that counts its entries.
-use Rattle.std.specs.Prelude.{ℕ, None, Some, List, [], ◌∷◌}
+use Rattle.std.specs.Prelude.{ℕ, Bool, Option, None, Some, List, [], ◌∷◌}
 use Rattle.zcalls.specs.declared.call.Call.{Call}
 use Rattle.zcalls.specs.declared.call.Call.TheVariants as call
 use Rattle.zprotocol.specs.declared.message.Message.TheVariants as message
 use Rattle.zprotocol.specs.declared.process.Process.{Process}
 use Rattle.zprotocol.specs.declared.process.Process.TheVariants.{Master, Server, Client}
-use Rattle.zprotocol.specs.server.View.{ServerView, MessageOf}
+use Rattle.zprotocol.specs.server.View.{ServerView, MessageOf, Post}
 use Rattle.zprotocol.specs.server.support.Rows.{counting_machine, number_reply, update, query}
 use Rattle.zprotocol.specs.client.View.{ClientView}
 use Rattle.zworld_model.specs.declared.history.CallEvent.TheVariants as call_event
@@ -16,8 +16,8 @@ use Rattle.zworld_model.specs.Events.{run}
 use Rattle.ztraces.specs.declared.trace.Act.{Act}
 use Rattle.ztraces.specs.declared.trace.Act.TheVariants.{Took, Began, Retried, Joined, Halted}
 use Rattle.ztraces.specs.declared.trace.TraceEvent.{TraceEvent}
-use Rattle.ztraces.specs.Traces.{Step, events_of, at_process}
-use Rattle.ztraces.specs.Deeds.{Deed, AtServer, AtClient}
+use Rattle.ztraces.specs.Traces.{Step, events_of, at_process, are_in_place}
+use Rattle.ztraces.specs.Deeds.{Deed, Row, Standing, Stamped, AtServer, AtClient}
 
 -- the processes, the two calls, and the opening
 abbrev pub s1 : Process
@@ -94,6 +94,13 @@ seen =
 abbrev pub opening_of_three : World ℕ
 opening_of_three = opening_world counting_machine 3 1
 
+-- the steps are in their places, from either opening
+abbrev pub runs : List Step → Bool
+runs steps = are_in_place counting_machine opening steps
+
+abbrev pub runs_over_three : List Step → Bool
+runs_over_three steps = are_in_place counting_machine opening_of_three steps
+
 -- the world after steps
 abbrev pub after_steps : List Step → World ℕ
 after_steps steps = run counting_machine opening (events_of steps)
@@ -111,6 +118,13 @@ server_with entries = record { machine = Some entries; last = entries; sent = []
 -- a server that has a successor now
 abbrev pub old_tail : ServerView ℕ
 old_tail = record (server_with 0) { succ = Some (2, 0) }
+
+-- where the server stands at the opening, and a row of its table
+abbrev pub at_opening : Standing ℕ
+at_opening = AtServer (server_with 0)
+
+abbrev pub Goes : Standing ℕ → Act → Option (Stamped ℕ) → Standing ℕ → List (Post ℕ) → Type 0
+Goes before act took after posts = Row counting_machine s1 before act took after posts []
 
 -- the request and the answer, and a query
 abbrev pub request : MessageOf ℕ

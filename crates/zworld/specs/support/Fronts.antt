@@ -13,7 +13,8 @@ use Rattle.zworld_model.specs.declared.history.CallEvent.TheVariants as call_eve
 use Rattle.zworld_model.specs.History.{History}
 use Rattle.zworld_model.specs.Links.{without_front}
 use Rattle.zworld_model.specs.World.{World}
-use Rattle.zworld_model.specs.Events.{is_server, process_step, acts}
+use Rattle.zprotocol.specs.Places.{is_server}
+use Rattle.zworld_model.specs.Events.{process_step, acts}
 use Rattle.zworld_model.specs.Alike.{IsAlike}
 use Rattle.zcalls.specs.declared.reply.Reply.{Reply}
 use Rattle.zworld.specs.declared.did.Did.{Did}

@@ -7,7 +7,8 @@ use Rattle.zworld_model.specs.declared.event.Event.{Event}
 use Rattle.zworld_model.specs.declared.outcome.Outcome.{Outcome}
 use Rattle.zworld_model.specs.History.{History}
 use Rattle.zworld_model.specs.World.{World}
-use Rattle.zworld_model.specs.Events.{is_server, happens}
+use Rattle.zprotocol.specs.Places.{is_server}
+use Rattle.zworld_model.specs.Events.{happens}
 use Rattle.zworld_model.specs.Reading.{read}
 use Rattle.zworld_model.specs.Alike.{IsAlike}
 use Rattle.zworld_model.specs.Laws.{world_after}

@@ -1,12 +1,10 @@
 -- A settling that goes on where the processes do. What a call does of it is a function of settlings; the outcomes are
 -- learnt as events are done, so each fact is of whatever follows those that were learnt.
-use Rattle.std.specs.Prelude.{◌≡◌, ℕ, ◌-◌, ◌==◌, nat_le, if◌then◌else◌, List, ◌++◌, map, flat_map}
+use Rattle.std.specs.Prelude.{◌≡◌, ℕ, List, ◌++◌, map, flat_map}
 use Rattle.ztree.specs.Tree.{Tree}
 use Rattle.zcalls.specs.Kept.{KeptState}
 use Rattle.zprotocol.specs.server.Machine.{kept_tree}
-use Rattle.zprotocol.specs.declared.limits.TheConstants.{MAX_SERVERS}
 use Rattle.zprotocol.specs.declared.process.Process.{Process}
-use Rattle.zprotocol.specs.declared.process.Process.TheVariants.{Master, Server, Client}
 use Rattle.zworld_model.specs.declared.event.Event.{Event}
 use Rattle.zworld_model.specs.declared.event.Event.TheVariants.{Take}
 use Rattle.zworld_model.specs.declared.outcome.Outcome.{Outcome}
@@ -58,8 +56,3 @@ takes receivers senders = flat_map (takes_from receivers) senders
 -- these answers are the others and more
 abbrev pub GoOn : History → History → Type 0
 GoOn after before = (given : History) × (after ≡ before ++ given)
-
--- the process in a place, where all stand in order
-abbrev pub process_at : ℕ → Process
-process_at place =
-    if place == 0 then Master else (if nat_le place MAX_SERVERS then Server place else Client ((place - MAX_SERVERS) - 1))

@@ -1,15 +1,17 @@
 -- Worked runs of a chain in which nobody fails, over a machine that counts, with two clients (0 and 1).
 use Rattle.std.specs.Prelude.{ℕ, List, [], ◌∷◌}
 use Rattle.zcalls.specs.declared.call.Entry.{Entry}
+use Rattle.zprotocol.specs.declared.message.Message.TheVariants as message
 use Rattle.zprotocol.specs.declared.process.Process.{Process}
 use Rattle.zprotocol.specs.declared.process.Process.TheVariants.{Master, Server, Client}
 use Rattle.zprotocol.specs.server.View.{ServerView, MessageOf}
 use Rattle.zworld_model.specs.declared.event.Event.{Event}
 use Rattle.zworld_model.specs.declared.event.Event.TheVariants.{Begin, Retry, Take}
+use Rattle.zworld_model.specs.declared.history.CallEvent.TheVariants as saw
 use Rattle.zworld_model.specs.History.{History}
 use Rattle.zworld_model.specs.World.{World, opening_world}
 use Rattle.zworld_model.specs.Events.{run}
-use Rattle.zworld_model.specs.support.Counter.{Counting, counting_machine, create_update, create}
+use Rattle.zworld_model.specs.support.Counter.{Counting, counting_machine, create_update, create, exists, name_reply, count_reply}
 
 -- the processes: the master, servers and clients
 abbrev pub m : Process
@@ -55,6 +57,30 @@ first_entry = record { client = 1; number = 1; update = create_update }
 
 abbrev pub other_entry : Entry
 other_entry = record { client = 0; number = 1; update = create_update }
+
+-- what callers see of client 1's calls: one update, two of them, and an update and then a query
+abbrev pub one_create : History
+one_create = saw.Begin 1 1 create ∷ saw.Answer 1 1 (name_reply 0) ∷ []
+
+abbrev pub two_creates : History
+two_creates = saw.Begin 1 1 create ∷ saw.Answer 1 1 (name_reply 0) ∷ saw.Begin 1 2 create ∷ saw.Answer 1 2 (name_reply 1) ∷ []
+
+abbrev pub create_and_exists : History
+create_and_exists = saw.Begin 1 1 create ∷ saw.Answer 1 1 (name_reply 0) ∷ saw.Begin 1 2 exists ∷ saw.Answer 1 2 (count_reply 1) ∷ []
+
+-- its request of that update on a link, and two answers to it
+abbrev pub request : List (MessageOf Counting)
+request = message.Submit 1 create_update ∷ []
+
+abbrev pub two_answers : List (MessageOf Counting)
+two_answers = message.Answer 1 (name_reply 0) ∷ message.Answer 1 (name_reply 0) ∷ []
+
+-- it begins the update, and the request is taken
+abbrev pub create_taken : List Event
+create_taken = Begin 1 create ∷ Take c1 s1 ∷ []
+
+abbrev pub exists_taken : List Event
+exists_taken = Begin 1 exists ∷ Take c1 s1 ∷ []
 
 -- an update goes down the chain, the tail answers it, and its acknowledgement goes up
 abbrev pub update_in_turn : List Event

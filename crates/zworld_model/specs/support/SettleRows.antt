@@ -1,10 +1,11 @@
 -- Worked runs of settling, and of readings, over a machine that counts, with two clients (0 and 1).
-use Rattle.std.specs.Prelude.{ℕ, List, [], ◌∷◌}
+use Rattle.std.specs.Prelude.{ℕ, Bool, List, [], ◌∷◌}
 use Rattle.zworld_model.specs.declared.event.Event.{Event}
 use Rattle.zworld_model.specs.declared.event.Event.TheVariants.{Begin, Take, Ignore, Fail, Join}
 use Rattle.zworld_model.specs.World.{opening_world}
 use Rattle.zworld_model.specs.declared.outcome.Outcome.{Outcome}
-use Rattle.zworld_model.specs.Reading.{read_all}
+use Rattle.zworld_model.specs.History.{History}
+use Rattle.zworld_model.specs.Reading.{is_fitting, read_all}
 use Rattle.zworld_model.specs.Settle.{Settling, settle}
 use Rattle.zworld_model.specs.support.Counter.{Counting, counting_machine, create, exists}
 use Rattle.zworld_model.specs.support.RunRows.{after, m, s1, s2, s3, c0, c1}
@@ -12,6 +13,17 @@ use Rattle.zworld_model.specs.support.RunRows.{after, m, s1, s2, s3, c0, c1}
 -- settling after events, with a limit, and what becomes of its events
 abbrev pub settled_after : ℕ → List Event → ℕ → List Outcome → Settling Counting
 settled_after servers events limit outcomes = settle counting_machine (after servers events) limit outcomes
+
+-- the history that it leaves where all is acted on, and the events that it does
+abbrev pub settled_history : ℕ → List Event → History
+settled_history servers events = (settled_after servers events 100 []).world.history
+
+abbrev pub settled_events : ℕ → List Event → List Outcome → List Event
+settled_events servers events outcomes = (settled_after servers events 100 outcomes).events
+
+-- whether an outcome fits an event, after events
+abbrev pub fits_after : ℕ → List Event → Event → Outcome → Bool
+fits_after servers events event outcome = is_fitting counting_machine (after servers events) event outcome
 
 -- the events from the opening as they are read, after what became of them
 abbrev pub read_after : ℕ → List Event → List Outcome → List Event

@@ -8,7 +8,7 @@ use Rattle.zprotocol.specs.declared.process.Process.{Process}
 use Rattle.zprotocol.specs.declared.process.Process.TheVariants.{Master, Server, Client}
 use Rattle.zprotocol.specs.server.View.{ServerView, Neighbour, MessageOf, Post}
 use Rattle.zprotocol.specs.client.View.{ClientView}
-use Rattle.zworld_model.specs.Events.{is_server}
+use Rattle.zprotocol.specs.Places.{is_server}
 use Rattle.zworld_model.specs.Links.{Links}
 use Rattle.zworld_model.specs.World.{World}
 

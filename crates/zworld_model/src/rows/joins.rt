@@ -6,11 +6,12 @@ ghost use Rattle.zprotocol.specs.declared.master.join_fault.JoinFault.TheVariant
 ghost use Rattle.zprotocol.specs.master.Table.{join_fault};
 ghost use Rattle.zworld_model.specs.declared.event.Event.TheVariants.{Join};
 ghost use Rattle.zworld_model.specs.declared.history.CallEvent.TheVariants as saw;
-ghost use Rattle.zworld_model.specs.support.Counter.{create, exists, name_reply, count_reply};
+ghost use Rattle.zworld_model.specs.support.Counter.{exists};
 ghost use Rattle.zworld_model.specs.Events.{is_enabled};
 ghost use Rattle.zworld_model.specs.support.RunRows.{after, seen, link, view, m, s1, s2, s3, c1};
 ghost use Rattle.zworld_model.specs.support.JoinRows.{state_is_handed_over, snapshot_is_stale};
 ghost use Rattle.zworld_model.specs.support.JoinRows.{state_is_lost};
+ghost use Rattle.zworld_model.specs.support.RunRows.{create_and_exists};
 
 /// A server joins behind the tail: from the event on in which the old tail puts its snapshot, it answers nobody; the new
 /// tail does once it has the state.
@@ -20,9 +21,7 @@ pub fn joining_server_is_handed_the_state()
     ensures told { link 1 (take 11 state_is_handed_over) m c1
         ≡ message.Config 2 (Some 1) (Some 2) ∷ [] }
     ensures handed_over { (view 1 (take 10 state_is_handed_over) 2).last ≡ 1 }
-    ensures seen { seen 1 state_is_handed_over
-        ≡ saw.Begin 1 1 create ∷ saw.Answer 1 1 (name_reply 0) ∷ saw.Begin 1 2 exists
-        ∷ saw.Answer 1 2 (count_reply 1) ∷ [] }
+    ensures seen { seen 1 state_is_handed_over ≡ create_and_exists }
 {}
 
 /// The snapshot of a predecessor that failed is ignored: it lacks what the new one has taken.

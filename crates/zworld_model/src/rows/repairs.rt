@@ -3,30 +3,26 @@
 ghost use Rattle.std.specs.Prelude.{◌≡◌, [], ◌∷◌, ◌++◌, None, Some, take};
 ghost use Rattle.zprotocol.specs.declared.message.Message.TheVariants as message;
 ghost use Rattle.zworld_model.specs.declared.event.Event.TheVariants.{Take, Fail};
-ghost use Rattle.zworld_model.specs.declared.history.CallEvent.TheVariants as saw;
-ghost use Rattle.zworld_model.specs.support.Counter.{create, create_update, name_reply};
 ghost use Rattle.zworld_model.specs.support.RunRows.{seen, link, view, m, s1, s2, s3, c1, first_entry};
 ghost use Rattle.zworld_model.specs.support.RepairRows.{head_fails, head_fails_and_is_asked_again};
 ghost use Rattle.zworld_model.specs.support.RepairRows.{head_fails_first, tail_fails, middle_fails};
+ghost use Rattle.zworld_model.specs.support.RunRows.{one_create, request, two_answers};
 
 /// The head fails after it forwarded an update: its successor becomes the head, and the update is answered.
 pub fn head_fails_after_it_forwarded()
     ensures gone { link 3 (take 4 head_fails) s1 m ≡ message.Gone ∷ [] }
     ensures told { link 3 (take 5 head_fails) m s2 ≡ message.BecomeHead 1 ∷ [] }
     ensures head { (view 3 (take 6 head_fails) 2).pred ≡ None }
-    ensures seen { seen 3 head_fails ≡ saw.Begin 1 1 create ∷ saw.Answer 1 1 (name_reply 0) ∷ [] }
+    ensures seen { seen 3 head_fails ≡ one_create }
 {}
 
 /// The same, where the client asks the new head again: the update counts once, and is answered once.
 pub fn new_head_is_asked_again()
     ensures told { link 3 (take 6 head_fails_and_is_asked_again) m c1
         ≡ message.Config 1 (Some 2) (Some 3) ∷ [] }
-    ensures asked { link 3 (take 7 head_fails_and_is_asked_again) c1 s2
-        ≡ message.Submit 1 create_update ∷ [] }
-    ensures two_answers { link 3 (take 10 head_fails_and_is_asked_again) s3 c1
-        ≡ message.Answer 1 (name_reply 0) ∷ message.Answer 1 (name_reply 0) ∷ [] }
-    ensures seen { seen 3 head_fails_and_is_asked_again
-        ≡ saw.Begin 1 1 create ∷ saw.Answer 1 1 (name_reply 0) ∷ [] }
+    ensures asked { link 3 (take 7 head_fails_and_is_asked_again) c1 s2 ≡ request }
+    ensures two_answers { link 3 (take 10 head_fails_and_is_asked_again) s3 c1 ≡ two_answers }
+    ensures seen { seen 3 head_fails_and_is_asked_again ≡ one_create }
 {}
 
 /// What a failed server had put is still delivered, and counts until its receiver has heard of the failure.
@@ -43,7 +39,7 @@ pub fn tail_fails_before_it_answered()
     ensures processed { (view 3 (take 6 tail_fails) 2).sent ≡ [] }
     ensures silent { link 3 (take 6 tail_fails) s2 c1 ≡ [] }
     ensures acted_once { (view 3 (take 9 tail_fails) 2).last ≡ 2 }
-    ensures seen { seen 3 tail_fails ≡ saw.Begin 1 1 create ∷ saw.Answer 1 1 (name_reply 0) ∷ [] }
+    ensures seen { seen 3 tail_fails ≡ one_create }
 {}
 
 /// The middle fails: the tail tells the master its last number, the master tells the head, and the head sends what
@@ -55,7 +51,6 @@ pub fn middle_fails_before_it_forwarded()
     ensures new_succ { link 3 (take 6 middle_fails) m s1 ≡ message.NewSucc 1 3 (Some 0) ∷ [] }
     ensures sent_again { link 3 (take 7 middle_fails) s1 s3 ≡ message.Update 1 1 first_entry ∷ [] }
     ensures still_kept { (view 3 (take 7 middle_fails) 1).sent ≡ (1, first_entry) ∷ [] }
-    ensures seen { seen 3 (take 9 middle_fails)
-        ≡ saw.Begin 1 1 create ∷ saw.Answer 1 1 (name_reply 0) ∷ [] }
+    ensures seen { seen 3 (take 9 middle_fails) ≡ one_create }
     ensures acknowledged { (view 3 middle_fails 1).sent ≡ [] }
 {}

@@ -5,19 +5,19 @@ ghost use Rattle.zprotocol.specs.declared.message.Message.TheVariants as message
 ghost use Rattle.zworld_model.specs.declared.event.Event.TheVariants.{Begin, Retry, Take, Ignore, Fail};
 ghost use Rattle.zworld_model.specs.declared.event.Event.TheVariants.{Join};
 ghost use Rattle.zworld_model.specs.declared.history.CallEvent.TheVariants as saw;
-ghost use Rattle.zworld_model.specs.support.Counter.{create, create_update, exists, name_reply};
+ghost use Rattle.zworld_model.specs.support.Counter.{create, exists, name_reply};
 ghost use Rattle.zworld_model.specs.Events.{is_enabled};
 ghost use Rattle.zworld_model.specs.support.RunRows.{after, seen, link, view, s1, s2, c1};
 ghost use Rattle.zworld_model.specs.support.RunRows.{first_entry, other_entry, update_in_turn};
 ghost use Rattle.zworld_model.specs.support.RunRows.{two_updates, retried_update};
+ghost use Rattle.zworld_model.specs.support.RunRows.{one_create, two_creates, request, two_answers};
 
 /// An update goes down the chain; nobody but the tail answers it; the acknowledgement empties every Sent.
 pub fn update_is_answered_by_the_tail()
     ensures head_is_silent { link 3 (take 2 update_in_turn) s1 c1 ≡ [] }
     ensures kept { (view 3 (take 5 update_in_turn) 1).sent ≡ (1, first_entry) ∷ [] }
     ensures unseen { seen 3 (take 4 update_in_turn) ≡ saw.Begin 1 1 create ∷ [] }
-    ensures answered { seen 3 (take 5 update_in_turn)
-        ≡ saw.Begin 1 1 create ∷ saw.Answer 1 1 (name_reply 0) ∷ [] }
+    ensures answered { seen 3 (take 5 update_in_turn) ≡ one_create }
     ensures acknowledged { (view 3 update_in_turn 1).sent ≡ [] }
     ensures all_have_it { (view 3 update_in_turn 1).last ≡ 1 }
     ensures nothing_is_left { link 3 update_in_turn s2 s1 ≡ [] }
@@ -35,15 +35,11 @@ pub fn links_keep_order()
 /// An update that arrives twice counts once: its kept reply is given again, and the client takes one of the two; the
 /// other is none for its next call.
 pub fn retried_update_counts_once()
-    ensures two_answers { link 2 (take 6 retried_update) s2 c1
-        ≡ message.Answer 1 (name_reply 0) ∷ message.Answer 1 (name_reply 0) ∷ [] }
-    ensures one_is_taken { seen 2 (take 8 retried_update)
-        ≡ saw.Begin 1 1 create ∷ saw.Answer 1 1 (name_reply 0) ∷ [] }
+    ensures two_answers { link 2 (take 6 retried_update) s2 c1 ≡ two_answers }
+    ensures one_is_taken { seen 2 (take 8 retried_update) ≡ one_create }
     ensures stale_answer { seen 2 (take 7 retried_update ++ Begin 1 create ∷ Take s2 c1 ∷ [])
         ≡ saw.Begin 1 1 create ∷ saw.Answer 1 1 (name_reply 0) ∷ saw.Begin 1 2 create ∷ [] }
-    ensures next_count { seen 2 retried_update
-        ≡ saw.Begin 1 1 create ∷ saw.Answer 1 1 (name_reply 0) ∷ saw.Begin 1 2 create
-        ∷ saw.Answer 1 2 (name_reply 1) ∷ [] }
+    ensures next_count { seen 2 retried_update ≡ two_creates }
 {}
 
 /// Which events can happen; one that can't changes nothing.
@@ -67,14 +63,12 @@ pub fn only_enabled_events_happen()
     ensures server_8_joins { is_enabled (after 3 []) (Join 8) ≡ true }
     ensures member_joins { is_enabled (after 3 []) (Join 3) ≡ false }
     ensures spare_joins { is_enabled (after 3 []) (Join 4) ≡ true }
-    ensures unchanged { link 3 (Begin 1 create ∷ Fail 1 ∷ Take c1 s1 ∷ []) c1 s1
-        ≡ message.Submit 1 create_update ∷ [] }
+    ensures unchanged { link 3 (Begin 1 create ∷ Fail 1 ∷ Take c1 s1 ∷ []) c1 s1 ≡ request }
 {}
 
 /// A request may be lost, and the client asks again.
 pub fn request_is_lost()
     ensures lost { link 3 (Begin 1 create ∷ Ignore c1 s1 ∷ []) c1 s1 ≡ [] }
     ensures nothing_done { (view 3 (Begin 1 create ∷ Ignore c1 s1 ∷ []) 1).last ≡ 0 }
-    ensures asked_again { link 3 (Begin 1 create ∷ Ignore c1 s1 ∷ Retry 1 ∷ []) c1 s1
-        ≡ message.Submit 1 create_update ∷ [] }
+    ensures asked_again { link 3 (Begin 1 create ∷ Ignore c1 s1 ∷ Retry 1 ∷ []) c1 s1 ≡ request }
 {}

@@ -13,12 +13,14 @@ ghost use Rattle.zworld_model.specs.Settle.{settling_end};
 ghost use Rattle.zworld_model.specs.support.RunRows.{after, m, s1, s2, c0, c1};
 ghost use Rattle.zworld_model.specs.support.SettleRows.{settled_after, read_after, two_begin, two_settle};
 ghost use Rattle.zworld_model.specs.support.SettleRows.{lost_request, lost_state, new_head, query_at_old_tail};
+ghost use Rattle.zworld_model.specs.support.RunRows.{one_create, create_taken, exists_taken};
+ghost use Rattle.zworld_model.specs.support.SettleRows.{settled_history, settled_events, fits_after};
 
 /// The order of the deliveries: link by link, one message from each that has one when its turn comes, pass after pass.
 pub fn settling_goes_link_by_link()
-    ensures events { (settled_after 3 two_begin 100 []).events ≡ two_settle }
+    ensures events { settled_events 3 two_begin [] ≡ two_settle }
     ensures quiet { settling_end (settled_after 3 two_begin 100 []) ≡ Quiet }
-    ensures seen { (settled_after 3 two_begin 100 []).world.history
+    ensures seen { settled_history 3 two_begin
         ≡ saw.Begin 0 1 create ∷ saw.Begin 1 1 create ∷ saw.Answer 0 1 (name_reply 0)
         ∷ saw.Answer 1 1 (name_reply 1) ∷ [] }
 {}
@@ -34,33 +36,27 @@ pub fn settling_has_a_limit()
 
 /// When no message is left, each outstanding call is sent once more, and that is an event too.
 pub fn settling_retries_once()
-    ensures retried { (settled_after 1 lost_request 100 []).events
-        ≡ Retry 1 ∷ Take c1 s1 ∷ Take s1 c1 ∷ [] }
+    ensures retried { settled_events 1 lost_request [] ≡ Retry 1 ∷ Take c1 s1 ∷ Take s1 c1 ∷ [] }
     ensures counted { settling_end (settled_after 1 lost_request 3 []) ≡ Limit }
-    ensures answered { (settled_after 1 lost_request 100 []).world.history
-        ≡ saw.Begin 1 1 create ∷ saw.Answer 1 1 (name_reply 0) ∷ [] }
+    ensures answered { settled_history 1 lost_request ≡ one_create }
 {}
 
 /// Where the state is lost, settling is quiet in the end, the call stays unanswered, and nobody can join.
 pub fn settling_ends_where_the_state_is_lost()
     ensures quiet { settling_end (settled_after 1 lost_state 100 []) ≡ Quiet }
-    ensures unanswered { (settled_after 1 lost_state 100 []).world.history
-        ≡ saw.Begin 1 1 exists ∷ [] }
+    ensures unanswered { settled_history 1 lost_state ≡ saw.Begin 1 1 exists ∷ [] }
     ensures refused { join_fault (settled_after 1 lost_state 100 []).world.master 3 ≡ Some Lost }
 {}
 
 /// Readings: a delivery at which a server stopped for memory is its failure, and a query unheard is lost; nothing else
 /// reads as anything but itself, and no server stops at a query.
 pub fn events_are_read()
-    ensures stopped { read_after 1 (Begin 1 create ∷ Take c1 s1 ∷ []) (Acted ∷ Stopped ∷ [])
+    ensures stopped { read_after 1 create_taken (Acted ∷ Stopped ∷ [])
         ≡ Begin 1 create ∷ Fail 1 ∷ [] }
-    ensures unheard { read_after 1 (Begin 1 exists ∷ Take c1 s1 ∷ []) (Acted ∷ Unheard ∷ [])
+    ensures unheard { read_after 1 exists_taken (Acted ∷ Unheard ∷ [])
         ≡ Begin 1 exists ∷ Ignore c1 s1 ∷ [] }
-    ensures update_is_heard { read_after 1 (Begin 1 create ∷ Take c1 s1 ∷ []) (Acted ∷ Unheard ∷ [])
-        ≡ Begin 1 create ∷ Take c1 s1 ∷ [] }
-    ensures query_stops_nobody { read_after 1 (Begin 1 exists ∷ Take c1 s1 ∷ [])
-        (Acted ∷ Stopped ∷ [])
-        ≡ Begin 1 exists ∷ Take c1 s1 ∷ [] }
+    ensures update_is_heard { read_after 1 create_taken (Acted ∷ Unheard ∷ []) ≡ create_taken }
+    ensures query_stops_nobody { read_after 1 exists_taken (Acted ∷ Stopped ∷ []) ≡ exists_taken }
     ensures nothing_to_stop_at { read_after 1 (Take c1 s1 ∷ []) (Stopped ∷ []) ≡ Take c1 s1 ∷ [] }
     ensures client_does_not_stop { read_after 1 (Begin 1 create ∷ Take c1 s1 ∷ Take s1 c1 ∷ [])
         (Stopped ∷ Acted ∷ Stopped ∷ [])
@@ -73,28 +69,21 @@ pub fn events_are_read()
 /// a tail, where they can be taken.
 pub fn outcomes_fit()
     ensures all_act { is_fitting counting_machine (after 1 []) (Take c1 s1) Acted ≡ true }
-    ensures update_stops { is_fitting counting_machine (after 1 (Begin 1 create ∷ []))
-        (Take c1 s1) Stopped ≡ true }
-    ensures update_is_heard { is_fitting counting_machine (after 1 (Begin 1 create ∷ []))
-        (Take c1 s1) Unheard ≡ false }
-    ensures query_stops_nobody { is_fitting counting_machine (after 1 (Begin 1 exists ∷ []))
-        (Take c1 s1) Stopped ≡ false }
-    ensures query_is_unheard { is_fitting counting_machine (after 1 (Begin 1 exists ∷ []))
-        (Take c1 s1) Unheard ≡ true }
+    ensures update_stops { fits_after 1 (Begin 1 create ∷ []) (Take c1 s1) Stopped ≡ true }
+    ensures update_is_heard { fits_after 1 (Begin 1 create ∷ []) (Take c1 s1) Unheard ≡ false }
+    ensures query_stops_nobody { fits_after 1 (Begin 1 exists ∷ []) (Take c1 s1) Stopped ≡ false }
+    ensures query_is_unheard { fits_after 1 (Begin 1 exists ∷ []) (Take c1 s1) Unheard ≡ true }
     ensures nothing_to_stop_at { is_fitting counting_machine (after 1 []) (Take c1 s1) Stopped
         ≡ false }
-    ensures retry_does_not_stop { is_fitting counting_machine (after 1 (Begin 1 create ∷ []))
-        (Retry 1) Stopped ≡ false }
-    ensures new_head_goes_on { is_fitting counting_machine (after 2 new_head) (Take m s2) Stopped
-        ≡ false }
-    ensures query_elsewhere_is_heard { is_fitting counting_machine (after 1 query_at_old_tail)
-        (Take c1 s1) Unheard ≡ false }
+    ensures retry_does_not_stop { fits_after 1 (Begin 1 create ∷ []) (Retry 1) Stopped ≡ false }
+    ensures new_head_goes_on { fits_after 2 new_head (Take m s2) Stopped ≡ false }
+    ensures query_elsewhere_is_heard { fits_after 1 query_at_old_tail (Take c1 s1) Unheard ≡ false }
 {}
 
 /// Settling where memory is refused: a server that stops doesn't take its message, and an unheard query is asked again.
 pub fn settling_is_read()
-    ensures stopped { (settled_after 1 (Begin 1 create ∷ []) 100 (Stopped ∷ [])).events
+    ensures stopped { settled_events 1 (Begin 1 create ∷ []) (Stopped ∷ [])
         ≡ Fail 1 ∷ Take s1 m ∷ Take m c0 ∷ Take m c1 ∷ Retry 1 ∷ [] }
-    ensures unheard { (settled_after 1 (Begin 1 exists ∷ []) 100 (Unheard ∷ [])).events
+    ensures unheard { settled_events 1 (Begin 1 exists ∷ []) (Unheard ∷ [])
         ≡ Ignore c1 s1 ∷ Retry 1 ∷ Take c1 s1 ∷ Take s1 c1 ∷ [] }
 {}

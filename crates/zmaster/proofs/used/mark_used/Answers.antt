@@ -3,4 +3,4 @@ use Rattle.zmaster.proofs.Marks.{marked_number}
 use Rattle.zmaster.proofs.used.mark_used.Goals as goal
 
 pub returns : goal.returns
-returns c = marked_number 1 (c.number.result - 1) c.args.used.now c.args.server.now (omega arith) (omega arith)
+returns c = marked_number 1 (c.number.result - 1) c.args.used.now c.args.server (omega arith) (omega arith)

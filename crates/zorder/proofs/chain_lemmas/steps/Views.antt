@@ -15,7 +15,7 @@ use Rattle.zworld_model.specs.PlainTree.{service_of}
 use Rattle.zorder.specs.legal.Prefix.{IsPrefix, IsEntry}
 use Rattle.zorder.specs.legal.Items.{Item, Replays, AreCommitted, TimesRise, AreBegunInTime, AreAnsweredInTime, AllBegun}
 use Rattle.zorder.specs.chain.Flow.{LogWorld, log_at, final_log}
-use Rattle.zorder.specs.chain.Chain.{queue, IsAhead, IsOpened, IsUsed, IsPast, Place, place_of, LeadsTo, is_fresh, HasDistinctEpochs, HasNoTailOrderBehind}
+use Rattle.zorder.specs.chain.Chain.{queue, IsAhead, IsOpened, IsUsed, IsPast, Place, place_in_chain, LeadsTo, is_fresh, HasDistinctEpochs, HasNoTailOrderBehind}
 use Rattle.zorder.specs.chain.Account.{Account}
 use Rattle.zorder.specs.chain.Sound.{IsSound, AllShowCommitted, TailHoldsCommitted, OrdersLead}
 use Rattle.zorder.proofs.chain_lemmas.links.Links.{at_cases, front_among}
@@ -72,7 +72,7 @@ module _ {P : Type 0} (plain : Plain P) (t : Account) (s : IsSound plain t) (fro
 
   line : OrdersLead w1
   line z place is = subst (λ q. LeadsTo (IsPast w) (is_fresh w1 z) (w1.servers z).pred q place) (sym (same_queue z))
-      (each_at (λ x u. (p : Place) → place_of w x ≡ Some p → LeadsTo (IsPast w) (is_none u.machine && is_none u.pred) u.pred (queue w x) p) y v w.servers z
+      (each_at (λ x u. (p : Place) → place_in_chain w x ≡ Some p → LeadsTo (IsPast w) (is_none u.machine && is_none u.pred) u.pred (queue w x) p) y v w.servers z
       (λ p is'. subst (λ pred. LeadsTo (IsPast w) (is_none v.machine && is_none pred) pred (queue w y) p) (sym good.pred)
       (leads_more (IsPast w) (IsPast w) (is_fresh w y) (is_none v.machine && is_none (w.servers y).pred) (w.servers y).pred (queue w y) p (λ q past. past)
       (λ fresh. still (is_none (log_at w y)) (is_none (w.servers y).pred) fresh (good.fresh fresh)) (s.line y p is')))

@@ -15,7 +15,7 @@ use Rattle.zorder.specs.legal.Prefix.{IsPrefix, IsEntry}
 use Rattle.zorder.specs.legal.Items.{Item, all_at_time, AllBegun, new_items}
 use Rattle.zorder.proofs.legal_lemmas.lists.Prefixes.{prefix_same}
 use Rattle.zorder.specs.chain.Flow.{LogWorld, LogMessage, Log, or_else, log_at, first_snapshot_by, final_log, first_log}
-use Rattle.zorder.specs.chain.Chain.{queue, IsAhead, IsOpened, IsMember, IsPast, Place, place_of, LeadsTo, HasNoTailOrder}
+use Rattle.zorder.specs.chain.Chain.{queue, IsAhead, IsOpened, IsMember, IsPast, Place, place_in_chain, LeadsTo, HasNoTailOrder}
 use Rattle.zorder.specs.chain.Account.{Account, tail_log, committed_after}
 use Rattle.zorder.specs.chain.Sound.{IsSound, ChainIsOrdered, TailHoldsCommitted}
 use Rattle.zorder.proofs.chain_lemmas.links.Links.{at_cases, at_same, at_other, front_among}
@@ -37,7 +37,7 @@ pub record IsGoodTurn (w : LogWorld) (y : ℕ) (v : ServerView (List Entry)) (re
   -- what it shows first is what it showed
   pub shows : (log : List Entry) → first_log (with_view w Master y v) y ≡ Some log → (shown : List Entry) × (first_log w y ≡ Some shown) × IsPrefix shown log
   -- its predecessor leads on
-  pub line : (place : Place) → place_of w y ≡ Some place → LeadsTo (IsPast w) (is_none v.machine && is_none v.pred) v.pred rest place
+  pub line : (place : Place) → place_in_chain w y ≡ Some place → LeadsTo (IsPast w) (is_none v.machine && is_none v.pred) v.pred rest place
   -- its successor has taken the epoch
   pub successor : (z k : ℕ) → v.succ ≡ Some (z, k) → IsOpened w z k
   -- Sent is of the log

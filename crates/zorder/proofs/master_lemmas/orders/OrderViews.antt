@@ -11,7 +11,7 @@ use Rattle.zprotocol.specs.server.View.{ServerView, spare}
 use Rattle.zorder.specs.legal.Prefix.{IsEntry}
 use Rattle.zorder.specs.legal.Items.{Item, AllBegun}
 use Rattle.zorder.specs.chain.Flow.{LogWorld, LogMessage}
-use Rattle.zorder.specs.chain.Chain.{queue, IsOpened, IsUsed, IsPast, Place, place_of, LeadsTo, HasDistinctEpochs, HasNoTailOrderBehind}
+use Rattle.zorder.specs.chain.Chain.{queue, IsOpened, IsUsed, IsPast, Place, place_in_chain, LeadsTo, HasDistinctEpochs, HasNoTailOrderBehind}
 use Rattle.zorder.specs.chain.Account.{Account}
 use Rattle.zorder.specs.chain.Sound.{IsSound, ChainIsOrdered}
 use Rattle.zorder.proofs.chain_lemmas.links.Links.{at_same, at_other, front_among}
@@ -22,7 +22,7 @@ use Rattle.zorder.proofs.chain_lemmas.steps.Views.{AreGoodLists, each_at}
 -- what is shown of the new view, where this is left in the queue
 pub record IsGoodOrder (w : LogWorld) (y : ℕ) (v : ServerView (List Entry)) (rest : List LogMessage) : Type 0 where
   -- its predecessor leads on
-  pub line : (place : Place) → place_of w y ≡ Some place → LeadsTo (IsPast w) (is_none v.machine && is_none v.pred) v.pred rest place
+  pub line : (place : Place) → place_in_chain w y ≡ Some place → LeadsTo (IsPast w) (is_none v.machine && is_none v.pred) v.pred rest place
   -- its successor has taken the epoch
   pub successor : (z k : ℕ) → v.succ ≡ Some (z, k) → IsOpened w z k
   -- the chain is in order
@@ -67,7 +67,7 @@ module _ {P : Type 0} (plain : Plain P) (t : Account) (s : IsSound plain t) (y :
     blank = each_queue (λ z u q. (IsUsed w z → ⊥) → (u ≡ spare) × (q ≡ []))
         (λ unused. let none : ◌≡◌ {A = List LogMessage} (m ∷ rest) [] = sym link ∙ (s.blank y unused).1 in absurd (cc none)) s.blank;
     live = s.live;
-    line = each_queue (λ z u q. (place : Place) → place_of w z ≡ Some place → LeadsTo (IsPast w) (is_none u.machine && is_none u.pred) u.pred q place) good.line s.line;
+    line = each_queue (λ z u q. (place : Place) → place_in_chain w z ≡ Some place → LeadsTo (IsPast w) (is_none u.machine && is_none u.pred) u.pred q place) good.line s.line;
     successors = λ x z k is. opened z k (each_at (λ a u. u.succ ≡ Some (z, k) → IsOpened w z k) y v w.servers x (good.successor z k) (s.successors x z k) is);
     epochs = each_queue (λ z u q. HasDistinctEpochs w.master.epoch q) (subst (HasDistinctEpochs w.master.epoch) link (s.epochs y)).1 s.epochs;
     tail_orders = each_queue (λ z u q. HasNoTailOrderBehind w z q) (subst (HasNoTailOrderBehind w y) link (s.tail_orders y)).1 s.tail_orders;

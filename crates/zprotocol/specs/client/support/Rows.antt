@@ -7,7 +7,10 @@ use Rattle.zcalls.specs.declared.call.Update.{Update}
 use Rattle.zcalls.specs.declared.call.Update.TheVariants.{Delete}
 use Rattle.zcalls.specs.declared.call.Query.{Query}
 use Rattle.zcalls.specs.declared.call.Query.TheVariants.{Exists}
+use Rattle.zcalls.specs.declared.reply.Reply.TheVariants.{Deleted}
+use Rattle.zprotocol.specs.declared.message.Message.TheVariants as message
 use Rattle.zprotocol.specs.declared.process.Process.{Process}
+use Rattle.zprotocol.specs.declared.process.Process.TheVariants.{Master, Server}
 use Rattle.zprotocol.specs.server.View.{Transfer, MessageOf, Post}
 use Rattle.zprotocol.specs.client.View.{ClientView}
 use Rattle.zprotocol.specs.client.Table.{ClientResult, begin_step, client_step, retry_posts}
@@ -38,6 +41,21 @@ updating = client 7 (Some (7, call.Update update))
 abbrev pub asking : ClientView
 asking = client 7 (Some (7, call.Query query))
 
+-- the same, with its eighth call
+abbrev pub eighth : Call → ClientView
+eighth c = client 8 (Some (8, c))
+
+-- a client that was told of other ends of the chain, in epoch 5
+abbrev pub told : Option ℕ → Option ℕ → ClientView → ClientView
+told head tail v = record v { epoch = 5; head = head; tail = tail }
+
+-- a client's update and its query, on their way to a server
+abbrev pub submit_to : ℕ → ℕ → Post ℕ
+submit_to s number = (Server s, message.Submit number update)
+
+abbrev pub query_to : ℕ → ℕ → Post ℕ
+query_to s number = (Server s, message.Query number query)
+
 -- what a client does with a message, between servers whose machine is a number
 abbrev pub after : ClientView → Process → MessageOf ℕ → ClientResult (Transfer ℕ)
 after v from m = client_step v from m
@@ -52,3 +70,10 @@ after_call v c = begin_step v c
 
 abbrev pub after_retry : ClientView → List (Post ℕ)
 after_retry v = retry_posts v
+
+-- what it does with the answer to call 7, and when the master tells it other ends of the chain in epoch 5
+abbrev pub after_answer : ClientView → ℕ → ClientResult (Transfer ℕ)
+after_answer v s = after v (Server s) (message.Answer 7 Deleted)
+
+abbrev pub after_config : ClientView → Option ℕ → Option ℕ → ClientResult (Transfer ℕ)
+after_config v head tail = after v Master (message.Config 5 head tail)

@@ -1,7 +1,7 @@
 -- What the worked rows of the master table speak of: some chains.
 use Rattle.std.specs.Prelude.{◌≡◌, ℕ, Option, None, Some, List, [], ◌∷◌}
 use Rattle.zprotocol.specs.declared.message.Message.TheVariants as message
-use Rattle.zprotocol.specs.declared.process.Process.TheVariants.{Client}
+use Rattle.zprotocol.specs.declared.process.Process.TheVariants.{Server, Client}
 use Rattle.zprotocol.specs.declared.process.Process.{Process}
 use Rattle.zprotocol.specs.server.View.{Neighbour, Transfer, MessageOf, Post}
 use Rattle.zprotocol.specs.master.View.{MasterView}
@@ -62,3 +62,19 @@ Ignores v from m = after v from m ≡ (v, [])
 -- what the master does when a server joins
 abbrev pub after_join : MasterView → ℕ → MasterResult (Transfer ℕ)
 after_join v s = join_step v s
+
+-- when a server is gone
+abbrev pub after_gone : MasterView → ℕ → MasterResult (Transfer ℕ)
+after_gone v s = after v (Server s) message.Gone
+
+-- a master whose chain was mended in epoch 7
+abbrev pub with_chain : List Neighbour → MasterView → MasterView
+with_chain chain v = record v { chain = chain; epoch = 7 }
+
+-- and one whose joining server is done with
+abbrev pub without_joining : MasterView → MasterView
+without_joining v = record v { joining = None; epoch = 7 }
+
+-- a server hears of a new neighbour in epoch 7, and so do the clients, of the head and the tail
+abbrev pub hears_pred : ℕ → ℕ → ℕ → ℕ → List (Post ℕ)
+hears_pred s pred head tail = (Server s, message.NewPred 7 pred) ∷ tells (Some head) (Some tail)

@@ -1,5 +1,5 @@
 -- What the worked rows of the server table speak of: a machine that counts, entries, and some servers.
-use Rattle.std.specs.Prelude.{ℕ, ◌+◌, ◌≡◌, Option, None, Some, List, [], ◌∷◌, length, if◌then◌else◌, ◌==◌}
+use Rattle.std.specs.Prelude.{ℕ, ◌+◌, ◌≡◌, Bool, Option, None, Some, List, [], ◌∷◌, length, if◌then◌else◌, ◌==◌}
 use Rattle.zcalls.specs.declared.call.Entry.{Entry}
 use Rattle.zcalls.specs.declared.call.Expected.TheVariants.{Any}
 use Rattle.zcalls.specs.declared.call.Update.{Update}
@@ -9,9 +9,12 @@ use Rattle.zcalls.specs.declared.call.Query.TheVariants.{Exists}
 use Rattle.zcalls.specs.declared.refusal.Refusal.TheVariants.{NoNode}
 use Rattle.zcalls.specs.declared.reply.Reply.{Reply}
 use Rattle.zcalls.specs.declared.reply.Reply.TheVariants.{MultiRefused}
-use Rattle.zprotocol.specs.server.Machine.{Does}
+use Rattle.zprotocol.specs.server.Machine.{Does, log_of}
+use Rattle.zprotocol.specs.server.Memory.{may_be_unheard, may_stop}
+use Rattle.zprotocol.specs.declared.message.Message.TheVariants as message
 use Rattle.zprotocol.specs.declared.process.Process.{Process}
-use Rattle.zprotocol.specs.server.View.{ServerView, Transfer, Neighbour, MessageOf}
+use Rattle.zprotocol.specs.declared.process.Process.TheVariants.{Master, Server, Client}
+use Rattle.zprotocol.specs.server.View.{ServerView, Transfer, Neighbour, MessageOf, Post}
 use Rattle.zprotocol.specs.server.Table.{ServerResult, server_step}
 
 -- a reply that tells a number
@@ -43,6 +46,48 @@ call number = record { client = 5; number = number; update = update }
 abbrev pub first_entry : ℕ → Update → Entry
 first_entry client update = record { client = client; number = 1; update = update }
 
+-- its requests of number 18, and the answer to them that tells a number
+abbrev pub submit : MessageOf ℕ
+submit = message.Submit 18 update
+
+abbrev pub ask : MessageOf ℕ
+ask = message.Query 18 query
+
+abbrev pub answer : ℕ → Post ℕ
+answer n = (Client 5, message.Answer 18 (number_reply n))
+
+-- the entry of this number in the log, which is its call of ten more, on its way in an epoch
+abbrev pub update_of : ℕ → ℕ → MessageOf ℕ
+update_of epoch n = message.Update epoch n (call (n + 10))
+
+-- what a server puts to another: an entry, an acknowledgement, and to the master what it has
+abbrev pub update_to : ℕ → ℕ → ℕ → Post ℕ
+update_to s epoch n = (Server s, update_of epoch n)
+
+abbrev pub ack_to : ℕ → ℕ → ℕ → Post ℕ
+ack_to s epoch n = (Server s, message.Ack epoch n)
+
+abbrev pub have : ℕ → Option ℕ → Post ℕ
+have epoch last = (Master, message.Have epoch last)
+
+-- a server with other neighbours: behind server 2, and behind nobody
+abbrev pub with_pred : Option Neighbour → ServerView ℕ → ServerView ℕ
+with_pred pred v = record v { pred = pred }
+
+abbrev pub with_succ : Option Neighbour → ServerView ℕ → ServerView ℕ
+with_succ succ v = record v { succ = succ }
+
+-- before server 4 in a pair of epoch 8, and with nobody behind it
+abbrev pub before_4 : ServerView ℕ → ServerView ℕ
+before_4 v = with_succ (Some (4, 8)) v
+
+abbrev pub as_tail : ServerView ℕ → ServerView ℕ
+as_tail v = record v { sent = []; succ = None }
+
+-- a server that has this left in Sent
+abbrev pub with_sent : List (ℕ × Entry) → ServerView ℕ → ServerView ℕ
+with_sent sent v = record v { sent = sent }
+
 -- a server with the state after seven entries, of which the tail may not have processed the last two
 abbrev pub initialised_server : Option Neighbour → Option Neighbour → ServerView ℕ
 initialised_server pred succ = record { machine = Some 7; last = 7; sent = (6, call 16) ∷ (7, call 17) ∷ []; pred = pred; succ = succ }
@@ -63,7 +108,11 @@ tail = initialised_server (Some (1, 4)) None
 abbrev pub single : ServerView ℕ
 single = initialised_server None None
 
--- the same, with this last number
+-- the same, at the opening
+abbrev pub at_start : ServerView ℕ
+at_start = record { machine = Some 0; last = 0; sent = []; pred = None; succ = None }
+
+-- a single one, with this last number
 abbrev pub with_last : ℕ → ServerView ℕ
 with_last n = record single { last = n }
 
@@ -79,9 +128,25 @@ with_entry v = record v { machine = Some 8; last = 8 }
 abbrev pub joining_server : ServerView ℕ
 joining_server = record { machine = None; last = 0; sent = []; pred = Some (1, 4); succ = None }
 
--- the state after nine entries
+-- the state after nine entries, a server that took it over, and what it puts then
 abbrev pub nine : Transfer ℕ
 nine = record { last = 9; machine = 9 }
+
+abbrev pub has_joined : ServerView ℕ
+has_joined = record joining_server { machine = Some 9; last = 9 }
+
+abbrev pub joined_posts : List (Post ℕ)
+joined_posts = ack_to 1 4 9 ∷ (Master, message.Joined 4) ∷ []
+
+-- a tail after it handed its state to server 4, the next in a pair of epoch 8
+abbrev pub old_tail : ServerView ℕ
+old_tail = before_4 tail
+
+abbrev pub tail_that_hands_over : ServerView ℕ
+tail_that_hands_over = (server_step counting_machine tail Master (message.NewSucc 8 4 None)).0
+
+abbrev pub snapshot_post : Post ℕ
+snapshot_post = (Server 4, message.Snapshot 8 (record { last = 7; machine = 7 }))
 
 -- a head before server 3 that has this log, of which all was processed
 abbrev pub on_log : List Entry → ServerView (List Entry)
@@ -94,3 +159,49 @@ after v from m = server_step counting_machine v from m
 -- that changes nothing, and puts nothing
 abbrev pub Ignores : ServerView ℕ → Process → MessageOf ℕ → Type 0
 Ignores v from m = after v from m ≡ (v, [])
+
+-- and with those that most rows are about: client 5's two requests, the entry of a number from server 1, an acknowledgement from
+-- server 3, a state from server 1, and the master's orders of epoch 8
+abbrev pub after_submit : ServerView ℕ → ServerResult ℕ
+after_submit v = after v (Client 5) submit
+
+abbrev pub after_ask : ServerView ℕ → ServerResult ℕ
+after_ask v = after v (Client 5) ask
+
+abbrev pub after_update : ServerView ℕ → ℕ → ServerResult ℕ
+after_update v n = after v (Server 1) (update_of 4 n)
+
+abbrev pub after_ack : ServerView ℕ → ℕ → ServerResult ℕ
+after_ack v n = after v (Server 3) (message.Ack 5 n)
+
+abbrev pub after_snapshot : ServerView ℕ → ServerResult ℕ
+after_snapshot v = after v (Server 1) (message.Snapshot 4 nine)
+
+abbrev pub after_pred : ServerView ℕ → ServerResult ℕ
+after_pred v = after v Master (message.NewPred 8 2)
+
+abbrev pub after_succ : ServerView ℕ → Option ℕ → ServerResult ℕ
+after_succ v last = after v Master (message.NewSucc 8 4 last)
+
+abbrev pub after_head : ServerView ℕ → ServerResult ℕ
+after_head v = after v Master (message.BecomeHead 8)
+
+abbrev pub after_tail : ServerView ℕ → ServerResult ℕ
+after_tail v = after v Master (message.BecomeTail 8)
+
+-- whether a server may stop at a message, and whether it may not hear it
+abbrev pub stops : ServerView ℕ → Process → MessageOf ℕ → Bool
+stops v from m = may_stop counting_machine v from m
+
+abbrev pub is_unheard : ServerView ℕ → Process → MessageOf ℕ → Bool
+is_unheard v from m = may_be_unheard counting_machine v from m
+
+-- logs of one entry and of two, and the machine that keeps its log, over the one that counts
+abbrev pub one : List Entry
+one = call 11 ∷ []
+
+abbrev pub two : List Entry
+two = call 11 ∷ call 12 ∷ []
+
+abbrev pub counted_log : Does (List Entry)
+counted_log = log_of counting_machine

@@ -4,4 +4,4 @@ use Rattle.zracing.proofs.rows.words_give_four_numbers.Goals as goal
 
 pub returns : goal.returns
 unfolding asked_on_literals
-returns c = record { none = refl; one = refl; in_any_order = refl }
+returns c = record { none = refl; one = refl; swapped = refl }

@@ -1,6 +1,7 @@
 use Rattle.std.proofs.Common.{◌≡◌, ◌+◌, ◌++◌, ◌∷◌, length, sym, subst, arith}
 use Rattle.std.specs.declared.vec.Vec.{Vec}
 use Rattle.std.specs.declared.alloc.Global.{Global}
+use Rattle.zprotocol.specs.declared.limits.TheConstants.{MAX_SERVERS}
 use Rattle.zthreads.specs.Owned.{master_desk}
 use Rattle.zrun.specs.declared.posts.ClientPost.{ClientPost}
 use Rattle.zrun.specs.Origins.{client_desks}
@@ -28,9 +29,9 @@ returns-clause-run c =
     let none : left s3 ≡ 0 = omega (arith, all, after_clients, after_servers, after_master) in
     let handed = hands_more s0 s2 s3 c.in_ok-ends.ends m (ss ++ cs) (hands_both s0 s1 s2 cs ss c.in_ok-callers.ensures.rings c.in_ok-servers.ensures.rings)
     c.in_ok-ends.ensures.rings c.master-chief.ensures.ends in
-    let eight = posts_count c.in_ok-servers.servers.items in
+    let count = posts_count c.in_ok-servers.servers.items in
     let servers = c.in_ok-servers.ensures.servers in
-    let next : 9 ≡ 1 + length ss = omega (arith, eight, servers) in
+    let next : MAX_SERVERS + 1 ≡ 1 + length ss = omega (arith, count, servers) in
     let desks = more_desks o.last o.clients 0 m (ss ++ cs) c.master-chief.ensures.desk
     (both_desks o.last o.clients 1 ss cs c.in_ok-servers.ensures.desks (subst (λ k. AreDesks o.last o.clients k cs) next c.in_ok-callers.ensures.desks)) in
     subst (λ (v : Vec ClientPost Global). IsRun o.last o.clients (m ∷ (ss ++ client_desks v.items))) (sym c.of-run.ensures)

@@ -1,4 +1,5 @@
 use Rattle.std.proofs.Common.{◌≡◌, ◌+◌, ◌-◌, ◌∷◌, suc, length, reverse, refl, sym, ap, subst, ◌∙◌, length-append, arith}
+use Rattle.zprotocol.specs.declared.limits.TheConstants.{MAX_SERVERS}
 use Rattle.zcaller.specs.Callers.{caller_desk}
 use Rattle.zrun.specs.Origins.{client_desks}
 use Rattle.zrun.specs.Runs.{AreDesks}
@@ -19,12 +20,12 @@ loop-done-preserved c =
     let lt = c.loop-done-test.true in
     let end = i.3 in
     let number = c.in-Some.ensures.client in
-    let k = 9 + (o.clients - (done + 1)) in
-    let here : k ≡ 9 + c.in-Some.id = omega (arith, number, lt, end) in
+    let k = MAX_SERVERS + 1 + (o.clients - (done + 1)) in
+    let here : k ≡ MAX_SERVERS + 1 + c.in-Some.id = omega (arith, number, lt, end) in
     let is = c.caller-caller.ensures.desk in
     let all : AreDesks o.last o.clients k (d ∷ before) =
     more_desks o.last o.clients k d before (is.0 ∙ client_process k c.in-Some.id here, is.1, is.2)
-    (let next : 9 + (o.clients - done) ≡ suc k = omega (arith, lt, end) in subst (λ m. AreDesks o.last o.clients m before) next i.5) in
+    (let next : MAX_SERVERS + 1 + (o.clients - done) ≡ suc k = omega (arith, lt, end) in subst (λ m. AreDesks o.last o.clients m before) next i.5) in
     let handed = hands_more c.args.supply.now c.loop-done.supply c.next.new.self c.in_ok-ends.ends d before i.4 c.in_ok-ends.ensures.rings c.caller-caller.ensures.ends in
     let less = c.in_ok-ends.ensures.left in
     let was = i.1 in (

@@ -1,4 +1,5 @@
 use Rattle.std.proofs.Common.{◌≡◌, ◌+◌, ◌-◌, length, reverse}
+use Rattle.zprotocol.specs.declared.limits.TheConstants.{MAX_SERVERS}
 use Rattle.zrun.specs.Origins.{client_desks}
 use Rattle.zrun.specs.Runs.{AreDesks}
 use Rattle.zrun.specs.Supplies.{HandsOut, left}
@@ -10,4 +11,4 @@ invariant-loop-done l =
     (length l.clients.items ≡ l.done) × (left l.supply + l.done ≡ left l.initial.supply)
     × (l.opening ≡ opening) × (l.done-end ≡ opening.clients)
     × HandsOut l.initial.supply l.supply (client_desks (reverse l.clients.items))
-    × AreDesks opening.last opening.clients (9 + (opening.clients - l.done)) (client_desks (reverse l.clients.items))
+    × AreDesks opening.last opening.clients (MAX_SERVERS + 1 + (opening.clients - l.done)) (client_desks (reverse l.clients.items))

@@ -1,4 +1,5 @@
 use Rattle.std.proofs.Common.{◌≡◌, ◌<◌, ◌≤◌, ◌+◌, ◌-◌, ◌∷◌, suc, length, refl, sym, ap, subst, ◌∙◌, length-append, arith}
+use Rattle.zprotocol.specs.declared.limits.TheConstants.{MAX_SERVERS}
 use Rattle.zthreads.specs.Owned.{server_desk}
 use Rattle.zrun.specs.Posts.{post_desks}
 use Rattle.zrun.specs.Runs.{AreDesks}
@@ -18,14 +19,14 @@ loop-done-preserved c =
     let before = post_desks old in
     let lt = c.loop-done-test.true in
     let number = c.in-Some.ensures.server in
-    let k = 1 + (8 - (done + 1)) in
+    let k = 1 + (MAX_SERVERS - (done + 1)) in
     let here : k ≡ c.in-Some.id = omega (arith, number, lt) in
     let first : 0 < c.in-Some.id = omega (arith, number, lt) in
-    let few : c.in-Some.id ≤ 8 = omega (arith, number, lt) in
+    let few : c.in-Some.id ≤ MAX_SERVERS = omega (arith, number, lt) in
     let is = c.in_ok-member.ensures.desk in
     let all : AreDesks o.last o.clients k (d ∷ before) =
     more_desks o.last o.clients k d before (is.0 ∙ server_process k c.in-Some.id here first few, is.1, is.2)
-    (let next : 1 + (8 - done) ≡ suc k = omega (arith, lt) in subst (λ m. AreDesks o.last o.clients m before) next i.4) in
+    (let next : 1 + (MAX_SERVERS - done) ≡ suc k = omega (arith, lt) in subst (λ m. AreDesks o.last o.clients m before) next i.4) in
     let handed = hands_more c.args.supply.now c.loop-done.supply c.next.new.self c.in_ok-ends.ends d before i.3 c.in_ok-ends.ensures.rings c.in_ok-member.ensures.ends in
     let less = c.in_ok-ends.ensures.left in
     let was = i.1 in (

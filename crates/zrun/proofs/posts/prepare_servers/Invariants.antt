@@ -1,4 +1,5 @@
 use Rattle.std.proofs.Common.{◌≡◌, ◌+◌, ◌-◌, length}
+use Rattle.zprotocol.specs.declared.limits.TheConstants.{MAX_SERVERS}
 use Rattle.zrun.specs.Posts.{post_desks}
 use Rattle.zrun.specs.Runs.{AreDesks}
 use Rattle.zrun.specs.Supplies.{HandsOut, left}
@@ -10,4 +11,4 @@ invariant-loop-done l =
     (length l.servers.items ≡ l.done) × (left l.supply + l.done ≡ left l.initial.supply)
     × (l.opening ≡ opening)
     × HandsOut l.initial.supply l.supply (post_desks l.servers.items)
-    × AreDesks opening.last opening.clients (1 + (8 - l.done)) (post_desks l.servers.items)
+    × AreDesks opening.last opening.clients (1 + (MAX_SERVERS - l.done)) (post_desks l.servers.items)

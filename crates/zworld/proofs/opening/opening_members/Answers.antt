@@ -1,6 +1,7 @@
 use Rattle.std.proofs.Common.{◌≡◌, ◌+◌, ◌-◌, ◌∙◌, sym, arith, ℕ, map, ap}
 use Rattle.std.specs.List.{range_with_len}
 use Rattle.std.proofs.lemmas.List.FromFn.{map-range_with_len_more}
+use Rattle.zprotocol.specs.declared.limits.TheConstants.{MAX_SERVERS}
 use Rattle.zworld.specs.support.Opening.{opening_member}
 use Rattle.zworld.proofs.opening.opening_members.Goals as goal
 
@@ -16,5 +17,5 @@ loop-number-preserved c =
 
 pub returns : goal.returns
 returns c =
-    let last : c.loop-number.number ≡ 9 = omega arith in
+    let last : c.loop-number.number ≡ MAX_SERVERS + 1 = omega arith in
     c.loop-number.invariant ∙ ap (λ (n : ℕ). map (opening_member c.args.last) (range_with_len 1 (n - 1))) last

@@ -2,7 +2,7 @@ use Rattle.std.proofs.Common.{◌≡◌, ◌++◌, [], List, refl, sym, subst, �
 use Rattle.zworld_model.specs.Links.{messages_to}
 use Rattle.ztraces.specs.Deeds.{stamped}
 use Rattle.zrings.specs.Ends.{put_of}
-use Rattle.zlinks.specs.Places.{process_at}
+use Rattle.zprotocol.specs.Places.{process_at}
 use Rattle.zdesks.specs.Desks.{TreePost, Each}
 use Rattle.zdesks.proofs.desk.Desk.new.Goals as goal
 

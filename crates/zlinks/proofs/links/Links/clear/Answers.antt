@@ -1,6 +1,6 @@
 use Rattle.std.proofs.Common.{◌≡◌, ℕ, ◌<◌, ◌+◌, ◌-◌, ap, sym, subst, ◌∙◌, length, set, arith}
 use Rattle.std.specs.List.{list_any}
-use Rattle.zlinks.specs.declared.limits.TheConstants.{PROCESSES}
+use Rattle.zprotocol.specs.declared.limits.TheConstants.{PROCESSES}
 use Rattle.zlinks.specs.Places.{holds}
 use Rattle.zlinks.specs.support.Rows.{share, Counts, ClearedTo}
 use Rattle.zlinks.proofs.Places.{cleared, cleared_more}

@@ -1,5 +1,6 @@
 use Rattle.std.proofs.Common.{◌∷◌, [], sym, arith, length-append}
-use Rattle.zlinks.specs.Places.{links_of, place_of}
+use Rattle.zprotocol.specs.Places.{place_of}
+use Rattle.zlinks.specs.Places.{links_of}
 use Rattle.zlinks.proofs.Rows.{are_blank_more, are_blank_at, blank_rows_hold_nothing}
 use Rattle.zlinks.proofs.links.Links.new.Goals as goal
 

@@ -1,6 +1,7 @@
 use Rattle.std.proofs.Common.{◌≡◌, [], ap, sym, subst, ◌∙◌, arith, get_or, true}
 use Rattle.std.proofs.lemmas.List.{get_or_default}
-use Rattle.zlinks.specs.Places.{place_of, holds, links_of}
+use Rattle.zprotocol.specs.Places.{place_of}
+use Rattle.zlinks.specs.Places.{holds, links_of}
 use Rattle.zlinks.proofs.links.Links.next_receiver.Goals as goal
 
 pub returns-clause-empty : goal.returns-clause-empty

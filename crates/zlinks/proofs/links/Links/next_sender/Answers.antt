@@ -4,7 +4,8 @@ use Rattle.std.proofs.lemmas.List.{get_or_default}
 use Rattle.std.specs.Prelude.{not}
 use Rattle.std.specs.List.{list_any}
 use Rattle.zprotocol.specs.declared.process.Process.{Process}
-use Rattle.zlinks.specs.Places.{place_of, holds, is_silent}
+use Rattle.zprotocol.specs.Places.{place_of}
+use Rattle.zlinks.specs.Places.{holds, is_silent}
 use Rattle.zlinks.proofs.Rows.{fails_at}
 use Rattle.zlinks.proofs.links.Links.next_sender.Goals as goal
 

@@ -1,6 +1,7 @@
 use Rattle.std.proofs.Common.{◌≡◌, ◌<◌, ◌≤◌, true}
 use Rattle.zprotocol.specs.declared.process.Process.{Process}
-use Rattle.zlinks.specs.Places.{place_of, is_silent}
+use Rattle.zprotocol.specs.Places.{place_of}
+use Rattle.zlinks.specs.Places.{is_silent}
 use Rattle.zlinks.proofs.links.Links.next_sender.Given as goal
 
 abbrev pub invariant-loop-place : goal.invariant-loop-place

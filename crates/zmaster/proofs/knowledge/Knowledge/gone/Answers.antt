@@ -11,17 +11,17 @@ use Rattle.zmaster.proofs.knowledge.Knowledge.gone.Goals as goal
 
 pub returns-in_default-clause-next : goal.returns-in_default-clause-next
 returns-in_default-clause-next g c =
-    let missing : ◌≡◌ {A = Option ℕ} (position (λ (member : Neighbour). member.0 == c.args.server.now) c.self.inside.chain.items) None =
-    sym (c.place_of.ensures ∙ ap (λ (xs : List Neighbour). position (λ (member : Neighbour). member.0 == c.args.server.now) xs) c.deref.ensures.0) ∙ c.in_default.is in
-    let outside = place_missing c.args.server.now c.self.inside.chain.items missing in
-    rw (← c.self.view_is, gone_outside (the_view c.self.inside) c.args.server.now outside, c.mark_used.ensures) refl
+    let missing : ◌≡◌ {A = Option ℕ} (position (λ (member : Neighbour). member.0 == c.args.server) c.self.inside.chain.items) None =
+    sym (c.position_of.ensures ∙ ap (λ (xs : List Neighbour). position (λ (member : Neighbour). member.0 == c.args.server) xs) c.deref.ensures.0) ∙ c.in_default.is in
+    let outside = place_missing c.args.server c.self.inside.chain.items missing in
+    rw (← c.self.view_is, gone_outside (the_view c.self.inside) c.args.server outside, c.mark_used.ensures) refl
 
 pub returns-in_default-clause-puts : goal.returns-in_default-clause-puts
 returns-in_default-clause-puts g c =
-    let missing : ◌≡◌ {A = Option ℕ} (position (λ (member : Neighbour). member.0 == c.args.server.now) c.self.inside.chain.items) None =
-    sym (c.place_of.ensures ∙ ap (λ (xs : List Neighbour). position (λ (member : Neighbour). member.0 == c.args.server.now) xs) c.deref.ensures.0) ∙ c.in_default.is in
-    let outside = place_missing c.args.server.now c.self.inside.chain.items missing in
-    rw (← c.self.view_is, gone_outside (the_view c.self.inside) c.args.server.now outside) (put_none _)
+    let missing : ◌≡◌ {A = Option ℕ} (position (λ (member : Neighbour). member.0 == c.args.server) c.self.inside.chain.items) None =
+    sym (c.position_of.ensures ∙ ap (λ (xs : List Neighbour). position (λ (member : Neighbour). member.0 == c.args.server) xs) c.deref.ensures.0) ∙ c.in_default.is in
+    let outside = place_missing c.args.server c.self.inside.chain.items missing in
+    rw (← c.self.view_is, gone_outside (the_view c.self.inside) c.args.server outside) (put_none _)
 
 pub tell-requires : goal.tell-requires
 tell-requires g c =
@@ -33,31 +33,31 @@ tell-requires g c =
 
 pub returns-clause-next : goal.returns-clause-next
 returns-clause-next g c =
-    let found : position (λ (member : Neighbour). member.0 == c.args.server.now) c.self.inside.chain.items ≡ Some c.in-Some.at =
-    sym (c.place_of.ensures ∙ ap (λ (xs : List Neighbour). position (λ (member : Neighbour). member.0 == c.args.server.now) xs) c.deref.ensures.0) ∙ c.in-Some.is in
-    let place = place_found c.args.server.now c.self.inside.chain.items c.in-Some.at found in
+    let found : position (λ (member : Neighbour). member.0 == c.args.server) c.self.inside.chain.items ≡ Some c.in-Some.at =
+    sym (c.position_of.ensures ∙ ap (λ (xs : List Neighbour). position (λ (member : Neighbour). member.0 == c.args.server) xs) c.deref.ensures.0) ∙ c.in-Some.is in
+    let place = place_found c.args.server c.self.inside.chain.items c.in-Some.at found in
     elim c.if-is_the_joining.branch [
       | then-is_the_joining w ↦
-          let yes : joins c.self.inside.joining c.args.server.now ≡ true = sym c.is_the_joining.ensures ∙ w.if-is_the_joining.true in
-          rw (w.self-inside-is, ← c.self.view_is, gone_joining (the_view c.self.inside) c.args.server.now c.in-Some.at place yes, c.mend.ensures.chain, c.remove.ensures.items, c.next_epoch-epoch.ensures) refl
+          let yes : joins c.self.inside.joining c.args.server ≡ true = sym c.is_the_joining.ensures ∙ w.if-is_the_joining.true in
+          rw (w.self-inside-is, ← c.self.view_is, gone_joining (the_view c.self.inside) c.args.server c.in-Some.at place yes, c.mend.ensures.chain, c.remove.ensures.items, c.next_epoch-epoch.ensures) refl
       | else-is_the_joining w ↦
-          let no : joins c.self.inside.joining c.args.server.now ≡ false = sym c.is_the_joining.ensures ∙ w.if-is_the_joining.false in
-          rw (w.self-inside-is, ← c.self.view_is, gone_other (the_view c.self.inside) c.args.server.now c.in-Some.at place no, c.mend.ensures.chain, c.remove.ensures.items, c.next_epoch-epoch.ensures) refl
+          let no : joins c.self.inside.joining c.args.server ≡ false = sym c.is_the_joining.ensures ∙ w.if-is_the_joining.false in
+          rw (w.self-inside-is, ← c.self.view_is, gone_other (the_view c.self.inside) c.args.server c.in-Some.at place no, c.mend.ensures.chain, c.remove.ensures.items, c.next_epoch-epoch.ensures) refl
     ]
 
 pub returns-clause-puts : goal.returns-clause-puts
 returns-clause-puts g c =
-    let found : position (λ (member : Neighbour). member.0 == c.args.server.now) c.self.inside.chain.items ≡ Some c.in-Some.at =
-    sym (c.place_of.ensures ∙ ap (λ (xs : List Neighbour). position (λ (member : Neighbour). member.0 == c.args.server.now) xs) c.deref.ensures.0) ∙ c.in-Some.is in
-    let place = place_found c.args.server.now c.self.inside.chain.items c.in-Some.at found in
+    let found : position (λ (member : Neighbour). member.0 == c.args.server) c.self.inside.chain.items ≡ Some c.in-Some.at =
+    sym (c.position_of.ensures ∙ ap (λ (xs : List Neighbour). position (λ (member : Neighbour). member.0 == c.args.server) xs) c.deref.ensures.0) ∙ c.in-Some.is in
+    let place = place_found c.args.server c.self.inside.chain.items c.in-Some.at found in
     let first = rw (c.remove.ensures.items, c.next_epoch-epoch.ensures) at c.mend.ensures.puts in
     elim c.if-is_the_joining.branch [
       | then-is_the_joining w ↦
-          let yes : joins c.self.inside.joining c.args.server.now ≡ true = sym c.is_the_joining.ensures ∙ w.if-is_the_joining.true in
+          let yes : joins c.self.inside.joining c.args.server ≡ true = sym c.is_the_joining.ensures ∙ w.if-is_the_joining.true in
           let then = rw (w.self-inside-is, c.mend.ensures.chain, c.remove.ensures.items, c.next_epoch-epoch.ensures) at c.tell.ensures in
-          rw (← c.self.view_is, gone_joining (the_view c.self.inside) c.args.server.now c.in-Some.at place yes) (put_more _ _ _ _ _ first then)
+          rw (← c.self.view_is, gone_joining (the_view c.self.inside) c.args.server c.in-Some.at place yes) (put_more _ _ _ _ _ first then)
       | else-is_the_joining w ↦
-          let no : joins c.self.inside.joining c.args.server.now ≡ false = sym c.is_the_joining.ensures ∙ w.if-is_the_joining.false in
+          let no : joins c.self.inside.joining c.args.server ≡ false = sym c.is_the_joining.ensures ∙ w.if-is_the_joining.false in
           let then = rw (w.self-inside-is, c.mend.ensures.chain, c.remove.ensures.items, c.next_epoch-epoch.ensures) at c.tell.ensures in
-          rw (← c.self.view_is, gone_other (the_view c.self.inside) c.args.server.now c.in-Some.at place no) (put_more _ _ _ _ _ first then)
+          rw (← c.self.view_is, gone_other (the_view c.self.inside) c.args.server c.in-Some.at place no) (put_more _ _ _ _ _ first then)
     ]

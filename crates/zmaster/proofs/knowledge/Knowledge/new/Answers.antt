@@ -17,7 +17,7 @@ loop-number-preserved c =
     let same : (n + 1) - 1 ≡ (n - 1) + 1 = omega arith in
     let server : c.in-Some.server ≡ n = c.in-Some.ensures.server.0 in
     let next : suc (n - 1) ≡ (n - 1) + 1 = omega arith in (
-      rw (c.push.ensures.items, c.new-in-loop-number.ensures, server, c.first_epoch.ensures, c.loop-number.invariant.0, same)
+      rw (c.push.ensures.items, c.new-in-loop-number.ensures, server, c.opening.ensures, c.loop-number.invariant.0, same)
           (sym (map-range_with_len_more {X = Neighbour} (λ (s : ℕ). (s, 0)) 1 (n - 1) n (omega arith))),
       rw (c.mark_used.ensures, server, c.loop-number.invariant.1, same)
           (number_behind 1 (n - 1) n (omega arith) ∙ ap (λ k. range_with_len 1 k) next),

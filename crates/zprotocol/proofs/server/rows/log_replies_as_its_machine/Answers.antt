@@ -10,5 +10,5 @@ returns c = record {
   keeps_an_entry = refl;
   keeps_an_entry_without_reply = refl;
   asks_the_machine = refl;
-  is_a_machine_of_the_table = refl;
+  goes_by_the_table = refl;
 }

@@ -11,8 +11,8 @@ returns c = record {
   last_number = refl;
   no_number_left = refl;
   middle_forwards = refl;
-  tail_answers_and_acknowledges = refl;
-  tail_acknowledges_without_reply = refl;
+  tail_acknowledges = refl;
+  tail_without_reply = refl;
   joining_has_no_state = refl;
   spare_has_no_state = refl;
 }

@@ -1,6 +1,8 @@
 use Rattle.std.proofs.Common.{◌≡◌, ◌<◌, ◌≤◌, ◌+◌, List, ℕ, length, map, sym, ap, subst, ◌∙◌, arith}
 use Rattle.std.proofs.lemmas.List.{length-map}
 use Rattle.std.proofs.lemmas.Result.{IfOk-weaker}
+use Rattle.ztree.specs.declared.limits.TheConstants.{MAX_CLIENTS}
+use Rattle.zprotocol.specs.declared.limits.TheConstants.{MAX_SERVERS}
 use Rattle.ztraces.specs.declared.trace.Traces.{Traces}
 use Rattle.zdesks.specs.declared.desk.Ending.{Ending}
 use Rattle.zdesks.specs.Endings.{HasEnded}
@@ -46,7 +48,7 @@ pub gather-requires-clause-clients : goal.gather-requires-clause-clients
 gather-requires-clause-clients g c =
     let s = c.args.self in
     let cs = c.in_ok-clients.clients.items in
-    subst (λ n. n ≤ 32) (sym (count_here s cs (clients_here s cs c.requires.own c.in_ok-clients.ensures.left))) s.opening.few
+    subst (λ n. n ≤ MAX_CLIENTS) (sym (count_here s cs (clients_here s cs c.requires.own c.in_ok-clients.ensures.left))) s.opening.few
 
 pub gather-requires-clause-wired : goal.gather-requires-clause-wired
 gather-requires-clause-wired g c =
@@ -70,7 +72,7 @@ returns-clause-clients g c =
 pub returns-clause-servers : goal.returns-clause-servers
 returns-clause-servers g c =
     let ss = c.join_servers-servers.result.items in
-    IfOk-weaker c.gather.result (λ (t : Traces). t.servers.items ≡ map (λ (e : Ending). e.trace) ss) (λ (t : Traces). length t.servers.items ≡ 8)
+    IfOk-weaker c.gather.result (λ (t : Traces). t.servers.items ≡ map (λ (e : Ending). e.trace) ss) (λ (t : Traces). length t.servers.items ≡ MAX_SERVERS)
     (λ t is. ap length is ∙ length-map ss (λ (e : Ending). e.trace) ∙ c.join_servers-servers.ensures.count) c.gather.ensures.servers
 
 pub returns-clause-told : goal.returns-clause-told

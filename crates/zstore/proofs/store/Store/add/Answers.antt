@@ -34,7 +34,8 @@ returns-clause-added c =
     still_named c.args.self.now c.insert.new.self c.in_ok-id.id path c.args.parent
     (parent_of path) c.in_ok-id.ensures.named c.requires.live in
     let made =
-    ap (λ z. new_node c.args.bytes c.args.owner z c.self.inside.time) c.next-zxid.ensures
+    c.new-node.ensures
+    ∙ ap (λ z. new_node c.args.bytes c.args.owner z c.self.inside.time) c.next.ensures
     ∙ ap (λ (h : StoreView). new_node c.args.bytes c.args.owner (h.tree.zxid + 1) h.tree.time)
     c.self.view_is in
     c.child_changed.ensures.tree (parent_of path) live

@@ -1,6 +1,6 @@
 use Rattle.std.proofs.Common.{◌≤◌, ◌<◌, ◌+◌, length, subst, arith}
 use Rattle.std.proofs.lemmas.List.{take_all}
-use Rattle.zlinks.specs.declared.limits.TheConstants.{PROCESSES}
+use Rattle.zprotocol.specs.declared.limits.TheConstants.{PROCESSES}
 use Rattle.zworld_model.specs.Settle.{processes}
 use Rattle.zworld.specs.support.Settling.{Point, Tries, takes}
 use Rattle.zworld.proofs.Tries.{goes_nowhere, one_more_sender}

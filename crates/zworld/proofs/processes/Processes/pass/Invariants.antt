@@ -1,6 +1,6 @@
 use Rattle.std.proofs.Common.{◌≤◌, ◌-◌, take}
 use Rattle.zworld_model.specs.Settle.{processes}
-use Rattle.zlinks.specs.declared.limits.TheConstants.{PROCESSES}
+use Rattle.zprotocol.specs.declared.limits.TheConstants.{PROCESSES}
 use Rattle.zworld.specs.support.Settling.{Tries, takes}
 use Rattle.zworld.proofs.processes.Processes.pass.Given as goal
 

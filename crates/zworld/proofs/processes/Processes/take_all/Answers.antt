@@ -1,10 +1,10 @@
-use Rattle.std.proofs.Common.{◌≤◌, ◌<◌, ◌+◌, length, subst, arith}
+use Rattle.std.proofs.Common.{◌≤◌, ◌<◌, ◌+◌, length, subst, sym, arith}
 use Rattle.std.proofs.lemmas.List.{take_all}
-use Rattle.zlinks.specs.declared.limits.TheConstants.{PROCESSES}
+use Rattle.zprotocol.specs.declared.limits.TheConstants.{PROCESSES}
 use Rattle.zworld_model.specs.Settle.{processes}
 use Rattle.zworld.specs.support.Settling.{Point, Tries, takes_from}
 use Rattle.zworld.proofs.Tries.{one_more_receiver}
-use Rattle.zworld.proofs.Skips.{empty_link, length-processes, listed_as, receivers_to}
+use Rattle.zworld.proofs.Skips.{empty_link, first_receiver, length-processes, listed_as, receivers_to}
 use Rattle.zworld.proofs.processes.Processes.take_all.Goals as goal
 
 pub loop-place-init : goal.loop-place-init
@@ -15,7 +15,7 @@ loop-place-init c =
       found.few,
       receivers_to c.args.clients here c.args.from old 1 c.next_receiver-place.result (found.ahead (omega arith)) found.few
           (λ to behind before. empty_link _ c.try_take.new.self c.args.from to c.self.view_is (found.empty to behind before) behind)
-          c.in_ok-left.ensures.done,
+          (subst (λ ps. Tries (takes_from ps c.args.from) old here) (sym (first_receiver c.args.clients)) c.in_ok-left.ensures.done),
     )
 
 pub process_at-requires : goal.process_at-requires

@@ -3,7 +3,7 @@ use Rattle.std.proofs.lemmas.Bool.Decides.{nat_tests}
 use Rattle.zprotocol.specs.declared.limits.TheConstants.{MAX_SERVERS}
 use Rattle.zprotocol.specs.server.Machine.{kept_tree}
 use Rattle.zworld_model.specs.World.{opening_world}
-use Rattle.zworld_model.specs.Events.{is_server}
+use Rattle.zprotocol.specs.Places.{is_server}
 use Rattle.zworld.specs.Held.{world_of}
 use Rattle.zworld.proofs.Going.{past_begins}
 use Rattle.zworld.proofs.world.World.new.Goals as goal

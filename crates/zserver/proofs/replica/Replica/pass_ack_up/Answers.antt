@@ -1,6 +1,6 @@
 use Rattle.std.proofs.Common.{rules}
 use Rattle.zprotocol.specs.server.Table.{ack_row}
-use Rattle.zserver.proofs.replica.Replica.ack.Goals as goal
+use Rattle.zserver.proofs.replica.Replica.pass_ack_up.Goals as goal
 
 pub returns-clause-next : goal.returns-clause-next
 unfolding ack_row

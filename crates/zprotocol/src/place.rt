@@ -1,0 +1,44 @@
+//! Where a process stands among all.
+
+ghost use Rattle.std.specs.Prelude.{◌≡◌, ◌<◌, ◌≤◌, IfNone, IfSome};
+ghost use Rattle.zprotocol.specs.declared.limits.TheConstants.{PROCESSES};
+ghost use Rattle.zprotocol.specs.Places.{place_of, process_at};
+
+use crate::limits::{MAX_SERVERS, PROCESSES};
+use crate::process::Process;
+use crate::server_id::ServerId;
+use zcalls::ClientId;
+
+const FIRST_CLIENT: usize = MAX_SERVERS as usize + 1;
+
+impl Process {
+    /// Its place among all: the master is first, then the servers and the clients, each by number.
+    pub fn place(&self) -> usize
+        ensures place { result ≡ place_of self.now }
+        ensures back { process_at result ≡ self.now }
+        ensures small { result < PROCESSES }
+    {
+        match self {
+            Process::Master => 0,
+            Process::Server(server) => server.number() as usize,
+            Process::Client(client) => FIRST_CLIENT + client.number() as usize,
+        }
+    }
+
+    /// The process of a place. None behind the last one.
+    pub fn at(place: usize) -> Option<Process>
+        ensures some { IfSome result (λ process. process ≡ process_at place) }
+        ensures none { IfNone result (PROCESSES ≤ place) }
+    {
+        if place == 0 {
+            return Some(Process::Master);
+        }
+        if place < FIRST_CLIENT {
+            return Some(Process::Server(ServerId::new(place as u8)?));
+        }
+        if place < PROCESSES {
+            return Some(Process::Client(ClientId::new((place - FIRST_CLIENT) as u8)?));
+        }
+        None
+    }
+}
