@@ -51,14 +51,14 @@ enum jellqupas_status {
     /* No memory was found, and nothing is promised of the line. That is for good: the service has let go of its servers, every later
        line comes to this too, and nothing is to be told. What is left to do is to close it. */
     JELLQUPAS_MEMORY = 2,
-    /* The service was opened with a number that isn't 1 to 8. Every line comes to this, and nothing is to be told. Close it, too. */
+    /* The service was opened with a number that isn't 1 to 16. Every line comes to this, and nothing is to be told. Close it, too. */
     JELLQUPAS_NO_SERVERS = 3
 };
 
 /* How many bytes a service takes. It is the same at every call. */
 size_t jellqupas_size(void);
 
-/* Makes a service of which the chain begins with so many servers, 1 to 8, and with an empty tree. The other servers, up to 8, are
+/* Makes a service of which the chain begins with so many servers, 1 to 16, and with an empty tree. The other servers, up to 16, are
    spare: a line lets them join.
    JELLQUPAS_DONE: it is open, and nothing is to be told. JELLQUPAS_MEMORY, JELLQUPAS_NO_SERVERS: as above.
    Whatever it returns, there is a service now, which is closed by jellqupas_close. */

@@ -32,13 +32,13 @@ LIBRARY = loaded(os.path.join(os.path.dirname(os.path.abspath(__file__)), "libje
 
 
 class Service:
-    """A service of which the chain begins with 1 to 8 servers. It stays on the thread that made it, and is closed at the end of
+    """A service of which the chain begins with 1 to 16 servers. It stays on the thread that made it, and is closed at the end of
     its `with`, or by `close`."""
 
     def __init__(self, servers=1):
         self.at = None
-        if not 1 <= servers <= 8:
-            raise ValueError("a chain begins with 1 to 8 servers")
+        if not 1 <= servers <= 16:
+            raise ValueError("a chain begins with 1 to 16 servers")
         # (the room is aligned to 16, and Python doesn't move it)
         self.room = ctypes.create_string_buffer(LIBRARY.jellqupas_size() + 15)
         self.buffer = ctypes.create_string_buffer(4096)

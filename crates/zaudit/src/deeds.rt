@@ -6,7 +6,7 @@ ghost use Rattle.zworld_model.specs.Events.{happens};
 ghost use Rattle.zworld_model.specs.Alike.{IsAlike};
 ghost use Rattle.zworld.specs.Steps.{world_in};
 ghost use Rattle.ztraces.specs.Traces.{event_of, is_in_place, is_step_in_place, step_happens};
-ghost use Rattle.zaudit.specs.support.Verdict.{is_join, verdict};
+ghost use Rattle.zaudit.specs.support.Verdict.{asks_the_master, verdict};
 ghost use Rattle.zaudit.specs.declared.faults.AuditFault.TheVariants.{Disorder, Memory};
 
 use crate::faults::AuditFault;
@@ -26,8 +26,10 @@ fn event_for(alloc: Global, process: Process, act: &Act) -> Result<Option<Event>
             Ok(Some(Event::Ignore(*from, process)))
         }
         (Process::Server(server), Act::Took(_, Outcome::Stopped)) => Ok(Some(Event::Fail(server))),
+        (Process::Server(_), Act::Left) => Ok(Some(Event::Take(Process::Master, process))),
         (Process::Server(server), Act::Halted) => Ok(Some(Event::Fail(server))),
         (Process::Master, Act::Joined(server)) => Ok(Some(Event::Join(*server))),
+        (Process::Master, Act::Retired(server)) => Ok(Some(Event::Retire(*server))),
         (Process::Client(client), Act::Began(call)) => {
             Ok(Some(Event::Begin(client, call.copied(alloc)?)))
         }
@@ -36,15 +38,15 @@ fn event_for(alloc: Global, process: Process, act: &Act) -> Result<Option<Event>
     }
 }
 
-// Whether it asks for a join.
-fn asks_to_join(event: &Event) -> bool
-    ensures { result ≡ is_join event.now }
+// Whether it is asked of the master, which may refuse it: a join, or an order to leave.
+fn asks_the_master(event: &Event) -> bool
+    ensures { result ≡ asks_the_master event.now }
 {
-    matches!(event, Event::Join(_))
+    matches!(event, Event::Join(_) | Event::Retire(_))
 }
 
-// What an answer of the world means: an event that isn't enabled is in disorder, but for a join, and a server that wants
-// memory now, though it found some in its trace, is want of memory here.
+// What an answer of the world means: an event that isn't enabled is in disorder, but for what is asked of the master; and
+// a server that wants memory now, though it found some in its trace, is want of memory here.
 fn judge(may_be_refused: bool, did: Did) -> Result<(), AuditFault>
     ensures { result ≡ verdict may_be_refused did }
 {
@@ -71,7 +73,7 @@ fn place(world: &mut World, event: Event) -> Result<(), AuditFault>
     ensures past { world.new.has_forgotten ≡ world.old.has_forgotten }
     ensures only { IfErr result (λ fault. (fault ≡ Disorder) ⊎ (fault ≡ Memory)) }
 {
-    let may_be_refused = asks_to_join(&event);
+    let may_be_refused = asks_the_master(&event);
     match world.step(event) {
         Ok(did) => judge(may_be_refused, did),
         Err(_) => Err(AuditFault::Memory),

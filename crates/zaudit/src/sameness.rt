@@ -174,7 +174,7 @@ fn is_same_reply(a: &Reply, b: &Reply) -> bool
         (Reply::Opened(a, s), Reply::Opened(b, t)) => a == b && s == t,
         (Reply::Pinged, Reply::Pinged) => true,
         (Reply::Closed, Reply::Closed) => true,
-        (Reply::Ticked(a, s), Reply::Ticked(b, t)) => a == b && s == t,
+        (Reply::Ticked(a, s, x), Reply::Ticked(b, t, y)) => a == b && s == t && x == y,
         (Reply::Data(a, s), Reply::Data(b, t)) => is_same_data(a, b) && s == t,
         (Reply::Exists(a), Reply::Exists(b)) => a == b,
         (Reply::Children(a), Reply::Children(b)) => are_same_names(a.as_slice(), b.as_slice()),

@@ -8,6 +8,8 @@ pub enum Deed {
     Gets,
     Retries,
     Joins(u8),
+    Retires,
+    Leaves,
     Halts,
 }
 
@@ -75,6 +77,12 @@ pub const IDLE_RETRY: &[Step] = &[(2, 1, Deed::Retries)];
 
 /// The master refuses a join, and the server is halted: both in their places.
 pub const REFUSED_JOIN: &[Step] = &[(0, 1, Deed::Joins(1)), (1, 2, Deed::Halts)];
+
+/// The master keeps its last server, and the server is halted: both in their places.
+pub const KEPT: &[Step] = &[(0, 1, Deed::Retires), (1, 2, Deed::Halts)];
+
+/// The server leaves without an order.
+pub const LEAVES_UNASKED: &[Step] = &[(1, 1, Deed::Leaves)];
 
 /// The server takes on after it was halted.
 pub const AFTER_THE_HALT: &[Step] = &[

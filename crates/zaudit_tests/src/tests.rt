@@ -1,8 +1,8 @@
 //! What the audit says of each table.
 
 use crate::stories::{
-    AFTER_THE_HALT, BORDERS, FROM_NOBODY, HONEST, IDLE_RETRY, ONE_STAMP_TWICE, REFUSED_JOIN, SEEN,
-    SERVER_CALLS, Seen, Step, TOO_EARLY,
+    AFTER_THE_HALT, BORDERS, FROM_NOBODY, HONEST, IDLE_RETRY, KEPT, LEAVES_UNASKED,
+    ONE_STAMP_TWICE, REFUSED_JOIN, SEEN, SERVER_CALLS, Seen, Step, TOO_EARLY,
 };
 use crate::traces::{traces, verdict};
 use std::alloc::Global;
@@ -32,6 +32,7 @@ fn runs_in_order_are_ok(rt: HostRuntime) -> Result<(), Fail> {
             (HONEST, SEEN, None, "ok"),
             (BORDERS, SEEN, None, "ok"),
             (REFUSED_JOIN, &[], None, "ok"),
+            (KEPT, &[], None, "ok"),
         ],
     )
 }
@@ -61,6 +62,7 @@ fn what_is_out_of_its_place_is_disorder(rt: HostRuntime) -> Result<(), Fail> {
             (FROM_NOBODY, &[], None, "disorder"),
             (SERVER_CALLS, &[], None, "disorder"),
             (IDLE_RETRY, &[], None, "disorder"),
+            (LEAVES_UNASKED, &[], None, "disorder"),
             (AFTER_THE_HALT, &[], None, "disorder"),
         ],
     )

@@ -40,6 +40,8 @@ fn act(alloc: Global, deed: Deed) -> Result<Act, Fail> {
         Deed::Gets => Ok(Act::Began(gets(alloc)?)),
         Deed::Retries => Ok(Act::Retried),
         Deed::Joins(_) => Ok(Act::Joined(server(1))),
+        Deed::Retires => Ok(Act::Retired(server(1))),
+        Deed::Leaves => Ok(Act::Left),
         Deed::Halts => Ok(Act::Halted),
     }
 }

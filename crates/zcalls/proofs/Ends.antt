@@ -17,7 +17,8 @@ use Rattle.ztree.specs.Tree.{Tree, Nodes, Sessions, Path, parent_of, with_change
 use Rattle.ztree.specs.Sessions.{without_nodes, without_session, without_sessions, due_sessions}
 use Rattle.ztree.specs.Lawful.{AllNodes}
 use Rattle.ztree.proofs.Sorted.{paths_total, both_parts, is_less}
-use Rattle.ztree.proofs.Maps.{get-remove-elsewhere, get-removed}
+use Rattle.ztree.proofs.Maps.{has_some, get-remove-elsewhere, get-removed}
+use Rattle.ztree.proofs.StaleGone.{CanAllGo, others-can_go}
 use Rattle.ztree.proofs.Ephemerals.{first_is_there, ephemerals-dropped}
 use Rattle.ztree.proofs.Ending.{all_entries}
 use Rattle.zcalls.specs.Bounds.{IsWithin}
@@ -63,7 +64,7 @@ one_fewer nodes path n e =
     omega (arith, some, less)
 
 -- a node that goes leaves room for the others
-dropped-room : (raises : ℕ) (t : Tree) (path : Path) (n : Node) → finite.get t.nodes path ≡ Some n → RoomForEnds raises t.nodes → RoomForEnds raises (without_node t path).nodes
+pub dropped-room : (raises : ℕ) (t : Tree) (path : Path) (n : Node) → finite.get t.nodes path ≡ Some n → RoomForEnds raises t.nodes → RoomForEnds raises (without_node t path).nodes
 -- a node that goes leaves room for the others
 dropped-room raises t path n e room =
     subst (λ len. AllNodes (CanLose raises len) (without_node t path).nodes) (sym (len-changed_at (finite.remove t.nodes path) (parent_of path) (without_child (t.zxid + 1))))
@@ -82,6 +83,23 @@ all_dropped-room raises id [] t all room = room
 all_dropped-room raises id (path ∷ paths) t all room =
     let first = first_is_there id t.nodes path paths all in
     all_dropped-room raises id paths (without_node t path) (ephemerals-dropped id t path paths all) (dropped-room raises t path first.0 first.1 room)
+
+-- nodes that can all go leave room for the others
+pub leaves-room : (raises : ℕ) (paths : List Path) (t : Tree) → CanAllGo t.nodes paths → RoomForEnds raises t.nodes → RoomForEnds raises (without_nodes t paths).nodes
+leaves-room raises [] t can room = room
+leaves-room raises (path ∷ paths) t can room =
+    let n = has_some (finite.get t.nodes path) can.there.0 in
+    leaves-room raises paths (without_node t path) (others-can_go t path paths can) (dropped-room raises t path n.0 n.1 room)
+
+-- no more nodes can go than there are
+pub few-leaves : (paths : List Path) (t : Tree) → CanAllGo t.nodes paths → length paths ≤ finite.len t.nodes
+few-leaves [] t can = omega arith
+few-leaves (path ∷ paths) t can =
+    let n = has_some (finite.get t.nodes path) can.there.0 in
+    let rest = few-leaves paths (without_node t path) (others-can_go t path paths can) in
+    let one = one_fewer t.nodes path n.0 n.1 in
+    let same = len-changed_at (finite.remove t.nodes path) (parent_of path) (without_child (t.zxid + 1)) in
+    omega (arith, rest, one, same)
 
 pub ended-room : (raises : ℕ) (t : Tree) (id : ℕ) → RoomForEnds raises t.nodes → RoomForEnds raises (without_session t id).nodes
 ended-room raises t id room = all_dropped-room raises id (ephemerals t.nodes id) t refl room
@@ -108,7 +126,7 @@ pub record Ends (t u : Tree) : Type 0 where
   pub time : u.time ≡ t.time
   pub sessions : (id : ℕ) (s : Session) → finite.get u.sessions id ≡ Some s → finite.get t.sessions id ≡ Some s
 
-all_dropped-ends : (paths : List Path) (t : Tree) → Ends t (without_nodes t paths)
+pub all_dropped-ends : (paths : List Path) (t : Tree) → Ends t (without_nodes t paths)
 all_dropped-ends [] t = record { zxid = refl; time = refl; sessions = λ id s e. e }
 all_dropped-ends (path ∷ paths) t = let more = all_dropped-ends paths (without_node t path) in record { zxid = more.zxid; time = more.time; sessions = more.sessions }
 

@@ -25,9 +25,10 @@ use Rattle.zcalls.specs.declared.reply.PartReply.TheVariants.{Created, Deleted, 
 use Rattle.zcalls.specs.declared.reply.Reply.{Reply}
 use Rattle.zcalls.specs.declared.reply.Reply.TheVariants as reply
 use Rattle.zcalls.specs.Change.{part_reply_of}
-use Rattle.zcalls.specs.Part.{create_step, delete_step, set_step, check_step, part_step, told_as_part, create_refusals, delete_refusals, made_path, is_sequential, owner_of, unless_refused, on_version, has_other_version, with_node_set, is_gone}
+use Rattle.zcalls.specs.Part.{create_step, delete_step, set_step, check_step, part_step, told_as_part, create_refusals, delete_refusals, made_path, is_sequential, owner_of, ttl_of, unless_refused, on_version, has_other_version, with_node_set, is_gone}
 use Rattle.zcalls.specs.Multi.{Run, behind, and_then, run}
-use Rattle.zcalls.specs.Step.{step, update_result, change_result, multi_result, granted_timeout, tick_result, is_exhausted}
+use Rattle.zcalls.specs.Step.{step, update_result, change_result, multi_result, granted_timeout, tick_result, after_tick, is_busy, is_exhausted, stale_next}
+use Rattle.zcalls.proofs.Ticks.{counted-nodes}
 use Rattle.zcalls.specs.CallRuns.{after_calls, Done, and_done, parts_done, where_done, update_done, call_done, calls_done, through}
 
 -- what is kept by the parts that calls do and by each node that goes, is kept by all calls: a call of a session does no
@@ -45,12 +46,12 @@ module _ {S : Type 0} (next : S → Part → PartReply → S) (Inv : S → Nodes
 
   -- what a create, a delete, a set and a check leave
   pub create-leaves : (s : S) (t : Tree) (client : ℕ) (create : ToCreate) → let made = made_path t.nodes create.kind create.path in
-      (first_that_holds (create_refusals t client create) ≡ None → Inv (next s (part_of.Create create) (Created made)) (with_node t made create.bytes (owner_of create.kind) (is_sequential create.kind)).nodes)
+      (first_that_holds (create_refusals t client create) ≡ None → Inv (next s (part_of.Create create) (Created made)) (with_node t made create.bytes (owner_of create.kind) (ttl_of create.kind) (is_sequential create.kind)).nodes)
       → LeavesDone s (part_of.Create create) (part_step t client (part_of.Create create))
   unfolding create_step
   create-leaves s t client create left =
       let made = made_path t.nodes create.kind create.path in
-      told_unless s (part_of.Create create) (first_that_holds (create_refusals t client create)) (with_node t made create.bytes (owner_of create.kind) (is_sequential create.kind), change_reply.Created made) left
+      told_unless s (part_of.Create create) (first_that_holds (create_refusals t client create)) (with_node t made create.bytes (owner_of create.kind) (ttl_of create.kind) (is_sequential create.kind), change_reply.Created made) left
 
   pub delete-leaves : (s : S) (t : Tree) (client : ℕ) (delete : ToDelete)
       → Inv (next s (part_of.Delete delete) Deleted) (without_node t delete.path).nodes → LeavesDone s (part_of.Delete delete) (part_step t client (part_of.Delete delete))
@@ -137,9 +138,10 @@ module _ {S : Type 0} (next : S → Part → PartReply → S) (Inv : S → Nodes
     either s t why did true inv left = inv
     either s t why did false inv left = left
 
-    ticks : (s : S) (t : Tree) (ids : List ℕ) → Inv s t.nodes → Inv s (tick_result t ids).0.nodes
-    ticks s t [] inv = inv
-    ticks s t (id ∷ ids) inv = all_ended-keeps (id ∷ ids) s t inv
+    ticks : (s : S) (t : Tree) (ids : List ℕ) (paths : List Path) → Inv s t.nodes → Inv s (tick_result t ids paths).0.nodes
+    ticks s t ids paths inv =
+        let gone = all_dropped-keeps paths s (without_sessions t ids) (all_ended-keeps ids s t inv) in
+        subst (Inv s) (sym (counted-nodes (is_busy ids paths) (after_tick t ids paths))) gone
 
     update : (s : S) (t : Tree) (client : ℕ) (u : Update) → Inv s t.nodes → Inv (through next s (update_done t client u)) (update_result t client u).0.nodes
     unfolding parts_done
@@ -152,7 +154,7 @@ module _ {S : Type 0} (next : S → Part → PartReply → S) (Inv : S → Nodes
     update s t client (Ping session) inv = either s t (reply.Refused SessionGone) (with_renewed_session t session, reply.Pinged) (is_gone t.sessions client session) inv inv
     update s t client (Close session) inv =
         either s t (reply.Refused SessionGone) (with_next_zxid (without_session t session), reply.Closed) (is_gone t.sessions client session) inv (all_dropped-keeps (ephemerals t.nodes session) s t inv)
-    update s t client Tick inv = ticks s t (due_sessions t.sessions (t.time + 1)) inv
+    update s t client Tick inv = ticks s t (due_sessions t.sessions (t.time + 1)) (stale_next t) inv
 
     call : (s : S) (t : Tree) (client : ℕ) (u : Update) → Inv s t.nodes → Inv (through next s (call_done t client u)) (step t client u).0.nodes
     unfolding step

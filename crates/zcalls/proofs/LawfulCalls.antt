@@ -6,10 +6,11 @@ use Rattle.std.specs.FinMap as finite
 use Rattle.std.proofs.lemmas.Bool.Decides.{nat_tests}
 use Rattle.ztree.specs.declared.session.Session.{Session}
 use Rattle.ztree.specs.Tree.{Tree, opening_tree, with_next_zxid}
-use Rattle.ztree.specs.Sessions.{new_session, with_session, renewed_session, with_renewed_session, without_session, without_sessions, due_sessions, with_next_tick}
-use Rattle.ztree.specs.Lawful.{IsLawful, AllSessions}
+use Rattle.ztree.specs.Sessions.{new_session, with_session, renewed_session, with_renewed_session, without_session}
+use Rattle.ztree.specs.Lawful.{AllSessions}
 use Rattle.ztree.proofs.Lawful.{lawful_opening, lawful_raised, lawful_opened, lawful_touched}
-use Rattle.ztree.proofs.LawfulEnd.{lawful_ended, lawful_ticked}
+use Rattle.ztree.proofs.LawfulEnd.{lawful_ended}
+use Rattle.ztree.proofs.StaleGone.{lawful_ticked}
 use Rattle.zcalls.specs.declared.call.Part.{Part}
 use Rattle.zcalls.specs.declared.call.Update.{Update}
 use Rattle.zcalls.specs.declared.call.Update.TheVariants.{Create, Delete, SetData, Multi, Open, Ping, Close, Tick}
@@ -21,13 +22,14 @@ use Rattle.zcalls.specs.Part.{create_step, delete_step, set_step, is_gone}
 use Rattle.zcalls.specs.declared.change.Change.TheVariants as change
 use Rattle.zcalls.specs.declared.change.ChangeReply.{ChangeReply}
 use Rattle.zcalls.specs.Multi.{Run, run}
-use Rattle.zcalls.specs.Step.{step, update_result, change_result, multi_result, granted_timeout, tick_result, is_exhausted}
+use Rattle.zcalls.specs.Step.{step, update_result, change_result, multi_result, granted_timeout, tick_result, after_tick, is_busy, due_next, stale_next, is_exhausted}
+use Rattle.zcalls.proofs.Ticks.{gone-ends, counted}
 use Rattle.zcalls.specs.Bounds.{IsGranted}
 use Rattle.zcalls.specs.CallRuns.{after_calls}
 use Rattle.zcalls.specs.SessionLaws.{TreesAreLawful}
 use Rattle.zcalls.proofs.Bounds.{granted_more, no_sessions}
 use Rattle.zcalls.proofs.Owners.{is_own}
-use Rattle.zcalls.proofs.Ends.{ended-ends, all_ended-ends}
+use Rattle.zcalls.proofs.Ends.{ended-ends}
 use Rattle.zcalls.proofs.Timed.{put-granted, granted-least, granted-most}
 use Rattle.zcalls.proofs.LawfulParts.{IsGood, change-good, part-good}
 use Rattle.zcalls.proofs.Leaving.{Leaves, run-leaves}
@@ -79,15 +81,15 @@ closed-good t id s there good =
       λ q x e. subst (λ zxid. IsGranted zxid q x) (sym ends.zxid) (good.1 q x (ends.sessions q x e)),
     )
 
--- a tick: its sessions, and whether it makes a change, are told by those that are due
-ticked-good : (t : Tree) (ids : List ℕ) → due_sessions t.sessions (t.time + 1) ≡ ids → IsGood t → IsGood (tick_result t ids).0
-ticked-good t ids is good = by ids (subst (λ ids. IsLawful (with_next_tick (without_sessions t ids))) is (lawful_ticked t good.0))
-  where
-    by : (ids : List ℕ) → IsLawful (with_next_tick (without_sessions t ids)) → IsGood (tick_result t ids).0
-    by [] lawful = (lawful, good.1)
-    by (id ∷ ids) lawful =
-        let ends = all_ended-ends (id ∷ ids) t in
-        raised-good (with_next_tick (without_sessions t (id ∷ ids))) (lawful, λ q x e. subst (λ zxid. IsGranted zxid q x) (sym ends.zxid) (good.1 q x (ends.sessions q x e)))
+-- a tick: the sessions that are due, and the nodes that are stale
+ticked-good : (t : Tree) → IsGood t → IsGood (tick_result t (due_next t) (stale_next t)).0
+ticked-good t good =
+    let ends = gone-ends (due_next t) (stale_next t) t in
+    let left = after_tick t (due_next t) (stale_next t) in
+    counted IsGood (is_busy (due_next t) (stale_next t)) left (
+      lawful_ticked t good.0,
+      λ q x e. subst (λ zxid. IsGranted zxid q x) (sym ends.zxid) (good.1 q x (ends.sessions q x e)),
+    ) (raised-good left)
 
 changed-good : (t : Tree) (client : ℕ) (update : Update) → IsGood t → IsGood (update_result t client update).0
 changed-good t client (Create create) good = alone-good t (create_step t client create) good (change-good t client (change.Create create) good)
@@ -103,7 +105,7 @@ changed-good t client (Ping session) good =
 changed-good t client (Close session) good =
     either t (reply.Refused SessionGone) (with_next_zxid (without_session t session), reply.Closed) (is_gone t.sessions client session) good
     (λ here. let own = is_own t.sessions client session here in closed-good t session own.session own.there good)
-changed-good t client Tick good = ticked-good t (due_sessions t.sessions (t.time + 1)) refl good
+changed-good t client Tick good = ticked-good t good
 
 pub step-good : (t : Tree) (client : ℕ) (update : Update) → IsGood t → IsGood (step t client update).0
 unfolding step

@@ -18,7 +18,7 @@ use Rattle.zcalls.specs.declared.refusal.Refusal.{Refusal}
 use Rattle.zcalls.specs.declared.refusal.Refusal.TheVariants.{BadVersion}
 use Rattle.zcalls.specs.declared.reply.PartReply.{PartReply}
 use Rattle.zcalls.specs.declared.reply.PartReply.TheVariants.{Checked}
-use Rattle.zcalls.specs.Part.{create_step, delete_step, set_step, check_step, told_as_part, part_step, create_refusals, delete_refusals, made_path, is_sequential, owner_of, unless_refused, on_version, has_other_version, with_node_set}
+use Rattle.zcalls.specs.Part.{create_step, delete_step, set_step, check_step, told_as_part, part_step, create_refusals, delete_refusals, made_path, is_sequential, owner_of, ttl_of, unless_refused, on_version, has_other_version, with_node_set}
 use Rattle.zcalls.specs.Multi.{Run, behind, and_then, run}
 
 -- the tree that was left has this, where the step was done
@@ -39,17 +39,17 @@ module _ (P : Tree → Type 0) where
       by true = tt
       by false = left n refl
 
-  told_as_part-leaves : (did : Result (Tree × ChangeReply) Refusal) → Leaves P did → Leaves P (told_as_part did)
+  pub told_as_part-leaves : (did : Result (Tree × ChangeReply) Refusal) → Leaves P did → Leaves P (told_as_part did)
   told_as_part-leaves (Err refusal) left = tt
   told_as_part-leaves (Ok (t, reply)) left = left
 
   pub create_step-leaves : (t : Tree) (client : ℕ) (create : ToCreate)
-      → (first_that_holds (create_refusals t client create) ≡ None → P (with_node t (made_path t.nodes create.kind create.path) create.bytes (owner_of create.kind) (is_sequential create.kind)))
+      → (first_that_holds (create_refusals t client create) ≡ None → P (with_node t (made_path t.nodes create.kind create.path) create.bytes (owner_of create.kind) (ttl_of create.kind) (is_sequential create.kind)))
       → Leaves P (create_step t client create)
   unfolding create_step
   create_step-leaves t client create left =
       let made = made_path t.nodes create.kind create.path in
-      unless_refused-leaves (first_that_holds (create_refusals t client create)) (with_node t made create.bytes (owner_of create.kind) (is_sequential create.kind), Created made) left
+      unless_refused-leaves (first_that_holds (create_refusals t client create)) (with_node t made create.bytes (owner_of create.kind) (ttl_of create.kind) (is_sequential create.kind), Created made) left
 
   pub delete_step-leaves : (t : Tree) (delete : ToDelete)
       → (first_that_holds (delete_refusals t.nodes delete) ≡ None → P (without_node t delete.path)) → Leaves P (delete_step t delete)
@@ -80,7 +80,7 @@ module _ (P : Tree → Type 0) where
   behind-leaves reply (Err (number, refusal)) left = tt
   behind-leaves reply (Ok (t, replies)) left = left
 
-  and_then-leaves : (did : Result (Tree × PartReply) Refusal) (rest : Tree → Run) → Leaves P did → ((u : Tree) → P u → Leaves P (rest u)) → Leaves P (and_then did rest)
+  pub and_then-leaves : (did : Result (Tree × PartReply) Refusal) (rest : Tree → Run) → Leaves P did → ((u : Tree) → P u → Leaves P (rest u)) → Leaves P (and_then did rest)
   and_then-leaves (Err refusal) rest left each = tt
   and_then-leaves (Ok (t, reply)) rest left each = behind-leaves reply (rest t) (each t left)
 

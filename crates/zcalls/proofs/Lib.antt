@@ -7,6 +7,7 @@ pub mod Runs
 pub mod NodesAlone
 pub mod Bounds
 pub mod Ends
+pub mod Ticks
 pub mod Timed
 pub mod Refused
 pub mod InOrder
@@ -21,6 +22,8 @@ pub mod LawfulParts
 pub mod LawfulCalls
 pub mod Sessions
 pub mod Living
+pub mod Mortals
+pub mod Lasting
 pub mod Folds
 pub mod Traced
 pub mod Versions

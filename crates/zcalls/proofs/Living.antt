@@ -1,5 +1,5 @@
 -- A session lives its timeout.
-use Rattle.std.proofs.Common.{◌≡◌, ◌≢◌, ◌⊎◌, inl, inr, ℕ, ◌<◌, ◌≤◌, ◌+◌, Bool, true, false, cond, if◌then◌else◌, List, [], ◌∷◌, Option, Some, None, Result, Ok, Err, IsSome, refl, sym, ap, subst, ◌∙◌, arith}
+use Rattle.std.proofs.Common.{◌≡◌, ◌≢◌, ◌⊎◌, inl, inr, ℕ, ◌<◌, ◌≤◌, ◌+◌, Bool, true, false, cond, List, [], ◌∷◌, Option, Some, None, Result, Ok, Err, IsSome, refl, sym, ap, subst, ◌∙◌, arith}
 use Rattle.std.specs.Prelude.{is_some, nat_le}
 use Rattle.std.specs.Option.{option_map_or, option_and_then}
 use Rattle.std.specs.Cmp.{nat_cmp_total}
@@ -20,16 +20,17 @@ use Rattle.zcalls.specs.declared.refusal.Refusal.TheVariants.{SessionGone, TooMa
 use Rattle.zcalls.specs.declared.reply.Reply.TheVariants as reply
 use Rattle.zcalls.specs.Part.{create_step, delete_step, set_step, is_gone}
 use Rattle.zcalls.specs.Multi.{Run, run}
-use Rattle.zcalls.specs.Step.{step, update_result, change_result, multi_result, granted_timeout, tick_result, is_exhausted}
+use Rattle.zcalls.specs.Step.{step, update_result, change_result, multi_result, granted_timeout, tick_result, is_exhausted, stale_next}
 use Rattle.zcalls.specs.support.Alone.{ChangesNodesAlone}
-use Rattle.zcalls.specs.CallRuns.{after_calls, is_success}
+use Rattle.zcalls.specs.CallRuns.{after_calls}
 use Rattle.zcalls.specs.SessionLaws.{NeverCloses, one_if_tick, ticks_in, if_not_due, LivesItsTimeout}
 use Rattle.zcalls.proofs.NodesAlone.{change-alone, run-alone}
 use Rattle.zcalls.proofs.Leaving.{Leaves}
 use Rattle.zcalls.proofs.Owners.{is_own}
 use Rattle.zcalls.proofs.Taking.{changes_take_one_zxid}
-use Rattle.zcalls.proofs.Ends.{ended-ends, all_ended-ends}
-use Rattle.zcalls.proofs.Sessions.{or_refused, ticked-sessions, ticked-told}
+use Rattle.zcalls.proofs.Ends.{ended-ends}
+use Rattle.zcalls.proofs.Sessions.{or_refused}
+use Rattle.zcalls.proofs.Ticks.{ticked-sessions, ticked-time}
 use Rattle.zcalls.proofs.LawfulCalls.{after-good}
 
 -- a client's session of that timeout lives for more than so many ticks yet
@@ -129,33 +130,29 @@ module _ (client timeout id : ℕ) where
             later = rw (ended-ends t key).time is.later;
           }
 
-  ticked-time : (t : Tree) (ids : List ℕ) → (tick_result t ids).0.time ≡ t.time + 1
-  ticked-time t [] = refl
-  ticked-time t (first ∷ ids) = ap (λ time. time + 1) (all_ended-ends (first ∷ ids) t).time
-
   not_due : (deadline tick : ℕ) → tick < deadline → nat_le deadline tick ≡ false
   not_due deadline tick later = grind (arith, nat_tests)
 
   -- a tick that isn't refused
-  ticked-in : (k : ℕ) (t : Tree) → In (1 + k) t → In k (tick_result t (due_sessions t.sessions (t.time + 1))).0
+  ticked-in : (k : ℕ) (t : Tree) → In (1 + k) t → In k (tick_result t (due_sessions t.sessions (t.time + 1)) (stale_next t)).0
   ticked-in k t is =
       let ids = due_sessions t.sessions (t.time + 1) in
       let later = is.later in
       let stays = not_due is.session.deadline (t.time + 1) (omega (arith, later)) in
       record {
         session = is.session;
-        there = ap (λ (m : Sessions). finite.get m id) (ticked-sessions t ids)
+        there = ap (λ (m : Sessions). finite.get m id) (ticked-sessions t ids (stale_next t))
             ∙ sessions-due_ended t (t.time + 1) id
             ∙ ap (option_and_then (if_not_due (t.time + 1))) is.there
             ∙ ap (λ b. cond b None (Some is.session)) stays;
         client = is.client;
         timeout = is.timeout;
-        later = rw (ticked-time t ids) (omega (arith, later));
+        later = rw (ticked-time t ids (stale_next t)) (omega (arith, later));
       }
 
   tick_counts : (t : Tree) (caller : ℕ) → is_exhausted t Tick ≡ false → one_if_tick t caller Tick ≡ 1
   unfolding step
-  tick_counts t caller left = rw left (ap (λ r. if is_success r then 1 else 0) (ticked-told t (due_sessions t.sessions (t.time + 1))))
+  tick_counts t caller left = rw left refl
 
   -- one call, where the session has more ticks left than this call and so many more
   module _ (t : Tree) (caller k : ℕ) (short : k < timeout) (another : id ≢ t.zxid + 1) where

@@ -1,5 +1,5 @@
 -- Whom a node belongs to, as it is tested.
-use Rattle.std.proofs.Common.{◌≡◌, inl, inr, ℕ, true, false, Option, Some, None, IsSome, refl, ap, arith}
+use Rattle.std.proofs.Common.{◌≡◌, ◌⊎◌, inl, inr, ℕ, true, false, Option, Some, None, IsSome, refl, ap, arith}
 use Rattle.std.specs.Prelude.{not, is_some, ◌==◌}
 use Rattle.std.specs.Option.{option_map_or}
 use Rattle.std.specs.FinMap as finite
@@ -9,8 +9,8 @@ use Rattle.ztree.specs.declared.session.Session.{Session}
 use Rattle.ztree.specs.Tree.{Nodes, Sessions, Path, has_node}
 use Rattle.ztree.specs.Lawful.{IsPersistent, IsOwner}
 use Rattle.zcalls.specs.declared.call.Kind.{Kind}
-use Rattle.zcalls.specs.declared.call.Kind.TheVariants.{Persistent, PersistentSequential, Ephemeral, EphemeralSequential}
-use Rattle.zcalls.specs.Part.{node_has, is_owned, is_gone, has_no_owner, owner_of}
+use Rattle.zcalls.specs.declared.call.Kind.TheVariants.{Persistent, PersistentSequential, PersistentWithTtl, PersistentSequentialWithTtl, Ephemeral, EphemeralSequential}
+use Rattle.zcalls.specs.Part.{node_has, is_owned, is_gone, has_no_owner, owner_of, ttl_of}
 
 -- who isn't owned by a session is owned by nobody
 nobody : (owner : ℕ) → not (owner == 0) ≡ false → owner ≡ 0
@@ -48,5 +48,16 @@ session_there sessions client id here = ap is_some (is_own sessions client id he
 pub owner_lives : (sessions : Sessions) (client : ℕ) (kind : Kind) → has_no_owner sessions client kind ≡ false → IsOwner sessions (owner_of kind)
 owner_lives sessions client Persistent here = inl refl
 owner_lives sessions client PersistentSequential here = inl refl
+owner_lives sessions client (PersistentWithTtl ttl) here = inl refl
+owner_lives sessions client (PersistentSequentialWithTtl ttl) here = inl refl
 owner_lives sessions client (Ephemeral session) here = inr (session_there sessions client session here)
 owner_lives sessions client (EphemeralSequential session) here = inr (session_there sessions client session here)
+
+-- no kind has both an owner and a time to live
+pub one_end : (kind : Kind) → (ttl_of kind ≡ 0) ⊎ (owner_of kind ≡ 0)
+one_end Persistent = inl refl
+one_end PersistentSequential = inl refl
+one_end (PersistentWithTtl ttl) = inr refl
+one_end (PersistentSequentialWithTtl ttl) = inr refl
+one_end (Ephemeral session) = inl refl
+one_end (EphemeralSequential session) = inl refl

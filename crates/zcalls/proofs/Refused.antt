@@ -1,8 +1,8 @@
 -- A refused call leaves the tree.
-use Rattle.std.proofs.Common.{◌≡◌, ℕ, ◌+◌, Bool, true, false, if◌then◌else◌, List, [], ◌∷◌, Option, Some, None, Result, Ok, Err, length, refl, sym, ap, ◌∙◌}
+use Rattle.std.proofs.Common.{◌≡◌, ℕ, ◌+◌, Bool, true, false, if◌then◌else◌, List, Option, Some, None, Result, Ok, Err, length, refl, sym, ap, ◌∙◌}
 use Rattle.std.specs.Prelude.{nat_le}
 use Rattle.std.specs.FinMap as finite
-use Rattle.ztree.specs.Tree.{Tree, children, stat_of, with_next_zxid}
+use Rattle.ztree.specs.Tree.{Tree, children, stat_of, with_next_zxid, Path}
 use Rattle.ztree.specs.Sessions.{with_session, with_renewed_session, without_session, due_sessions}
 use Rattle.ztree.specs.declared.node.Node.{Node}
 use Rattle.ztree.specs.declared.node.Stat.{Stat}
@@ -17,7 +17,7 @@ use Rattle.zcalls.specs.declared.reply.Reply.{Reply}
 use Rattle.zcalls.specs.declared.reply.Reply.TheVariants as reply
 use Rattle.zcalls.specs.Part.{create_step, delete_step, set_step, is_gone}
 use Rattle.zcalls.specs.Multi.{Run, run}
-use Rattle.zcalls.specs.Step.{step, query_reply, update_result, change_result, multi_result, granted_timeout, open_result, session_result, tick_result, is_exhausted, on_node}
+use Rattle.zcalls.specs.Step.{step, query_reply, update_result, change_result, multi_result, granted_timeout, open_result, session_result, tick_result, is_exhausted, stale_next, on_node}
 use Rattle.zcalls.specs.Laws.{RefusedChangesNothing, RefusedMultiChangesNothing, CountsTheNames}
 
 -- no change that was done answers a refusal
@@ -70,13 +70,11 @@ on_session-no_multi : (t : Tree) (client session : ℕ) (did : Tree × Reply) (n
 on_session-no_multi t client session did number refusal isnt =
     refused_or t SessionGone did (λ did. did.1 ≡ reply.MultiRefused number refusal → ⊥) (λ e. cc) isnt (is_gone t.sessions client session)
 
-tick_is_not_refused : (t : Tree) (ids : List ℕ) (refusal : Refusal) → (tick_result t ids).1 ≡ reply.Refused refusal → ⊥
-tick_is_not_refused t [] refusal e = cc
-tick_is_not_refused t (id ∷ ids) refusal e = cc
+tick_is_not_refused : (t : Tree) (ids : List ℕ) (paths : List Path) (refusal : Refusal) → (tick_result t ids paths).1 ≡ reply.Refused refusal → ⊥
+tick_is_not_refused t ids paths refusal e = cc
 
-tick_is_no_multi : (t : Tree) (ids : List ℕ) (number : ℕ) (refusal : Refusal) → (tick_result t ids).1 ≡ reply.MultiRefused number refusal → ⊥
-tick_is_no_multi t [] number refusal e = cc
-tick_is_no_multi t (id ∷ ids) number refusal e = cc
+tick_is_no_multi : (t : Tree) (ids : List ℕ) (paths : List Path) (number : ℕ) (refusal : Refusal) → (tick_result t ids paths).1 ≡ reply.MultiRefused number refusal → ⊥
+tick_is_no_multi t ids paths number refusal e = cc
 
 changed-refused : (t : Tree) (client : ℕ) (update : Update) (refusal : Refusal) → (update_result t client update).1 ≡ reply.Refused refusal → (update_result t client update).0 ≡ t
 changed-refused t client (Create create) refusal e = alone-refused t (create_step t client create) refusal e
@@ -86,7 +84,7 @@ changed-refused t client (Multi parts) refusal e = together-refused t (run t cli
 changed-refused t client (Open ticks) refusal e = with_session-refused t client (granted_timeout ticks) refusal e
 changed-refused t client (Ping session) refusal e = on_session-refused t client session (with_renewed_session t session, reply.Pinged) refusal (λ e. cc) e
 changed-refused t client (Close session) refusal e = on_session-refused t client session (with_next_zxid (without_session t session), reply.Closed) refusal (λ e. cc) e
-changed-refused t client Tick refusal e = absurd (tick_is_not_refused t (due_sessions t.sessions (t.time + 1)) refusal e)
+changed-refused t client Tick refusal e = absurd (tick_is_not_refused t (due_sessions t.sessions (t.time + 1)) (stale_next t) refusal e)
 
 changed-no_multi : (t : Tree) (client : ℕ) (update : Update) (number : ℕ) (refusal : Refusal) → (update_result t client update).1 ≡ reply.MultiRefused number refusal → (update_result t client update).0 ≡ t
 changed-no_multi t client (Create create) number refusal e = alone-no_multi t (create_step t client create) number refusal e
@@ -96,7 +94,7 @@ changed-no_multi t client (Multi parts) number refusal e = together-no_multi t (
 changed-no_multi t client (Open ticks) number refusal e = absurd (with_session-no_multi t client (granted_timeout ticks) number refusal e)
 changed-no_multi t client (Ping session) number refusal e = absurd (on_session-no_multi t client session (with_renewed_session t session, reply.Pinged) number refusal (λ e. cc) e)
 changed-no_multi t client (Close session) number refusal e = absurd (on_session-no_multi t client session (with_next_zxid (without_session t session), reply.Closed) number refusal (λ e. cc) e)
-changed-no_multi t client Tick number refusal e = absurd (tick_is_no_multi t (due_sessions t.sessions (t.time + 1)) number refusal e)
+changed-no_multi t client Tick number refusal e = absurd (tick_is_no_multi t (due_sessions t.sessions (t.time + 1)) (stale_next t) number refusal e)
 
 pub refused_changes_nothing : RefusedChangesNothing
 unfolding step

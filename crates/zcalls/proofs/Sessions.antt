@@ -1,5 +1,5 @@
 -- How sessions begin and end.
-use Rattle.std.proofs.Common.{◌≡◌, ◌≢◌, ◌⊎◌, inl, inr, ℕ, ◌≤◌, ◌+◌, Bool, true, false, cond, if◌then◌else◌, List, [], ◌∷◌, length, Option, Some, None, Result, Ok, Err, refl, sym, ap, ◌∙◌, arith}
+use Rattle.std.proofs.Common.{◌≡◌, ◌≢◌, ◌⊎◌, inl, inr, ℕ, ◌≤◌, ◌+◌, Bool, true, false, cond, if◌then◌else◌, Option, Some, None, Result, Ok, Err, refl, sym, ap, ◌∙◌, arith}
 use Rattle.std.specs.Prelude.{nat_le}
 use Rattle.std.specs.Option.{option_map_or, option_and_then}
 use Rattle.std.specs.Cmp.{nat_cmp_total}
@@ -8,7 +8,7 @@ use Rattle.std.specs.FinMap.{nat_cmp-IsAntisymmetric}
 use Rattle.std.proofs.lemmas.Bool.Decides.{nat_tests}
 use Rattle.ztree.specs.declared.session.Session.{Session}
 use Rattle.ztree.specs.Tree.{Tree, Sessions, with_next_zxid}
-use Rattle.ztree.specs.Sessions.{new_session, with_session, renewed_session, with_renewed_session, without_session, without_sessions, due_sessions}
+use Rattle.ztree.specs.Sessions.{new_session, with_session, renewed_session, with_renewed_session, without_session, due_sessions}
 use Rattle.ztree.proofs.Maps.{none_some, same_or_other, get-insert-here, get-insert-elsewhere, get-remove-elsewhere}
 use Rattle.ztree.proofs.Ending.{sessions-due_ended}
 use Rattle.zcalls.specs.declared.change.Change.TheVariants as change
@@ -21,7 +21,8 @@ use Rattle.zcalls.specs.declared.reply.Reply.{Reply}
 use Rattle.zcalls.specs.declared.reply.Reply.TheVariants as reply
 use Rattle.zcalls.specs.Part.{create_step, delete_step, set_step, is_gone}
 use Rattle.zcalls.specs.Multi.{Run, run}
-use Rattle.zcalls.specs.Step.{step, update_result, change_result, multi_result, granted_timeout, open_result, tick_result, is_exhausted}
+use Rattle.zcalls.specs.Step.{step, update_result, change_result, multi_result, granted_timeout, open_result, tick_result, is_exhausted, stale_next}
+use Rattle.zcalls.proofs.Ticks.{ticked-sessions}
 use Rattle.zcalls.specs.SessionLaws.{IsOwnClose, IsItsTick, EndsOnlySo, if_not_due, TickEndsTheDue, IsFresh, OpenAndPingRenew}
 use Rattle.zcalls.specs.support.Alone.{ChangesNodesAlone}
 use Rattle.zcalls.proofs.NodesAlone.{change-alone, run-alone}
@@ -41,20 +42,11 @@ pub together-sessions : (t : Tree) (did : Run) → Leaves (ChangesNodesAlone t) 
 together-sessions t (Err (number, refusal)) left = refl
 together-sessions t (Ok (u, replies)) left = left.sessions
 
--- a tick leaves the sessions that its ends leave, and tells how many it ended
-pub ticked-sessions : (t : Tree) (ids : List ℕ) → (tick_result t ids).0.sessions ≡ (without_sessions t ids).sessions
-ticked-sessions t [] = refl
-ticked-sessions t (id ∷ ids) = refl
-
-pub ticked-told : (t : Tree) (ids : List ℕ) → (tick_result t ids).1 ≡ reply.Ticked (t.time + 1) (length ids)
-ticked-told t [] = refl
-ticked-told t (id ∷ ids) = refl
-
 pub tick_ends_the_due : TickEndsTheDue
 unfolding step
 tick_ends_the_due t client left = rw left (
-  λ id. ap (λ (sessions : Sessions). finite.get sessions id) (ticked-sessions t (due_sessions t.sessions (t.time + 1))) ∙ sessions-due_ended t (t.time + 1) id,
-  ticked-told t (due_sessions t.sessions (t.time + 1)),
+  λ id. ap (λ (sessions : Sessions). finite.get sessions id) (ticked-sessions t (due_sessions t.sessions (t.time + 1)) (stale_next t)) ∙ sessions-due_ended t (t.time + 1) id,
+  refl,
 )
 
 module _ (t : Tree) (client id : ℕ) (s : Session) (there : finite.get t.sessions id ≡ Some s) where
@@ -101,11 +93,11 @@ module _ (t : Tree) (client id : ℕ) (s : Session) (there : finite.get t.sessio
   is_due tick true is gone = grind (arith, nat_tests)
   is_due tick false is gone = cc
 
-  ticked-ends : is_exhausted t Tick ≡ false → finite.get (tick_result t (due_sessions t.sessions (t.time + 1))).0.sessions id ≡ None → Ends Tick
+  ticked-ends : is_exhausted t Tick ≡ false → finite.get (tick_result t (due_sessions t.sessions (t.time + 1)) (stale_next t)).0.sessions id ≡ None → Ends Tick
   ticked-ends left gone =
       let told = sym (ap (option_and_then (if_not_due (t.time + 1))) there)
       ∙ sym (sessions-due_ended t (t.time + 1) id)
-      ∙ ap (λ (sessions : Sessions). finite.get sessions id) (sym (ticked-sessions t (due_sessions t.sessions (t.time + 1))))
+      ∙ ap (λ (sessions : Sessions). finite.get sessions id) (sym (ticked-sessions t (due_sessions t.sessions (t.time + 1)) (stale_next t)))
       ∙ gone in
       inr (refl, left, is_due (t.time + 1) (nat_le s.deadline (t.time + 1)) refl told)
 

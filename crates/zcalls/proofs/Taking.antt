@@ -1,10 +1,9 @@
 -- A call takes one zxid where it makes a change, and else none.
-use Rattle.std.proofs.Common.{◌≡◌, ℕ, ◌+◌, Bool, true, false, if◌then◌else◌, List, [], ◌∷◌, length, Result, Ok, Err, refl, ap, arith}
-use Rattle.std.specs.Prelude.{nat_le, nat_lt}
+use Rattle.std.proofs.Common.{◌≡◌, ℕ, ◌+◌, Bool, true, false, if◌then◌else◌, List, length, Result, Ok, Err, refl, ap, arith}
+use Rattle.std.specs.Prelude.{nat_le}
 use Rattle.std.specs.FinMap as finite
-use Rattle.std.proofs.lemmas.Bool.Decides.{nat_tests}
-use Rattle.ztree.specs.Tree.{Tree, with_next_zxid}
-use Rattle.ztree.specs.Sessions.{with_session, with_renewed_session, without_session, without_sessions, due_sessions, with_next_tick}
+use Rattle.ztree.specs.Tree.{Tree, with_next_zxid, Path}
+use Rattle.ztree.specs.Sessions.{with_session, with_renewed_session, without_session, due_sessions}
 use Rattle.zcalls.specs.declared.change.Change.TheVariants as change
 use Rattle.zcalls.specs.declared.change.ChangeReply.{ChangeReply}
 use Rattle.zcalls.specs.declared.change.ChangeReply.TheVariants.{Created, Deleted, Set}
@@ -18,11 +17,12 @@ use Rattle.zcalls.specs.declared.reply.Reply.{Reply}
 use Rattle.zcalls.specs.declared.reply.Reply.TheVariants as reply
 use Rattle.zcalls.specs.Part.{create_step, delete_step, set_step, is_gone}
 use Rattle.zcalls.specs.Multi.{Run, run}
-use Rattle.zcalls.specs.Step.{step, update_result, change_result, multi_result, granted_timeout, tick_result, is_exhausted}
+use Rattle.zcalls.specs.Step.{step, update_result, change_result, multi_result, granted_timeout, tick_result, after_tick, counted_if, is_busy, is_exhausted, stale_next}
+use Rattle.zcalls.proofs.Ticks.{gone-ends}
 use Rattle.zcalls.specs.CallRuns.{is_change, ChangesTakeOneZxid}
 use Rattle.zcalls.proofs.NodesAlone.{change-alone, run-alone}
 use Rattle.zcalls.proofs.Leaving.{Leaves}
-use Rattle.zcalls.proofs.Ends.{ended-ends, all_ended-ends}
+use Rattle.zcalls.proofs.Ends.{ended-ends}
 
 -- what a call did, and how many zxids it took
 abbrev Takes : Tree → Tree × Reply → Type 0
@@ -57,11 +57,12 @@ together-takes : (t : Tree) (did : Run) → Leaves (ChangesNodesAlone t) did →
 together-takes t (Err (number, refusal)) left = unchanged t t (reply.MultiRefused number refusal) refl refl
 together-takes t (Ok (u, replies)) left = changes t u (reply.Multi replies) refl left.zxid
 
-ticked-takes : (t : Tree) (ids : List ℕ) → Takes t (tick_result t ids)
-ticked-takes t [] = unchanged t (with_next_tick t) (reply.Ticked (t.time + 1) 0) refl refl
-ticked-takes t (id ∷ ids) =
-    let some : nat_lt 0 (length (id ∷ ids)) ≡ true = grind (arith, nat_tests) in
-    changes t (with_next_tick (without_sessions t (id ∷ ids))) (reply.Ticked (t.time + 1) (length (id ∷ ids))) some (all_ended-ends (id ∷ ids) t).zxid
+ticked-takes : (t : Tree) (ids : List ℕ) (paths : List Path) → Takes t (tick_result t ids paths)
+ticked-takes t ids paths = by (is_busy ids paths) refl
+  where
+    by : (b : Bool) → is_busy ids paths ≡ b → Takes t (counted_if b (after_tick t ids paths), reply.Ticked (t.time + 1) (length ids) (length paths))
+    by true some = changes t (after_tick t ids paths) (reply.Ticked (t.time + 1) (length ids) (length paths)) some (gone-ends ids paths t).zxid
+    by false none = unchanged t (after_tick t ids paths) (reply.Ticked (t.time + 1) (length ids) (length paths)) none (gone-ends ids paths t).zxid
 
 changed-takes : (t : Tree) (client : ℕ) (update : Update) → Takes t (update_result t client update)
 changed-takes t client (Create create) = alone-takes t (create_step t client create) (change-alone t client (change.Create create))
@@ -77,7 +78,7 @@ changed-takes t client (Ping session) =
 changed-takes t client (Close session) =
     either t (reply.Refused SessionGone) (with_next_zxid (without_session t session), reply.Closed) (is_gone t.sessions client session) refl
     (changes t (without_session t session) reply.Closed refl (ended-ends t session).zxid)
-changed-takes t client Tick = ticked-takes t (due_sessions t.sessions (t.time + 1))
+changed-takes t client Tick = ticked-takes t (due_sessions t.sessions (t.time + 1)) (stale_next t)
 
 pub changes_take_one_zxid : ChangesTakeOneZxid
 unfolding step

@@ -1,5 +1,5 @@
 -- What the calls of sessions leave of the bounds on a tree's numbers.
-use Rattle.std.proofs.Common.{◌≡◌, ◌≢◌, ◌⊎◌, inl, inr, ℕ, ◌+◌, ◌*◌, ◌^◌, ◌<◌, ◌≤◌, Bool, true, false, List, [], ◌∷◌, length, Option, Some, None, refl, arith}
+use Rattle.std.proofs.Common.{◌≡◌, ◌≢◌, ◌⊎◌, inl, inr, ℕ, ◌+◌, ◌*◌, ◌^◌, ◌<◌, ◌≤◌, Bool, true, false, List, Option, Some, None, refl, arith}
 use Rattle.std.specs.Prelude.{if◌then◌else◌, nat_lt}
 use Rattle.std.proofs.lemmas.Bool.Decides.{nat_tests}
 use Rattle.std.specs.Cmp.{nat_cmp_total}
@@ -7,15 +7,16 @@ use Rattle.std.specs.Option.{option_map_or}
 use Rattle.std.specs.FinMap as finite
 use Rattle.std.specs.FinMap.{nat_cmp-IsAntisymmetric}
 use Rattle.ztree.specs.declared.session.Session.{Session}
-use Rattle.ztree.specs.Tree.{Tree, Sessions, with_next_zxid}
-use Rattle.ztree.specs.Sessions.{new_session, with_session, renewed_session, with_renewed_session, without_session, without_sessions, with_next_tick}
+use Rattle.ztree.specs.Tree.{Tree, Path, Sessions, with_next_zxid}
+use Rattle.ztree.proofs.StaleGone.{CanAllGo}
+use Rattle.ztree.specs.Sessions.{new_session, with_session, renewed_session, with_renewed_session, without_session, without_sessions}
 use Rattle.ztree.specs.Lawful.{IsLawful, AllSessions}
 use Rattle.ztree.proofs.Maps.{get-inserted}
-use Rattle.zcalls.specs.Step.{granted_timeout, tick_result}
+use Rattle.zcalls.specs.Step.{granted_timeout, after_tick, is_busy}
 use Rattle.zcalls.specs.Bounds.{IsBounded, IsGranted}
-use Rattle.zcalls.specs.declared.reply.Reply.TheVariants as reply
 use Rattle.zcalls.proofs.Bounds.{within_more, granted_more, still_bounded}
-use Rattle.zcalls.proofs.Ends.{room_before, within_after, ended-room, all_ended-room, ended-ends, all_ended-ends}
+use Rattle.zcalls.proofs.Ends.{room_before, within_after, leaves-room, ended-room, all_ended-room, ended-ends}
+use Rattle.zcalls.proofs.Ticks.{gone-ends, idle}
 
 -- a session put under an id
 pub put-granted : (zxid : ℕ) (sessions : Sessions) (id : ℕ) (new : Session) → AllSessions (IsGranted zxid) sessions → IsGranted zxid id new → AllSessions (IsGranted zxid) (finite.insert sessions id new)
@@ -82,16 +83,17 @@ ended_bounded t id bounded lawful room =
     (within_after k (without_session t id).nodes (ended-room k t id (room_before (4096 * t.zxid) t.nodes bounded.counters lawful.few_nodes)))
     (rw ends.time bounded.time) ends.sessions
 
--- a tick that ends sessions: together they take at most 4,095 nodes
-pub ticked_bounded : (t : Tree) (ids : List ℕ) → IsBounded t → IsLawful t → t.zxid + 1 < 2 ^ 40 → t.time + 1 < 2 ^ 40 → IsBounded (with_next_zxid (with_next_tick (without_sessions t ids)))
-ticked_bounded t ids bounded lawful room early =
+-- a tick that ends sessions and removes nodes: together these are at most 4,095 nodes
+pub ticked_bounded : (t : Tree) (ids : List ℕ) (paths : List Path) → IsBounded t → IsLawful t → CanAllGo (without_sessions t ids).nodes paths → t.zxid + 1 < 2 ^ 40 → t.time + 1 < 2 ^ 40 → IsBounded (with_next_zxid (after_tick t ids paths))
+ticked_bounded t ids paths bounded lawful can room early =
     let k = 4096 * t.zxid + 4096 in
-    let ends = all_ended-ends ids t in
-    still_bounded t (with_next_tick (without_sessions t ids)) k bounded room (omega arith) ends.zxid
-    (within_after k (without_sessions t ids).nodes (all_ended-room k ids t (room_before (4096 * t.zxid) t.nodes bounded.counters lawful.few_nodes)))
+    let ends = gone-ends ids paths t in
+    still_bounded t (after_tick t ids paths) k bounded room (omega arith) ends.zxid
+    (within_after k (after_tick t ids paths).nodes (leaves-room k paths (without_sessions t ids) can (all_ended-room k ids t (room_before (4096 * t.zxid) t.nodes bounded.counters lawful.few_nodes))))
     (rw ends.time early) ends.sessions
 
--- what a tick does where some sessions are due
-pub ticked-some : (t : Tree) (ids : List ℕ) → 0 < length ids → tick_result t ids ≡ (with_next_zxid (with_next_tick (without_sessions t ids)), reply.Ticked (t.time + 1) (length ids))
-ticked-some t [] some = absurd (omega (arith, some))
-ticked-some t (id ∷ ids) some = refl
+-- a tick that ends no session and removes no node
+pub idle_bounded : (t : Tree) (ids : List ℕ) (paths : List Path) → IsBounded t → is_busy ids paths ≡ false → t.time + 1 < 2 ^ 40 → IsBounded (after_tick t ids paths)
+idle_bounded t ids paths bounded none early =
+    let empty = idle ids paths none in
+    rw (empty.0, empty.1) (record { zxid = bounded.zxid; time = early; counters = bounded.counters; sessions = bounded.sessions })

@@ -3,7 +3,7 @@ use Rattle.std.proofs.Common.{◌≡◌, ℕ, ◌+◌, Bool, true, false, if◌t
 use Rattle.std.specs.Prelude.{nat_le}
 use Rattle.std.specs.FinMap as finite
 use Rattle.ztree.specs.Lawful.{AllNodes}
-use Rattle.ztree.specs.Sessions.{with_session, with_renewed_session, without_nodes, without_session, without_sessions, due_sessions, with_next_tick}
+use Rattle.ztree.specs.Sessions.{with_session, with_renewed_session, without_nodes, without_session, without_sessions, due_sessions}
 use Rattle.ztree.specs.Tree.{Tree, Path, ephemerals, opening_tree, new_node, parent_of, with_child, without_child, with_data, with_node, without_node, with_data_at, with_next_zxid}
 use Rattle.zcalls.specs.declared.call.Part.{Part}
 use Rattle.zcalls.specs.declared.call.Update.{Update}
@@ -12,12 +12,13 @@ use Rattle.zcalls.specs.declared.refusal.Refusal.{Refusal}
 use Rattle.zcalls.specs.declared.refusal.Refusal.TheVariants.{SessionGone, TooManySessions, Exhausted}
 use Rattle.zcalls.specs.declared.reply.Reply.{Reply}
 use Rattle.zcalls.specs.declared.reply.Reply.TheVariants as reply
-use Rattle.zcalls.specs.Part.{change_step, create_step, delete_step, set_step, part_step, made_path, is_sequential, owner_of, is_gone}
+use Rattle.zcalls.specs.Part.{change_step, create_step, delete_step, set_step, part_step, made_path, is_sequential, owner_of, is_gone, ttl_of}
 use Rattle.zcalls.specs.declared.change.Change.{Change}
 use Rattle.zcalls.specs.declared.change.Change.TheVariants as change
 use Rattle.zcalls.specs.declared.change.ChangeReply.{ChangeReply}
 use Rattle.zcalls.specs.Multi.{Run, run}
-use Rattle.zcalls.specs.Step.{step, update_result, change_result, multi_result, granted_timeout, tick_result, is_exhausted}
+use Rattle.zcalls.specs.Step.{step, update_result, change_result, multi_result, granted_timeout, tick_result, after_tick, counted_if, is_busy, is_exhausted, stale_next}
+use Rattle.zcalls.proofs.Ticks.{idle}
 use Rattle.zcalls.specs.CallRuns.{after_calls, IsOlder, ZxidsRise}
 use Rattle.zcalls.proofs.Leaving.{Leaves, create_step-leaves, delete_step-leaves, set_step-leaves, part_step-leaves, run-leaves}
 use Rattle.zcalls.proofs.Taking.{changes_take_one_zxid}
@@ -27,12 +28,12 @@ use Rattle.zcalls.proofs.Bounds.{all_insert, all_remove, all_changed, no_nodes}
 abbrev IsDated : ℕ → Tree → Type 0
 IsDated zxid t = (t.zxid ≡ zxid) × AllNodes (IsOlder (zxid + 2)) t.nodes
 
-added-dated : (zxid : ℕ) (t : Tree) (path : Path) (bytes : List ℕ) (owner : ℕ) (sequential : Bool) → IsDated zxid t → IsDated zxid (with_node t path bytes owner sequential)
-added-dated zxid t path bytes owner sequential dated =
+added-dated : (zxid : ℕ) (t : Tree) (path : Path) (bytes : List ℕ) (owner ttl : ℕ) (sequential : Bool) → IsDated zxid t → IsDated zxid (with_node t path bytes owner ttl sequential)
+added-dated zxid t path bytes owner ttl sequential dated =
     let Old = IsOlder (zxid + 2) in
     let same = dated.0 in
-    let now : Old (new_node bytes owner (t.zxid + 1) t.time) = record { czxid = omega (arith, same); mzxid = omega (arith, same); pzxid = omega (arith, same) } in
-    let more = all_insert Old t.nodes path (new_node bytes owner (t.zxid + 1) t.time) dated.1 now in (
+    let now : Old (new_node bytes owner ttl (t.zxid + 1) t.time) = record { czxid = omega (arith, same); mzxid = omega (arith, same); pzxid = omega (arith, same) } in
+    let more = all_insert Old t.nodes path (new_node bytes owner ttl (t.zxid + 1) t.time) dated.1 now in (
       same,
       all_changed Old Old _ (parent_of path) (with_child (t.zxid + 1) sequential) more (λ n old. old)
           (λ n e. let old = more (parent_of path) n e in record { czxid = old.czxid; mzxid = old.mzxid; pzxid = omega (arith, same) }),
@@ -60,7 +61,7 @@ written-dated zxid t path bytes dated =
 change-dated : (zxid : ℕ) (t : Tree) (client : ℕ) (change : Change) → IsDated zxid t → Leaves (IsDated zxid) (change_step t client change)
 change-dated zxid t client (change.Create create) dated =
     create_step-leaves (IsDated zxid) t client create
-    (λ e. added-dated zxid t (made_path t.nodes create.kind create.path) create.bytes (owner_of create.kind) (is_sequential create.kind) dated)
+    (λ e. added-dated zxid t (made_path t.nodes create.kind create.path) create.bytes (owner_of create.kind) (ttl_of create.kind) (is_sequential create.kind) dated)
 change-dated zxid t client (change.Delete delete) dated = delete_step-leaves (IsDated zxid) t delete (λ e. dropped-dated zxid t delete.path dated)
 change-dated zxid t client (change.SetData set) dated = set_step-leaves (IsDated zxid) t set (written-dated zxid t set.path set.bytes dated)
 
@@ -105,9 +106,12 @@ together-settled : (t : Tree) (did : Run) → IsSettled t → Leaves (IsDated t.
 together-settled t (Err (number, refusal)) is dated = is
 together-settled t (Ok (u, replies)) is dated = settled t u dated
 
-ticked-settled : (t : Tree) (ids : List ℕ) → IsSettled t → IsSettled (tick_result t ids).0
-ticked-settled t [] is = is
-ticked-settled t (id ∷ ids) is = settled t (with_next_tick (without_sessions t (id ∷ ids))) (all_ended-dated t.zxid (id ∷ ids) t (later t is))
+ticked-settled : (t : Tree) (ids : List ℕ) (paths : List Path) → IsSettled t → IsSettled (tick_result t ids paths).0
+ticked-settled t ids paths is = by (is_busy ids paths) refl
+  where
+    by : (b : Bool) → is_busy ids paths ≡ b → IsSettled (counted_if b (after_tick t ids paths))
+    by true some = settled t (after_tick t ids paths) (all_dropped-dated t.zxid paths (without_sessions t ids) (all_ended-dated t.zxid ids t (later t is)))
+    by false none = let empty = idle ids paths none in rw (empty.0, empty.1) is
 
 -- what a call leaves is settled
 changed-settled : (t : Tree) (client : ℕ) (update : Update) → IsSettled t → IsSettled (update_result t client update).0
@@ -122,14 +126,14 @@ changed-settled t client (Ping session) is = either t (reply.Refused SessionGone
 changed-settled t client (Close session) is =
     either t (reply.Refused SessionGone) (with_next_zxid (without_session t session), reply.Closed) (is_gone t.sessions client session) is
     (settled t (without_session t session) (all_dropped-dated t.zxid (ephemerals t.nodes session) t (later t is)))
-changed-settled t client Tick is = ticked-settled t (due_sessions t.sessions (t.time + 1)) is
+changed-settled t client Tick is = ticked-settled t (due_sessions t.sessions (t.time + 1)) (stale_next t) is
 
 step-settled : (t : Tree) (client : ℕ) (update : Update) → IsSettled t → IsSettled (step t client update).0
 unfolding step
 step-settled t client update is = either t (reply.Refused Exhausted) (update_result t client update) (is_exhausted t update) is (changed-settled t client update is)
 
 opening-settled : IsSettled opening_tree
-opening-settled = all_insert (IsOlder 1) finite.empty [] (new_node [] 0 0 0) (no_nodes (IsOlder 1)) (record { czxid = lit< tt; mzxid = lit< tt; pzxid = lit< tt })
+opening-settled = all_insert (IsOlder 1) finite.empty [] (new_node [] 0 0 0 0) (no_nodes (IsOlder 1)) (record { czxid = lit< tt; mzxid = lit< tt; pzxid = lit< tt })
 
 calls-settled : (calls : List (ℕ × Update)) (t : Tree) → IsSettled t → IsSettled (after_calls t calls)
 calls-settled [] t is = is

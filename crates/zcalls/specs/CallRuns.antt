@@ -1,5 +1,5 @@
 -- Runs of calls from the opening tree, and what holds of each: the statements are contracts in `src/laws.rt`.
-use Rattle.std.specs.Prelude.{◌≡◌, ℕ, ◌<◌, ◌+◌, Bool, true, false, ◌&&◌, List, [], ◌∷◌, ◌++◌, Some, Result, Ok, Err, if◌then◌else◌, nat_lt}
+use Rattle.std.specs.Prelude.{◌≡◌, ℕ, ◌<◌, ◌+◌, Bool, true, false, ◌&&◌, ◌||◌, List, [], ◌∷◌, ◌++◌, Some, Result, Ok, Err, if◌then◌else◌, nat_lt}
 use Rattle.std.specs.List.{IsDistinct}
 use Rattle.std.specs.Ordering.{eq_by_cmp}
 use Rattle.std.specs.FinMap as finite
@@ -35,12 +35,12 @@ is_success (reply.Multi replies) = true
 is_success (reply.Opened session timeout) = true
 is_success reply.Pinged = true
 is_success reply.Closed = true
-is_success (reply.Ticked time ended) = true
+is_success (reply.Ticked time ended removed) = true
 is_success (reply.Data bytes stat) = true
 is_success (reply.Exists stat) = true
 is_success (reply.Children names) = true
 
--- the reply says that the call made a change: a ping makes none, and a tick only where it ends a session
+-- the reply says that the call made a change: a ping makes none, and a tick only where it ends a session or removes a node
 abbrev pub is_change : Reply → Bool
 is_change (reply.Refused refusal) = false
 is_change (reply.MultiRefused number refusal) = false
@@ -51,7 +51,7 @@ is_change (reply.Multi replies) = true
 is_change (reply.Opened session timeout) = true
 is_change reply.Pinged = false
 is_change reply.Closed = true
-is_change (reply.Ticked time ended) = nat_lt 0 ended
+is_change (reply.Ticked time ended removed) = nat_lt 0 ended || nat_lt 0 removed
 is_change (reply.Data bytes stat) = false
 is_change (reply.Exists stat) = false
 is_change (reply.Children names) = false

@@ -12,4 +12,5 @@ pub mod Bounds
 pub mod Laws
 pub mod CallRuns
 pub mod SessionLaws
+pub mod TtlLaws
 pub mod support

@@ -12,7 +12,7 @@ use Rattle.ztree.specs.declared.session.Session.{Session}
 use Rattle.ztree.specs.declared.limits.TheConstants.{MAX_NODES}
 use Rattle.zcalls.specs.declared.limits.TheConstants.{MAX_COUNTER}
 use Rattle.zcalls.specs.declared.call.Kind.{Kind}
-use Rattle.zcalls.specs.declared.call.Kind.TheVariants.{Persistent, PersistentSequential, Ephemeral, EphemeralSequential}
+use Rattle.zcalls.specs.declared.call.Kind.TheVariants.{Persistent, PersistentSequential, PersistentWithTtl, PersistentSequentialWithTtl, Ephemeral, EphemeralSequential}
 use Rattle.zcalls.specs.declared.call.Expected.{Expected}
 use Rattle.zcalls.specs.declared.call.Expected.TheVariants.{Any, Exactly}
 use Rattle.zcalls.specs.declared.call.Create.{Create}
@@ -57,6 +57,8 @@ is_spent n = nat_lt MAX_COUNTER n.seq
 abbrev pub is_sequential : Kind → Bool
 is_sequential Persistent = false
 is_sequential PersistentSequential = true
+is_sequential (PersistentWithTtl ttl) = false
+is_sequential (PersistentSequentialWithTtl ttl) = true
 is_sequential (Ephemeral session) = false
 is_sequential (EphemeralSequential session) = true
 
@@ -64,8 +66,19 @@ is_sequential (EphemeralSequential session) = true
 abbrev pub owner_of : Kind → ℕ
 owner_of Persistent = 0
 owner_of PersistentSequential = 0
+owner_of (PersistentWithTtl ttl) = 0
+owner_of (PersistentSequentialWithTtl ttl) = 0
 owner_of (Ephemeral session) = session
 owner_of (EphemeralSequential session) = session
+
+-- how many ticks the node is to live after a write of its data, or 0: for good
+abbrev pub ttl_of : Kind → ℕ
+ttl_of Persistent = 0
+ttl_of PersistentSequential = 0
+ttl_of (PersistentWithTtl ttl) = ttl
+ttl_of (PersistentSequentialWithTtl ttl) = ttl
+ttl_of (Ephemeral session) = 0
+ttl_of (EphemeralSequential session) = 0
 
 -- to this client the session is gone: it isn't there, or is another client's
 abbrev pub is_gone : Sessions → ℕ → ℕ → Bool
@@ -75,6 +88,8 @@ is_gone sessions client session = option_map_or (λ (s : Session). not (s.client
 abbrev pub has_no_owner : Sessions → ℕ → Kind → Bool
 has_no_owner sessions client Persistent = false
 has_no_owner sessions client PersistentSequential = false
+has_no_owner sessions client (PersistentWithTtl ttl) = false
+has_no_owner sessions client (PersistentSequentialWithTtl ttl) = false
 has_no_owner sessions client (Ephemeral session) = is_gone sessions client session
 has_no_owner sessions client (EphemeralSequential session) = is_gone sessions client session
 
@@ -129,7 +144,7 @@ unfoldable pub create_step : Tree → ℕ → Create → Result (Tree × ChangeR
 create_step t client create =
     let made = made_path t.nodes create.kind create.path in
     unless_refused (first_that_holds (create_refusals t client create))
-    (with_node t made create.bytes (owner_of create.kind) (is_sequential create.kind), Created made)
+    (with_node t made create.bytes (owner_of create.kind) (ttl_of create.kind) (is_sequential create.kind), Created made)
 
 -- a delete takes one node away, beneath which there is none
 unfoldable pub delete_step : Tree → Delete → Result (Tree × ChangeReply) Refusal

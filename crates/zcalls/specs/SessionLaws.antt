@@ -11,7 +11,7 @@ use Rattle.zcalls.specs.declared.call.Update.{Update}
 use Rattle.zcalls.specs.declared.call.Update.TheVariants.{Open, Ping, Close, Tick}
 use Rattle.zcalls.specs.declared.reply.Reply.TheVariants as reply
 use Rattle.zcalls.specs.Part.{node_has}
-use Rattle.zcalls.specs.Step.{step, is_exhausted}
+use Rattle.zcalls.specs.Step.{step, is_exhausted, stale_next}
 use Rattle.zcalls.specs.CallRuns.{after_calls, is_success}
 
 -- after any calls from the opening the tree is lawful: so each owner of a node is a session that lives
@@ -37,12 +37,12 @@ EndsOnlySo =
 abbrev pub if_not_due : ℕ → Session → Option Session
 if_not_due tick s = if nat_le s.deadline tick then None else Some s
 
--- a tick that isn't refused ends exactly the sessions whose deadline it reaches, and tells how many
+-- a tick that isn't refused ends exactly the sessions whose deadline it reaches, and tells how many, and how many nodes it removed
 abbrev pub TickEndsTheDue : Type 0
 TickEndsTheDue =
     (t : Tree) (client : ℕ) → is_exhausted t Tick ≡ false
     → ((id : ℕ) → finite.get (step t client Tick).0.sessions id ≡ option_and_then (if_not_due (t.time + 1)) (finite.get t.sessions id))
-    × ((step t client Tick).1 ≡ reply.Ticked (t.time + 1) (length (due_sessions t.sessions (t.time + 1))))
+    × ((step t client Tick).1 ≡ reply.Ticked (t.time + 1) (length (due_sessions t.sessions (t.time + 1))) (length (stale_next t)))
 
 -- the end of a session takes away exactly the nodes that it owns
 abbrev pub EndTakesItsOwn : Type 0

@@ -1,11 +1,12 @@
 -- The plain step: what each call does to the plain tree and answers. This is the sequential
 -- specification: the service as it would be if one machine did one call after the other.
--- ZooKeeper Programmer's Guide, "ZooKeeper Sessions" (a timeout is at least 2 ticks and at most 20) and "Ephemeral
--- Nodes"; whose a session is, and the limits, are this project's profile.
-use Rattle.std.specs.Prelude.{ℕ, ◌+◌, ◌-◌, Bool, Option, None, Some, Result, Ok, Err, if◌then◌else◌, nat_le, nat_lt, ◌||◌, false, List, [], ◌∷◌, length, codes}
+-- ZooKeeper Programmer's Guide, "ZooKeeper Sessions" (a timeout is at least 2 ticks and at most 20), "Ephemeral
+-- Nodes" and "TTL Nodes"; whose a session is, when a time to live is over, and the limits, are this project's profile.
+use Rattle.std.specs.Prelude.{ℕ, ◌+◌, ◌-◌, Bool, Option, None, Some, Result, Ok, Err, if◌then◌else◌, nat_le, nat_lt, ◌||◌, false, List, length, codes}
 use Rattle.std.specs.FinMap as finite
-use Rattle.ztree.specs.Tree.{Tree, children, stat_of, with_next_zxid}
-use Rattle.ztree.specs.Sessions.{with_session, with_renewed_session, without_session, without_sessions, due_sessions, with_next_tick}
+use Rattle.ztree.specs.Stale.{stale_nodes}
+use Rattle.ztree.specs.Tree.{Tree, Path, children, stat_of, with_next_zxid}
+use Rattle.ztree.specs.Sessions.{with_session, with_renewed_session, without_nodes, without_session, without_sessions, due_sessions, with_next_tick}
 use Rattle.ztree.specs.declared.node.Node.{Node}
 use Rattle.ztree.specs.declared.limits.TheConstants.{MAX_SESSIONS, ZXID_BOUND, TICK_BOUND}
 use Rattle.zcalls.specs.declared.limits.TheConstants.{MIN_TIMEOUT, MAX_TIMEOUT}
@@ -70,14 +71,29 @@ open_result t client timeout =
 abbrev pub session_result : Tree → ℕ → ℕ → Tree × Reply → Tree × Reply
 session_result t client session did = if is_gone t.sessions client session then (t, reply.Refused SessionGone) else did
 
--- a tick that ends these sessions, all by one change; where there are none, it makes no change
-abbrev pub tick_result : Tree → List ℕ → Tree × Reply
-tick_result t [] = (with_next_tick t, reply.Ticked (t.time + 1) 0)
-tick_result t (id ∷ ids) = (with_next_zxid (with_next_tick (without_sessions t (id ∷ ids))), reply.Ticked (t.time + 1) (length (id ∷ ids)))
+-- the tree after a tick that ends these sessions, and then removes these nodes
+abbrev pub after_tick : Tree → List ℕ → List Path → Tree
+after_tick t ids paths = with_next_tick (without_nodes (without_sessions t ids) paths)
+
+-- a tree, and one more change of it where it was changed
+abbrev pub counted_if : Bool → Tree → Tree
+counted_if changed t = if changed then with_next_zxid t else t
+
+-- there are sessions that end, or nodes that go
+abbrev pub is_busy : List ℕ → List Path → Bool
+is_busy ids paths = nat_lt 0 (length ids) || nat_lt 0 (length paths)
+
+-- a tick that ends these sessions, and then removes these nodes, all by one change; where there are none, it makes no change
+abbrev pub tick_result : Tree → List ℕ → List Path → Tree × Reply
+tick_result t ids paths = (counted_if (is_busy ids paths) (after_tick t ids paths), reply.Ticked (t.time + 1) (length ids) (length paths))
 
 -- the sessions whose deadline the next tick reaches
 abbrev pub due_next : Tree → List ℕ
 due_next t = due_sessions t.sessions (t.time + 1)
+
+-- the nodes that the next tick removes, as they stand before it
+abbrev pub stale_next : Tree → List Path
+stale_next t = stale_nodes t.nodes (t.time + 1)
 
 -- an update of a client, while there is a next number
 abbrev pub update_result : Tree → ℕ → Update → Tree × Reply
@@ -88,7 +104,7 @@ update_result t client (Multi parts) = multi_result t (run t client parts)
 update_result t client (Open ticks) = open_result t client (granted_timeout ticks)
 update_result t client (Ping session) = session_result t client session (with_renewed_session t session, reply.Pinged)
 update_result t client (Close session) = session_result t client session (with_next_zxid (without_session t session), reply.Closed)
-update_result t client Tick = tick_result t (due_next t)
+update_result t client Tick = tick_result t (due_next t) (stale_next t)
 
 -- an update of a client: the tree after it, and the reply
 unfoldable pub step : Tree → ℕ → Update → Tree × Reply

@@ -3,7 +3,7 @@
 use crate::call_number::CallNumber;
 use crate::multi::Multi;
 use zpath::Path;
-use ztree::{ClientId, Data, SessionId};
+use ztree::{ClientId, Data, SessionId, Ttl};
 
 /// How a node is made.
 #[derive(Clone, Copy, Debug, PartialEq, Eq)]
@@ -12,6 +12,12 @@ pub enum Kind {
     Persistent,
     /// It stays until it is deleted, and its name ends in ten digits of its parent's counter.
     PersistentSequential,
+    /// It stays until it is deleted, or until a tick finds that it has lived for so long since the last write of its
+    /// data, and has no children; it has the name that the call gives.
+    PersistentWithTtl(Ttl),
+    /// It stays until it is deleted, or until a tick finds that it has lived for so long since the last write of its
+    /// data, and has no children; its name ends in ten digits of its parent's counter.
+    PersistentSequentialWithTtl(Ttl),
     /// It belongs to the session of this id, goes when the session ends, and has the name that the
     /// call gives.
     Ephemeral(SessionId),
@@ -22,15 +28,17 @@ pub enum Kind {
 
 impl Kind {
     ghost use Rattle.std.specs.Prelude.{◌≡◌};
-    ghost use Rattle.zcalls.specs.Part.{is_sequential, owner_of};
+    ghost use Rattle.zcalls.specs.Part.{is_sequential, owner_of, ttl_of};
 
     /// Whether the parent's counter goes into the name.
     pub fn is_sequential(self) -> bool
         ensures { result ≡ is_sequential self }
     {
         match self {
-            Kind::Persistent | Kind::Ephemeral(_) => false,
-            Kind::PersistentSequential | Kind::EphemeralSequential(_) => true,
+            Kind::Persistent | Kind::PersistentWithTtl(_) | Kind::Ephemeral(_) => false,
+            Kind::PersistentSequential
+            | Kind::PersistentSequentialWithTtl(_)
+            | Kind::EphemeralSequential(_) => true,
         }
     }
 
@@ -39,8 +47,24 @@ impl Kind {
         ensures { result ≡ owner_of self }
     {
         match self {
-            Kind::Persistent | Kind::PersistentSequential => 0,
             Kind::Ephemeral(session) | Kind::EphemeralSequential(session) => session.number(),
+            Kind::Persistent
+            | Kind::PersistentSequential
+            | Kind::PersistentWithTtl(_)
+            | Kind::PersistentSequentialWithTtl(_) => 0,
+        }
+    }
+
+    /// How many ticks the node is to live after a write of its data; 0 where it is to stay.
+    pub fn ttl(self) -> u64
+        ensures { result ≡ ttl_of self }
+    {
+        match self {
+            Kind::PersistentWithTtl(ttl) | Kind::PersistentSequentialWithTtl(ttl) => ttl.ticks(),
+            Kind::Persistent
+            | Kind::PersistentSequential
+            | Kind::Ephemeral(_)
+            | Kind::EphemeralSequential(_) => 0,
         }
     }
 }

@@ -219,7 +219,7 @@ impl Reply {
             Reply::Opened(session, timeout) => Ok(Reply::Opened(*session, *timeout)),
             Reply::Pinged => Ok(Reply::Pinged),
             Reply::Closed => Ok(Reply::Closed),
-            Reply::Ticked(tick, ended) => Ok(Reply::Ticked(*tick, *ended)),
+            Reply::Ticked(tick, ended, removed) => Ok(Reply::Ticked(*tick, *ended, *removed)),
             Reply::Data(bytes, stat) => Ok(Reply::Data(bytes.copied(alloc)?, *stat)),
             Reply::Exists(stat) => Ok(Reply::Exists(*stat)),
             Reply::Children(names) => Ok(Reply::Children(names.copied(alloc)?)),

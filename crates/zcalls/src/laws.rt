@@ -6,6 +6,7 @@ ghost use Rattle.zcalls.specs.KeptLaws.{FirstEntriesAct, RetryChangesNothing, Ke
 ghost use Rattle.zcalls.specs.KeptLaws.{NoCallActsTwice, RepliesAreOfActs, RepliesStayUntilTheNext, OnlyActsCount, SameReplyEachTime};
 ghost use Rattle.zcalls.specs.Laws.{RefusedChangesNothing, RefusedMultiChangesNothing, CountsTheNames, ListsInOrder};
 ghost use Rattle.zcalls.specs.SessionLaws.{TreesAreLawful, EndsOnlySo, TickEndsTheDue, EndTakesItsOwn, OpenAndPingRenew, LivesItsTimeout};
+ghost use Rattle.zcalls.specs.TtlLaws.{TickRemovesTheStale, SetPutsOff, NobodyOwnsTheTimed, LastsUntilRemoved, TickTakesOneZxid};
 
 /// A refused call leaves the whole tree equal, and so does a multi that is refused in one of its parts.
 pub fn refused_calls_change_nothing()
@@ -30,7 +31,7 @@ pub fn zxids_rise()
 {}
 
 /// A call takes one zxid where it makes a change, and else none: a ping never, a tick only where it ends a
-/// session, a refused call never.
+/// session or removes a node, a refused call never.
 pub fn changes_take_one_zxid()
     ensures { ChangesTakeOneZxid }
 {}
@@ -76,6 +77,32 @@ pub fn open_and_ping_renew()
 /// A session that isn't closed, and since its open or a ping has had fewer ticks than its timeout, lives.
 pub fn sessions_live_their_timeout()
     ensures { LivesItsTimeout }
+{}
+
+/// A tick that isn't refused takes a node with a time to live exactly where it reaches the end of that time, and the node had
+/// no children before the tick: never before, and never one with children.
+pub fn a_tick_removes_the_stale()
+    ensures { TickRemovesTheStale }
+{}
+
+/// A successful set puts the end of its node off by the whole time to live.
+pub fn a_set_puts_off()
+    ensures { SetPutsOff }
+{}
+
+/// After any calls from the opening, a node with a time to live is no ephemeral.
+pub fn nobody_owns_the_timed()
+    ensures { NobodyOwnsTheTimed }
+{}
+
+/// A node that nobody owns, as one with a time to live, goes by no other call than a delete of it or a tick.
+pub fn the_unowned_last()
+    ensures { LastsUntilRemoved }
+{}
+
+/// A tick takes one zxid for all that it ends and removes, and none where there is nothing.
+pub fn a_tick_takes_one_zxid()
+    ensures { TickTakesOneZxid }
 {}
 
 /// Over any plain step, an entry of a number from 1 on acts where nothing is kept.

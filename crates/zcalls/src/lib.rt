@@ -25,4 +25,4 @@ pub use listed::{Names, Replies};
 pub use multi::Multi;
 pub use refusal::Refusal;
 pub use reply::{PartReply, Reply};
-pub use ztree::{ClientId, Data, SessionId, Stat};
+pub use ztree::{ClientId, Data, SessionId, Stat, Ttl};

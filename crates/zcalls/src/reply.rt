@@ -35,8 +35,8 @@ pub enum Reply {
     Pinged,
     /// The session was ended.
     Closed,
-    /// The clock shows this tick, which ended so many sessions.
-    Ticked(u64, usize),
+    /// The clock shows this tick, which ended so many sessions, and then removed so many nodes whose time to live was over.
+    Ticked(u64, usize, usize),
     /// The data of a node, and what is told of it.
     Data(Data, Stat),
     /// What is told of a node.

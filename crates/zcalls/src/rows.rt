@@ -1,9 +1,12 @@
 //! Worked rows of the definitions: each function's contract has some, and its body does nothing.
 
-ghost use Rattle.std.specs.Prelude.{◌≡◌, ℕ, List, [], ◌∷◌, true, false, Some, None, Ok, Err};
+ghost use Rattle.std.specs.Prelude.{◌≡◌, ◌+◌, ℕ, List, [], ◌∷◌, true, false, Some, None, Ok, Err};
 ghost use Rattle.std.specs.FinMap.{get};
 ghost use Rattle.ztree.specs.support.Samples.{a, some_node};
-ghost use Rattle.ztree.specs.Tree.{children, stat_with, without_node};
+ghost use Rattle.ztree.specs.Tree.{children, stat_with, without_node, with_next_zxid};
+ghost use Rattle.ztree.specs.Sessions.{without_session, with_next_tick};
+ghost use Rattle.zcalls.specs.declared.call.Kind.TheVariants.{Persistent, Ephemeral};
+ghost use Rattle.zcalls.specs.declared.call.Kind.TheVariants.{PersistentWithTtl, PersistentSequentialWithTtl};
 ghost use Rattle.zcalls.specs.declared.limits.TheConstants.{MAX_PARTS, MAX_COUNTER, MIN_TIMEOUT, MAX_TIMEOUT};
 ghost use Rattle.zcalls.specs.declared.limits.TheConstants.{MAX_CALL_NUMBER, MAX_RAISES};
 ghost use Rattle.zcalls.specs.declared.call.Expected.TheVariants.{Any, Exactly};
@@ -19,7 +22,7 @@ ghost use Rattle.zcalls.specs.declared.refusal.Refusal.TheVariants.{SequenceFull
 ghost use Rattle.zcalls.specs.declared.reply.PartReply.TheVariants.{Checked, Deleted};
 ghost use Rattle.zcalls.specs.declared.reply.Reply.TheVariants as reply;
 ghost use Rattle.zcalls.specs.declared.reply.Reply.TheVariants.{Refused, MultiRefused};
-ghost use Rattle.zcalls.specs.CallRuns.{is_success};
+ghost use Rattle.zcalls.specs.CallRuns.{is_success, is_change};
 ghost use Rattle.ztree.specs.Tree.{Tree, opening_tree};
 ghost use Rattle.zcalls.specs.declared.call.Query.{Query};
 ghost use Rattle.zcalls.specs.declared.call.Update.{Update};
@@ -27,8 +30,9 @@ ghost use Rattle.zcalls.specs.Kept.{nothing_kept};
 ghost use Rattle.zcalls.specs.PlainTree.{plain_tree};
 ghost use Rattle.zcalls.specs.Part.{create_refusals, delete_refusals, part_step};
 ghost use Rattle.zcalls.specs.Part.{has_other_version, is_spent, delete_step, set_step};
+ghost use Rattle.zcalls.specs.Part.{is_sequential, owner_of, ttl_of};
 ghost use Rattle.zcalls.specs.Multi.{run};
-ghost use Rattle.zcalls.specs.Step.{step, query_reply, is_exhausted, multi_result};
+ghost use Rattle.zcalls.specs.Step.{step, query_reply, is_exhausted, multi_result, tick_result};
 ghost use Rattle.zcalls.specs.support.Rows.{refusals};
 ghost use Rattle.zcalls.specs.support.Rows.{number_reply, counting_entry, creates, deletes, keeping, third_kept, answers};
 
@@ -124,12 +128,51 @@ pub fn successes()
     ensures opened { is_success (reply.Opened 1 2) ≡ true }
     ensures pinged { is_success reply.Pinged ≡ true }
     ensures closed { is_success reply.Closed ≡ true }
-    ensures ticked { is_success (reply.Ticked 1 0) ≡ true }
+    ensures ticked { is_success (reply.Ticked 1 0 0) ≡ true }
     ensures data { is_success (reply.Data [] (stat_with some_node 0)) ≡ true }
     ensures exists { is_success (reply.Exists (stat_with some_node 0)) ≡ true }
     ensures children { is_success (reply.Children []) ≡ true }
     ensures refused { is_success (Refused NoNode) ≡ false }
     ensures multi_refused { is_success (MultiRefused 1 NoNode) ≡ false }
+{}
+
+/// Which ticks make a change: those that end a session or remove a node.
+pub fn changes_of_ticks()
+    ensures idle { is_change (reply.Ticked 1 0 0) ≡ false }
+    ensures ends { is_change (reply.Ticked 1 1 0) ≡ true }
+    ensures removes { is_change (reply.Ticked 1 0 1) ≡ true }
+    ensures both { is_change (reply.Ticked 1 1 1) ≡ true }
+{}
+
+/// What a tick leaves and tells, by the sessions that end and the nodes that go: first the sessions, then the nodes, and one
+/// number for all of them.
+pub fn ticks_are_one_change()
+    ensures idle { (t : Tree) → tick_result t [] []
+        ≡ (with_next_tick t, reply.Ticked (t.time + 1) 0 0) }
+    ensures ends { (t : Tree) → tick_result t (7 ∷ []) []
+        ≡ (with_next_zxid (with_next_tick (without_session t 7)), reply.Ticked (t.time + 1) 1 0) }
+    ensures removes { (t : Tree) → tick_result t [] ((a ∷ []) ∷ [])
+        ≡ (
+          with_next_zxid (with_next_tick (without_node t (a ∷ []))),
+          reply.Ticked (t.time + 1) 0 1,
+        ) }
+    ensures both { (t : Tree) → tick_result t (7 ∷ []) ((a ∷ []) ∷ [])
+        ≡ (
+          with_next_zxid (with_next_tick (without_node (without_session t 7) (a ∷ []))),
+          reply.Ticked (t.time + 1) 1 1,
+        ) }
+{}
+
+/// What kinds with a time to live are made of.
+pub fn kinds_with_a_ttl()
+    ensures ttl { ttl_of (PersistentWithTtl 5) ≡ 5 }
+    ensures sequential_ttl { ttl_of (PersistentSequentialWithTtl 6) ≡ 6 }
+    ensures none { ttl_of Persistent ≡ 0 }
+    ensures ephemeral { ttl_of (Ephemeral 7) ≡ 0 }
+    ensures nobodys { owner_of (PersistentWithTtl 5) ≡ 0 }
+    ensures sequential_nobodys { owner_of (PersistentSequentialWithTtl 6) ≡ 0 }
+    ensures named { is_sequential (PersistentWithTtl 5) ≡ false }
+    ensures numbered { is_sequential (PersistentSequentialWithTtl 6) ≡ true }
 {}
 
 /// The limits, as numbers.

@@ -10,9 +10,9 @@ use crate::order::Settings;
 pub fn words_ask_for_servers()
     ensures none { text_asked (codes "zk script") ≡ Ok (Settings.Script 1) }
     ensures three { text_asked (codes "zk script --servers 3") ≡ Ok (Settings.Script 3) }
-    ensures most { text_asked (codes "zk script --servers=8") ≡ Ok (Settings.Script 8) }
+    ensures most { text_asked (codes "zk script --servers=16") ≡ Ok (Settings.Script 16) }
     ensures too_few { text_asked (codes "zk script --servers 0") ≡ Err WordsFault.BadWords }
-    ensures too_many { text_asked (codes "zk script --servers 9") ≡ Err WordsFault.BadWords }
+    ensures too_many { text_asked (codes "zk script --servers 17") ≡ Err WordsFault.BadWords }
     ensures a_byte_more { text_asked (codes "zk script --servers 257") ≡ Err WordsFault.BadWords }
     ensures nothing { text_asked (codes "zk") ≡ Err WordsFault.BadWords }
 {}

@@ -4,6 +4,7 @@ use mathlib.Core.Option.{some, some-ne-none}
 use lib.ListN.{get_elem?}
 use Rattle.crossbeam_channel.specs.Fifo.{Pushes, Pops, Forks, Merges, Learns}
 use Rattle.atomic_table.proofs.Lists.{at_set, at_snoc}
+use Rattle.zconsole.specs.declared.order.Order.{Order}
 use Rattle.zconsole.specs.declared.rule.Log.{Log}
 use Rattle.zconsole.specs.Orders.{log, Fits, InOrder}
 
@@ -23,7 +24,7 @@ all_set F views port w mine others j u e = ⊎_elim (λ (x : (j ≡ port) × (w 
 pub begins : InOrder [] (log true true [] [] ∷ [])
 begins = (0, 0, [], [], refl, all_set (Fits 0 0 [] []) (log true true [] [] ∷ []) 0 (log true true [] []) ((λ _. (refl, refl)), λ _. (refl, refl)) (λ j u other e. absurd (other (at_end [] _ u j (λ x. some-ne-none u (sym x)) e))))
 
-pub sends : (n port : ℕ) (v : Log) (x : ℕ) → v.puts ≡ true → Pushes InOrder n port v x (λ w. w ≡ log v.puts v.takes (v.put ++ x ∷ []) v.taken)
+pub sends : (n port : ℕ) (v : Log) (x : Order) → v.puts ≡ true → Pushes InOrder n port v x (λ w. w ≡ log v.puts v.takes (v.put ++ x ∷ []) v.taken)
 sends n port v x may items views _ h at = let w : Log = log v.puts v.takes (v.put ++ x ∷ []) v.taken in let mine = h.5 port v at in let sent = h.2 ++ x ∷ [] in (
   w,
   (

@@ -1,16 +1,17 @@
 -- What a clause says of the two ends of the console's channel.
-use Rattle.std.specs.Prelude.{◌≡◌, List, ℕ}
+use Rattle.std.specs.Prelude.{◌≡◌, List}
 use Rattle.crossbeam_channel.specs.Claims.{view}
 use Rattle.crossbeam_channel.specs.Ends.{sends_on, receives_on}
+use Rattle.zconsole.specs.declared.order.Order.{Order}
 use Rattle.zconsole.specs.declared.ends.Console.{Console}
 use Rattle.zconsole.specs.declared.ends.Inbox.{Inbox}
 
 -- what was ordered, oldest first
-abbrev pub ordered : Console → List ℕ
+abbrev pub ordered : Console → List Order
 ordered c = (view c.pass).put
 
 -- what was taken, oldest first
-abbrev pub taken_of : Inbox → List ℕ
+abbrev pub taken_of : Inbox → List Order
 taken_of i = (view i.pass).taken
 
 -- the two ends of one channel

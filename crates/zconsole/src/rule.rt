@@ -3,22 +3,22 @@
 ghost use Rattle.std.specs.Prelude.{◌≡◌, true, false, [], ◌∷◌, ◌++◌};
 ghost use Rattle.zconsole.specs.Orders.{log, InOrder};
 
+use crate::order::Order;
 use crossbeam_channel::protocol::{Join, Lesson, Outcome, Protocol, Split};
 use std::collections::LinkedList;
-use zprotocol::ServerId;
 
 /// What an end may do, and what it has put or taken. No value of it is made.
 pub struct Log {
     pub puts: bool,
     pub takes: bool,
-    pub put: LinkedList<ServerId>,
-    pub taken: LinkedList<ServerId>,
+    pub put: LinkedList<Order>,
+    pub taken: LinkedList<Order>,
 }
 
 /// First in, first out.
 pub struct Fifo;
 
-impl Protocol<ServerId, Log> for Fifo {
+impl Protocol<Order, Log> for Fifo {
     ghost use Rattle.std.specs.Prelude.{true, []};
     ghost use Rattle.zconsole.specs.Orders.{log, InOrder};
 
@@ -51,28 +51,28 @@ impl Join<Log> for Roles {
 /// One more is put.
 pub struct Puts;
 
-impl Outcome<ServerId, Log> for Puts {
+impl Outcome<Order, Log> for Puts {
     ghost then = { λ v x w. w ≡ log v.puts v.takes (v.put ++ x ∷ []) v.taken };
 }
 
-impl Lesson<ServerId, Log> for Puts {
+impl Lesson<Order, Log> for Puts {
     ghost fact = { λ v items. Unit {0} };
 }
 
 /// One more is taken.
 pub struct Takes;
 
-impl Outcome<ServerId, Log> for Takes {
+impl Outcome<Order, Log> for Takes {
     ghost then = { λ v x w. w ≡ log v.puts v.takes v.put (v.taken ++ x ∷ []) };
 }
 
-impl Lesson<ServerId, Log> for Takes {
+impl Lesson<Order, Log> for Takes {
     ghost fact = { λ v items. Unit {0} };
 }
 
 /// What both ends together know.
 pub struct Law;
 
-impl Lesson<ServerId, Log> for Law {
+impl Lesson<Order, Log> for Law {
     ghost fact = { λ v items. v.put ≡ v.taken ++ items };
 }

@@ -4,7 +4,7 @@ use Rattle.std.specs.Option.{option_map}
 use Rattle.std.specs.Str.{bytes_eq}
 use Rattle.zprotocol.specs.declared.process.Process.{Process}
 use Rattle.zlines.specs.declared.line.Line.{Line}
-use Rattle.zlines.specs.declared.line.Line.TheVariants.{Call, Begin, Take, Ignore, Fail, Join, Retry, Settle}
+use Rattle.zlines.specs.declared.line.Line.TheVariants.{Call, Begin, Take, Ignore, Fail, Join, Retire, Retry, Settle}
 use Rattle.zlines.specs.declared.request.LineFault.TheVariants.{BadLine}
 use Rattle.zlines.specs.LineWords.{Word, words_of, is_malformed, client_of}
 use Rattle.zlines.specs.ProcessWords.{server_of, client_process_of, process_of}
@@ -41,6 +41,10 @@ fail_in words = option_map Fail (lone_server_in words)
 abbrev pub join_in : List Word → Option Line
 join_in words = option_map Join (lone_server_in words)
 
+-- retire SERVER
+abbrev pub retire_in : List Word → Option Line
+retire_in words = option_map Retire (lone_server_in words)
+
 -- retry CLIENT, which is named as a process
 abbrev pub retry_in : List Word → Option Line
 retry_in (client ∷ []) = option_map Retry (client_process_of client)
@@ -66,6 +70,7 @@ line_in (word ∷ words) =
     if bytes_eq word (codes "ignore") then read_of (ignore_in words) else
     if bytes_eq word (codes "fail") then read_of (fail_in words) else
     if bytes_eq word (codes "join") then read_of (join_in words) else
+    if bytes_eq word (codes "retire") then read_of (retire_in words) else
     if bytes_eq word (codes "retry") then read_of (retry_in words) else
     if bytes_eq word (codes "settle") then read_of (settle_in words) else
     then_read (read_of (client_of word)) (λ client. client_line_in client words)

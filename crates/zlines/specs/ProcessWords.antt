@@ -13,7 +13,7 @@ abbrev pub server_numbered : Option ℕ → Option ℕ
 server_numbered None = None
 server_numbered (Some n) = if nat_lt 0 n && nat_le n MAX_SERVERS then Some n else None
 
--- the server that a word names: `s1` to `s8`
+-- the server that a word names: `s1` to `s16`
 abbrev pub server_of : Word → Option ℕ
 server_of word = if starts_with nat_eq word (codes "s") then server_numbered (number_of (drop 1 word)) else None
 

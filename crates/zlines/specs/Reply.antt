@@ -1,5 +1,5 @@
 -- The texts of replies: this project's own profile. Data in them is base64 by RFC 4648, section 4.
-use Rattle.std.specs.Prelude.{ℕ, List, [], ◌∷◌, ◌++◌, length, codes}
+use Rattle.std.specs.Prelude.{ℕ, List, [], ◌∷◌, ◌++◌, length, codes, nat_lt, if◌then◌else◌}
 use Rattle.std.specs.Fmt.{decimal}
 use Rattle.std.specs.List.{flat_map}
 use Rattle.zpath.specs.Grammar.{text_of}
@@ -44,6 +44,10 @@ parts_text (reply ∷ replies) = part_text reply ++ flat_map next_part_text repl
 abbrev pub spaced_name : List ℕ → List ℕ
 spaced_name name = 32 ∷ name
 
+-- how many nodes a tick removed, where it removed some
+abbrev pub removed_text : ℕ → List ℕ
+removed_text removed = if nat_lt 0 removed then codes " removed " ++ decimal removed else []
+
 -- the line of a reply
 abbrev pub reply_text : Reply → List ℕ
 reply_text (Created path) = codes "ok " ++ text_of path
@@ -53,7 +57,7 @@ reply_text (Multi replies) = codes "ok multi " ++ parts_text replies
 reply_text (Opened session timeout) = codes "ok session " ++ decimal session ++ codes " timeout " ++ decimal timeout
 reply_text Pinged = codes "ok pinged"
 reply_text Closed = codes "ok closed"
-reply_text (Ticked time ended) = codes "ok tick " ++ decimal time ++ codes " ended " ++ decimal ended
+reply_text (Ticked time ended removed) = (codes "ok tick " ++ decimal time ++ codes " ended " ++ decimal ended) ++ removed_text removed
 reply_text (Data bytes stat) = codes "ok data " ++ data_text bytes ++ codes " stat" ++ stat_text stat
 reply_text (Exists stat) = codes "ok stat" ++ stat_text stat
 reply_text (Children names) = codes "ok " ++ decimal (length names) ++ flat_map spaced_name names

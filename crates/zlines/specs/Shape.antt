@@ -1,11 +1,12 @@
 -- The shape of a part, and of a multi: what is looked at before any path or data is.
 -- Words are taken from the left, as many as the verb wants, so that `;` can stand where a path or data is wanted.
-use Rattle.std.specs.Prelude.{ℕ, zero, suc, nat_eq, List, [], ◌∷◌, drop, codes, Option, None, Some, if◌then◌else◌}
-use Rattle.std.specs.Option.{option_map}
+use Rattle.std.specs.Prelude.{ℕ, zero, suc, nat_eq, nat_lt, nat_le, ◌&&◌, List, [], ◌∷◌, drop, codes, Option, None, Some, if◌then◌else◌}
+use Rattle.std.specs.Option.{option_map, option_and_then}
 use Rattle.std.specs.List.{starts_with}
 use Rattle.std.specs.Str.{bytes_eq}
+use Rattle.ztree.specs.declared.limits.TheConstants.{MAX_TTL}
 use Rattle.zcalls.specs.declared.call.Kind.{Kind}
-use Rattle.zcalls.specs.declared.call.Kind.TheVariants.{Persistent, PersistentSequential, Ephemeral, EphemeralSequential}
+use Rattle.zcalls.specs.declared.call.Kind.TheVariants.{Persistent, PersistentSequential, PersistentWithTtl, PersistentSequentialWithTtl, Ephemeral, EphemeralSequential}
 use Rattle.zcalls.specs.declared.call.Expected.{Expected}
 use Rattle.zcalls.specs.declared.call.Expected.TheVariants.{Any, Exactly}
 use Rattle.zlines.specs.declared.part_words.PartWords.{PartWords}
@@ -14,12 +15,27 @@ use Rattle.zlines.specs.declared.part_words.ChangeWords.{ChangeWords}
 use Rattle.zlines.specs.declared.part_words.ChangeWords.TheVariants.{Create, Delete, SetData}
 use Rattle.zlines.specs.LineWords.{Word, number_of}
 
--- how a node of a session is to be made: `e:` or `es:`, and the session's number
+-- a number of ticks that is a time to live
+abbrev pub in_ttl_range : ℕ → Option ℕ
+in_ttl_range ticks = if nat_lt 0 ticks && nat_le ticks MAX_TTL then Some ticks else None
+
+-- the time to live that a word spells
+abbrev pub ttl_of : Word → Option ℕ
+ttl_of word = option_and_then in_ttl_range (number_of word)
+
+-- how a node with a time to live is to be made: `t:` or `ts:`, and its ticks
+abbrev pub timed_kind_of : Word → Option Kind
+timed_kind_of word =
+    if starts_with nat_eq word (codes "t:") then option_map PersistentWithTtl (ttl_of (drop 2 word)) else
+    if starts_with nat_eq word (codes "ts:") then option_map PersistentSequentialWithTtl (ttl_of (drop 3 word)) else
+    None
+
+-- how a node of a session is to be made: `e:` or `es:`, and the session's number; or one with a time to live
 abbrev pub owned_kind_of : Word → Option Kind
 owned_kind_of word =
     if starts_with nat_eq word (codes "e:") then option_map Ephemeral (number_of (drop 2 word)) else
     if starts_with nat_eq word (codes "es:") then option_map EphemeralSequential (number_of (drop 3 word)) else
-    None
+    timed_kind_of word
 
 -- how a node is to be made
 unfoldable pub kind_of : Word → Option Kind

@@ -19,6 +19,8 @@ pub enum Line {
     Fail(ServerId),
     /// A server is to join.
     Join(ServerId),
+    /// A member is ordered to leave.
+    Retire(ServerId),
     /// A client sends its outstanding call once more.
     Retry(ClientId),
     /// Messages are delivered until none is left.

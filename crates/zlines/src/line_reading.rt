@@ -3,7 +3,7 @@
 ghost use Rattle.std.specs.Prelude.{◌≡◌, Ok, IfOk, IfErr, IfNone, IfSome, true, false};
 ghost use Rattle.zlines.specs.Request.{IsUnread};
 ghost use Rattle.zlines.specs.Line.{line_of, line_in, client_line_in, take_in, ignore_in, fail_in};
-ghost use Rattle.zlines.specs.Line.{join_in, retry_in, settle_in, link_in, lone_server_in};
+ghost use Rattle.zlines.specs.Line.{join_in, retire_in, retry_in, settle_in, link_in, lone_server_in};
 ghost use Rattle.zlines.specs.LineWords.{is_malformed};
 ghost use Rattle.zlines.specs.support.Spaced.{is_spaced};
 
@@ -75,6 +75,7 @@ fn read_words(alloc: Global, mut words: Cursor) -> Result<Line, LineFault>
         "ignore" => ignore_line(words).ok_or(LineFault::BadLine),
         "fail" => fail_line(words).ok_or(LineFault::BadLine),
         "join" => join_line(words).ok_or(LineFault::BadLine),
+        "retire" => retire_line(words).ok_or(LineFault::BadLine),
         "retry" => retry_line(words).ok_or(LineFault::BadLine),
         "settle" => settle_line(words).ok_or(LineFault::BadLine),
         _ => match client_in(word) {
@@ -129,6 +130,13 @@ fn join_line(words: Cursor) -> Option<Line>
     ensures { result ≡ join_in words.entry }
 {
     Some(Line::Join(lone_server(words)?))
+}
+
+// retire SERVER
+fn retire_line(words: Cursor) -> Option<Line>
+    ensures { result ≡ retire_in words.entry }
+{
+    Some(Line::Retire(lone_server(words)?))
 }
 
 // retry CLIENT

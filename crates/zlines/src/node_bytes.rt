@@ -20,7 +20,7 @@ pub(crate) enum DataFault {
     Memory,
 }
 
-/// The data that a word spells: `-` for no bytes, else strict base64 of 1 to 4,096 bytes.
+/// The data that a word spells: `-` for no bytes, else strict base64 of 1 to 65,536 bytes.
 pub(crate) fn read_data(alloc: Global, word: &str) -> Result<Data, DataFault>
     ensures found { IfOk result (λ bytes. data_of word.now ≡ Some bytes) }
     ensures none { IfErr result (λ fault. fault ≡ Bad → data_of word.now ≡ None) }

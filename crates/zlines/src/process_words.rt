@@ -33,7 +33,7 @@ pub(crate) fn process_in(word: &str) -> Option<Process>
     Some(Process::Client(client_process_in(word)?))
 }
 
-/// The server that a word names: `s1` to `s8`.
+/// The server that a word names: `s1` to `s16`.
 pub(crate) fn server_in(word: &str) -> Option<ServerId>
     ensures { result ≡ server_of word.now }
 {

@@ -7,7 +7,7 @@ ghost use Rattle.std.specs.List.{flat_map};
 ghost use Rattle.zcalls.specs.Step.{refusal_name};
 ghost use Rattle.zpath.specs.Grammar.{text_of};
 ghost use Rattle.zlines.specs.LineWords.{data_text};
-ghost use Rattle.zlines.specs.Reply.{reply_text, stat_text, parts_text, part_text, next_part_text, spaced_number, spaced_name};
+ghost use Rattle.zlines.specs.Reply.{reply_text, removed_text, stat_text, parts_text, part_text, next_part_text, spaced_number, spaced_name};
 
 use crate::node_bytes::write_data;
 use itoa::Buffer;
@@ -31,8 +31,9 @@ pub fn write_reply(reply: &Reply, out: &mut String) -> Result<(), Memory>
         }
         Reply::Pinged => write_text("ok pinged", out),
         Reply::Closed => write_text("ok closed", out),
-        Reply::Ticked(time, ended) => {
-            write_counts("ok tick ", *time, " ended ", *ended as u64, out)
+        Reply::Ticked(time, ended, removed) => {
+            write_counts("ok tick ", *time, " ended ", *ended as u64, out)?;
+            write_removed(*removed as u64, out)
         }
         Reply::Data(bytes, stat) => write_node(bytes.as_slice(), stat, out),
         Reply::Children(names) => {
@@ -85,6 +86,16 @@ fn write_counts(
 {
     write_count(front, first, out)?;
     write_count(middle, second, out)
+}
+
+// How many nodes a tick removed, where it removed some.
+fn write_removed(removed: u64, out: &mut String) -> Result<(), Memory>
+    ensures { OnOk result (Writes out.old out.new (removed_text removed)) }
+{
+    if removed == 0 {
+        return Ok(());
+    }
+    write_count(" removed ", removed, out)
 }
 
 // The data of a node, and its stat.

@@ -2,9 +2,11 @@
 
 ghost use Rattle.std.specs.Prelude.{◌≡◌, [], ◌∷◌, Some, None, Ok, Err, codes};
 ghost use Rattle.zpath.specs.declared.fault.PathFault.TheVariants.{NotAbsolute};
-ghost use Rattle.zcalls.specs.declared.call.Kind.TheVariants.{Ephemeral, EphemeralSequential};
-ghost use Rattle.zcalls.specs.declared.call.Update.TheVariants.{Open, Ping, Close, Tick};
-ghost use Rattle.zcalls.specs.declared.call.Call.TheVariants.{Update};
+ghost use Rattle.zcalls.specs.declared.call.Kind.TheVariants.{Persistent, Ephemeral, EphemeralSequential};
+ghost use Rattle.zcalls.specs.declared.call.Kind.TheVariants.{PersistentWithTtl, PersistentSequentialWithTtl};
+ghost use Rattle.zcalls.specs.declared.call.Update.TheVariants.{Create, Open, Ping, Close, Tick};
+ghost use Rattle.zcalls.specs.declared.call.Query.TheVariants.{GetData};
+ghost use Rattle.zcalls.specs.declared.call.Call.TheVariants.{Update, Query};
 ghost use Rattle.zcalls.specs.declared.refusal.Refusal.TheVariants.{NoNode, NodeExists, NotEmpty, BadVersion};
 ghost use Rattle.zcalls.specs.declared.refusal.Refusal.TheVariants.{NoChildrenForEphemerals, SessionGone};
 ghost use Rattle.zcalls.specs.declared.refusal.Refusal.TheVariants.{SequenceFull, PathLimit, RootFixed, Full};
@@ -41,6 +43,13 @@ pub fn words()
     ensures no_session { kind_of (codes "e:") ≡ None }
     ensures loose_session { kind_of (codes "e:01") ≡ None }
     ensures other_kind { kind_of (codes "e") ≡ None }
+    ensures least_ttl { kind_of (codes "t:1") ≡ Some (PersistentWithTtl 1) }
+    ensures no_ttl { kind_of (codes "t:0") ≡ None }
+    ensures most_ttl { kind_of (codes "t:1048576") ≡ Some (PersistentWithTtl 1048576) }
+    ensures more_ttl { kind_of (codes "t:1048577") ≡ None }
+    ensures loose_ttl { kind_of (codes "t:01") ≡ None }
+    ensures sequential_ttl { kind_of (codes "ts:5") ≡ Some (PersistentSequentialWithTtl 5) }
+    ensures no_sequential_ttl { kind_of (codes "ts:0") ≡ None }
     ensures no_bytes { data_of (codes "-") ≡ Some [] }
     ensures two_bytes { data_of (codes "aGk=") ≡ Some (104 ∷ 105 ∷ []) }
     ensures no_padding { data_of (codes "aGk") ≡ None }
@@ -82,10 +91,10 @@ pub fn lines()
 /// Worked rows of the words that name processes.
 pub fn process_words()
     ensures master { process_of (codes "m") ≡ Some Master }
-    ensures last_server { process_of (codes "s8") ≡ Some (Server 8) }
+    ensures last_server { process_of (codes "s16") ≡ Some (Server 16) }
     ensures last_client { process_of (codes "c31") ≡ Some (Client 31) }
     ensures clock { client_process_of (codes "c0") ≡ Some 0 }
-    ensures no_server { process_of (codes "s9") ≡ None }
+    ensures no_server { process_of (codes "s17") ≡ None }
     ensures server_zero { server_of (codes "s0") ≡ None }
     ensures loose_server { server_of (codes "s01") ≡ None }
     ensures bare_server { server_of (codes "s") ≡ None }
@@ -98,7 +107,7 @@ pub fn process_words()
 pub fn event_lines()
     ensures take { line_of (codes "take c1 s1") ≡ Ok (line.Take (Client 1) (Server 1)) }
     ensures own_link { line_of (codes "take s1 s1") ≡ Ok (line.Take (Server 1) (Server 1)) }
-    ensures no_server { line_of (codes "take s9 m") ≡ Err BadLine }
+    ensures no_server { line_of (codes "take s17 m") ≡ Err BadLine }
     ensures one_process { line_of (codes "take m") ≡ Err BadLine }
     ensures three_processes { line_of (codes "take m s1 s2") ≡ Err BadLine }
     ensures ignore { line_of (codes "ignore m c0") ≡ Ok (line.Ignore Master (Client 0)) }
@@ -106,6 +115,8 @@ pub fn event_lines()
     ensures server_zero { line_of (codes "fail s0") ≡ Err BadLine }
     ensures join { line_of (codes "join s2") ≡ Ok (line.Join 2) }
     ensures client_joins { line_of (codes "join c1") ≡ Err BadLine }
+    ensures retire { line_of (codes "retire s2") ≡ Ok (line.Retire 2) }
+    ensures client_retires { line_of (codes "retire c1") ≡ Err BadLine }
     ensures retry { line_of (codes "retry c1") ≡ Ok (line.Retry 1) }
     ensures server_retries { line_of (codes "retry s1") ≡ Err BadLine }
     ensures settle { line_of (codes "settle") ≡ Ok line.Settle }
@@ -121,7 +132,8 @@ pub fn event_lines()
 pub fn replies()
     ensures refused { reply_text (Refused NoNode) ≡ codes "no NoNode" }
     ensures opened { reply_text (Opened 1 2) ≡ codes "ok session 1 timeout 2" }
-    ensures ticked { reply_text (Ticked 2 1) ≡ codes "ok tick 2 ended 1" }
+    ensures ticked { reply_text (Ticked 2 1 0) ≡ codes "ok tick 2 ended 1" }
+    ensures removed { reply_text (Ticked 2 0 3) ≡ codes "ok tick 2 ended 0 removed 3" }
     ensures created { reply_text (Created ((97 ∷ []) ∷ (98 ∷ []) ∷ [])) ≡ codes "ok /a/b" }
     ensures stat { stat_text first_stat ≡ codes " 1 1 1 0 0 0 0 0 2 0" }
 {}

@@ -2,7 +2,7 @@
 
 ghost use Rattle.std.specs.Prelude.{◌≡◌, Ok, Some, None, IfOk, IfErr, IfSome, IfNone, false, nat_eq};
 ghost use Rattle.std.specs.List.{starts_with};
-ghost use Rattle.zlines.specs.Shape.{kind_of, owned_kind_of, version_of, create_shape, delete_shape, set_shape, check_shape, change_shape, part_shape, lone_shape, parts_shape};
+ghost use Rattle.zlines.specs.Shape.{kind_of, owned_kind_of, timed_kind_of, ttl_of, version_of, create_shape, delete_shape, set_shape, check_shape, change_shape, part_shape, lone_shape, parts_shape};
 ghost use Rattle.zlines.specs.support.Left.{IsBehind};
 ghost use Rattle.zlines.specs.Request.{IsUnread, read_of};
 ghost use Rattle.zcalls.specs.declared.limits.TheConstants.{MAX_PARTS};
@@ -12,7 +12,7 @@ use crate::number::number;
 use crate::part_words::{ChangeWords, PartWords, Word};
 use crate::request::LineFault;
 use std::alloc::Global;
-use zcalls::{Expected, Kind, MAX_PARTS, SessionId};
+use zcalls::{Expected, Kind, MAX_PARTS, SessionId, Ttl};
 
 /// The parts that all these words come to, with `;` between them.
 pub(crate) fn all_parts<'a>(
@@ -131,15 +131,35 @@ fn kind_in(word: &str) -> Option<Kind>
     }
 }
 
-// `e:` or `es:`, and a session.
+// `e:` or `es:`, and a session; or what a node with a time to live is.
 fn owned_kind_in(word: &str) -> Option<Kind>
     ensures { result ≡ owned_kind_of word.now }
 {
     if let Some(session) = behind("e:", word) {
         return Some(Kind::Ephemeral(SessionId::new(number(session)?)));
     }
-    let session = behind("es:", word)?;
-    Some(Kind::EphemeralSequential(SessionId::new(number(session)?)))
+    if let Some(session) = behind("es:", word) {
+        return Some(Kind::EphemeralSequential(SessionId::new(number(session)?)));
+    }
+    timed_kind_in(word)
+}
+
+// `t:` or `ts:`, and a time to live.
+fn timed_kind_in(word: &str) -> Option<Kind>
+    ensures { result ≡ timed_kind_of word.now }
+{
+    if let Some(ticks) = behind("t:", word) {
+        return Some(Kind::PersistentWithTtl(ttl_in(ticks)?));
+    }
+    let ticks = behind("ts:", word)?;
+    Some(Kind::PersistentSequentialWithTtl(ttl_in(ticks)?))
+}
+
+// A number of ticks that is a time to live.
+fn ttl_in(word: &str) -> Option<Ttl>
+    ensures { result ≡ ttl_of word.now }
+{
+    Ttl::new(number(word)?)
 }
 
 /// What follows these bytes in a word that begins with them.

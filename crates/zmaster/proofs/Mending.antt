@@ -1,6 +1,6 @@
 -- A chain that is mended at a place is the table's.
-use Rattle.std.proofs.Common.{◌≡◌, ℕ, ◌+◌, ◌<◌, Bool, true, false, ◌==◌, nat_lt, List, [], ◌∷◌, Option, Some, None, length, zero, suc, refl, ap, ◌∙◌, arith, get_or, inl, inr, map}
-use Rattle.std.specs.Prelude.{slice_set, cond}
+use Rattle.std.proofs.Common.{◌≡◌, ℕ, ◌+◌, ◌<◌, Bool, true, false, ◌==◌, nat_lt, List, [], ◌∷◌, Option, Some, None, length, zero, suc, refl, sym, ap, ◌∙◌, arith, get_or, inl, inr, map}
+use Rattle.std.specs.Prelude.{slice_set, cond, is_some}
 use Rattle.std.specs.List.{position, position_or_len, remove, refill}
 use Rattle.std.proofs.lemmas.List.Quantifiers.{position-Some}
 use Rattle.std.proofs.lemmas.Bool.Decides.{nat_tests}
@@ -114,3 +114,9 @@ cond_none false x is = refl
 pub place_missing : (s : ℕ) (chain : List Neighbour) → ◌≡◌ {A = Option ℕ} (position (λ (member : Neighbour). member.0 == s) chain) None
     → is_among s (numbers_of chain) ≡ false
 place_missing s chain none = missing s chain (cond_none _ _ none)
+
+-- a place is found where the server is a member
+pub found_is_member : (s : ℕ) (chain : List Neighbour) (found : Option ℕ) → found ≡ position (λ (member : Neighbour). member.0 == s) chain
+    → is_among s (numbers_of chain) ≡ is_some found
+found_is_member s chain None is = place_missing s chain (sym is)
+found_is_member s chain (Some at) is = place_among s at chain (place_found s chain at (sym is))

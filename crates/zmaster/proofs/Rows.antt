@@ -1,17 +1,19 @@
 -- The rows of the master table, by what was found.
-use Rattle.std.proofs.Common.{◌≡◌, ℕ, ◌+◌, ◌≤◌, true, false, ◌==◌, nat_lt, List, [], ◌∷◌, ◌++◌, Option, Some, None, length, zero, suc, refl, sym, ◌∙◌, arith, inl, inr}
+use Rattle.std.specs.Prelude.{is_some, if◌then◌else◌}
+use Rattle.std.proofs.Common.{◌≡◌, ℕ, ◌+◌, ◌≤◌, Bool, true, false, ◌==◌, nat_lt, List, [], ◌∷◌, ◌++◌, Option, Some, None, length, zero, suc, refl, sym, ap, ◌∙◌, arith, inl, inr, eq-eqb, eqb-true}
 use Rattle.std.proofs.lemmas.Bool.Decides.{nat_tests}
 use Rattle.std.specs.List.{last_or}
 use Rattle.std.proofs.lemmas.List.FromFn.{length-map-range_with_len, map-range_with_len_more}
 use Rattle.zprotocol.specs.declared.master.join_fault.JoinFault.{JoinFault}
-use Rattle.zprotocol.specs.declared.master.join_fault.JoinFault.TheVariants.{Used}
+use Rattle.zprotocol.specs.declared.master.join_fault.JoinFault.TheVariants.{Used, Lost, Retiring}
+use Rattle.zprotocol.specs.declared.master.retire_fault.RetireFault.TheVariants as retire
 use Rattle.zcalls.proofs.Among.{test}
 use Rattle.zprotocol.specs.declared.message.Message.TheVariants as message
 use Rattle.zprotocol.specs.declared.process.Process.TheVariants.{Server, Client}
 use Rattle.zprotocol.specs.server.View.{Neighbour, PostOf}
 use Rattle.zprotocol.specs.master.View.{MasterView, is_among, members, is_joining, with_number, head_of, tail_of}
-use Rattle.zprotocol.specs.master.Table.{before, without_next, have_row, joined_row, gone_row, join_step, join_fault, and_tell_clients}
-use Rattle.zmaster.specs.support.Mending.{joins, IsPlace, mended_at, mended_behind_at, chain_fault}
+use Rattle.zprotocol.specs.master.Table.{before, without_next, have_row, joined_row, gone_row, join_step, join_fault, retire_fault, retire_step, and_tell_clients}
+use Rattle.zmaster.specs.support.Mending.{joins, who_stays, IsPlace, mended_at, mended_behind_at, chain_fault}
 use Rattle.zmaster.specs.support.Telling.{config_posts_to}
 use Rattle.std.specs.List.{remove}
 use Rattle.zmaster.proofs.Mending.{place_among, mended_place}
@@ -43,21 +45,17 @@ module _ {T : Type 0} (v : MasterView) (s : ℕ) where
   unfolding gone_row
   gone_outside is = rw is refl
 
-  pub gone_joining : (at : ℕ) → IsPlace s at v.chain → joins v.joining s ≡ true
-      → gone_row {T = T} v s ≡ and_tell_clients (record v { chain = (mended_at {T = T} (v.epoch + 1) at (remove v.chain at)).0; joining = None; epoch = v.epoch + 1 }) (mended_at (v.epoch + 1) at (remove v.chain at)).1
+  pub gone_member : (at : ℕ) → IsPlace s at v.chain
+      → gone_row {T = T} v s ≡ and_tell_clients (record v {
+        chain = (mended_at {T = T} (v.epoch + 1) at (remove v.chain at)).0;
+        joining = who_stays v.joining s;
+        retiring = who_stays v.retiring s;
+        epoch = v.epoch + 1;
+      }) (mended_at (v.epoch + 1) at (remove v.chain at)).1
   unfolding gone_row
-  gone_joining at place is =
+  gone_member at place =
       let among : is_among s (members v) ≡ true = place_among s at v.chain place in
-      let yes : is_joining v s ≡ true = joins_is v v.joining s ∙ is in
-      rw (among, yes, mended_place {T = T} (v.epoch + 1) s at v.chain place) refl
-
-  pub gone_other : (at : ℕ) → IsPlace s at v.chain → joins v.joining s ≡ false
-      → gone_row {T = T} v s ≡ and_tell_clients (record v { chain = (mended_at {T = T} (v.epoch + 1) at (remove v.chain at)).0; epoch = v.epoch + 1 }) (mended_at (v.epoch + 1) at (remove v.chain at)).1
-  unfolding gone_row
-  gone_other at place is =
-      let among : is_among s (members v) ≡ true = place_among s at v.chain place in
-      let no : is_joining v s ≡ false = joins_is v v.joining s ∙ is in
-      rw (among, no, mended_place {T = T} (v.epoch + 1) s at v.chain place) refl
+      rw (among, mended_place {T = T} (v.epoch + 1) s at v.chain place) refl
 
   pub join_behind : (last : ℕ) → last_or None (members v) ≡ Some last
       → join_step {T = T} v s ≡ (record v { chain = v.chain ++ (s, v.epoch + 1) ∷ []; joining = Some s; used = with_number s v.used; epoch = v.epoch + 1 }, (Server s, message.NewPred (v.epoch + 1) last) ∷ [])
@@ -84,23 +82,48 @@ mended_few T epoch zero (t ∷ rest) = omega arith
 mended_few T epoch (suc at) [] = omega arith
 mended_few T epoch (suc at) (t ∷ rest) = behind_few T epoch t.0 at rest
 
+-- where nothing is wrong with the chain, one that was ordered to leave may be
+pub or_retiring : Option JoinFault → Option ℕ → Option JoinFault
+or_retiring None retiring = if is_some retiring then Some Retiring else None
+or_retiring (Some fault) retiring = Some fault
+
+-- a choice of a fault
+chosen_fault : (b : Bool) (fault : JoinFault) (retiring : Option ℕ)
+    → (if b then Some fault else (if is_some retiring then Some Retiring else None)) ≡ or_retiring (if b then Some fault else None) retiring
+unfolding or_retiring
+chosen_fault true fault retiring = refl
+chosen_fault false fault retiring = refl
+
 -- why a server can't join
-faults : (s : ℕ) (chain : List Neighbour) (joining : Option ℕ) (used : List ℕ) (epoch clients : ℕ) → is_among s used ≡ false
-    → join_fault (record { chain = chain; joining = joining; used = used; epoch = epoch; clients = clients }) s ≡ chain_fault joining chain
-unfolding join_fault
-faults s [] None used epoch clients new = rw new refl
-faults s [] (Some j) used epoch clients new = rw new refl
-faults s (t ∷ []) None used epoch clients new = rw new refl
-faults s (t ∷ []) (Some j) used epoch clients new = rw new refl
-faults s (t ∷ (u ∷ rest)) None used epoch clients new =
+faults : (s : ℕ) (chain : List Neighbour) (joining retiring : Option ℕ) (used : List ℕ) (epoch clients : ℕ) → is_among s used ≡ false
+    → join_fault (record { chain = chain; joining = joining; retiring = retiring; used = used; epoch = epoch; clients = clients }) s
+    ≡ or_retiring (chain_fault joining chain) retiring
+unfolding join_fault or_retiring
+faults s [] None retiring used epoch clients new = rw new refl
+faults s [] (Some j) retiring used epoch clients new = rw new refl
+faults s (t ∷ []) None retiring used epoch clients new = rw new refl
+faults s (t ∷ []) (Some j) retiring used epoch clients new = rw new (chosen_fault (j == t.0) Lost retiring)
+faults s (t ∷ (u ∷ rest)) None retiring used epoch clients new =
     let some : (length (t ∷ (u ∷ rest)) == 0) ≡ false = grind (arith, nat_tests) in
     rw (new, some) refl
-faults s (t ∷ (u ∷ rest)) (Some j) used epoch clients new =
+faults s (t ∷ (u ∷ rest)) (Some j) retiring used epoch clients new =
     let long : nat_lt 1 (length (t ∷ (u ∷ rest))) ≡ true = grind (arith, nat_tests) in
     rw (new, long) refl
 
-pub fault_of_chain : (v : MasterView) (s : ℕ) → is_among s v.used ≡ false → join_fault v s ≡ chain_fault v.joining v.chain
-fault_of_chain v s new = faults s v.chain v.joining v.used v.epoch v.clients new
+fault_of_chain : (v : MasterView) (s : ℕ) → is_among s v.used ≡ false → join_fault v s ≡ or_retiring (chain_fault v.joining v.chain) v.retiring
+fault_of_chain v s new = faults s v.chain v.joining v.retiring v.used v.epoch v.clients new
+
+-- something is wrong with the chain
+pub fault_of_members : (v : MasterView) (s : ℕ) (fault : JoinFault) → is_among s v.used ≡ false → chain_fault v.joining v.chain ≡ Some fault
+    → join_fault v s ≡ Some fault
+unfolding or_retiring
+fault_of_members v s fault new is = fault_of_chain v s new ∙ ap (λ f. or_retiring f v.retiring) is
+
+-- or nothing is, and a member was ordered to leave, or not
+pub fault_of_leaving : (v : MasterView) (s : ℕ) (leaving : Bool) → is_among s v.used ≡ false → chain_fault v.joining v.chain ≡ None
+    → is_some v.retiring ≡ leaving → join_fault v s ≡ (if leaving then Some Retiring else None)
+unfolding or_retiring
+fault_of_leaving v s leaving new fine is = fault_of_chain v s new ∙ ap (λ f. or_retiring f v.retiring) fine ∙ ap (λ b. if b then Some Retiring else None) is
 
 pub fault_used : (v : MasterView) (s : ℕ) → is_among s v.used ≡ true → join_fault v s ≡ Some Used
 unfolding join_fault
@@ -124,3 +147,30 @@ free_is_new v s free = elim (test (is_among s v.used)) [
       absurd never
   | inr new ↦ new
 ]
+
+-- why a server can't be ordered to leave, by the tests in their order
+module _ (v : MasterView) (s : ℕ) where
+  pub leave_outside : is_among s (members v) ≡ false → retire_fault v s ≡ Some retire.NotMember
+  unfolding retire_fault
+  leave_outside is = rw is refl
+
+  pub leave_in_a_join : is_among s (members v) ≡ true → is_some v.joining ≡ true → retire_fault v s ≡ Some retire.Joining
+  unfolding retire_fault
+  leave_in_a_join is joins = rw (is, joins) refl
+
+  pub leave_last : is_among s (members v) ≡ true → is_some v.joining ≡ false → length v.chain ≡ 1 → retire_fault v s ≡ Some retire.Last
+  unfolding retire_fault
+  leave_last is joins one = let last : (length v.chain == 1) ≡ true = eq-eqb _ _ one in rw (is, joins, last) refl
+
+  pub leave_in_turn : (leaving : Bool) → is_among s (members v) ≡ true → is_some v.joining ≡ false → (length v.chain ≡ 1 → ⊥) → is_some v.retiring ≡ leaving
+      → retire_fault v s ≡ (if leaving then Some retire.Retiring else None)
+  unfolding retire_fault
+  leave_in_turn leaving is joins more retires = elim (test (length v.chain == 1)) [
+    | inl one ↦ absurd (more (eqb-true _ _ one))
+    | inr several ↦ rw (is, joins, several, retires) refl
+  ]
+
+-- an order to leave
+pub retired : {T : Type 0} (v : MasterView) (s : ℕ) → retire_step {T = T} v s ≡ (record v { retiring = Some s }, (Server s, message.Retire) ∷ [])
+unfolding retire_step
+retired v s = refl

@@ -4,7 +4,7 @@ ghost use Rattle.std.specs.Prelude.{◌≡◌, ◌<◌, ◌≤◌, ◌==◌, not
 ghost use Rattle.std.specs.List.{last_or, position};
 ghost use Rattle.zprotocol.specs.master.Table.{before};
 ghost use Rattle.zprotocol.specs.Posts.{PutsInRoom};
-ghost use Rattle.zmaster.specs.support.Mending.{joins, mended_at, chain_fault};
+ghost use Rattle.zmaster.specs.support.Mending.{joins, who_stays, mended_at, chain_fault};
 
 use crate::limits::SERVERS;
 use crate::member::Member;
@@ -42,6 +42,16 @@ pub(crate) fn is_the_joining(joining: &Option<ServerId>, server: ServerId) -> bo
     match joining {
         Some(joining) => joining.number() == server.number(),
         None => false,
+    }
+}
+
+/// Who is left of one that may be the one that is gone.
+pub(crate) fn who_stays(who: Option<ServerId>, gone: ServerId) -> Option<ServerId>
+    ensures { result ≡ who_stays who gone }
+{
+    match who {
+        Some(one) if one.number() == gone.number() => None,
+        _ => who,
     }
 }
 

@@ -4,25 +4,29 @@ ghost use Rattle.std.specs.Prelude.{◌≡◌, ◌+◌, ◌<◌, ◌≤◌, leng
 ghost use Rattle.zprotocol.specs.declared.limits.TheConstants.{MAX_EPOCH, MAX_SERVERS};
 ghost use Rattle.zprotocol.specs.master.View.{opening_master, head_of, tail_of, with_number};
 ghost use Rattle.zprotocol.specs.master.Table.{config_posts, join_fault, join_step, master_step, have_row, joined_row, gone_row};
+ghost use Rattle.zprotocol.specs.master.Table.{retire_fault, retire_step};
 ghost use Rattle.zprotocol.specs.Posts.{PutsInRoom};
 ghost use Rattle.ztree.specs.declared.limits.TheConstants.{MAX_CLIENTS};
 ghost use Rattle.zmaster.specs.declared.limits.TheConstants.{MAX_POSTS};
 
 use crate::chain::{
     Members, chain_fault, is_the_joining, last_member, last_with_state, member_before, mend,
-    position_of,
+    position_of, who_stays,
 };
 use crate::limits::{MAX_POSTS, SERVERS};
 use crate::member::Member;
 use crate::used::{is_used, mark_used, width};
 use std::marker::Model;
-use zprotocol::{ClientId, Epoch, JoinFault, LogNumber, Message, Out, Process, ServerId};
+use zprotocol::{
+    ClientId, Epoch, JoinFault, LogNumber, Message, Out, Process, RetireFault, ServerId,
+};
 
 /// What the master knows. That the epochs which it gives are few is the business of its owner.
 #[derive(Drop)]
 pub(crate) struct Knowledge {
     chain: Members,
     joining: Option<ServerId>,
+    retiring: Option<ServerId>,
     used: [bool; SERVERS],
     epoch: Epoch,
     clients: u8,
@@ -39,6 +43,7 @@ impl Model for Knowledge {
     ghost view = { λ known. record {
       chain = known.chain.items;
       joining = known.joining;
+      retiring = known.retiring;
       used = numbers_from 1 known.used;
       epoch = known.epoch;
       clients = known.clients;
@@ -65,6 +70,7 @@ impl Knowledge {
         Knowledge {
             chain,
             joining: None,
+            retiring: None,
             used,
             epoch: Epoch::opening(),
             clients,
@@ -158,9 +164,8 @@ impl Knowledge {
         let epoch = next_epoch(self.epoch);
         self.chain.remove(at);
         mend(&mut self.chain, at, epoch, out);
-        if is_the_joining(&self.joining, server) {
-            self.joining = None;
-        }
+        self.joining = who_stays(self.joining, server);
+        self.retiring = who_stays(self.retiring, server);
         self.epoch = epoch;
         self.tell(out);
     }
@@ -172,7 +177,13 @@ impl Knowledge {
         if is_used(&self.used, server) {
             return Some(JoinFault::Used);
         }
-        chain_fault(&self.chain, &self.joining)
+        if let Some(fault) = chain_fault(&self.chain, &self.joining) {
+            return Some(fault);
+        }
+        if self.retiring.is_some() {
+            return Some(JoinFault::Retiring);
+        }
+        None
     }
 
     /// A join that isn't refused.
@@ -192,6 +203,35 @@ impl Knowledge {
         self.joining = Some(server);
         self.chain.push(Member::new(server, epoch));
         out.put_reserved(Process::Server(server), Message::NewPred(epoch, before));
+    }
+
+    /// Why a server can't be ordered to leave.
+    pub(crate) fn retire_fault(&self, server: ServerId) -> Option<RetireFault>
+        ensures { result ≡ retire_fault self.now server }
+    {
+        if position_of(&self.chain, server).is_none() {
+            return Some(RetireFault::NotMember);
+        }
+        if self.joining.is_some() {
+            return Some(RetireFault::Joining);
+        }
+        if self.chain.len() == 1 {
+            return Some(RetireFault::Last);
+        }
+        if self.retiring.is_some() {
+            return Some(RetireFault::Retiring);
+        }
+        None
+    }
+
+    /// An order to leave that isn't refused.
+    pub(crate) fn retire<T: Drop>(&mut self, server: ServerId, out: &mut Out<T>)
+        requires { MAX_POSTS ≤ out.old.room }
+        ensures next { self.new ≡ (retire_step {T = T} self.old server).0 }
+        ensures puts { PutsInRoom out.old out.new (retire_step self.old server).1 }
+    {
+        self.retiring = Some(server);
+        out.put_reserved(Process::Server(server), Message::Retire);
     }
 
     // Every client, by number, hears of the epoch, the head and the tail.

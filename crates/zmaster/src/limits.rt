@@ -3,8 +3,11 @@
 use zprotocol::MAX_SERVERS;
 use ztree::limits::MAX_CLIENTS;
 
-/// How many messages the master puts at most at once: one to each client, and no more to servers than there are.
-pub const MAX_POSTS: usize = MAX_CLIENTS as usize + MAX_SERVERS as usize;
+// No row of the table puts so many messages to servers at once: the rest is room to spare.
+const ROOM_FOR_SERVERS: usize = 8;
+
+/// For how many messages the master wants room: one to each client, and some to servers.
+pub const MAX_POSTS: usize = MAX_CLIENTS as usize + ROOM_FOR_SERVERS;
 
 /// How many servers there can be, as a length.
 pub(crate) const SERVERS: usize = MAX_SERVERS as usize;

@@ -2,7 +2,8 @@
 
 ghost use Rattle.std.specs.Prelude.{◌≡◌, ◌≤◌, IfErr, OnErr, OnOk, None, Some};
 ghost use Rattle.zprotocol.specs.master.View.{opening_master};
-ghost use Rattle.zprotocol.specs.master.Table.{join_fault, join_step, master_step};
+ghost use Rattle.zprotocol.specs.master.Table.{join_fault, join_step, retire_fault, retire_step};
+ghost use Rattle.zprotocol.specs.master.Table.{master_step};
 ghost use Rattle.zprotocol.specs.Posts.{PutsInRoom};
 ghost use Rattle.ztree.specs.declared.limits.TheConstants.{MAX_CLIENTS};
 ghost use Rattle.zmaster.specs.declared.limits.TheConstants.{MAX_POSTS};
@@ -10,7 +11,7 @@ ghost use Rattle.zmaster.specs.declared.limits.TheConstants.{MAX_POSTS};
 use crate::knowledge::Knowledge;
 use crate::limits::MAX_POSTS;
 use std::marker::Model;
-use zprotocol::{JoinFault, Message, Out, Process, ServerId};
+use zprotocol::{JoinFault, Message, Out, Process, RetireFault, ServerId};
 
 /// The master. Whatever it hears, it gives at most three epochs for each number of a server.
 #[derive(Drop)]
@@ -87,6 +88,31 @@ impl Master {
         }
         self.known.join(server, out);
         // (as in `new`)
+        let _ = self.known.count();
+        Ok(())
+    }
+
+    /// Why a member can't be ordered to leave now.
+    pub fn retire_fault(&self, server: ServerId) -> Option<RetireFault>
+        ensures { result ≡ retire_fault self.now server }
+    {
+        self.known.retire_fault(server)
+    }
+
+    /// Orders a member to leave, or says why it can't. It takes no memory.
+    pub fn retire<T: Drop>(&mut self, server: ServerId, out: &mut Out<T>) -> Result<(), RetireFault>
+        requires { MAX_POSTS ≤ out.old.room }
+        ensures next { OnOk result (self.new ≡ (retire_step {T = T} self.old server).0) }
+        ensures puts { OnOk result (PutsInRoom out.old out.new (retire_step self.old server).1) }
+        ensures allowed { OnOk result (retire_fault self.old server ≡ None) }
+        ensures fault { IfErr result (λ fault. retire_fault self.old server ≡ Some fault) }
+        ensures same { OnErr result (self.new ≡ self.old) }
+        ensures silent { OnErr result (out.new ≡ out.old) }
+    {
+        if let Some(fault) = self.known.retire_fault(server) {
+            return Err(fault);
+        }
+        self.known.retire(server, out);
         let _ = self.known.count();
         Ok(())
     }

@@ -1,6 +1,6 @@
 //! A machine that meets want of memory in `apply` answers `Memory` for good.
 
-use crate::machines::{acts, can_be_copied, first_entry, machine, second_entry};
+use crate::machines::{acts, can_be_copied, first_entry, machine, second_entry, timed_machine};
 use crate::values::{create, multi};
 use std::alloc::Global;
 use zcalls::{Entry, Query, Update};
@@ -28,6 +28,11 @@ pub(crate) fn retry_is_applied(alloc: Global) -> Ended {
     is_applied(alloc, first_entry(Update::Tick))
 }
 
+/// A tick that removes a node, whose time to live is over.
+pub(crate) fn removal_is_applied(alloc: Global) -> Ended {
+    is_applied_at(alloc, timed_machine(alloc), second_entry(Update::Tick))
+}
+
 fn is_second(alloc: Global, update: Result<Update, Memory>) -> Ended {
     match update {
         Ok(update) => is_applied(alloc, second_entry(update)),
@@ -36,7 +41,11 @@ fn is_second(alloc: Global, update: Result<Update, Memory>) -> Ended {
 }
 
 fn is_applied(alloc: Global, entry: Entry) -> Ended {
-    match machine(alloc) {
+    is_applied_at(alloc, machine(alloc), entry)
+}
+
+fn is_applied_at(alloc: Global, machine: Result<Machine, Memory>, entry: Entry) -> Ended {
+    match machine {
         Ok(mut machine) => {
             let ended = applies(alloc, &mut machine, entry);
             drop(machine);

@@ -1,6 +1,6 @@
 //! A machine, and entries for it.
 
-use crate::values::create;
+use crate::values::{create, create_timed};
 use std::alloc::Global;
 use zcalls::{Entry, Reply, Update};
 use zliterals::{call_number, client};
@@ -9,9 +9,16 @@ use zpath::Memory;
 
 /// A machine at which client 1's first call made `/a`.
 pub(crate) fn machine(alloc: Global) -> Result<Machine, Memory> {
-    let Ok(update) = create(alloc, "/a") else {
-        return Err(Memory);
-    };
+    machine_after(alloc, create(alloc, "/a"))
+}
+
+/// A machine at which client 1's first call made `/a`, which lives for a tick.
+pub(crate) fn timed_machine(alloc: Global) -> Result<Machine, Memory> {
+    machine_after(alloc, create_timed(alloc, "/a"))
+}
+
+fn machine_after(alloc: Global, update: Result<Update, Memory>) -> Result<Machine, Memory> {
+    let update = update?;
     let entry = first_entry(update);
     let Ok(mut machine) = Machine::new(alloc) else {
         drop(entry);

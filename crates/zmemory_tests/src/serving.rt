@@ -31,7 +31,7 @@ fn answers(alloc: Global, tail: &mut Server, out: &mut Out<Snapshot>) -> Ended {
     match tail.take(Process::Client(client(1)), query(alloc, 1), out) {
         Ok(Taken::Acted) => Ended::done(has_put(out)),
         Ok(Taken::Unheard) => Ended::refused(!has_put(out) && answers_the_next(alloc, tail, out)),
-        Err(Stopped) => Ended::Wrong,
+        Err(Stopped::Memory | Stopped::Retired) => Ended::Wrong,
     }
 }
 

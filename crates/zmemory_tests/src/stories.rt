@@ -1,6 +1,8 @@
 //! The stories, by name.
 
-use crate::applying::{create_is_applied, multi_is_applied, open_is_applied, retry_is_applied};
+use crate::applying::{
+    create_is_applied, multi_is_applied, open_is_applied, removal_is_applied, retry_is_applied,
+};
 use crate::asking::{children_are_told, data_is_told, machine_is_copied};
 use crate::calling::{call_is_retried, config_is_taken, query_begins, update_begins};
 use crate::joining::snapshot_is_taken;
@@ -22,6 +24,7 @@ enum Story {
     ApplyMulti,
     ApplyOpen,
     ApplyRetry,
+    ApplyRemoval,
     AskData,
     AskChildren,
     Copy,
@@ -42,6 +45,7 @@ const STORIES: &[(&str, Story)] = &[
     ("a machine applies a multi", Story::ApplyMulti),
     ("a machine applies an open", Story::ApplyOpen),
     ("a machine applies a call again", Story::ApplyRetry),
+    ("a machine removes a node at a tick", Story::ApplyRemoval),
     ("a machine is asked for data", Story::AskData),
     ("a machine is asked for children", Story::AskChildren),
     ("a machine is copied", Story::Copy),
@@ -105,6 +109,7 @@ fn ended(alloc: Global, story: Story) -> Ended {
         Story::ApplyMulti => multi_is_applied(alloc),
         Story::ApplyOpen => open_is_applied(alloc),
         Story::ApplyRetry => retry_is_applied(alloc),
+        Story::ApplyRemoval => removal_is_applied(alloc),
         Story::AskData => data_is_told(alloc),
         Story::AskChildren => children_are_told(alloc),
         Story::Copy => machine_is_copied(alloc),

@@ -38,7 +38,8 @@ fn takes_at(
     match server.take(from, message, out) {
         Ok(Taken::Acted) => Ended::done(has_put(out)),
         Ok(Taken::Unheard) => Ended::Wrong,
-        Err(Stopped) => Ended::refused(has_stopped(server, out)),
+        Err(Stopped::Memory) => Ended::refused(has_stopped(server, out)),
+        Err(Stopped::Retired) => Ended::Wrong,
     }
 }
 

@@ -1,7 +1,7 @@
 //! Paths and updates.
 
 use std::alloc::Global;
-use zcalls::{Create, Data, Kind, Multi, Part, Update};
+use zcalls::{Create, Data, Kind, Multi, Part, Ttl, Update};
 use zpath::{Memory, Path};
 
 /// The path of this text, where there is memory for it.
@@ -14,13 +14,24 @@ pub(crate) fn path(alloc: Global, text: &str) -> Result<Path, Memory> {
 
 /// An update that makes a node with two bytes.
 pub(crate) fn create(alloc: Global, text: &str) -> Result<Update, Memory> {
-    match creation(alloc, text) {
+    match creation(alloc, text, Kind::Persistent) {
         Ok(create) => Ok(Update::Create(create)),
         Err(memory) => Err(memory),
     }
 }
 
-fn creation(alloc: Global, text: &str) -> Result<Create, Memory> {
+/// An update that makes a node with two bytes, which lives for a tick.
+pub(crate) fn create_timed(alloc: Global, text: &str) -> Result<Update, Memory> {
+    let Some(ttl) = Ttl::new(1) else {
+        return Err(Memory);
+    };
+    match creation(alloc, text, Kind::PersistentWithTtl(ttl)) {
+        Ok(create) => Ok(Update::Create(create)),
+        Err(memory) => Err(memory),
+    }
+}
+
+fn creation(alloc: Global, text: &str, kind: Kind) -> Result<Create, Memory> {
     let Ok(path) = path(alloc, text) else {
         return Err(Memory);
     };
@@ -28,11 +39,7 @@ fn creation(alloc: Global, text: &str) -> Result<Create, Memory> {
         drop(path);
         return Err(Memory);
     };
-    Ok(Create {
-        path,
-        kind: Kind::Persistent,
-        bytes,
-    })
+    Ok(Create { path, kind, bytes })
 }
 
 fn two_bytes(alloc: Global) -> Result<Data, Memory> {
@@ -50,7 +57,7 @@ fn two_bytes(alloc: Global) -> Result<Data, Memory> {
 
 /// A multi that makes a node.
 pub(crate) fn multi(alloc: Global, text: &str) -> Result<Update, Memory> {
-    let Ok(create) = creation(alloc, text) else {
+    let Ok(create) = creation(alloc, text, Kind::Persistent) else {
         return Err(Memory);
     };
     let Ok(parts) = one_part(alloc, Part::Create(create)) else {

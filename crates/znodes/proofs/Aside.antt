@@ -32,7 +32,7 @@ module _ (m n : Items Row) (ids : IdsByPath) (owners : OwnerLists) (id : Id) (ke
   named_other : (path : Path) (i : Id) → get ids path ≡ Some i → i ≢ id
   named_other path i e same = let was = kept.named path i e in out was.0 (ap (get m) (sym same) ∙ was.1) was.3
 
-  alike : {X : Type 0} (part : Row → Option X) (q : Id) → option_and_then (λ (r : Row). cond (is_live r) (part r) None) (get n q) ≡ option_and_then (λ (r : Row). cond (is_live r) (part r) None) (get m q)
+  pub alike : {X : Type 0} (part : Row → Option X) (q : Id) → option_and_then (λ (r : Row). cond (is_live r) (part r) None) (get n q) ≡ option_and_then (λ (r : Row). cond (is_live r) (part r) None) (get m q)
   alike part q = by (same_or_other q id)
     where
       none : (w : Items Row) → ((x : Row) → get w id ≡ Some x → x.key ≢ None) → q ≡ id → option_and_then (λ (r : Row). cond (is_live r) (part r) None) (get w q) ≡ None
@@ -50,7 +50,7 @@ module _ (m n : Items Row) (ids : IdsByPath) (owners : OwnerLists) (id : Id) (ke
       by (Some i) same = ap (λ o. option_map_or (λ (r : Row). r.children) o empty_list) (same i refl)
 
   -- who has a key is another
-  has_key_other : {X : Type 0} (part : Row → Option X) (q : Id) (k : X) → option_and_then (λ (r : Row). cond (is_live r) (part r) None) (get m q) ≡ Some k → q ≢ id
+  pub has_key_other : {X : Type 0} (part : Row → Option X) (q : Id) (k : X) → option_and_then (λ (r : Row). cond (is_live r) (part r) None) (get m q) ≡ Some k → q ≢ id
   has_key_other part q k e same =
       none_some k (sym (ap (λ i. option_and_then (λ (r : Row). cond (is_live r) (part r) None) (get m i)) same ∙ out-of part (get m id) out) ∙ e)
 

@@ -19,4 +19,6 @@ pub mod Written
 pub mod Added
 pub mod OwnersKnown
 pub mod Opening
+pub mod Mortal
+pub mod StaleRows
 pub mod index_lemmas

@@ -28,9 +28,9 @@ use Rattle.znodes.proofs.Views.{get-nodes, get-places, get-held, get-known}
 use Rattle.znodes.proofs.Found.{has_node-index}
 
 -- what follows from an answer of the tests of a key
-if_live : {X : Type 0} (k : Option Key) (o : Option X) (x : X) → cond (option_map_or (λ (_ : Key). false) k true) o None ≡ Some x → (k ≡ None) × (o ≡ Some x)
-if_live None o x e = (refl, e)
-if_live (Some key) o x e = cc
+pub live_key : {X : Type 0} (k : Option Key) (o : Option X) (x : X) → cond (option_map_or (λ (_ : Key). false) k true) o None ≡ Some x → (k ≡ None) × (o ≡ Some x)
+live_key None o x e = (refl, e)
+live_key (Some key) o x e = cc
 
 if_taken : {X : Type 0} (k : Option Key) (o : Option X) (x : X) → cond (option_map_or (λ (_ : Key). false) k true) None o ≡ Some x → (key : Key) × (k ≡ Some key) × (o ≡ Some x)
 if_taken None o x e = cc
@@ -44,7 +44,7 @@ path-above : (path k : Path) → above path ≡ Some k → (path ≢ []) × (par
 path-above [] k e = cc
 path-above (n ∷ path) k e = (λ f. cc, same_some _ _ e)
 
-and-then : {A X : Type 0} (f : A → Option X) (o : Option A) (x : X) → option_and_then f o ≡ Some x → (a : A) × (o ≡ Some a) × (f a ≡ Some x)
+pub and-then : {A X : Type 0} (f : A → Option X) (o : Option A) (x : X) → option_and_then f o ≡ Some x → (a : A) × (o ≡ Some a) × (f a ≡ Some x)
 and-then f None x e = cc
 and-then f (Some a) x e = (a, refl, e)
 
@@ -65,7 +65,7 @@ module _ (m : Items Row) where
   pub live-row : (id : Id) (path : Path) → get (places_of m) id ≡ Some path → (r : Row) × (get m id ≡ Some r) × (r.path ≡ path) × (r.key ≡ None)
   live-row id path e =
       let found = and-then live_path (get m id) path (sym (get-places m id) ∙ e) in
-      let parts = if_live found.0.key (Some found.0.path) path found.2 in
+      let parts = live_key found.0.key (Some found.0.path) path found.2 in
       (found.0, found.1, same_some _ _ parts.1, parts.0)
 
   pub taken-row : (id : Id) (t : Taken) → get (held_of m) id ≡ Some t → (r : Row) × (get m id ≡ Some r) × (r.path ≡ t.0) × (r.node ≡ t.1) × (key : Key) × (r.key ≡ Some key)
@@ -79,7 +79,7 @@ module _ (m : Items Row) where
   pub child-row : (id : Id) (k : Path) → key_at parent_key m id ≡ Some k → (r : Row) × (get m id ≡ Some r) × (r.key ≡ None) × (r.path ≢ []) × (parent_of r.path ≡ k)
   child-row id k e =
       let found = and-then parent_key (get m id) k e in
-      let parts = if_live found.0.key (above found.0.path) k found.2 in
+      let parts = live_key found.0.key (above found.0.path) k found.2 in
       let way = path-above found.0.path k parts.1 in
       (found.0, found.1, parts.0, way.0, way.1)
 
@@ -87,7 +87,7 @@ module _ (m : Items Row) where
   pub owner-row : (id : Id) (owner : ℕ) → key_at owner_key m id ≡ Some owner → (r : Row) × (get m id ≡ Some r) × (r.key ≡ None) × (r.node.owner ≡ owner)
   owner-row id owner e =
       let found = and-then owner_key (get m id) owner e in
-      let parts = if_live found.0.key (somebody found.0.node.owner) owner found.2 in
+      let parts = live_key found.0.key (somebody found.0.node.owner) owner found.2 in
       (found.0, found.1, parts.0, somebody-same found.0.node.owner owner parts.1)
 
   pub key-of-live : (id : Id) (r : Row) → get m id ≡ Some r → r.key ≡ None → r.path ≢ [] → key_at parent_key m id ≡ Some (parent_of r.path)

@@ -22,7 +22,7 @@ use Rattle.ztree.proofs.Maps as maps
 use Rattle.ztree.proofs.Sorted.{paths_total, same_path}
 use Rattle.znodes.specs.declared.row.Row.{Row}
 use Rattle.znodes.specs.support.OwnerLists.{OwnerLists, somebody}
-use Rattle.znodes.specs.support.Rows.{IsLinked, lone_row, live_path, taken_row, parent_key, owner_key, node_at, nodes_of, places_of, held_of, known_of, children_at, children_of, owned_by, sibling_links, fellow_links}
+use Rattle.znodes.specs.support.Rows.{IsLinked, HasTimed, lone_row, timed_by, timed_key, timed_links, live_path, taken_row, parent_key, owner_key, node_at, nodes_of, places_of, held_of, known_of, children_at, children_of, owned_by, sibling_links, fellow_links}
 use Rattle.znodes.proofs.Views.{get-nodes, get-places, get-held, get-known, insert-is}
 
 -- no owner's list, and no owner
@@ -102,6 +102,9 @@ module _ (alloc : Global) (root : Node) (id : Id) where
     children = families-none {L = 0} sibling_links rows (key_at parent_key rows) (children_of rows ids) (untold parent_key refl) childless;
     owned = families-none {L = 1} fellow_links rows (key_at owner_key rows) (owned_by no_owners) (untold owner_key (ap somebody nobody)) (λ k. ap (λ o. option_map_or (λ (l : IdList 1). l) o empty_list) (get-empty nat_cmp k));
   }
+
+  pub mortal-alone : root.ttl ≡ 0 → HasTimed rows empty_list
+  mortal-alone stays = families-none {L = 2} timed_links rows (key_at timed_key rows) (λ _. empty_list) (untold timed_key (ap timed_by stays)) (λ k. refl)
 
   -- what it shows
   pub nodes-alone : nodes_of rows ids ≡ insert finite.empty [] root

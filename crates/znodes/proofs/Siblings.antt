@@ -27,7 +27,7 @@ use Rattle.znodes.proofs.Rising.{AreDistinct, children_rise, sorted_same, same_l
 use Rattle.znodes.proofs.Keys.{last_name-appended, parent_key-parts, parent_key-live}
 use Rattle.znodes.proofs.Found.{has_node-index}
 
-both_ways : (a b : Bool) → (a ≡ true → b ≡ true) → (b ≡ true → a ≡ true) → a ≡ b
+pub both_ways : (a b : Bool) → (a ≡ true → b ≡ true) → (b ≡ true → a ≡ true) → a ≡ b
 both_ways true b to from = sym (to refl)
 both_ways false true to from = from refl
 both_ways false false to from = refl

@@ -1,14 +1,17 @@
 -- What a `Nodes` shows: the znodes by their paths, and what its Ids name.
-use Rattle.std.specs.Prelude.{◌≡◌, ◌≢◌, ◌⊎◌, ℕ, ◌+◌, ◌≤◌, true, false, [], Option, None, Some, IsSome, refl}
+use Rattle.std.specs.Prelude.{◌≡◌, ◌≢◌, ◌⊎◌, ℕ, ◌+◌, ◌≤◌, true, false, List, [], ◌∷◌, Option, None, Some, IsSome, refl}
 use Rattle.std.specs.Coded.{Coded, code_by, coded×, coded_ℕ, prop_coded, Unit-prop}
 use Rattle.std.specs.Option.{option_and_then}
 use Rattle.std.specs.Ordering.{nat_cmp}
 use Rattle.std.specs.FinMap as finite
 use Rattle.std.specs.FinMap.{FinMap, get, insert, remove}
+use Rattle.zpath.specs.Grammar.{path_cmp}
 use Rattle.zslots.specs.declared.id.Id.{Id}
-use Rattle.zslots.specs.Ids.{id_cmp, coded_id}
+use Rattle.zslots.specs.Ids.{Ids, id_cmp, coded_id}
 use Rattle.ztree.specs.declared.node.Node.{Node}
 use Rattle.ztree.specs.Tree.{Path, Nodes, parent_of, has_node, with_change_at}
+use Rattle.ztree.specs.Stale.{is_stale_at}
+use Rattle.ztree.specs.Laws.{has_path, NoneTwice}
 use Rattle.ztree.specs.support.Codes.{coded_path, coded_node}
 use Rattle.znodes.specs.declared.parts.Marks.{Marks}
 use Rattle.znodes.specs.declared.parts.Content.{Content}
@@ -60,6 +63,21 @@ pub record IsOpening (root : Node) (v : NodesView) : Type 0 where
   pub held : v.held ≡ finite.empty
   pub owners : v.owners ≡ finite.empty
   pub given : v.given ≡ 1
+
+-- the Ids name these paths, one after the other
+abbrev pub AreAt : FinMap id_cmp Path → Ids → List Path → Type 0
+AreAt places [] [] = Unit {0}
+AreAt places [] (path ∷ paths) = ⊥
+AreAt places (id ∷ ids) [] = ⊥
+AreAt places (id ∷ ids) (path ∷ paths) = (get places id ≡ Some path) × AreAt places ids paths
+
+-- the Ids name the nodes that a tick removes, each once
+pub record AreStale (nodes : Nodes) (places : FinMap id_cmp Path) (tick : ℕ)
+    (ids : Ids) : Type 0 where
+  pub paths : List Path
+  pub named : AreAt places ids paths
+  pub each : (path : Path) → has_path paths path ≡ is_stale_at nodes tick path
+  pub once : NoneTwice path_cmp paths
 
 -- nothing has changed but the room
 abbrev pub SameButRoom : NodesView → NodesView → Type 0

@@ -9,7 +9,9 @@ ghost use Rattle.znodes.specs.NodesView.{Adds, Takes, CanReturn, Returns};
 ghost use Rattle.znodes.specs.support.Linking.{Holds};
 
 use crate::key::{Key, copy_of};
-use crate::linking::{cut_child, cut_owned, id_above, put_child, put_owned, set_key, take_key};
+use crate::linking::{
+    cut_child, cut_owned, cut_timed, id_above, put_child, put_owned, put_timed, set_key, take_key,
+};
 use crate::nodes::Nodes;
 use crate::row::Row;
 use zpath::{Memory, Name, Path};
@@ -74,12 +76,14 @@ impl Nodes {
             unreachable!()
         };
         let owner = row.node.owner;
+        let ttl = row.node.ttl;
         let names = row.path.names();
         let parent = id_above(&self.index, names);
         let key = self.index.remove(names);
         cut_child(&mut self.slots, parent, id);
         cut_owned(&mut self.slots, &mut self.owners, owner, id);
         set_key(&mut self.slots, id, key);
+        cut_timed(&mut self.slots, &mut self.timed, ttl, id);
     }
 
     /// Brings back what was taken away under an Id. It takes no memory.
@@ -111,6 +115,7 @@ impl Nodes {
             unreachable!()
         };
         let owner = row.node.owner;
+        let ttl = row.node.ttl;
         // What it answers is bounded, so the lists have room: none of them has all rows.
         let _ = self.slots.len();
         put_child(&mut self.slots, Some(parent), id);
@@ -119,6 +124,7 @@ impl Nodes {
             Some(key) => self.index.insert(key.into_names(), id),
             None => unreachable!(),
         }
+        put_timed(&mut self.slots, &mut self.timed, ttl, id);
     }
 
     /// Gives up what was taken away under an Id.

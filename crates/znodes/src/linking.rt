@@ -1,6 +1,6 @@
 //! How a row is put into its lists, and taken out of them.
 
-ghost use Rattle.std.specs.Prelude.{◌≡◌, ◌<◌, Some, None, IfSome};
+ghost use Rattle.std.specs.Prelude.{◌≡◌, ◌≢◌, ◌<◌, Some, None, IfSome};
 ghost use Rattle.std.specs.FinMap.{get};
 ghost use Rattle.zslots.specs.declared.limits.TheConstants.{MAX_LENGTH};
 ghost use Rattle.zslots.specs.SlotsView.{with_items};
@@ -10,13 +10,14 @@ ghost use Rattle.znodes.specs.declared.row.Row.{Row};
 ghost use Rattle.znodes.specs.support.OwnerLists.{list_of};
 ghost use Rattle.znodes.specs.support.KeyNames.{names_of};
 ghost use Rattle.znodes.specs.support.Linking.{with_key, kept_key, with_child, without_child, with_owned, without_owned, owners_with, owners_without};
+ghost use Rattle.znodes.specs.support.Linking.{with_timed, without_timed, timed_with, timed_without};
 
 use crate::index::Index;
 use crate::key::{Key, key_of};
 use crate::owners::Owners;
 use crate::row::Row;
 use zpath::Name;
-use zslots::{Id, Slots};
+use zslots::{Id, List, Slots};
 
 // The Id at the path above these names, and at the root the root's own.
 pub(crate) fn id_above(index: &Index, names: &[Name]) -> Option<Id>
@@ -88,6 +89,29 @@ pub(crate) fn cut_owned(slots: &mut Slots<Row>, owners: &mut Owners, owner: u64,
     if let Some(mut list) = owners.list(owner) {
         list.unlink(slots, id);
         owners.set(owner, list);
+    }
+}
+
+// Puts a row before those with a time to live, where its node has one.
+pub(crate) fn put_timed(slots: &mut Slots<Row>, timed: &mut List<2>, ttl: u64, id: Id)
+    requires { ttl ≢ 0 → length_of timed.old < MAX_LENGTH }
+    ensures rows { slots.new ≡ with_items slots.old
+        (with_timed slots.old.items timed.old ttl id) }
+    ensures timed { timed.new ≡ timed_with timed.old ttl id }
+{
+    if ttl != 0 {
+        timed.push_front(slots, id);
+    }
+}
+
+// Takes a row out of those with a time to live, where its node has one.
+pub(crate) fn cut_timed(slots: &mut Slots<Row>, timed: &mut List<2>, ttl: u64, id: Id)
+    requires { ttl ≢ 0 → 0 < length_of timed.old }
+    ensures rows { slots.new ≡ with_items slots.old (without_timed slots.old.items ttl id) }
+    ensures timed { timed.new ≡ timed_without slots.old.items timed.old ttl id }
+{
+    if ttl != 0 {
+        timed.unlink(slots, id);
     }
 }
 

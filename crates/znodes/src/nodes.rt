@@ -9,7 +9,7 @@ use crate::row::Row;
 use std::alloc::Global;
 use std::marker::Model;
 use zpath::{Memory, Path};
-use zslots::Slots;
+use zslots::{List, Slots};
 use ztree::Node;
 
 /// The znodes of one machine.
@@ -18,6 +18,7 @@ pub struct Nodes {
     pub(crate) slots: Slots<Row>,
     pub(crate) index: Index,
     pub(crate) owners: Owners,
+    pub(crate) timed: List<2>,
     pub(crate) alloc: Global,
 }
 
@@ -28,20 +29,21 @@ impl Model for Nodes {
 
     ghost coded = { coded_nodes_view };
 
-    ghost use Rattle.znodes.specs.support.Rows.{IsLinked};
+    ghost use Rattle.znodes.specs.support.Rows.{IsThreaded};
     ghost use Rattle.znodes.specs.support.Fields.{view_of};
 
     ghost view = { view_of };
 
-    ghost invariant = { λ s. IsLinked s.slots.items s.index.ids s.owners };
+    ghost invariant = { λ s. IsThreaded s.slots.items s.index.ids s.owners s.timed };
 }
 
 impl Nodes {
     ghost use Rattle.znodes.specs.NodesView.{IsOpening, SameButRoom};
 
-    /// A root that nobody owns, alone.
+    /// A root that nobody owns and no time to live ends, alone.
     pub fn new(alloc: Global, root: Node) -> Result<Nodes, Memory>
         requires nobodys { root.owner ≡ 0 }
+        requires stays { root.ttl ≡ 0 }
         ensures { IfOk result (IsOpening root) }
     {
         let mut index = Index::new(alloc);
@@ -62,6 +64,7 @@ impl Nodes {
             slots,
             index,
             owners: Owners::new(alloc),
+            timed: List::new(),
             alloc,
         })
     }
@@ -108,6 +111,7 @@ impl Nodes {
             slots,
             index,
             owners,
+            timed: self.timed,
             alloc: self.alloc,
         })
     }

@@ -8,7 +8,8 @@ use zpath::{Memory, Path};
 use zslots::{Copied, Linked, Links, List};
 use ztree::Node;
 
-/// A node, where it is, its children, and its neighbours among its siblings and among the nodes of its owner.
+/// A node, where it is, its children, and its neighbours among its siblings, among the nodes of its owner, and among the
+/// nodes with a time to live.
 #[derive(Drop)]
 pub(crate) struct Row {
     pub(crate) path: Path,
@@ -16,6 +17,7 @@ pub(crate) struct Row {
     pub(crate) children: List<0>,
     pub(crate) siblings: Links,
     pub(crate) fellows: Links,
+    pub(crate) timed: Links,
     // The index's key, while the node is taken away: with it the node comes back without memory.
     pub(crate) key: Option<Key>,
     // Where its copies are allocated.
@@ -38,6 +40,10 @@ impl Row {
                 prev: None,
             },
             fellows: Links {
+                next: None,
+                prev: None,
+            },
+            timed: Links {
                 next: None,
                 prev: None,
             },
@@ -65,6 +71,7 @@ impl Copied for Row {
             children: self.children,
             siblings: self.siblings,
             fellows: self.fellows,
+            timed: self.timed,
             key,
             alloc: self.alloc,
         })
@@ -121,5 +128,27 @@ impl Linked<1> for Row {
 
     fn set_links(&mut self, to: Links) {
         self.fellows = to;
+    }
+}
+
+impl Linked<2> for Row {
+    ghost use Rattle.std.specs.Prelude.{refl};
+
+    ghost links = { λ r. r.timed };
+
+    ghost with_links = { λ r to. record r { timed = to } };
+
+    ghost reads = { λ _ _. refl };
+
+    ghost same = { λ _. refl };
+
+    ghost twice = { λ _ _ _. refl };
+
+    fn links(&self) -> Links {
+        self.timed
+    }
+
+    fn set_links(&mut self, to: Links) {
+        self.timed = to;
     }
 }

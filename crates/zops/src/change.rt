@@ -142,8 +142,9 @@ fn create(
         return Err(Stop::Memory);
     };
     let owner = create.kind.owner();
+    let ttl = create.kind.ttl();
     let is_sequential = create.kind.is_sequential();
-    store.add(parent, made, create.bytes, owner, is_sequential)?;
+    store.add(parent, made, create.bytes, owner, ttl, is_sequential)?;
     Ok(ChangeReply::Created(path))
 }
 

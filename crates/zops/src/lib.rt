@@ -26,4 +26,4 @@ pub use zcalls::{
     Call, CallNumber, Change, ChangeReply, Check, Create, Delete, Entry, Expected, Kind, MAX_PARTS,
     Multi, Names, Part, PartReply, Query, Refusal, Replies, Reply, SetData, Update,
 };
-pub use ztree::{ClientId, Data, SessionId, Stat, Zxid};
+pub use ztree::{ClientId, Data, SessionId, Stat, Ttl, Zxid};

@@ -22,7 +22,10 @@ pub(crate) fn has_no_owner(store: &Store, client: ClientId, kind: Kind) -> bool
     ensures { result ≡ has_no_owner store.now.tree.sessions client kind }
 {
     match kind {
-        Kind::Persistent | Kind::PersistentSequential => false,
+        Kind::Persistent
+        | Kind::PersistentSequential
+        | Kind::PersistentWithTtl(_)
+        | Kind::PersistentSequentialWithTtl(_) => false,
         Kind::Ephemeral(session) | Kind::EphemeralSequential(session) => {
             is_gone(store, client, session)
         }

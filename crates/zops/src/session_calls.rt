@@ -1,10 +1,15 @@
 //! The calls of sessions and the tick of the clock, done to a store.
 
-ghost use Rattle.std.specs.Prelude.{◌≡◌, ◌<◌, ◌+◌, IfOk, OnErr};
-ghost use Rattle.ztree.specs.Sessions.{without_sessions};
-ghost use Rattle.ztree.specs.declared.limits.TheConstants.{TICK_BOUND};
+ghost use Rattle.std.specs.Prelude.{◌≡◌, ◌<◌, ◌+◌, ◌||◌, not, nat_lt, List, length, IfOk, OnErr};
+ghost use Rattle.ztree.specs.Sessions.{without_nodes, without_sessions};
+ghost use Rattle.ztree.specs.Tree.{Path};
+ghost use Rattle.ztree.specs.Lawful.{AllNodes};
+ghost use Rattle.ztree.specs.Room.{HasRoomForLosses};
+ghost use Rattle.zstore.specs.StoreView.{AreAt};
+ghost use Rattle.ztree.specs.declared.limits.TheConstants.{TICK_BOUND, ZXID_BOUND};
 ghost use Rattle.zops.specs.support.Ready.{IsSteady, IsReady, StaysBounded, IsAsItWas};
-ghost use Rattle.zcalls.specs.Step.{granted_timeout, due_next, tick_result, update_result};
+ghost use Rattle.zops.specs.support.Ready.{KeepsLeft, CanRemove};
+ghost use Rattle.zcalls.specs.Step.{granted_timeout, due_next, stale_next, tick_result, update_result};
 ghost use Rattle.zcalls.specs.declared.call.Update.TheVariants.{Open, Ping, Close};
 ghost use Rattle.zcalls.specs.declared.reply.Reply.TheVariants as reply;
 
@@ -12,7 +17,7 @@ use crate::owner::is_gone;
 use zcalls::limits::{MAX_TIMEOUT, MIN_TIMEOUT};
 use zcalls::{Refusal, Reply};
 use zpath::Memory;
-use zstore::Store;
+use zstore::{Id, Store};
 use ztree::limits::MAX_SESSIONS;
 use ztree::{ClientId, SessionId};
 
@@ -79,6 +84,7 @@ fn end_all(store: &mut Store, ids: Vec<SessionId>)
     requires due { ids.items ≡ due_next store.old.tree }
     requires ready { IsReady store.old }
     ensures tree { store.new.tree ≡ without_sessions store.old.tree ids.items }
+    ensures still { KeepsLeft store.old store.new }
     ensures given { store.new.given ≡ store.old.given }
 {
     store.keeps_lawful();
@@ -87,24 +93,52 @@ fn end_all(store: &mut Store, ids: Vec<SessionId>)
     }
 }
 
-/// Raises the clock by one tick, which ends the sessions whose deadline it reaches. Only to find
-/// these takes memory, and it comes first.
+// Whether a tick that ends and removes so many changes nothing.
+fn is_idle(ended: usize, removed: usize) -> bool
+    ensures { result ≡ not (nat_lt 0 ended || nat_lt 0 removed) }
+{
+    ended == 0 && removed == 0
+}
+
+// Takes away these nodes, one after the other, by the next change.
+fn remove_all(store: &mut Store, ids: Vec<Id>)
+    requires named { CanRemove store.old ids.items }
+    requires room { AllNodes (HasRoomForLosses (length ids.items)) store.old.tree.nodes }
+    requires zxid { store.old.tree.zxid + 1 < ZXID_BOUND }
+    ensures tree { (paths : List Path) → AreAt store.old.places ids.items paths
+        → store.new.tree ≡ without_nodes store.old.tree paths }
+    ensures given { store.new.given ≡ store.old.given }
+{
+    for id in ids {
+        store.drop_leaf(id);
+    }
+}
+
+/// Raises the clock by one tick, which ends the sessions whose deadline it reaches, and then removes the nodes whose time
+/// to live it reaches and that had no children before it. Only to find these takes memory, and it comes first.
 pub(crate) fn tick(store: &mut Store) -> Result<Reply, Memory>
     requires ready { IsReady store.old }
     requires time { store.old.tree.time + 1 < TICK_BOUND }
     ensures done { IfOk result (λ reply. (store.new.tree, reply)
-        ≡ tick_result store.old.tree (due_next store.old.tree)) }
+        ≡ tick_result store.old.tree (due_next store.old.tree) (stale_next store.old.tree)) }
     ensures left { StaysBounded store.old store.new }
     ensures err { OnErr result (IsAsItWas store.old store.new) }
 {
     store.keeps_lawful();
-    let due = store.due(store.now() + 1)?;
+    let next = store.now() + 1;
+    let due = store.due(next)?;
+    let Ok(stale) = store.stale(next) else {
+        drop(due);
+        return Err(Memory);
+    };
     let ended = due.len();
+    let removed = stale.len();
     end_all(store, due);
+    remove_all(store, stale);
     store.advance();
-    if ended == 0 {
-        return Ok(Reply::Ticked(store.now(), ended));
+    if is_idle(ended, removed) {
+        return Ok(Reply::Ticked(store.now(), ended, removed));
     }
     store.raise();
-    Ok(Reply::Ticked(store.now(), ended))
+    Ok(Reply::Ticked(store.now(), ended, removed))
 }

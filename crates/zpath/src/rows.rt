@@ -33,7 +33,7 @@ pub fn first_faults()
     ensures bad_byte { fault_of (47 ∷ 32 ∷ replicate MAX_NAME_LEN 97) ≡ Some BadByte }
     ensures long_name { fault_of (47 ∷ replicate (MAX_TEXT_LEN + 1) 97) ≡ Some NameTooLong }
     ensures long_text { fault_of (text_of (replicate 600 (codes "a"))) ≡ Some PathTooLong }
-    ensures deep { fault_of (text_of (codes "zookeeper" ∷ replicate 32 (97 ∷ []))) ≡ Some TooDeep }
+    ensures deep { fault_of (text_of (codes "zookeeper" ∷ replicate 64 (97 ∷ []))) ≡ Some TooDeep }
 {}
 
 /// Why a path can't have one more name.
@@ -75,6 +75,6 @@ pub fn names_of_faults()
 pub fn limits_are_numbers()
     ensures name { MAX_NAME_LEN ≡ 255 }
     ensures text { MAX_TEXT_LEN ≡ 1024 }
-    ensures depth { MAX_DEPTH ≡ 32 }
+    ensures depth { MAX_DEPTH ≡ 64 }
     ensures digits { COUNTER_DIGITS ≡ 10 }
 {}

@@ -3,7 +3,7 @@
 use ztree::limits::MAX_CLIENTS;
 
 /// How many servers there can be: their numbers go from 1 up to this one.
-pub const MAX_SERVERS: u8 = 8;
+pub const MAX_SERVERS: u8 = 16;
 
 /// How many processes there can be: the master, the servers and the clients.
 pub const PROCESSES: usize = 1 + MAX_SERVERS as usize + MAX_CLIENTS as usize;

@@ -7,7 +7,8 @@ use zcalls::{CallNumber, Entry, Query, Reply, Update};
 
 /// What processes send each other. `T` is what a `Snapshot` hands over: a machine with the number of
 /// its last entry (van Renesse and Schneider, "Chain Replication for Supporting High Throughput and
-/// Availability", OSDI 2004, section 3; epochs, `Gone` and `Snapshot` are this project's profile).
+/// Availability", OSDI 2004, section 3; epochs, `Gone`, `Retire` and `Snapshot` are this project's
+/// profile).
 #[derive(Drop)]
 pub enum Message<T> {
     /// From a client to a server: do this update, which has this call number.
@@ -32,6 +33,8 @@ pub enum Message<T> {
     BecomeHead(Epoch),
     /// From the master to a server: you have no successor any more.
     BecomeTail(Epoch),
+    /// From the master to a server: leave the chain, for good.
+    Retire,
     /// From a server to the master: I have the state.
     Joined(Epoch),
     /// From a server to the master: it has failed. It is the last message on its link.

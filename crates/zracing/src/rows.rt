@@ -9,13 +9,13 @@ ghost use Rattle.zracing.specs.support.Rows.{text_numbers};
 pub fn words_give_four_numbers()
     ensures none { text_numbers (codes "zk race") ≡ Some (3 ∷ 4 ∷ 100 ∷ 0 ∷ []) }
     ensures one { text_numbers (codes "zk race --halt 2") ≡ Some (3 ∷ 4 ∷ 100 ∷ 2 ∷ []) }
-    ensures swapped { text_numbers (codes "zk race --halt 5 --rounds=7 --clients 31 --servers 8")
-        ≡ Some (8 ∷ 31 ∷ 7 ∷ 5 ∷ []) }
+    ensures swapped { text_numbers (codes "zk race --halt 5 --rounds=7 --clients 31 --servers 16")
+        ≡ Some (16 ∷ 31 ∷ 7 ∷ 5 ∷ []) }
 {}
 
 /// Numbers that no race has: a server that is not of the chain is not halted, nor is the only one.
 pub fn numbers_are_in_their_ranges()
-    ensures nine_servers { (r : Race) → IsRaceOf (Some (9 ∷ 4 ∷ 100 ∷ 0 ∷ [])) r → ⊥ }
+    ensures seventeen_servers { (r : Race) → IsRaceOf (Some (17 ∷ 4 ∷ 100 ∷ 0 ∷ [])) r → ⊥ }
     ensures no_client { (r : Race) → IsRaceOf (Some (3 ∷ 0 ∷ 100 ∷ 0 ∷ [])) r → ⊥ }
     ensures rounds { (r : Race) → IsRaceOf (Some (3 ∷ 4 ∷ 1001 ∷ 0 ∷ [])) r → ⊥ }
     ensures halted { (r : Race) → IsRaceOf (Some (2 ∷ 4 ∷ 100 ∷ 3 ∷ [])) r → ⊥ }

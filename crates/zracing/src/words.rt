@@ -31,7 +31,7 @@ static RACE_OPTIONS: [NumberOption; 4] = [
     },
 ];
 
-/// Reads `NAME race [--servers N] [--clients C] [--rounds R] [--halt S]`: N is 1 to 8 (3), C 1 to 31 (4), R 1 to 1,000 (100),
+/// Reads `NAME race [--servers N] [--clients C] [--rounds R] [--halt S]`: N is 1 to 16 (3), C 1 to 31 (4), R 1 to 1,000 (100),
 /// and S 0 to N (0, for none; 0 alone where N is 1).
 ///
 /// All else is `BadWords`, a request for help too. `Memory` comes only where memory runs out.

@@ -1,6 +1,6 @@
 //! Where each process stands at the opening.
 
-ghost use Rattle.std.specs.Prelude.{◌≡◌, ◌<◌, ◌≤◌, IfOk};
+ghost use Rattle.std.specs.Prelude.{◌≡◌, ◌<◌, ◌≤◌, None, IfOk};
 ghost use Rattle.ztree.specs.declared.limits.TheConstants.{MAX_CLIENTS};
 ghost use Rattle.zprotocol.specs.server.Machine.{kept_tree};
 ghost use Rattle.zprotocol.specs.server.View.{opening_server};
@@ -102,7 +102,8 @@ impl Opening {
 
 // The server of this number, where the chain goes up to the last one.
 fn server_at(alloc: Global, id: ServerId, last: ServerId) -> Result<Server, Memory>
-    ensures { IfOk result (λ server. server.view ≡ opening_server kept_tree last id) }
+    ensures view { IfOk result (λ server. server.view ≡ opening_server kept_tree last id) }
+    ensures runs { IfOk result (λ server. server.stopped ≡ None) }
 {
     let (number, end) = (id.number(), last.number());
     if number > end {

@@ -32,7 +32,7 @@ impl Cluster {
     ghost use Rattle.zrun.specs.Clusters.{client_count, cluster_run, last_server};
     ghost use Rattle.zrun.specs.Members.{clients_run, HasAll};
 
-    /// Starts a thread for each of the eight servers, spare ones among them, and one for the master. The chain is the servers
+    /// Starts a thread for each of the sixteen servers, spare ones among them, and one for the master. The chain is the servers
     /// up to the last one; there are so many clients, of the numbers from 0 on. Each server has the gate of its number.
     /// At a refusal no thread is left.
     pub fn start<G: Gate + Send + 'static, R: Threads + Wait + Copy + Send + 'static>(

@@ -101,7 +101,7 @@ impl Gate for Watch {
     }
 }
 
-/// The gates of eight servers: the first three look for these.
+/// The gates of sixteen servers: the first three look for these.
 pub fn gates(
     alloc: Global,
     meeting: &Arc<Meeting, Global>,

@@ -14,8 +14,8 @@ use zcalls::Reply;
 use zliterals::{client, server};
 use zrun::{Client, Clients};
 
-// Takes turns until the message has come that a gate looks for, a hundred million at most.
-fn turn_until(client: &mut Client, meeting: &Meeting)
+/// Takes turns until the message has come that a gate looks for, a hundred million at most.
+pub fn turn_until(client: &mut Client, meeting: &Meeting)
     ensures { SameClient client.old client.new }
 {
     for _ in 0..100_000_000u64 {
@@ -48,8 +48,8 @@ fn set_fifty(client: &mut Client, alloc: Global) -> Option<bool>
     Some(true)
 }
 
-// The node's version.
-fn version_of(client: &mut Client, alloc: Global) -> Option<u64>
+/// The node's version.
+pub fn version_of(client: &mut Client, alloc: Global) -> Option<u64>
     ensures { SameClient client.old client.new }
 {
     let reply = ask(client, exists(alloc, "/n")?)?;

@@ -1,5 +1,5 @@
-//! Tests of the service in threads: threads that meet, a server that joins late, halted servers, stamps that are learnt, and what
-//! the audit says of the traces of a cluster that was joined.
+//! Tests of the service in threads: threads that meet, a server that joins late, one that leaves, halted servers, stamps that are
+//! learnt, and what the audit says of the traces of a cluster that was joined.
 #![tactic(auto)]
 
 #[cfg(test)]
@@ -12,6 +12,8 @@ mod gates;
 mod halts;
 #[cfg(test)]
 mod joins;
+#[cfg(test)]
+mod leavings;
 #[cfg(test)]
 mod meetings;
 #[cfg(test)]

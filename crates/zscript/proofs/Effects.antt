@@ -7,7 +7,7 @@ use mathlib.Core.Bool.{true≢false}
 use Rattle.ztree.specs.Tree.{Tree}
 use Rattle.zcalls.specs.Kept.{KeptState}
 use Rattle.zprotocol.specs.server.Machine.{kept_tree}
-use Rattle.zprotocol.specs.master.Table.{join_fault}
+use Rattle.zprotocol.specs.master.Table.{join_fault, retire_fault}
 use Rattle.zworld_model.specs.declared.event.Event.{Event}
 use Rattle.zworld_model.specs.declared.event.Event.TheVariants as event
 use Rattle.zworld_model.specs.declared.outcome.Outcome.{Outcome}
@@ -25,7 +25,7 @@ use Rattle.zworld.specs.Did.{IsCause, is_idle, outcome_of}
 use Rattle.zworld.specs.Steps.{WorldView, HasHappened, HasSettled, world_in}
 use Rattle.zworld.proofs.Steps.{read_acted, happens_not}
 use Rattle.zscript.specs.declared.limits.TheConstants.{MAX_EVENTS}
-use Rattle.zscript.specs.Line.{ServiceWorld, ScriptState, script_state, LineEffect, after_try, event_effect, plain_effect, join_effect, join_fault_name, settled_text, settle_effect, taken_text}
+use Rattle.zscript.specs.Line.{ServiceWorld, ScriptState, script_state, LineEffect, after_try, event_effect, plain_effect, join_effect, join_fault_name, retire_effect, retire_fault_name, settled_text, settle_effect, taken_text}
 use Rattle.zscript.specs.support.Effects.{cause_text, did_text, LeadsTo, IsEffectDone, IsEventDone}
 
 -- the opposite of a test
@@ -132,6 +132,7 @@ join_text old server (became.Idle why) caused = refused why (caused why refl)
         → option_map_or (λ fault. codes "no " ++ join_fault_name fault) (join_fault old.master server) (codes "idle") ≡ cause_text why
     refused (cause.Join fault) is = ap (λ fault. option_map_or (λ fault. codes "no " ++ join_fault_name fault) fault (codes "idle")) is
     refused (cause.Begin fault) is = absurd is
+    refused (cause.Retire fault) is = absurd is
     refused cause.Nothing is = absurd is
 join_text old server became.Done caused = refl
 join_text old server became.Unheard caused = refl
@@ -143,6 +144,28 @@ join_done old new server writes done =
     event_done (world_in old) (world_in new) (event.Join server) done.did writes done.happened (λ s. join_effect s server) (codes "done")
     (option_map_or (λ fault. codes "no " ++ join_fault_name fault) (join_fault old.held.master server) (codes "idle")) (did_text done.did) (λ outcomes. refl)
     (join_text old.held server done.did done.caused) done.written
+
+-- retire
+retire_text : (old : Held) (server : ℕ) (did : Did) → ((why : IdleCause) → did ≡ became.Idle why → IsCause old (event.Retire server) why)
+    → (if is_idle did then option_map_or (λ fault. codes "no " ++ retire_fault_name fault) (retire_fault old.master server) (codes "idle") else codes "done") ≡ did_text did
+retire_text old server (became.Idle why) caused = refused why (caused why refl)
+  where
+    refused : (why : IdleCause) → IsCause old (event.Retire server) why
+        → option_map_or (λ fault. codes "no " ++ retire_fault_name fault) (retire_fault old.master server) (codes "idle") ≡ cause_text why
+    refused (cause.Retire fault) is = ap (λ fault. option_map_or (λ fault. codes "no " ++ retire_fault_name fault) fault (codes "idle")) is
+    refused (cause.Begin fault) is = absurd is
+    refused (cause.Join fault) is = absurd is
+    refused cause.Nothing is = absurd is
+retire_text old server became.Done caused = refl
+retire_text old server became.Unheard caused = refl
+retire_text old server became.Stopped caused = refl
+
+pub retire_done : (old new : WorldView) (server : ℕ) (writes : List ℕ → Type 0) → IsEventDone old new (event.Retire server) writes
+    → IsEffectDone (world_in old) (world_in new) (λ s. retire_effect s server) writes
+retire_done old new server writes done =
+    event_done (world_in old) (world_in new) (event.Retire server) done.did writes done.happened (λ s. retire_effect s server) (codes "done")
+    (option_map_or (λ fault. codes "no " ++ retire_fault_name fault) (retire_fault old.held.master server) (codes "idle")) (did_text done.did) (λ outcomes. refl)
+    (retire_text old.held server done.did done.caused) done.written
 
 -- settle
 pub settle_done : (v w : ServiceWorld) (settled : Settled) (writes : List ℕ → Type 0) → HasSettled v MAX_EVENTS settled w

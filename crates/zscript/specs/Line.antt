@@ -11,8 +11,10 @@ use Rattle.zcalls.specs.declared.reply.Reply.{Reply}
 use Rattle.zprotocol.specs.server.Machine.{kept_tree}
 use Rattle.zprotocol.specs.server.View.{spare}
 use Rattle.zprotocol.specs.declared.master.join_fault.JoinFault.{JoinFault}
-use Rattle.zprotocol.specs.declared.master.join_fault.JoinFault.TheVariants.{Used, Joining, NoChain, Lost}
-use Rattle.zprotocol.specs.master.Table.{join_fault}
+use Rattle.zprotocol.specs.declared.master.join_fault.JoinFault.TheVariants.{Used, Joining, NoChain, Lost, Retiring}
+use Rattle.zprotocol.specs.declared.master.retire_fault.RetireFault.{RetireFault}
+use Rattle.zprotocol.specs.declared.master.retire_fault.RetireFault.TheVariants as retire
+use Rattle.zprotocol.specs.master.Table.{join_fault, retire_fault}
 use Rattle.zprotocol.specs.declared.client.begin_fault.BeginFault.{BeginFault}
 use Rattle.zprotocol.specs.declared.client.begin_fault.BeginFault.TheVariants as begin
 use Rattle.zprotocol.specs.client.Table.{begin_fault}
@@ -110,12 +112,26 @@ join_fault_name Used = codes "Used"
 join_fault_name Joining = codes "Joining"
 join_fault_name NoChain = codes "NoChain"
 join_fault_name Lost = codes "Lost"
+join_fault_name Retiring = codes "Retiring"
 
 -- join
 abbrev pub join_effect : ScriptState → ℕ → LineEffect
 join_effect s server =
     event_effect s (event.Join server) (codes "done")
     (option_map_or (λ fault. codes "no " ++ join_fault_name fault) (join_fault s.world.master server) (codes "idle"))
+
+-- the name of a fault of an order to leave
+abbrev pub retire_fault_name : RetireFault → List ℕ
+retire_fault_name retire.NotMember = codes "NotMember"
+retire_fault_name retire.Joining = codes "Joining"
+retire_fault_name retire.Last = codes "Last"
+retire_fault_name retire.Retiring = codes "Retiring"
+
+-- retire
+abbrev pub retire_effect : ScriptState → ℕ → LineEffect
+retire_effect s server =
+    event_effect s (event.Retire server) (codes "done")
+    (option_map_or (λ fault. codes "no " ++ retire_fault_name fault) (retire_fault s.world.master server) (codes "idle"))
 
 -- how settling ended
 abbrev pub settled_text : Settled → List ℕ
@@ -166,6 +182,7 @@ line_effect s (asked.Take from to) = plain_effect s (event.Take from to)
 line_effect s (asked.Ignore from to) = plain_effect s (event.Ignore from to)
 line_effect s (asked.Fail server) = plain_effect s (event.Fail server)
 line_effect s (asked.Join server) = join_effect s server
+line_effect s (asked.Retire server) = retire_effect s server
 line_effect s (asked.Retry client) = plain_effect s (event.Retry client)
 line_effect s asked.Settle = settle_effect s
 

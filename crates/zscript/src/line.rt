@@ -65,6 +65,7 @@ fn play_line(world: &mut World, asked: Line, out: &mut String) -> Result<(), Mem
         Line::Ignore(from, to) => do_event(world, Event::Ignore(from, to), out),
         Line::Fail(server) => do_event(world, Event::Fail(server), out),
         Line::Join(server) => do_event(world, Event::Join(server), out),
+        Line::Retire(server) => do_event(world, Event::Retire(server), out),
         Line::Retry(client) => do_event(world, Event::Retry(client), out),
         Line::Settle => settle(world, out),
     }

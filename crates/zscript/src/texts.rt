@@ -6,7 +6,8 @@ ghost use Rattle.std.specs.Option.{option_map_or};
 ghost use Rattle.zlines.specs.Reply.{reply_text};
 ghost use Rattle.zlines.specs.declared.request.LineFault.TheVariants as line_fault;
 ghost use Rattle.zlines.specs.Texts.{Writes};
-ghost use Rattle.zscript.specs.Line.{line_fault_text, join_fault_name, settled_text, taken_text};
+ghost use Rattle.zscript.specs.Line.{line_fault_text, join_fault_name, retire_fault_name};
+ghost use Rattle.zscript.specs.Line.{settled_text, taken_text};
 ghost use Rattle.zscript.specs.Line.{is_answer_to, reply_in};
 ghost use Rattle.zscript.specs.support.Effects.{cause_text, did_text, begun_text, called_text};
 ghost use Rattle.zscript.specs.support.Effects.{own_call};
@@ -14,7 +15,7 @@ ghost use Rattle.zscript.specs.support.Effects.{own_call};
 use zcalls::{CallNumber, ClientId};
 use zlines::{LineFault, write_reply};
 use zpath::Memory;
-use zprotocol::{BeginFault, JoinFault};
+use zprotocol::{BeginFault, JoinFault, RetireFault};
 use zworld::{Did, IdleCause};
 use zworld_model::{CallEvent, Settled};
 
@@ -99,6 +100,10 @@ pub(crate) fn write_cause(cause: IdleCause, out: &mut String) -> Result<(), Memo
             out.push_str("no ")?;
             out.push_str(join_fault_name(fault))?;
         }
+        IdleCause::Retire(fault) => {
+            out.push_str("no ")?;
+            out.push_str(retire_fault_name(fault))?;
+        }
     }
     Ok(())
 }
@@ -112,6 +117,19 @@ fn join_fault_name(fault: JoinFault) -> &'static str
         JoinFault::Joining => "Joining",
         JoinFault::NoChain => "NoChain",
         JoinFault::Lost => "Lost",
+        JoinFault::Retiring => "Retiring",
+    }
+}
+
+// The name of a fault of an order to leave.
+fn retire_fault_name(fault: RetireFault) -> &'static str
+    ensures { result.now ≡ retire_fault_name fault }
+{
+    match fault {
+        RetireFault::NotMember => "NotMember",
+        RetireFault::Joining => "Joining",
+        RetireFault::Last => "Last",
+        RetireFault::Retiring => "Retiring",
     }
 }
 

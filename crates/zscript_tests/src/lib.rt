@@ -23,4 +23,6 @@ mod rows;
 #[cfg(test)]
 mod session_rows;
 #[cfg(test)]
+mod timed_rows;
+#[cfg(test)]
 mod words;

@@ -44,9 +44,9 @@ fn knows_the_longest_sequential_name(rt: HostRuntime) {
 
 const MOST_DATA: &[Piece] = &[
     Text("1 create /a p "),
-    Times("QUFB", 1365),
+    Times("QUFB", 21845),
     Text("QQ==\n1 create /b p "),
-    Times("QUFB", 1365),
+    Times("QUFB", 21845),
     Text("QUE=\n"),
 ];
 

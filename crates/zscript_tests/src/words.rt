@@ -16,7 +16,7 @@ const GOOD: &[(&str, u8)] = &[
     ("zk script --servers 5", 5),
     ("zk script --servers 6", 6),
     ("zk script --servers 7", 7),
-    ("zk script --servers 8", 8),
+    ("zk script --servers 16", 16),
 ];
 
 const BAD: &[&str] = &[
@@ -28,7 +28,7 @@ const BAD: &[&str] = &[
     "zk script more",
     "zk script --servers",
     "zk script --servers 0",
-    "zk script --servers 9",
+    "zk script --servers 17",
     "zk script --servers 257",
     "zk script --servers one",
     "zk script --servers 1 --servers 1",

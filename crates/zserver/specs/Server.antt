@@ -1,14 +1,17 @@
--- A server as its owner sees it: its view of the server table, and whether it has stopped for want of memory.
+-- A server as its owner sees it: its view of the server table, and whether it has stopped, and why.
 -- Van Renesse and Schneider, "Chain Replication for Supporting High Throughput and Availability" (OSDI 2004),
--- section 2: servers are fail-stop, and a request may be ignored.
-use Rattle.std.specs.Prelude.{ℕ, Bool, false, Option}
+-- section 2: servers are fail-stop, and a request may be ignored. The order to leave is this project's profile.
+use Rattle.std.specs.Prelude.{◌≡◌, ℕ, true, Option, None}
 use Rattle.std.specs.Option.{option_map}
 use Rattle.ztree.specs.Tree.{Tree}
 use Rattle.zcalls.specs.Kept.{KeptState}
 use Rattle.zprotocol.specs.declared.process.Process.{Process}
 use Rattle.zprotocol.specs.server.Machine.{kept_tree}
 use Rattle.zprotocol.specs.server.View.{ServerView, MessageOf, Neighbour}
-use Rattle.zprotocol.specs.server.Table.{ServerResult, no_effect, server_step}
+use Rattle.zprotocol.specs.server.Memory.{may_stop}
+use Rattle.zprotocol.specs.server.Table.{ServerResult, is_retirement, no_effect, server_step}
+use Rattle.zserver.specs.declared.stopped.Stopped.{Stopped}
+use Rattle.zserver.specs.declared.stopped.Stopped.TheVariants.{Memory, Retired}
 use Rattle.zserver.specs.declared.taken.Taken.{Taken}
 use Rattle.zserver.specs.declared.taken.Taken.TheVariants.{Acted, Unheard}
 
@@ -20,14 +23,14 @@ TreeView = ServerView (KeptState Tree)
 abbrev pub TreeMessage : Type 0
 TreeMessage = MessageOf (KeptState Tree)
 
--- a server: its view, and whether it has stopped. The view of one that has stopped says nothing
+-- a server: its view, and why it has stopped, if it has. The view of one that has stopped says nothing
 pub record ServerState : Type 0 where
   pub view : TreeView
-  pub is_stopped : Bool
+  pub stopped : Option Stopped
 
 -- a server that has this view, and goes on
 abbrev pub running : TreeView → ServerState
-running v = record { view = v; is_stopped = false }
+running v = record { view = v; stopped = None }
 
 -- a neighbour in the opening chain, where there is one
 abbrev pub first_neighbour : Option ℕ → Option Neighbour
@@ -37,3 +40,8 @@ first_neighbour s = option_map (λ s. (s, 0)) s
 abbrev pub taken_result : Taken → TreeView → Process → TreeMessage → ServerResult (KeptState Tree)
 taken_result Acted v from m = server_step kept_tree v from m
 taken_result Unheard v from m = no_effect v
+
+-- why a server stops at a message: it may want memory for it, or it is the master's order to leave
+abbrev pub StopsAt : Stopped → TreeView → Process → TreeMessage → Type 0
+StopsAt Memory v from m = may_stop kept_tree v from m ≡ true
+StopsAt Retired v from m = is_retirement from m ≡ true

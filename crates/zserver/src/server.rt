@@ -1,12 +1,14 @@
 //! The server.
 
-ghost use Rattle.std.specs.Prelude.{◌≡◌, ◌⊎◌, true, false, IfOk, IsErr, OnErr, OnOk};
+ghost use Rattle.std.specs.Prelude.{◌≡◌, ◌⊎◌, true, false, None, Some, Err, IfOk, IfErr, OnErr, OnOk};
 ghost use Rattle.zprotocol.specs.server.Machine.{kept_tree};
-ghost use Rattle.zprotocol.specs.server.Memory.{may_be_unheard, may_stop};
+ghost use Rattle.zprotocol.specs.server.Memory.{may_be_unheard};
+ghost use Rattle.zprotocol.specs.server.Table.{is_retirement};
 ghost use Rattle.zprotocol.specs.server.View.{member, spare};
 ghost use Rattle.zprotocol.specs.Posts.{Puts};
+ghost use Rattle.zserver.specs.declared.stopped.Stopped.{Stopped};
 ghost use Rattle.zserver.specs.declared.taken.Taken.TheVariants.{Unheard};
-ghost use Rattle.zserver.specs.Server.{first_neighbour, running, taken_result};
+ghost use Rattle.zserver.specs.Server.{first_neighbour, running, taken_result, StopsAt};
 
 use crate::replica::Replica;
 use crate::snapshot::Snapshot;
@@ -21,7 +23,7 @@ use zprotocol::{Message, Out, Process, ServerId};
 /// for it. One that has stopped has no replica: what it knew was let go.
 #[derive(Drop)]
 pub struct Server {
-    replica: Option<Replica>,
+    replica: Result<Replica, Stopped>,
 }
 
 impl Model for Server {
@@ -46,8 +48,10 @@ impl Server {
         ensures { IfOk result (λ server. server
             ≡ running (member kept_tree (first_neighbour pred) (first_neighbour succ))) }
     {
-        let replica = Some(Replica::member(alloc, pred, succ)?);
-        Ok(Server { replica })
+        let replica = Replica::member(alloc, pred, succ)?;
+        Ok(Server {
+            replica: Ok(replica),
+        })
     }
 
     /// A server outside the chain, which has no state. It takes no memory.
@@ -55,13 +59,13 @@ impl Server {
         ensures { result ≡ running spare }
     {
         Server {
-            replica: Some(Replica::spare(alloc)),
+            replica: Ok(Replica::spare(alloc)),
         }
     }
 
-    /// Takes a message. Where there is no memory for what the table says, the server stops, and its
-    /// state is let go; a query is ignored then. It wants memory only where it grows: for a longer log,
-    /// or for what it puts.
+    /// Takes a message. Where there is no memory for what the table says, or the master orders it to
+    /// leave, the server stops, and its state is let go; a query is ignored where it finds no memory. It
+    /// wants memory only where it grows: for a longer log, or for what it puts.
     pub fn take(
         &mut self,
         from: Process,
@@ -69,34 +73,55 @@ impl Server {
         out: &mut Out<Snapshot>,
     ) -> Result<Taken, Stopped>
         ensures running { OnOk result
-            ((self.old.is_stopped ≡ false) × (self.new.is_stopped ≡ false)) }
+            ((self.old.stopped ≡ None) × (self.new.stopped ≡ None)) }
         ensures next { IfOk result
             (λ taken. self.new.view ≡ (taken_result taken self.old.view from message).0) }
         ensures puts { IfOk result
             (λ taken. Puts out.old out.new (taken_result taken self.old.view from message).1) }
         ensures unheard { IfOk result (λ taken. taken ≡ Unheard
             → may_be_unheard kept_tree self.old.view from message ≡ true) }
-        ensures stopped { OnErr result (self.new.is_stopped ≡ true) }
+        ensures serves { OnOk result (is_retirement from message ≡ false) }
+        ensures stopped { IfErr result (λ why. self.new.stopped ≡ Some why) }
         ensures silent { OnErr result (out.new.posts ≡ out.old.posts) }
-        ensures stays { self.old.is_stopped ≡ true → IsErr result }
-        ensures grows { OnErr result ((self.old.is_stopped ≡ true)
-            ⊎ (may_stop kept_tree self.old.view from message ≡ true)) }
+        ensures stays { (why : Stopped) → self.old.stopped ≡ Some why → result ≡ Err why }
+        ensures caused { IfErr result (λ why. (self.old.stopped ≡ Some why)
+            ⊎ StopsAt why self.old.view from message) }
     {
-        let Some(replica) = &mut self.replica else {
-            drop(message);
-            return Err(Stopped);
+        let replica = match &mut self.replica {
+            Ok(replica) => replica,
+            Err(why) => {
+                let why = *why;
+                drop(message);
+                return Err(why);
+            }
         };
-        match replica.take(from, message, out) {
+        if is_retirement(&from, &message) {
+            drop(message);
+            return Err(self.stop(Stopped::Retired));
+        }
+        let sender = from;
+        match replica.take(sender, message, out) {
             Ok(taken) => Ok(taken),
-            Err(Memory) => Err(self.stop()),
+            Err(Memory) => Err(self.stop(Stopped::Memory)),
         }
     }
 
     // Stops for good, and lets the state go.
-    fn stop(&mut self) -> Stopped
-        ensures { self.new.is_stopped ≡ true }
+    fn stop(&mut self, why: Stopped) -> Stopped
+        ensures stopped { self.new.stopped ≡ Some why }
+        ensures told { result ≡ why }
     {
-        drop(self.replica.take());
-        Stopped
+        self.replica = Err(why);
+        why
+    }
+}
+
+// Whether the master orders the server to leave.
+fn is_retirement(from: &Process, message: &Message<Snapshot>) -> bool
+    ensures { result ≡ is_retirement from.now message.now }
+{
+    match from {
+        Process::Master => matches!(message, Message::Retire),
+        _ => false,
     }
 }

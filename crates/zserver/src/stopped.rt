@@ -2,8 +2,13 @@
 
 use thiserror::Error;
 
-/// The server found no memory, and has stopped: it takes nothing more, and puts nothing. To the others
-/// it has failed.
+/// Why a server takes nothing more, and puts nothing. To the others it has failed.
 #[derive(Clone, Copy, Debug, PartialEq, Eq, Error)]
-#[error("stopped")]
-pub struct Stopped;
+pub enum Stopped {
+    /// It found no memory.
+    #[error("stopped: out of memory")]
+    Memory,
+    /// The master ordered it to leave.
+    #[error("stopped: retired")]
+    Retired,
+}

@@ -1,5 +1,5 @@
 //! Tests of what one process is made of: the machine and the values of its calls (`machine`), the lists of what is put, the master and a client's core
-//! (`tables`), the links, and a server: what it ignores, a join by a snapshot, and a repair. What no clause says: each call that allocates can
+//! (`tables`), the links, and a server: what it ignores, a join by a snapshot, a repair, and its leaving. What no clause says: each call that allocates can
 //! succeed, and its answer is compared.
 #![tactic(auto)]
 
@@ -7,6 +7,8 @@
 mod ignored;
 #[cfg(test)]
 mod joining;
+#[cfg(test)]
+mod leaving;
 #[cfg(test)]
 mod links;
 #[cfg(test)]

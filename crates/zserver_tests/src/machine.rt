@@ -7,3 +7,4 @@ mod play;
 mod refusals;
 mod retries;
 mod sessions;
+mod timed;

@@ -4,8 +4,10 @@ use Rattle.std.specs.Coded.{Coded, code_by, coded×, coded_ℕ, coded_option}
 use Rattle.std.specs.Option.{option_and_then, option_map}
 use Rattle.std.specs.FinMap as finite
 use Rattle.std.specs.FinMap.{FinMap, get, insert, remove}
-use Rattle.zslots.specs.declared.id.Id.{Id}
+pub use Rattle.zslots.specs.declared.id.Id.{Id}
+pub use Rattle.zslots.specs.Ids.{Ids}
 use Rattle.zslots.specs.Ids.{id_cmp, coded_id}
+pub use Rattle.znodes.specs.NodesView.{AreAt, AreStale}
 use Rattle.ztree.specs.declared.node.Node.{Node}
 use Rattle.ztree.specs.declared.node.Stat.{Stat}
 use Rattle.ztree.specs.Tree.{Tree, Name, Path, Nodes, has_node, stat_at, children, with_data_at, without_node}
@@ -56,6 +58,10 @@ data_of h id = option_map (λ (n : Node). n.bytes) (node_of h id)
 -- and its counter
 abbrev pub seq_of : StoreView → Id → Option ℕ
 seq_of h id = option_map (λ (n : Node). n.seq) (node_of h id)
+
+-- and its time to live
+abbrev pub ttl_of : StoreView → Id → Option ℕ
+ttl_of h id = option_map (λ (n : Node). n.ttl) (node_of h id)
 
 -- what is told of the node that an Id names
 abbrev pub IsStatOf : StoreView → Id → Stat → Type 0

@@ -20,4 +20,4 @@ mod writing;
 pub use store::Store;
 pub use znodes::Id;
 pub use ztree::limits::{MAX_DATA, MAX_NODES, MAX_SESSIONS};
-pub use ztree::{ClientId, Data, Node, Session, SessionId, Stat, Zxid};
+pub use ztree::{ClientId, Data, Node, Session, SessionId, Stat, Ttl, Zxid};

@@ -1,8 +1,8 @@
 //! What is read of a store.
 
-ghost use Rattle.std.specs.Prelude.{◌≡◌, Some, None, IfOk, IfSome, IfNone, OnSome, is_some, IsSome};
+ghost use Rattle.std.specs.Prelude.{◌≡◌, ◌+◌, Some, None, IfOk, IfSome, IfNone, OnSome, is_some, IsSome};
 ghost use Rattle.ztree.specs.Tree.{has_node};
-ghost use Rattle.zstore.specs.StoreView.{path_of, node_of, data_of, seq_of, IsStatOf, AreChildrenOf, without_mark};
+ghost use Rattle.zstore.specs.StoreView.{path_of, node_of, data_of, seq_of, ttl_of, AreStale, IsStatOf, AreChildrenOf, without_mark};
 
 use crate::log::Log;
 use crate::store::Store;
@@ -53,6 +53,24 @@ impl Store {
         ensures gone { IfNone result (path_of self.now id ≡ None) }
     {
         Some(self.node(id)?.seq)
+    }
+
+    /// The time to live of the node that an Id names, 0 where it has none; none where it names none.
+    pub fn ttl(&self, id: Id) -> Option<u64>
+        ensures ttl { IfSome result (λ ttl. ttl_of self.now id ≡ Some ttl) }
+        ensures gone { IfNone result (path_of self.now id ≡ None) }
+    {
+        Some(self.node(id)?.ttl)
+    }
+
+    /// The Ids of the nodes that the next tick removes, each once: those whose time to live it reaches, and that have no
+    /// children. It costs by the nodes with a time to live.
+    pub fn stale(&self, tick: u64) -> Result<Vec<Id>, Memory>
+        requires next { tick ≡ self.now.tree.time + 1 }
+        ensures { IfOk result (λ ids.
+            AreStale self.now.tree.nodes self.now.places tick ids.items) }
+    {
+        self.nodes.stale(tick)
     }
 
     /// The names of the children of the node that an Id names, in the order of their bytes.

@@ -48,7 +48,7 @@ impl Store {
         ensures unmarked { IfOk result (λ s. s.marked ≡ None) }
     {
         let zxid = Zxid::new(0);
-        let root = Node::new(Data::empty(alloc), 0, zxid, 0);
+        let root = Node::new(Data::empty(alloc), 0, 0, zxid, 0);
         Ok(Store {
             nodes: Nodes::new(alloc, root)?,
             sessions: Sessions::new(alloc),

@@ -1,6 +1,6 @@
 //! What is changed in a store.
 
-ghost use Rattle.std.specs.Prelude.{◌≡◌, ◌≢◌, ◌<◌, ◌+◌, [], Some, IfOk, OnOk, OnErr, IsSome, None, false};
+ghost use Rattle.std.specs.Prelude.{◌≡◌, ◌≢◌, ◌⊎◌, ◌<◌, ◌+◌, [], Some, IfOk, OnOk, OnErr, IsSome, None, false};
 ghost use Rattle.std.specs.FinMap as finite;
 ghost use Rattle.ztree.specs.declared.limits.TheConstants.{MAX_NODES, ZXID_BOUND};
 ghost use Rattle.zstore.specs.declared.limits.TheConstants.{ID_BOUND};
@@ -9,7 +9,7 @@ ghost use Rattle.ztree.specs.Room.{HasRoomForChild, HasRoomForData};
 ghost use Rattle.zstore.specs.StoreView.{path_of, node_of, AtNode};
 ghost use Rattle.zstore.specs.StoreView.{KeepsIds, GivesAtMostOne, NamesNew, WritesData, mark_left};
 ghost use Rattle.zstore.specs.support.Parts.{tree_with, GainsChild, WritesMarks, WritesContent};
-ghost use Rattle.ztree.specs.Lawful.{IsPersistent, IsOwner};
+ghost use Rattle.ztree.specs.Lawful.{IsPersistent, IsOwner, HasOneEnd};
 
 use crate::store::Store;
 use crate::undo::Undo;
@@ -29,14 +29,15 @@ impl Store {
         self.log.stop(&mut self.nodes);
     }
 
-    /// Adds a node that the next change makes, beneath a live parent, at a path that is free. The
-    /// machine has tested what is asked for. After `Memory` nothing has changed.
+    /// Adds a node that the next change makes, beneath a live parent, at a path that is free; its owner is 0 for nobody, and
+    /// its time to live 0 for none. The machine has tested what is asked for. After `Memory` nothing has changed.
     pub fn add(
         &mut self,
         parent: Id,
         path: Path,
         bytes: Data,
         owner: u64,
+        ttl: u64,
         sequential: bool,
     ) -> Result<Id, Memory>
         requires below_root { path ≢ [] }
@@ -44,18 +45,19 @@ impl Store {
         requires free { has_node self.old.tree.nodes path ≡ false }
         requires persistent { IsPersistent (node_of self.old parent) }
         requires owner { IsOwner self.old.tree.sessions owner }
+        requires one_end { (ttl ≡ 0) ⊎ (owner ≡ 0) }
         requires counters { AtNode self.old parent (HasRoomForChild sequential) }
         requires few { finite.len self.old.tree.nodes < MAX_NODES }
         requires zxid { self.old.tree.zxid + 1 < ZXID_BOUND }
         requires given { self.old.given < ID_BOUND }
         ensures added { OnOk result
-            (self.new.tree ≡ with_node self.old.tree path bytes owner sequential) }
+            (self.new.tree ≡ with_node self.old.tree path bytes owner ttl sequential) }
         ensures named { IfOk result (λ id. NamesNew self.old self.new id path) }
         ensures given { GivesAtMostOne self.old self.new }
         ensures marked { OnOk result (self.new.marked ≡ mark_left 2 self.old.marked) }
         ensures err { OnErr result (self.new ≡ self.old) }
     {
-        let node = Node::new(bytes, owner, self.zxid.next(), self.time);
+        let node = Node::new(bytes, owner, ttl, self.zxid.next(), self.time);
         let id = self.insert(parent, path, node)?;
         self.child_changed(parent, sequential);
         Ok(id)
@@ -90,6 +92,7 @@ impl Store {
         requires free { has_node self.old.tree.nodes path ≡ false }
         requires persistent { IsPersistent (node_of self.old parent) }
         requires owner { IsOwner self.old.tree.sessions node.owner }
+        requires one_end { HasOneEnd node }
         requires few { finite.len self.old.tree.nodes < MAX_NODES }
         requires given { self.old.given < ID_BOUND }
         ensures tree { OnOk result (self.new.tree ≡ tree_with self.old.tree path node) }

@@ -32,20 +32,20 @@ module _ (P : Node → Type 0) (nodes : Nodes) (all : AllNodes P nodes) where
 
 -- the opening has no change
 pub low_opening : IsLow opening_tree
-low_opening = all_inserted (λ n. n.cversion ≤ 0) finite.empty (λ q n e. absurd (none_some n (sym (get-empty path_cmp q) ∙ e))) [] (new_node [] 0 0 0) (omega arith)
+low_opening = all_inserted (λ n. n.cversion ≤ 0) finite.empty (λ q n e. absurd (none_some n (sym (get-empty path_cmp q) ∙ e))) [] (new_node [] 0 0 0 0) (omega arith)
 
 -- one more node, by the next change
-pub low_added : (t : Tree) (path : Path) (bytes : List ℕ) (owner : ℕ) (sequential : Bool) → IsLow t → IsLow (with_next_zxid (with_node t path bytes owner sequential))
-low_added t path bytes owner sequential low = all_marked
+pub low_added : (t : Tree) (path : Path) (bytes : List ℕ) (owner ttl : ℕ) (sequential : Bool) → IsLow t → IsLow (with_next_zxid (with_node t path bytes owner ttl sequential))
+low_added t path bytes owner ttl sequential low = all_marked
   where
-    few : AllNodes (λ n. n.cversion ≤ t.zxid) (finite.insert t.nodes path (new_node bytes owner (t.zxid + 1) t.time))
-    few = all_inserted (λ n. n.cversion ≤ t.zxid) t.nodes low path (new_node bytes owner (t.zxid + 1) t.time) (omega arith)
+    few : AllNodes (λ n. n.cversion ≤ t.zxid) (finite.insert t.nodes path (new_node bytes owner ttl (t.zxid + 1) t.time))
+    few = all_inserted (λ n. n.cversion ≤ t.zxid) t.nodes low path (new_node bytes owner ttl (t.zxid + 1) t.time) (omega arith)
 
-    more : AllNodes (λ n. n.cversion ≤ t.zxid + 1) (finite.insert t.nodes path (new_node bytes owner (t.zxid + 1) t.time))
+    more : AllNodes (λ n. n.cversion ≤ t.zxid + 1) (finite.insert t.nodes path (new_node bytes owner ttl (t.zxid + 1) t.time))
     more q n e = let before = few q n e in omega (arith, before)
 
-    all_marked : IsLow (with_next_zxid (with_node t path bytes owner sequential))
-    all_marked = all_changed (λ n. n.cversion ≤ t.zxid + 1) (finite.insert t.nodes path (new_node bytes owner (t.zxid + 1) t.time)) more (parent_of path) (with_child (t.zxid + 1) sequential) (λ n e. let before = few (parent_of path) n e in omega (arith, before))
+    all_marked : IsLow (with_next_zxid (with_node t path bytes owner ttl sequential))
+    all_marked = all_changed (λ n. n.cversion ≤ t.zxid + 1) (finite.insert t.nodes path (new_node bytes owner ttl (t.zxid + 1) t.time)) more (parent_of path) (with_child (t.zxid + 1) sequential) (λ n e. let before = few (parent_of path) n e in omega (arith, before))
 
 -- one node fewer, by the next change
 pub low_removed : (t : Tree) (path : Path) → IsLow t → IsLow (with_next_zxid (without_node t path))

@@ -31,7 +31,23 @@ pub(crate) fn add(
     is_free(rt, store, &path);
     let bytes = data(rt, alloc, bytes);
     store
-        .add(parent, path, bytes, owner, false)
+        .add(parent, path, bytes, owner, 0, false)
+        .expect(rt, "there is memory");
+    store.raise();
+}
+
+/// Adds a node with a time to live, of nobody, at a free path beneath one that is there.
+pub(crate) fn add_timed(rt: &impl Abort, alloc: Global, store: &mut Store, text: &str, ttl: u64)
+    requires small { IsSmall store.old }
+    ensures low { IsLow store.old.tree → IsLow store.new.tree }
+{
+    let path = path(rt, alloc, text);
+    let parent = id_above(rt, alloc, store, &path);
+    may_gain_a_child(rt, store, parent, 0);
+    is_free(rt, store, &path);
+    let bytes = data(rt, alloc, "");
+    store
+        .add(parent, path, bytes, 0, ttl, false)
         .expect(rt, "there is memory");
     store.raise();
 }

@@ -4,7 +4,7 @@ ghost use Rattle.zstore_tests.specs.Small.{IsSmall};
 
 use crate::changes::is_small;
 use crate::parts::{client, id_at, path};
-use Fact::{At, Due, Free, Given, Lists, Lives, NoSession, Numbers, Sizes};
+use Fact::{At, Due, Free, Given, Lists, Lives, NoSession, NoneStale, Numbers, Sizes, Stale, Ttl};
 use std::alloc::Global;
 use std::process::Abort;
 use zstore::{Session, SessionId, Stat, Store, Zxid};
@@ -23,6 +23,12 @@ pub(crate) enum Fact {
     NoSession(u64),
     /// The next tick ends these two sessions, and no other.
     Due(u64, u64),
+    /// The next tick removes the node at this path, and no other.
+    Stale(&'static str),
+    /// The next tick removes no node.
+    NoneStale,
+    /// The node at this path has this time to live, 0 for none.
+    Ttl(&'static str, u64),
     /// There are so many nodes, and so many sessions.
     Sizes(usize, usize),
     /// The number of the last change, and the ticks so far.
@@ -41,6 +47,9 @@ pub(crate) fn shows(rt: &impl Abort, alloc: Global, store: &Store, fact: &Fact)
         Lists(text, names) => lists(rt, alloc, store, text, names),
         Lives(id, timeout, deadline) => lives(rt, store, *id, *timeout, *deadline),
         Due(first, second) => are_due(rt, store, *first, *second),
+        Stale(text) => is_stale(rt, alloc, store, text),
+        NoneStale => none_is_stale(rt, store),
+        Ttl(text, ttl) => lives_so_long(rt, alloc, store, text, *ttl),
         counted => assert!(rt; counts(store, counted)),
     }
 }
@@ -92,6 +101,26 @@ fn are_due(rt: &impl Abort, store: &Store, first: u64, second: u64)
 {
     let due = store.due(store.now() + 1).expect(rt, "there is memory");
     assert!(rt; due.as_slice() == [SessionId::new(first), SessionId::new(second)].as_slice());
+}
+
+fn is_stale(rt: &impl Abort, alloc: Global, store: &Store, text: &str)
+    requires small { IsSmall store.now }
+{
+    let id = id_at(rt, alloc, store, text);
+    let stale = store.stale(store.now() + 1).expect(rt, "there is memory");
+    assert!(rt; stale.as_slice() == [id].as_slice());
+}
+
+fn none_is_stale(rt: &impl Abort, store: &Store)
+    requires small { IsSmall store.now }
+{
+    let stale = store.stale(store.now() + 1).expect(rt, "there is memory");
+    assert!(rt; stale.is_empty());
+}
+
+fn lives_so_long(rt: &impl Abort, alloc: Global, store: &Store, text: &str, ttl: u64) {
+    let id = id_at(rt, alloc, store, text);
+    assert!(rt; store.ttl(id) == Some(ttl));
 }
 
 fn counts(store: &Store, fact: &Fact) -> bool {

@@ -20,6 +20,8 @@ mod slots;
 #[cfg(test)]
 mod steps;
 #[cfg(test)]
+mod timed;
+#[cfg(test)]
 mod values;
 
 use slots::Board;

@@ -2,9 +2,9 @@
 
 ghost use Rattle.zstore_tests.specs.Small.{IsSmall, IsLow};
 
-use crate::changes::{add, is_small, open, take_away, tick, touch, write};
+use crate::changes::{add, add_timed, is_small, open, take_away, tick, touch, write};
 use crate::facts::{Fact, shows};
-use Step::{Add, Is, Open, TakeAway, Tick, Touch, Write};
+use Step::{Add, AddTimed, Is, Open, TakeAway, Tick, Touch, Write};
 use std::alloc::Global;
 use std::process::Abort;
 use zstore::Store;
@@ -13,6 +13,8 @@ use zstore::Store;
 pub(crate) enum Step {
     /// A node comes to this path: its data, and the session that owns it, or 0.
     Add(&'static str, &'static str, u64),
+    /// A node comes to this path, with this time to live.
+    AddTimed(&'static str, u64),
     /// The node at this path goes.
     TakeAway(&'static str),
     /// The node at this path gets this data.
@@ -58,6 +60,7 @@ fn play(rt: &impl Abort, alloc: Global, store: &mut Store, step: &Step)
 {
     match step {
         Add(text, bytes, owner) => add(rt, alloc, store, text, bytes, *owner),
+        AddTimed(text, ttl) => add_timed(rt, alloc, store, text, *ttl),
         TakeAway(text) => take_away(rt, alloc, store, text),
         Write(text, bytes) => write(rt, alloc, store, text, bytes),
         Open(timeout) => open(rt, store, *timeout),

@@ -3,10 +3,14 @@ use Rattle.std.specs.Prelude.{◌≡◌, ℕ, Bool, true, false}
 use Rattle.zprotocol.specs.declared.process.Process.{Process}
 use Rattle.zprotocol.specs.declared.process.Process.TheVariants.{Server}
 use Rattle.zserver.specs.Server.{ServerState}
+use Rattle.zserver.specs.declared.stopped.Stopped.{Stopped}
+use Rattle.zserver.specs.declared.stopped.Stopped.TheVariants as stopped
 use Rattle.zserver.specs.declared.taken.Taken.{Taken}
 use Rattle.zserver.specs.declared.taken.Taken.TheVariants as taken
 use Rattle.zworld_model.specs.declared.outcome.Outcome.{Outcome}
 use Rattle.zworld_model.specs.declared.outcome.Outcome.TheVariants as outcome
+use Rattle.ztraces.specs.declared.trace.Act.{Act}
+use Rattle.ztraces.specs.declared.trace.Act.TheVariants.{Took, Left}
 use Rattle.ztraces.specs.Deeds.{AtServer, Out}
 use Rattle.zdesks.specs.Desks.{TreeStanding}
 
@@ -27,3 +31,8 @@ server_standing false s = AtServer s.view
 abbrev pub outcome_of : Taken → Outcome
 outcome_of taken.Acted = outcome.Acted
 outcome_of taken.Unheard = outcome.Unheard
+
+-- how a server ended at a message, as a trace tells it
+abbrev pub end_of : Process → Stopped → Act
+end_of from stopped.Memory = Took from outcome.Stopped
+end_of from stopped.Retired = Left

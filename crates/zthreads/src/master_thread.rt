@@ -9,6 +9,7 @@ ghost use Rattle.zdesks.specs.Desks.{SameDesk, self_of, Stands, trace_of};
 ghost use Rattle.zdesks.specs.Endings.{HasEnded, SameWires};
 
 use crate::took::took;
+use zconsole::order::Order;
 use zdesks::{Desk, Ending};
 use zmaster::{MAX_POSTS, Master};
 use zprotocol::{Message, Process, ServerId};
@@ -85,6 +86,30 @@ impl MasterThread {
         true
     }
 
+    /// Orders a server to leave, or keeps it. False where that has to be tried again, for memory.
+    pub fn retire(&mut self, server: ServerId) -> bool
+        ensures same { SameDesk (master_desk self.old) (master_desk self.new) }
+    {
+        if !self.desk.settle() {
+            return false;
+        }
+        if self.desk.out.reserve(MAX_POSTS).is_err() {
+            return false;
+        }
+        dismiss(&mut self.desk, &mut self.master, server);
+        true
+    }
+
+    /// Follows an order of the console. False where that has to be tried again, for memory.
+    pub fn follow(&mut self, order: &Order) -> bool
+        ensures same { SameDesk (master_desk self.old) (master_desk self.new) }
+    {
+        match order {
+            Order::Join(server) => self.join(*server),
+            Order::Retire(server) => self.retire(*server),
+        }
+    }
+
     /// What it leaves, once its thread has ended.
     pub fn into_ending(self) -> Ending
         ensures ended { HasEnded (self_of (master_desk self)) result }
@@ -136,5 +161,22 @@ fn admit(desk: &mut Desk, master: &mut Master, server: ServerId)
     match master.join(server, &mut desk.out) {
         Ok(()) => desk.enter(Act::Joined(server), next, None),
         Err(_) => desk.enter(Act::Joined(server), next, None),
+    }
+}
+
+// The master orders a server to leave, or keeps it.
+fn dismiss(desk: &mut Desk, master: &mut Master, server: ServerId)
+    requires me { process_of desk.old ≡ process.Master }
+    requires settled { IsSettled desk.old }
+    requires room { MAX_POSTS ≤ room_of desk.old }
+    ensures at { Stands desk.old (AtMaster master.old) None []
+        → IsAt desk.new (AtMaster master.new) }
+    ensures same { SameDesk desk.old desk.new }
+{
+    let _ = server.number();
+    let next = desk.next_stamp(Stamp::zero());
+    match master.retire(server, &mut desk.out) {
+        Ok(()) => desk.enter(Act::Retired(server), next, None),
+        Err(_) => desk.enter(Act::Retired(server), next, None),
     }
 }

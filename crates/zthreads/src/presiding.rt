@@ -10,7 +10,7 @@ use crate::idle::Idle;
 use crate::master_thread::MasterThread;
 use std::sync::Wait;
 use zconsole::ends::Inbox;
-use zprotocol::ServerId;
+use zconsole::order::Order;
 use zwords::halts::{Halt, HaltSeat};
 
 /// Goes over the links in turn, and takes the console's orders, until bit 0 is set, at which it looks before each take. An order
@@ -28,7 +28,7 @@ pub fn preside<R: Wait>(
 {
     let links = chief.links();
     let mut idle = Idle::new();
-    let mut asked: Option<ServerId> = None;
+    let mut asked: Option<Order> = None;
     for _ in rt.forever() {
         let mut is_busy = false;
         for link in 0..links {
@@ -41,11 +41,13 @@ pub fn preside<R: Wait>(
         if asked.is_none() {
             asked = inbox.take(rt);
         }
-        if let Some(server) = asked {
-            if chief.join(server) {
-                asked = None;
-                is_busy = true;
-            }
+        let is_followed = match &asked {
+            Some(order) => chief.follow(order),
+            None => false,
+        };
+        if is_followed {
+            asked = None;
+            is_busy = true;
         }
         idle.end_round(rt, is_busy);
     }

@@ -1,11 +1,11 @@
 //! What a server's thread owns.
 
-ghost use Rattle.std.specs.Prelude.{◌≡◌, ◌<◌, None, Some, [], true};
+ghost use Rattle.std.specs.Prelude.{◌≡◌, ◌<◌, None, Some, [], true, false};
 ghost use Rattle.ztraces.specs.Deeds.{AtServer};
 ghost use Rattle.zdesks.specs.Desks.{is_cut_of, IsAt, IsSettled, link_count, process_of, SameDesk};
 ghost use Rattle.zdesks.specs.Desks.{self_of, Stands, trace_of};
 ghost use Rattle.zdesks.specs.Endings.{HasEnded, SameWires};
-ghost use Rattle.zthreads.specs.Threads.{IsServer, outcome_of, server_standing, ServerProcess};
+ghost use Rattle.zthreads.specs.Threads.{IsServer, end_of, outcome_of, server_standing, ServerProcess};
 
 use crate::gate::Gate;
 use crate::took::took;
@@ -24,6 +24,7 @@ pub struct ServerThread {
     pub(crate) id: ServerId,
     ghost is_server: { desk.me ≡ ServerProcess id },
     ghost at: { IsAt desk (server_standing is_over server) },
+    ghost runs: { is_over ≡ false → server.stopped ≡ None },
 }
 
 impl ServerThread {
@@ -33,6 +34,7 @@ impl ServerThread {
     pub fn new(id: ServerId, desk: Desk, server: Server) -> ServerThread
         requires me { process_of desk ≡ ServerProcess id }
         requires at { IsAt desk (AtServer server.view) }
+        requires runs { server.stopped ≡ None }
         ensures same { server_desk result ≡ desk }
     {
         ServerThread {
@@ -111,7 +113,7 @@ impl ServerThread {
     }
 }
 
-// A server acts on a message, ignores it, or stops at it, which is answered by true.
+// A server acts on a message, ignores it, or stops or leaves at it, which is answered by true.
 fn give(
     desk: &mut Desk,
     server: &mut Server,
@@ -121,6 +123,8 @@ fn give(
 ) -> bool
     requires me { IsServer (process_of desk.old) }
     requires settled { IsSettled desk.old }
+    requires runs { server.old.stopped ≡ None }
+    ensures runs { result ≡ false → server.new.stopped ≡ None }
     ensures at { Stands desk.old (AtServer server.old.view) (Some (from, (stamp, message))) []
         → IsAt desk.new (server_standing result server.new) }
     ensures same { SameDesk desk.old desk.new }
@@ -132,11 +136,21 @@ fn give(
             desk.enter(took(&from, outcome_of(taken)), next, None);
             false
         }
-        Err(Stopped) => {
-            desk.enter(took(&from, Outcome::Stopped), next, None);
+        Err(why) => {
+            desk.enter(ended(&from, why), next, None);
             desk.put_gone();
             true
         }
+    }
+}
+
+// How a server ended at a message.
+fn ended(from: &Process, why: Stopped) -> Act
+    ensures { result ≡ end_of from.now why }
+{
+    match why {
+        Stopped::Memory => took(from, Outcome::Stopped),
+        Stopped::Retired => Act::Left,
     }
 }
 

@@ -12,6 +12,7 @@ use Rattle.zprotocol.specs.server.Machine.{Does}
 use Rattle.zprotocol.specs.server.View.{ServerView, Transfer, MessageOf, Post}
 use Rattle.zprotocol.specs.server.Table as server
 use Rattle.zprotocol.specs.declared.master.join_fault.JoinFault.{JoinFault}
+use Rattle.zprotocol.specs.declared.master.retire_fault.RetireFault.{RetireFault}
 use Rattle.zprotocol.specs.master.View.{MasterView, members, with_number}
 use Rattle.zprotocol.specs.master.Table as master
 use Rattle.zprotocol.specs.master.support.Cases.{IsMasterRow, Ignores, Reports, Joins, LeavesOutside, Leaves}
@@ -27,21 +28,23 @@ use Rattle.zworld_model.specs.History.{History}
 use Rattle.zworld_model.specs.Links.{Links, is_same, messages_to, put, without_front}
 use Rattle.zworld_model.specs.World.{World, at}
 use Rattle.zprotocol.specs.Places.{is_server}
-use Rattle.zworld_model.specs.Events.{has_failed, is_enabled, happens, process_step, client_does, with_answer, acts, is_request}
+use Rattle.zworld_model.specs.Events.{has_failed, is_enabled, happens, process_step, server_does, server_stops, client_does, with_answer, acts, is_request}
 use Rattle.zprotocol.specs.server.Memory.{is_query}
 use Rattle.ztraces.specs.declared.trace.Act.{Act}
-use Rattle.ztraces.specs.declared.trace.Act.TheVariants.{Took, Began, Retried, Joined, Halted}
-use Rattle.ztraces.specs.Deeds.{Stamped, Standing, AtMaster, AtServer, AtClient, Out, standing_in, answer_told, last_post, Row, MasterTakes, ServerTakes, ClientTakes, ServerIgnores, ServerStops, ServerHalts, MasterJoins, MasterRefuses, ClientBegins, ClientRetries}
+use Rattle.ztraces.specs.declared.trace.Act.TheVariants.{Took, Began, Retried, Joined, Retired, Left, Halted}
+use Rattle.ztraces.specs.Deeds.{Stamped, Standing, AtMaster, AtServer, AtClient, Out, standing_in, answer_told, last_post, Row, MasterTakes, ServerTakes, ClientTakes, ServerIgnores, ServerStops, ServerLeaves, ServerHalts, MasterJoins, MasterRefuses, MasterRetires, MasterKeeps, ClientBegins, ClientRetries}
 use Rattle.ztraces.specs.Traces.{event_of, at_process, is_step_in_place, step_happens}
 
 -- the links after an act took its message, if it took one
 abbrev pub fronts : {M : Type 0} → Links M → Act → Process → Links M
 fronts links (Took from outcome) p = without_front links from p
+fronts links Left p = without_front links Master p
 fronts links act p = links
 
 -- the message that an act takes is the front of its link
 abbrev pub Arrives : {M : Type 0} → World M → Process → Act → Option (Stamped M) → Type 0
 Arrives {M} w p (Took from outcome) (Some m) = (more : List (MessageOf M)) × (w.links from p ≡ m.1 ∷ more)
+Arrives {M} w p Left (Some m) = (more : List (MessageOf M)) × (w.links Master p ≡ m.1 ∷ more)
 Arrives w p act took = Unit {0}
 
 -- the links into a process, unless it takes no part any more
@@ -82,6 +85,10 @@ join_counts T v s = by (last_or None (members v))
     ]).0.clients ≡ v.clients
     by None = refl
     by (Some l) = refl
+
+retire_counts : (T : Type 0) (v : MasterView) (s : ℕ) → (master.retire_step {T = T} v s).0.clients ≡ v.clients
+unfolding master.retire_step
+retire_counts T v s = refl
 
 -- an alive server's view
 server_view : {M : Type 0} (alive : Bool) (u v : ServerView M) → (if alive then AtServer u else Out) ≡ AtServer v → (alive ≡ true) × (u ≡ v)
@@ -194,15 +201,24 @@ module _ {M : Type 0} (machine : Does M) (w : World M) where
     | inr f ↦ rw f refl
   ]
 
-  server_takes : (s : ℕ) (from : Process) (m : MessageOf M) → (is_server s && not (w.failed s)) ≡ true
+  server_took : (s : ℕ) (from : Process) (m : MessageOf M) → (is_server s && not (w.failed s)) ≡ true
       → HappensIn w (Server s) (Took from Acted) (AtServer (server.server_step machine (w.servers s) from m).0) (server.server_step machine (w.servers s) from m).1 []
-      (process_step machine (popped from (Server s)) from (Server s) m)
-  server_takes s from m alive = record {
+      (server_does (popped from (Server s)) s (server.server_step machine (w.servers s) from m))
+  server_took s from m alive = record {
     stands = λ q. server_stands s (server.server_step machine (w.servers s) from m).0 (put (without_front w.links from (Server s)) (Server s) (server.server_step machine (w.servers s) from m).1) q alive;
     others = λ x y other. put_elsewhere from (Server s) (server.server_step machine (w.servers s) from m).1 x y other;
     own = inr (λ x. refl);
     history = nothing_told w.history;
   }
+
+  -- a server takes a message that is no order to leave
+  server_takes : (s : ℕ) (from : Process) (m : MessageOf M) → server.is_retirement from m ≡ false → (is_server s && not (w.failed s)) ≡ true
+      → HappensIn w (Server s) (Took from Acted) (AtServer (server.server_step machine (w.servers s) from m).0) (server.server_step machine (w.servers s) from m).1 []
+      (process_step machine (popped from (Server s)) from (Server s) m)
+  server_takes s from m no_order alive =
+      subst (λ b. HappensIn w (Server s) (Took from Acted) (AtServer (server.server_step machine (w.servers s) from m).0) (server.server_step machine (w.servers s) from m).1 []
+      (if b then server_stops (popped from (Server s)) s else server_does (popped from (Server s)) s (server.server_step machine (w.servers s) from m)))
+      (sym no_order) (server_took s from m alive)
 
   -- a server fails
   failed_world : ℕ → World M
@@ -234,6 +250,25 @@ module _ {M : Type 0} (machine : Does M) (w : World M) where
     where
       enabled : is_enabled w (event.Fail s) ≡ true
       enabled = rw (there, alive) refl
+
+  -- a server takes the order to leave
+  leaves : (s : ℕ) → HappensIn w (Server s) Left Out last_post [] (server_stops (popped Master (Server s)) s)
+  leaves s = record {
+    stands = (fails s Left).stands;
+    others = λ x y other. put_elsewhere Master (Server s) last_post x y other;
+    own = inl refl;
+    history = nothing_told w.history;
+  }
+
+  server_leaves : (s : ℕ) (m : MessageOf M) (more : List (MessageOf M)) → server.is_retirement Master m ≡ true → w.failed s ≡ false
+      → w.links Master (Server s) ≡ m ∷ more → IsRowOf machine w (Server s) Left Out last_post []
+  server_leaves s m more order alive front = record {
+    in_place = take_enabled Master (Server s) m more front alive;
+    happens = subst (HappensIn w (Server s) Left Out last_post []) (sym (take_happens Master (Server s) m more front alive))
+        (subst (λ b. HappensIn w (Server s) Left Out last_post []
+        (if b then server_stops (popped Master (Server s)) s else server_does (popped Master (Server s)) s (server.server_step machine (w.servers s) Master m)))
+        (sym order) (leaves s));
+  }
 
   -- an answer that is told changes nothing else
   answered : (u : World M) (c : ℕ) (act : Act) (left : Standing M) (posts : List (Post M)) (reply : Option (ℕ × Reply))
@@ -333,12 +368,38 @@ module _ {M : Type 0} (machine : Does M) (w : World M) where
       enabled : is_enabled w (event.Join s) ≡ true
       enabled = rw (there, none) refl
 
-  -- or refuses it
-  refused : (s : ℕ) → HappensIn w Master (Joined s) (AtMaster w.master) [] [] w
-  refused s = record {
+  -- the master orders a member to leave
+  retires : (s : ℕ) → HappensIn w Master (Retired s) (AtMaster (master.retire_step {T = Transfer M} w.master s).0) (master.retire_step w.master s).1 []
+      (acts machine w (event.Retire s))
+  retires s = record {
+    stands = stands;
+    others = λ x y other. refl;
+    own = inr (λ x. refl);
+    history = nothing_told w.history;
+  }
+    where
+      stands : (q : Process) → standing_in (acts machine w (event.Retire s)) q ≡ at_process Master (AtMaster (master.retire_step {T = Transfer M} w.master s).0) (standing_in w) q
+      stands Master = refl
+      stands (Server t) = refl
+      stands (Client c) = rw (retire_counts (Transfer M) w.master s) refl
+
+  master_retires : (s : ℕ) → is_server s ≡ true → master.retire_fault w.master s ≡ None
+      → IsRowOf machine w Master (Retired s) (AtMaster (master.retire_step {T = Transfer M} w.master s).0) (master.retire_step w.master s).1 []
+  master_retires s there none = record {
+    in_place = refl;
+    happens = subst (HappensIn w Master (Retired s) (AtMaster (master.retire_step {T = Transfer M} w.master s).0) (master.retire_step w.master s).1 [])
+        (sym (ap (λ b. if b then acts machine w (event.Retire s) else w) enabled)) (retires s);
+  }
+    where
+      enabled : is_enabled w (event.Retire s) ≡ true
+      enabled = rw (there, none) refl
+
+  -- or refuses either
+  refused : (act : Act) → fronts w.links act Master ≡ w.links → HappensIn w Master act (AtMaster w.master) [] [] w
+  refused act none = record {
     stands = λ q. stays Master (AtMaster w.master) q refl;
     others = λ x y other. sym (put_nothing w.links Master x y);
-    own = inr (λ x. sym (put_nothing w.links Master x Master));
+    own = inr (λ x. sym (put_nothing (fronts w.links act Master) Master x Master ∙ ap (λ (links : Links M). links x Master) none));
     history = nothing_told w.history;
   }
 
@@ -347,10 +408,21 @@ module _ {M : Type 0} (machine : Does M) (w : World M) where
   master_refuses s fault is = record {
     in_place = refl;
     happens = subst (HappensIn w Master (Joined s) (AtMaster w.master) [] [])
-        (sym (ap (λ b. if b then acts machine w (event.Join s) else w) idle)) (refused s);
+        (sym (ap (λ b. if b then acts machine w (event.Join s) else w) idle)) (refused (Joined s) refl);
   }
     where
       idle : is_enabled w (event.Join s) ≡ false
+      idle = rw is (and_false (is_server s))
+
+  master_keeps : (s : ℕ) (fault : RetireFault) → master.retire_fault w.master s ≡ Some fault
+      → IsRowOf machine w Master (Retired s) (AtMaster w.master) [] []
+  master_keeps s fault is = record {
+    in_place = refl;
+    happens = subst (HappensIn w Master (Retired s) (AtMaster w.master) [] [])
+        (sym (ap (λ b. if b then acts machine w (event.Retire s) else w) idle)) (refused (Retired s) refl);
+  }
+    where
+      idle : is_enabled w (event.Retire s) ≡ false
       idle = rw is (and_false (is_server s))
 
   -- a client begins a call
@@ -403,10 +475,10 @@ module _ {M : Type 0} (machine : Does M) (w : World M) where
       let same : w.master ≡ v = cc is in
       subst (λ u. IsRowOf machine w Master (Took from Acted) (AtMaster (master.master_step u from m.1).0) (master.master_step u from m.1).1 []) same
       (delivered from Master m.1 arrives.0 _ _ _ arrives.1 refl (master_takes from m.1))
-  row_happens _ _ _ _ _ _ _ (ServerTakes s v from m) is arrives =
+  row_happens _ _ _ _ _ _ _ (ServerTakes s v from m no_order) is arrives =
       let (alive, same) = server_view (is_server s && not (w.failed s)) (w.servers s) v is in
       subst (λ u. IsRowOf machine w (Server s) (Took from Acted) (AtServer (server.server_step machine u from m.1).0) (server.server_step machine u from m.1).1 []) same
-      (delivered from (Server s) m.1 arrives.0 _ _ _ arrives.1 (both_are _ _ alive).1 (server_takes s from m.1 alive))
+      (delivered from (Server s) m.1 arrives.0 _ _ _ arrives.1 (both_are _ _ alive).1 (server_takes s from m.1 no_order alive))
   row_happens _ _ _ _ _ _ _ (ClientTakes c v from m) is arrives =
       let (there, same) = client_view {M = M} (nat_lt c w.master.clients) (w.clients c) v is in
       subst (λ u. IsRowOf machine w (Client c) (Took from Acted) (AtClient (client.client_step u from m.1).0) (client.client_step u from m.1).1 (answer_told c (client.client_step u from m.1).2)) same
@@ -417,6 +489,9 @@ module _ {M : Type 0} (machine : Does M) (w : World M) where
   row_happens _ _ _ _ _ _ _ (ServerStops s v from m) is arrives =
       let (alive, same) = server_view (is_server s && not (w.failed s)) (w.servers s) v is in
       server_fails s (Took from Stopped) (both_are _ _ alive).0 (both_are _ _ alive).1 refl
+  row_happens _ _ _ _ _ _ _ (ServerLeaves s v m order) is arrives =
+      let (alive, same) = server_view (is_server s && not (w.failed s)) (w.servers s) v is in
+      server_leaves s m.1 arrives.0 order (both_are _ _ alive).1 arrives.1
   row_happens _ _ _ _ _ _ _ (ServerHalts s v) is arrives =
       let (alive, same) = server_view (is_server s && not (w.failed s)) (w.servers s) v is in
       server_fails s Halted (both_are _ _ alive).0 (both_are _ _ alive).1 refl
@@ -428,6 +503,14 @@ module _ {M : Type 0} (machine : Does M) (w : World M) where
       let same : w.master ≡ v = cc is in
       subst (λ u. IsRowOf machine w Master (Joined s) (AtMaster u) [] []) same
       (master_refuses s fault (ap (λ u. master.join_fault u s) same ∙ refuses))
+  row_happens _ _ _ _ _ _ _ (MasterRetires v s there none) is arrives =
+      let same : w.master ≡ v = cc is in
+      subst (λ u. IsRowOf machine w Master (Retired s) (AtMaster (master.retire_step {T = Transfer M} u s).0) (master.retire_step u s).1 []) same
+      (master_retires s there (ap (λ u. master.retire_fault u s) same ∙ none))
+  row_happens _ _ _ _ _ _ _ (MasterKeeps v s fault refuses) is arrives =
+      let same : w.master ≡ v = cc is in
+      subst (λ u. IsRowOf machine w Master (Retired s) (AtMaster u) [] []) same
+      (master_keeps s fault (ap (λ u. master.retire_fault u s) same ∙ refuses))
   row_happens _ _ _ _ _ _ _ (ClientBegins c v call none) is arrives =
       let (there, same) = client_view {M = M} (nat_lt c w.master.clients) (w.clients c) v is in
       subst (λ u. IsRowOf machine w (Client c) (Began call) (AtClient (client.begin_step {T = Transfer M} u call).0) (client.begin_step u call).1 (call_event.Begin c (u.number + 1) call ∷ [])) same

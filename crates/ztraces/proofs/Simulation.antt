@@ -9,11 +9,12 @@ use Rattle.std.proofs.lemmas.Bool.Decides.{nat_tests}
 use Rattle.zcalls.specs.declared.reply.Reply.{Reply}
 use Rattle.zcalls.proofs.Among.{test}
 use Rattle.zprotocol.specs.declared.process.Process.{Process}
-use Rattle.zprotocol.specs.declared.process.Process.TheVariants.{Client}
+use Rattle.zprotocol.specs.declared.process.Process.TheVariants.{Master, Client}
 use Rattle.zprotocol.specs.server.Machine.{Does}
 use Rattle.zprotocol.specs.server.View.{MessageOf, Post}
 use Rattle.zworld_model.specs.declared.event.Event.{Event}
 use Rattle.zworld_model.specs.declared.outcome.Outcome.{Outcome}
+use Rattle.zworld_model.specs.declared.outcome.Outcome.TheVariants.{Acted}
 use Rattle.zprotocol.specs.client.Table as client
 use Rattle.zworld_model.specs.declared.history.CallEvent.TheVariants as call_event
 use Rattle.zworld_model.specs.History.{History}
@@ -21,10 +22,10 @@ use Rattle.zworld_model.specs.Links.{is_same, messages_to, without_front}
 use Rattle.zworld_model.specs.World.{World, opening_world}
 use Rattle.zworld_model.specs.Events.{run}
 use Rattle.ztraces.specs.declared.trace.Act.{Act}
-use Rattle.ztraces.specs.declared.trace.Act.TheVariants.{Took, Began, Retried, Joined, Halted}
+use Rattle.ztraces.specs.declared.trace.Act.TheVariants.{Took, Began, Retried, Joined, Retired, Left, Halted}
 use Rattle.ztraces.specs.declared.trace.TraceEvent.{TraceEvent}
 use Rattle.ztraces.specs.declared.trace.Traces.{Traces}
-use Rattle.ztraces.specs.Deeds.{Stamped, Standing, standing_in, answer_told, Row, MasterTakes, ServerTakes, ClientTakes, ServerIgnores, ServerStops, ServerHalts, MasterJoins, MasterRefuses, ClientBegins, ClientRetries, Deed, stamp_of, GoesBy, trace_by, taken_from, takes, stamped, puts, told_by}
+use Rattle.ztraces.specs.Deeds.{Stamped, Standing, standing_in, answer_told, Row, MasterTakes, ServerTakes, ClientTakes, ServerIgnores, ServerStops, ServerLeaves, ServerHalts, MasterJoins, MasterRefuses, MasterRetires, MasterKeeps, ClientBegins, ClientRetries, Deed, stamp_of, GoesBy, trace_by, taken_from, takes, stamped, puts, told_by}
 use Rattle.ztraces.specs.Traces.{event_of, Step, comes_before, at_process, Merges, IsMerge, BeginsMerge, is_step_in_place, step_happens, are_in_place, event_list, events_of, client_of, told_of, trace_of, record_of, client_count, stamps_rise_from, stamps_rise}
 use Rattle.ztraces.specs.Lawful.{AccountFor}
 use Rattle.ztraces.proofs.Deeds.{rises, out_ends}
@@ -55,6 +56,11 @@ no_delivery : {M : Type 0} (machine : Does M) (p : Process) (standing left : Sta
     → Row machine p standing (Took from outcome) None left posts told → ⊥
 no_delivery machine p standing left from outcome posts told row = elim row [ ]
 
+-- and so is an order to leave
+no_order : {M : Type 0} (machine : Does M) (p : Process) (standing left : Standing M) (posts : List (Post M)) (told : History)
+    → Row machine p standing Left None left posts told → ⊥
+no_order machine p standing left posts told row = elim row [ ]
+
 module _ {M : Type 0} (machine : Does M) where
   -- a world, and what is left to do of all deeds: each process goes on from where it stands, and each link holds, with what is
   -- still to be put on it, what is still to be taken
@@ -83,10 +89,10 @@ module _ {M : Type 0} (machine : Does M) where
     abbrev OwnFlow : Act → Type 0
     OwnFlow act = (x : Process) → Flows (fronts w.links act p x p) (puts p (rest x)) (takes x deeds)
 
-    -- what it takes is there
-    there : (act : Act) (took : Option (Stamped M)) → Row machine p (standing_in w p) act took left posts told → stamp_of took < stamp
-        → ((x : Process) → takes x (rest p) ≡ taken_from x act took ++ takes x deeds) → Arrives w p act took × OwnFlow act
-    there (Took from outcome) (Some m) row early taken = ((front.0, front.1), own)
+    -- the message that it takes from a link is there
+    took_there : (from : Process) (m : Stamped M) → m.0 < stamp → ((x : Process) → takes x (rest p) ≡ taken_from x (Took from Acted) (Some m) ++ takes x deeds)
+        → Arrives w p (Took from Acted) (Some m) × OwnFlow (Took from Acted)
+    took_there from m early taken = ((front.0, front.1), own)
       where
         takes_front : takes from (rest p) ≡ m ∷ takes from deeds
         takes_front = taken from ∙ ap (λ b. (cond b (m ∷ []) []) ++ takes from deeds) (same_itself from)
@@ -99,7 +105,7 @@ module _ {M : Type 0} (machine : Does M) where
         popped : without_front w.links from p from p ≡ front.0
         popped = rw (same_itself from, same_itself p) (ap (drop 1) front.1)
 
-        own : OwnFlow (Took from outcome)
+        own : OwnFlow (Took from Acted)
         own x = elim (test (is_same x from)) [
           | inl t ↦ subst (λ z. Flows (without_front w.links from p z p) (puts p (rest z)) (takes z deeds)) (sym (same_process x from t))
               (subst (λ link. Flows link (puts p (rest from)) (takes from deeds)) (sym popped) front.2)
@@ -108,10 +114,18 @@ module _ {M : Type 0} (machine : Does M) where
               let none : takes x (rest p) ≡ takes x deeds = taken x ∙ ap (λ b. (cond b (m ∷ []) []) ++ takes x deeds) n in
               subst (λ link. Flows link (puts p (rest x)) (takes x deeds)) (sym stays) (subst (λ l. Flows (w.links x p) (puts p (rest x)) l) none (f.links x p))
         ]
+
+    -- what it takes is there
+    there : (act : Act) (took : Option (Stamped M)) → Row machine p (standing_in w p) act took left posts told → stamp_of took < stamp
+        → ((x : Process) → takes x (rest p) ≡ taken_from x act took ++ takes x deeds) → Arrives w p act took × OwnFlow act
+    there (Took from outcome) (Some m) row early taken = took_there from m early taken
+    there Left (Some m) row early taken = took_there Master m early taken
+    there Left None row early taken = absurd (no_order machine p (standing_in w p) left posts told row)
     there (Took from outcome) None row early taken = absurd (no_delivery machine p (standing_in w p) left from outcome posts told row)
     there (Began call) took row early taken = (tt, λ x. subst (λ l. Flows (w.links x p) (puts p (rest x)) l) (taken x) (f.links x p))
     there Retried took row early taken = (tt, λ x. subst (λ l. Flows (w.links x p) (puts p (rest x)) l) (taken x) (f.links x p))
     there (Joined s) took row early taken = (tt, λ x. subst (λ l. Flows (w.links x p) (puts p (rest x)) l) (taken x) (f.links x p))
+    there (Retired s) took row early taken = (tt, λ x. subst (λ l. Flows (w.links x p) (puts p (rest x)) l) (taken x) (f.links x p))
     there Halted took row early taken = (tt, λ x. subst (λ l. Flows (w.links x p) (puts p (rest x)) l) (taken x) (f.links x p))
 
     -- what it puts is put
@@ -183,13 +197,16 @@ module _ {M : Type 0} (machine : Does M) where
   row_told : (c : ℕ) (p : Process) (standing left : Standing M) (act : Act) (took : Option (Stamped M)) (posts : List (Post M)) (told : History)
       → Row machine p standing act took left posts told → told_of c told ≡ (if is_same (Client c) p then told else [])
   row_told c _ _ _ _ _ _ _ (MasterTakes v from m) = refl
-  row_told c _ _ _ _ _ _ _ (ServerTakes s v from m) = refl
+  row_told c _ _ _ _ _ _ _ (ServerTakes s v from m no_order) = refl
   row_told c _ _ _ _ _ _ _ (ClientTakes d v from m) = answer_of c d (client.client_step v from m.1).2
   row_told c _ _ _ _ _ _ _ (ServerIgnores s v from m query) = refl
   row_told c _ _ _ _ _ _ _ (ServerStops s v from m) = refl
+  row_told c _ _ _ _ _ _ _ (ServerLeaves s v m order) = refl
   row_told c _ _ _ _ _ _ _ (ServerHalts s v) = refl
   row_told c _ _ _ _ _ _ _ (MasterJoins v s there none) = refl
   row_told c _ _ _ _ _ _ _ (MasterRefuses v s fault refuses) = refl
+  row_told c _ _ _ _ _ _ _ (MasterRetires v s there none) = refl
+  row_told c _ _ _ _ _ _ _ (MasterKeeps v s fault refuses) = refl
   row_told c _ _ _ _ _ _ _ (ClientBegins d v call none) = ap (λ b. cond b (call_event.Begin d (v.number + 1) call ∷ []) []) (swapped c d)
   row_told c _ _ _ _ _ _ _ (ClientRetries d v waits) = nothing (c == d)
 

@@ -2,12 +2,14 @@
 
 ghost use Rattle.std.specs.Prelude.{◌≡◌, ℕ, true, false, None, Some, [], ◌∷◌, ◌++◌, take, drop};
 ghost use Rattle.std.specs.List.{list_any};
+ghost use Rattle.zprotocol.specs.declared.message.Message.TheVariants as message;
 ghost use Rattle.zprotocol.specs.declared.process.Process.TheVariants.{Master, Server, Client};
 ghost use Rattle.zprotocol.specs.server.support.Rows.{counting_machine};
 ghost use Rattle.zworld_model.specs.declared.event.Event.TheVariants as event;
 ghost use Rattle.zworld_model.specs.declared.outcome.Outcome.TheVariants.{Acted, Stopped, Unheard};
 ghost use Rattle.zworld_model.specs.World.{at};
 ghost use Rattle.ztraces.specs.declared.trace.Act.TheVariants.{Took, Began, Retried, Joined, Halted};
+ghost use Rattle.ztraces.specs.declared.trace.Act.TheVariants.{Retired, Left};
 ghost use Rattle.ztraces.specs.declared.trace.Trace.{Trace};
 ghost use Rattle.ztraces.specs.declared.trace.ClientTrace.{ClientTrace};
 ghost use Rattle.ztraces.specs.declared.trace.Traces.{Traces};
@@ -18,7 +20,7 @@ ghost use Rattle.ztraces.specs.Deeds.{standing_in, last_post, takes, puts, told_
 ghost use Rattle.ztraces.specs.Audit.{is_any_cut};
 ghost use Rattle.ztraces.specs.support.TraceRows.{s1, c0, write, read, opening, step_of, tick};
 ghost use Rattle.ztraces.specs.support.TraceRows.{tick_of, both_at_1, written_and_read, seen};
-ghost use Rattle.ztraces.specs.support.TraceRows.{after_steps, mended};
+ghost use Rattle.ztraces.specs.support.TraceRows.{after_steps, mended, retirement};
 ghost use Rattle.ztraces.specs.support.TraceRows.{old_tail, request, asked, answer};
 ghost use Rattle.ztraces.specs.support.TraceRows.{client_deeds, server_deeds};
 ghost use Rattle.ztraces.specs.support.TraceRows.{runs, runs_over_three, at_opening, Goes};
@@ -30,6 +32,8 @@ pub fn acts_are_events()
     ensures stop { event_of s1 (Took c0 Stopped) ≡ Some (event.Fail 1) }
     ensures halt { event_of s1 Halted ≡ Some (event.Fail 1) }
     ensures join { event_of Master (Joined 2) ≡ Some (event.Join 2) }
+    ensures leave { event_of s1 Left ≡ Some (event.Take Master s1) }
+    ensures order { event_of Master (Retired 2) ≡ Some (event.Retire 2) }
     ensures begin { event_of c0 (Began write) ≡ Some (event.Begin 0 write) }
     ensures retry { event_of c0 Retried ≡ Some (event.Retry 0) }
     ensures client_stops { event_of c0 (Took s1 Stopped) ≡ None }
@@ -38,6 +42,8 @@ pub fn acts_are_events()
     ensures server_begins { event_of s1 (Began write) ≡ None }
     ensures server_retries { event_of s1 Retried ≡ None }
     ensures server_lets_join { event_of s1 (Joined 2) ≡ None }
+    ensures master_leaves { event_of Master Left ≡ None }
+    ensures server_orders { event_of s1 (Retired 2) ≡ None }
 {}
 
 /// Steps come by their stamps, and at one stamp the master's first, then the servers' by number, then the clients'.
@@ -46,7 +52,7 @@ pub fn steps_are_ordered()
     ensures later { comes_before (tick_of Master 2) (tick_of c0 1) ≡ false }
     ensures master_first { comes_before (tick_of Master 1) (tick_of s1 1) ≡ true }
     ensures servers_by_number { comes_before (tick_of (Server 2) 1) (tick_of s1 1) ≡ false }
-    ensures clients_last { comes_before (tick_of (Server 8) 1) (tick_of c0 1) ≡ true }
+    ensures clients_last { comes_before (tick_of (Server 16) 1) (tick_of c0 1) ≡ true }
     ensures clients_by_number { comes_before (tick_of c0 1) (tick_of (Client 1) 1) ≡ true }
     ensures itself { comes_before (tick_of s1 1) (tick_of s1 1) ≡ false }
 {}
@@ -92,9 +98,20 @@ pub fn mended_chain_is_a_run()
         Acted) ∷ []) ≡ false }
 {}
 
-/// What is in its place in the opening of one server and one client: a join too, which the master refuses.
+/// So is one in which a member is ordered to leave, and leaves; it is none where that server takes once more.
+pub fn retirement_is_a_run()
+    ensures in_place { runs_over_three retirement ≡ true }
+    ensures nothing_after_it_left { runs_over_three (take 3 retirement ++ step_of s1 4 (Took c0
+        Acted) ∷ []) ≡ false }
+    ensures not_without_the_order { runs_over_three (take 1 retirement ++ drop 2 retirement)
+        ≡ false }
+{}
+
+/// What is in its place in the opening of one server and one client: a join or an order to leave too, which the master
+/// refuses.
 pub fn places_are_tested()
     ensures refused_join { is_in_place opening (event.Join 1) ≡ true }
+    ensures refused_order { is_in_place opening (event.Retire 1) ≡ true }
     ensures granted_join { is_in_place opening (event.Join 2) ≡ true }
     ensures empty_link { is_in_place opening (event.Take c0 s1) ≡ false }
     ensures failure { is_in_place opening (event.Fail 1) ≡ true }
@@ -123,10 +140,15 @@ pub fn write_goes_by_the_tables()
     ensures seen { told_by client_deeds ≡ take 2 seen }
 {}
 
-/// How a server ends: it stops or is halted, its last words are all that it puts, and nothing follows. A number that isn't a
+/// How a server ends: it stops, leaves or is halted, its last words are all that it puts, and nothing follows. A number that isn't a
 /// server's or a client's of this world takes no part, nor does a server that has failed.
 pub fn servers_end_by_their_rows()
     ensures stops { Goes at_opening (Took c0 Stopped) (Some (1, request)) Out last_post }
+    ensures leaves { Goes at_opening Left (Some (1, message.Retire)) Out last_post }
+    ensures acts_on_no_such_order { Goes at_opening (Took Master Acted) (Some (1, message.Retire))
+        at_opening [] → ⊥ }
+    ensures leaves_at_no_other_order { Goes at_opening Left (Some (1, message.BecomeHead 1)) Out
+        last_post → ⊥ }
     ensures halts { Goes at_opening Halted None Out last_post }
     ensures hears_an_update { Goes at_opening (Took c0 Unheard) (Some (1, request)) at_opening []
         → ⊥ }
@@ -135,7 +157,7 @@ pub fn servers_end_by_their_rows()
         (AtServer old_tail) [] → ⊥ }
     ensures nothing_follows { (last : ℕ) (d : Deed ℕ)
         → GoesBy counting_machine s1 Out last (d ∷ []) → ⊥ }
-    ensures server_9 { standing_in opening (Server 9) ≡ Out }
+    ensures server_17 { standing_in opening (Server 17) ≡ Out }
     ensures client_1 { standing_in opening (Client 1) ≡ Out }
     ensures spare_server { standing_in opening (Server 2) ≡ AtServer (opening.servers 2) }
     ensures failed { standing_in (record opening { failed = at 1 true opening.failed }) s1 ≡ Out }

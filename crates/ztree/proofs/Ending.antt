@@ -1,23 +1,21 @@
 -- What is there after the session end: which nodes and sessions, and what changed of the nodes that stay.
 use Rattle.std.proofs.Common.{◌≡◌, ◌≢◌, ◌⊎◌, inl, inr, ℕ, ◌≤◌, ◌+◌, Bool, true, false, cond, not, ◌||◌, List, [], ◌∷◌, length, Option, Some, None, refl, sym, ap, subst, ◌∙◌, arith}
-use lib.Dec.{T}
 use Rattle.std.specs.declared.cmp.Ordering.{Ordering}
-use Rattle.std.specs.declared.cmp.Ordering.TheVariants.{Less, Equal, Greater}
-use Rattle.std.specs.Ordering.{is_eq, eq_by_cmp, nat_cmp}
+use Rattle.std.specs.Ordering.{eq_by_cmp, nat_cmp}
 use Rattle.std.specs.Prelude.{is_some, nat_le, ◌==◌}
 use Rattle.std.specs.Option.{option_map_or, option_and_then}
-use Rattle.std.specs.List.{AllByRecursion, list_any, filter_map, cons_option}
-use Rattle.std.specs.Cmp.{IsTotalOrder, tied_itself, nat_cmp_total}
+use Rattle.std.specs.List.{AllByRecursion, list_any}
+use Rattle.std.specs.Cmp.{IsTotalOrder, nat_cmp_total}
 use Rattle.std.specs.FinMap as finite
-use Rattle.std.specs.FinMap.{FinMap, IsAntisymmetric, find, is_sorted, entries_sorted, nat_cmp-IsAntisymmetric, get-entries, get-insert, get-remove}
-use Rattle.std.specs.FinMap.Entries.{below_all}
+use Rattle.std.specs.FinMap.{FinMap, IsAntisymmetric, nat_cmp-IsAntisymmetric, get-insert, get-remove}
 use Rattle.zpath.specs.Grammar.{path_cmp}
 use Rattle.ztree.specs.declared.node.Node.{Node}
 use Rattle.ztree.specs.declared.session.Session.{Session}
 use Rattle.ztree.specs.Tree.{Tree, Path, Nodes, parent_of, has_node, with_change_at, without_child, ephemerals, without_node}
 use Rattle.ztree.specs.Sessions.{without_nodes, without_session, without_sessions, due_sessions}
-use Rattle.ztree.proofs.Sorted.{paths_total, same_path, both_parts}
-use Rattle.ztree.proofs.Maps.{same_some, none_some, get-removed, none_of_map, not_among, found_behind, tied_same, get-inserted}
+use Rattle.ztree.proofs.Sorted.{paths_total, same_path}
+use Rattle.ztree.proofs.Maps.{same_some, none_some, get-removed, none_of_map, tied_same, get-inserted}
+use Rattle.ztree.proofs.Among.{keys_where, among_where, all_where}
 
 -- nodes taken away leave the sessions
 pub sessions-all_dropped : (t : Tree) (paths : List Path) → (without_nodes t paths).sessions ≡ t.sessions
@@ -34,41 +32,13 @@ time-all_ended t [] = refl
 time-all_ended t (id ∷ ids) = time-all_ended (without_session t id) ids ∙ time-all_dropped t (ephemerals t.nodes id)
 
 module _ {K X : Type 0} {R : K → K → Ordering} (o : IsTotalOrder R) (same : IsAntisymmetric R) (test : X → Bool) where
-  -- the keys of the entries whose values pass a test
-  abbrev pub keys_where : List (K × X) → List K
-  keys_where es = filter_map (λ e. cond (test e.1) (Some e.0) None) es
-
-  among_first : (q : K) (e : K × X) (es : List (K × X)) → T (below_all R e.0 es) → list_any (eq_by_cmp R q) (keys_where es) ≡ option_map_or test (find R q es) false → (r : Ordering) → R q e.0 ≡ r → (b : Bool) → test e.1 ≡ b → list_any (eq_by_cmp R q) (cons_option (cond b (Some e.0) None) (keys_where es)) ≡ option_map_or test (cond (is_eq r) (Some e.1) (find R q es)) false
-  among_first q e es low further Equal is true passes = rw (is, passes) refl
-  among_first q e es low further Equal is false fails = rw fails (further ∙ ap (λ x. option_map_or test x false) (ap (λ k. find R k es) (same q e.0 is) ∙ not_among o same e.0 es low))
-  among_first q e es low further Less is true passes = rw is further
-  among_first q e es low further Less is false fails = further
-  among_first q e es low further Greater is true passes = rw is further
-  among_first q e es low further Greater is false fails = further
-
-  among_keys : (q : K) (es : List (K × X)) → T (is_sorted R es) → list_any (eq_by_cmp R q) (keys_where es) ≡ option_map_or test (find R q es) false
-  among_keys q [] s = refl
-  among_keys q (e ∷ es) s =
-      let parts = both_parts (below_all R e.0 es) (is_sorted R es) s in
-      among_first q e es parts.0 (among_keys q es parts.1) (R q e.0) refl (test e.1) refl
-
-  -- a key is among them where what is found there passes
-  pub among_entries : (m : FinMap R X) (q : K) → list_any (eq_by_cmp R q) (keys_where (finite.entries m)) ≡ option_map_or test (finite.get m q) false
-  among_entries m q = among_keys q (finite.entries m) (entries_sorted m) ∙ ap (λ x. option_map_or test x false) (sym (get-entries m q))
+  -- a key is among those whose values pass a test where what is found there passes
+  pub among_entries : (m : FinMap R X) (q : K) → list_any (eq_by_cmp R q) (keys_where (λ _. test) (finite.entries m)) ≡ option_map_or test (finite.get m q) false
+  among_entries m q = among_where o same (λ _. test) m q
 
   -- what holds of all keys holds of them
-  all_keys : (P : K → Type 0) (es : List (K × X)) → T (is_sorted R es) → ((q : K) (x : X) → find R q es ≡ Some x → P q) → AllByRecursion P (keys_where es)
-  all_keys P [] s all = tt
-  all_keys P (e ∷ es) s all =
-      let parts = both_parts (below_all R e.0 es) (is_sorted R es) s in
-      onto (test e.1) (keys_where es) (all e.0 e.1 (rw (tied_itself o e.0) refl)) (all_keys P es parts.1 (λ q x found. all q x (found_behind o same e es parts.0 q x found)))
-    where
-      onto : (b : Bool) (ks : List K) → P e.0 → AllByRecursion P ks → AllByRecursion P (cons_option (cond b (Some e.0) None) ks)
-      onto true ks first rest = (first, rest)
-      onto false ks first rest = rest
-
-  pub all_entries : (P : K → Type 0) (m : FinMap R X) → ((q : K) (x : X) → finite.get m q ≡ Some x → P q) → AllByRecursion P (keys_where (finite.entries m))
-  all_entries P m all = all_keys P (finite.entries m) (entries_sorted m) (λ q x found. all q x (get-entries m q ∙ found))
+  pub all_entries : (P : K → Type 0) (m : FinMap R X) → ((q : K) (x : X) → finite.get m q ≡ Some x → P q) → AllByRecursion P (keys_where (λ _. test) (finite.entries m))
+  all_entries P m all = all_where o same (λ _. test) P m (λ q x found passes. all q x found)
 
 -- a session is there after the end of several where it was and isn't among them
 pub sessions-all_ended : (t : Tree) (ids : List ℕ) (id : ℕ) → finite.get (without_sessions t ids).sessions id ≡ cond (list_any (eq_by_cmp nat_cmp id) ids) None (finite.get t.sessions id)

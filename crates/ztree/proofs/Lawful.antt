@@ -12,7 +12,7 @@ use Rattle.ztree.specs.declared.node.Node.{Node}
 use Rattle.ztree.specs.declared.session.Session.{Session}
 use Rattle.ztree.specs.Tree.{Tree, Path, Nodes, Sessions, opening_tree, new_node, parent_of, has_node, children, with_change_at, with_child, with_node, without_child, without_node, with_data, with_data_at, with_next_zxid}
 use Rattle.ztree.specs.Sessions.{new_session, with_session, renewed_session, with_renewed_session, due_sessions, with_next_tick}
-use Rattle.ztree.specs.Lawful.{IsPersistent, IsOwner, IsLawful}
+use Rattle.ztree.specs.Lawful.{IsPersistent, IsOwner, HasOneEnd, IsLawful}
 use Rattle.ztree.proofs.Sorted.{paths_total, same_path}
 use Rattle.ztree.proofs.Children.{children_gone}
 use Rattle.ztree.proofs.Maps.{same_some, none_some, has_some, is_there, same_or_other, get-insert-here, get-insert-elsewhere, get-remove-elsewhere, get-removed, get-inserted, len-insert-most, len-insert-there, len-remove-most, none_of_entries}
@@ -24,14 +24,21 @@ not_true e = cc
 there : (o : Option Node) → IsPersistent o → is_some o ≡ true
 there o p = is_there o p.0 p.1
 
+-- the same owner and time to live
+same_ends : (n m : Node) → n.owner ≡ m.owner → n.ttl ≡ m.ttl → HasOneEnd m → HasOneEnd n
+same_ends n m owner ttl (inl none) = inl (ttl ∙ none)
+same_ends n m owner ttl (inr nobody) = inr (owner ∙ nobody)
+
 module _ (t : Tree) (path : Path) (new : Node) (lawful : IsLawful t) where
-  -- one more node, where its parent is persistent and its owner nobody or a session
-  pub lawful_inserted : has_node t.nodes path ≡ false → IsPersistent (finite.get t.nodes (parent_of path)) → IsOwner t.sessions new.owner → finite.len t.nodes < 4096 → IsLawful (record t { nodes = finite.insert t.nodes path new })
-  lawful_inserted free parent owner few =
+  -- one more node, where its parent is persistent, its owner nobody or a session, and its end one or none
+  pub lawful_inserted : has_node t.nodes path ≡ false → IsPersistent (finite.get t.nodes (parent_of path)) → IsOwner t.sessions new.owner → HasOneEnd new → finite.len t.nodes < 4096 → IsLawful (record t { nodes = finite.insert t.nodes path new })
+  lawful_inserted free parent owner one few =
       record {
         root = stays [] lawful.root;
+        root_stays = λ n e. still n (get-inserted paths_total same_path t.nodes path new [] n e);
         parents = λ q is. parent_of_each q (has_some _ is);
         owners = λ q n e. owner_of n (get-inserted paths_total same_path t.nodes path new q n e);
+        ends = λ q n e. end_of n (get-inserted paths_total same_path t.nodes path new q n e);
         ids = lawful.ids;
         deadlines = lawful.deadlines;
         few_nodes = len-insert-most paths_total same_path t.nodes path new 4096 few;
@@ -52,7 +59,15 @@ module _ (t : Tree) (path : Path) (new : Node) (lawful : IsLawful t) where
       owner_of n (inl is) = subst (λ (m : Node). IsOwner t.sessions m.owner) is.1 owner
       owner_of n {q} (inr old) = lawful.owners q n old.1
 
-module _ (t : Tree) (path : Path) (f : Node → Node) (keeps : (n : Node) → (f n).owner ≡ n.owner) (lawful : IsLawful t) where
+      end_of : (n : Node) {q : Path} → ((q ≡ path) × (new ≡ n)) ⊎ ((q ≢ path) × (finite.get t.nodes q ≡ Some n)) → HasOneEnd n
+      end_of n (inl is) = subst HasOneEnd is.1 one
+      end_of n {q} (inr old) = lawful.ends q n old.1
+
+      still : (n : Node) → (([] ≡ path) × (new ≡ n)) ⊎ (([] ≢ path) × (finite.get t.nodes [] ≡ Some n)) → n.ttl ≡ 0
+      still n (inl is) = absurd (not_true (sym (there _ lawful.root) ∙ ap (has_node t.nodes) is.0 ∙ free))
+      still n (inr old) = lawful.root_stays n old.1
+
+module _ (t : Tree) (path : Path) (f : Node → Node) (keeps : (n : Node) → ((f n).owner ≡ n.owner) × ((f n).ttl ≡ n.ttl)) (lawful : IsLawful t) where
   module _ (old : Node) (found : finite.get t.nodes path ≡ Some old) where
     abbrev written_nodes : Nodes
     written_nodes = finite.insert t.nodes path (f old)
@@ -63,29 +78,31 @@ module _ (t : Tree) (path : Path) (f : Node → Node) (keeps : (n : Node) → (f
         by : (q ≡ path) ⊎ (q ≢ path) → IsPersistent (finite.get written_nodes q)
         by (inl is) =
             let here : old ≡ p.0 = same_some old p.0 (sym found ∙ ap (finite.get t.nodes) (sym is) ∙ p.1) in
-            (f old, ap (finite.get written_nodes) is ∙ get-insert-here paths_total same_path t.nodes path (f old), keeps old ∙ ap (λ (n : Node). n.owner) here ∙ p.2)
+            (f old, ap (finite.get written_nodes) is ∙ get-insert-here paths_total same_path t.nodes path (f old), (keeps old).0 ∙ ap (λ (n : Node). n.owner) here ∙ p.2)
         by (inr other) = subst IsPersistent (sym (get-insert-elsewhere paths_total same_path t.nodes path (f old) q other)) p
 
-    before : (q : Path) (n : Node) → finite.get written_nodes q ≡ Some n → (m : Node) × (finite.get t.nodes q ≡ Some m) × (n.owner ≡ m.owner)
+    before : (q : Path) (n : Node) → finite.get written_nodes q ≡ Some n → (m : Node) × (finite.get t.nodes q ≡ Some m) × (n.owner ≡ m.owner) × (n.ttl ≡ m.ttl)
     before q n e = by (get-inserted paths_total same_path t.nodes path (f old) q n e)
       where
-        by : ((q ≡ path) × (f old ≡ n)) ⊎ ((q ≢ path) × (finite.get t.nodes q ≡ Some n)) → (m : Node) × (finite.get t.nodes q ≡ Some m) × (n.owner ≡ m.owner)
-        by (inl is) = (old, ap (finite.get t.nodes) is.0 ∙ found, ap (λ (m : Node). m.owner) (sym is.1) ∙ keeps old)
-        by (inr other) = (n, other.1, refl)
+        by : ((q ≡ path) × (f old ≡ n)) ⊎ ((q ≢ path) × (finite.get t.nodes q ≡ Some n)) → (m : Node) × (finite.get t.nodes q ≡ Some m) × (n.owner ≡ m.owner) × (n.ttl ≡ m.ttl)
+        by (inl is) = (old, ap (finite.get t.nodes) is.0 ∙ found, ap (λ (m : Node). m.owner) (sym is.1) ∙ (keeps old).0, ap (λ (m : Node). m.ttl) (sym is.1) ∙ (keeps old).1)
+        by (inr other) = (n, other.1, refl, refl)
 
     lawful_there : IsLawful (record t { nodes = written_nodes })
     lawful_there =
         record {
           root = still_persistent [] lawful.root;
+          root_stays = λ n e. let m = before [] n e in m.3 ∙ lawful.root_stays m.0 m.1;
           parents = λ q is. let n = has_some _ is in let m = before q n.0 n.1 in still_persistent (parent_of q) (lawful.parents q (is_there _ m.0 m.1));
           owners = λ q n e. let m = before q n e in subst (IsOwner t.sessions) (sym m.2) (lawful.owners q m.0 m.1);
+          ends = λ q n e. let m = before q n e in same_ends n m.0 m.2 m.3 (lawful.ends q m.0 m.1);
           ids = lawful.ids;
           deadlines = lawful.deadlines;
           few_nodes = len-insert-there paths_total same_path t.nodes path (f old) old 4096 found lawful.few_nodes;
           few_sessions = lawful.few_sessions;
         }
 
-  -- one node changed, by a change that leaves its owner
+  -- one node changed, by a change that leaves its owner and its time to live
   pub lawful_changed : IsLawful (record t { nodes = with_change_at t.nodes path f })
   lawful_changed = by (finite.get t.nodes path) refl
     where
@@ -99,9 +116,11 @@ module _ (t : Tree) (path : Path) (lawful : IsLawful t) where
   lawful_removed below leaf =
       record {
         root = stays [] (λ e. below (sym e)) lawful.root;
+        root_stays = λ n e. lawful.root_stays n (get-removed paths_total same_path t.nodes path [] n e).1;
         parents = λ q is. let n = has_some _ is in let old = get-removed paths_total same_path t.nodes path q n.0 n.1 in
             stays (parent_of q) (above q n.0 old.1) (lawful.parents q (is_there _ n.0 old.1));
         owners = λ q n e. lawful.owners q n (get-removed paths_total same_path t.nodes path q n e).1;
+        ends = λ q n e. lawful.ends q n (get-removed paths_total same_path t.nodes path q n e).1;
         ids = lawful.ids;
         deadlines = lawful.deadlines;
         few_nodes = len-remove-most paths_total same_path t.nodes path 4096 lawful.few_nodes;
@@ -120,7 +139,7 @@ lawful_opening =
     lawful_root
   where
     root : Node
-    root = new_node [] 0 0 0
+    root = new_node [] 0 0 0 0
 
     found : finite.get opening_tree.nodes [] ≡ Some root
     found = get-insert-here paths_total same_path finite.empty [] root
@@ -139,41 +158,45 @@ lawful_opening =
     lawful_root =
         record {
           root = (root, found, refl);
+          root_stays = λ n e. ap (λ (m : Node). m.ttl) (sym (only [] n e).1);
           parents = λ q is. let n = has_some _ is in subst (λ p. IsPersistent (finite.get opening_tree.nodes (parent_of p))) (sym (only q n.0 n.1).0) (root, found, refl);
           owners = λ q n e. inl (ap (λ (m : Node). m.owner) (sym (only q n e).1));
+          ends = λ q n e. inl (ap (λ (m : Node). m.ttl) (sym (only q n e).1));
           ids = λ id s e. absurd (none id s e);
           deadlines = λ id s e. absurd (none id s e);
           few_nodes = len-insert-most paths_total same_path finite.empty [] root 4096 (rw (len-empty path_cmp Node) (omega arith));
           few_sessions = rw (len-empty nat_cmp Session) (omega arith);
         }
 
--- a new node beneath a persistent one, of nobody or of a session
-pub lawful_added : (t : Tree) (path : Path) (bytes : List ℕ) (owner : ℕ) (sequential : Bool) → IsLawful t → has_node t.nodes path ≡ false → IsPersistent (finite.get t.nodes (parent_of path)) → IsOwner t.sessions owner → finite.len t.nodes < 4096 → IsLawful (with_node t path bytes owner sequential)
-lawful_added t path bytes owner sequential lawful free parent is_owner few =
-    let new = new_node bytes owner (t.zxid + 1) t.time in
-    lawful_changed (record t { nodes = finite.insert t.nodes path new }) (parent_of path) (with_child (t.zxid + 1) sequential) (λ n. refl) (lawful_inserted t path new lawful free parent is_owner few)
+-- a new node beneath a persistent one, of nobody or of a session, where a session's has no time to live
+pub lawful_added : (t : Tree) (path : Path) (bytes : List ℕ) (owner ttl : ℕ) (sequential : Bool) → IsLawful t → has_node t.nodes path ≡ false → IsPersistent (finite.get t.nodes (parent_of path)) → IsOwner t.sessions owner → (ttl ≡ 0) ⊎ (owner ≡ 0) → finite.len t.nodes < 4096 → IsLawful (with_node t path bytes owner ttl sequential)
+lawful_added t path bytes owner ttl sequential lawful free parent is_owner one few =
+    let new = new_node bytes owner ttl (t.zxid + 1) t.time in
+    lawful_changed (record t { nodes = finite.insert t.nodes path new }) (parent_of path) (with_child (t.zxid + 1) sequential) (λ n. (refl, refl)) (lawful_inserted t path new lawful free parent is_owner one few)
 
 -- a leaf below the root taken away
 pub lawful_dropped : (t : Tree) (path : Path) → IsLawful t → path ≢ [] → children t.nodes path ≡ [] → IsLawful (without_node t path)
 lawful_dropped t path lawful below leaf =
-    lawful_changed (record t { nodes = finite.remove t.nodes path }) (parent_of path) (without_child (t.zxid + 1)) (λ n. refl) (lawful_removed t path lawful below leaf)
+    lawful_changed (record t { nodes = finite.remove t.nodes path }) (parent_of path) (without_child (t.zxid + 1)) (λ n. (refl, refl)) (lawful_removed t path lawful below leaf)
 
 -- data written
 pub lawful_written : (t : Tree) (path : Path) (bytes : List ℕ) → IsLawful t → IsLawful (with_data_at t path bytes)
-lawful_written t path bytes lawful = lawful_changed t path (with_data bytes (t.zxid + 1) t.time) (λ n. refl) lawful
+lawful_written t path bytes lawful = lawful_changed t path (with_data bytes (t.zxid + 1) t.time) (λ n. (refl, refl)) lawful
 
 -- a change counted
 pub lawful_raised : (t : Tree) → IsLawful t → IsLawful (with_next_zxid t)
 lawful_raised t lawful =
-    record { root = lawful.root; parents = lawful.parents; owners = lawful.owners; ids = lawful.ids; deadlines = lawful.deadlines; few_nodes = lawful.few_nodes; few_sessions = lawful.few_sessions }
+    record { root = lawful.root; root_stays = lawful.root_stays; parents = lawful.parents; owners = lawful.owners; ends = lawful.ends; ids = lawful.ids; deadlines = lawful.deadlines; few_nodes = lawful.few_nodes; few_sessions = lawful.few_sessions }
 
 -- a session under an id above 0, whose deadline is to come
 pub lawful_session : (t : Tree) (id : ℕ) (new : Session) → IsLawful t → 0 < id → t.time < new.deadline → finite.len (finite.insert t.sessions id new) ≤ 1024 → IsLawful (record t { sessions = finite.insert t.sessions id new })
 lawful_session t id new lawful above later few =
     record {
       root = lawful.root;
+      root_stays = lawful.root_stays;
       parents = lawful.parents;
       owners = λ q n e. stays n.owner (lawful.owners q n e);
+      ends = lawful.ends;
       ids = λ k s e. id_above k (get-inserted nat_cmp_total nat_cmp-IsAntisymmetric t.sessions id new k s e);
       deadlines = λ k s e. deadline_later s (get-inserted nat_cmp_total nat_cmp-IsAntisymmetric t.sessions id new k s e);
       few_nodes = lawful.few_nodes;
@@ -223,8 +246,10 @@ pub lawful_advanced : (t : Tree) → IsLawful t → due_sessions t.sessions (t.t
 lawful_advanced t lawful none =
     record {
       root = lawful.root;
+      root_stays = lawful.root_stays;
       parents = lawful.parents;
       owners = lawful.owners;
+      ends = lawful.ends;
       ids = lawful.ids;
       deadlines = λ id s e. beyond id s (none_of_entries nat_cmp_total nat_cmp-IsAntisymmetric _ t.sessions id s none e);
       few_nodes = lawful.few_nodes;

@@ -1,5 +1,5 @@
--- The session end keeps a tree lawful, and so does a tick that ends the sessions that are due.
-use Rattle.std.proofs.Common.{◌≡◌, ◌≢◌, inl, inr, ℕ, ◌<◌, ◌+◌, Bool, true, false, cond, List, [], ◌∷◌, Some, None, IsSome, refl, subst, arith}
+-- The session end keeps a tree lawful.
+use Rattle.std.proofs.Common.{◌≡◌, ◌≢◌, inl, inr, ℕ, ◌<◌, Bool, true, false, cond, List, [], ◌∷◌, Some, None, IsSome, refl, subst, arith}
 use Rattle.std.specs.Prelude.{nat_le, ◌==◌}
 use Rattle.std.specs.List.{AllByRecursion}
 use Rattle.std.specs.Cmp.{nat_cmp_total, unsigned_Decides}
@@ -8,13 +8,13 @@ use Rattle.std.specs.FinMap.{nat_cmp-IsAntisymmetric}
 use Rattle.ztree.specs.declared.node.Node.{Node}
 use Rattle.ztree.specs.declared.session.Session.{Session}
 use Rattle.ztree.specs.Tree.{Tree, Path, Sessions, ephemerals, children, without_node}
-use Rattle.ztree.specs.Sessions.{without_nodes, without_session, without_sessions, due_sessions, with_next_tick}
+use Rattle.ztree.specs.Sessions.{without_nodes, without_session, without_sessions, due_sessions}
 use Rattle.ztree.specs.Lawful.{IsOwner, IsLawful}
 use Rattle.ztree.proofs.Sorted.{paths_total, same_path}
 use Rattle.ztree.proofs.Maps.{has_some, get-remove-elsewhere, get-removed, len-remove-most, none_of_entries}
-use Rattle.ztree.proofs.Lawful.{lawful_dropped, lawful_advanced}
+use Rattle.ztree.proofs.Lawful.{lawful_dropped}
 use Rattle.ztree.proofs.Ephemerals.{path_if_owned, first_is_there, ephemerals-dropped, owned_is_leaf, owned_is_below}
-use Rattle.ztree.proofs.Ending.{sessions-all_dropped, time-all_ended, all_entries, none_due}
+use Rattle.ztree.proofs.Ending.{sessions-all_dropped, all_entries}
 
 is_not_0 : (id owner : ℕ) → 0 < id → owner ≡ id → owner ≢ 0
 is_not_0 id owner above is e = omega (arith, above, is, e)
@@ -43,8 +43,10 @@ pub lawful_forgotten : (t : Tree) (id : ℕ) → IsLawful t → ephemerals t.nod
 lawful_forgotten t id lawful none =
     record {
       root = lawful.root;
+      root_stays = lawful.root_stays;
       parents = lawful.parents;
       owners = λ path n e. still n.owner (another path n e) (lawful.owners path n e);
+      ends = lawful.ends;
       ids = λ k s e. lawful.ids k s (get-removed nat_cmp_total nat_cmp-IsAntisymmetric t.sessions id k s e).1;
       deadlines = λ k s e. lawful.deadlines k s (get-removed nat_cmp_total nat_cmp-IsAntisymmetric t.sessions id k s e).1;
       few_nodes = lawful.few_nodes;
@@ -84,9 +86,3 @@ lawful_all_ended t (id ∷ ids) lawful above = lawful_all_ended (without_session
 -- the sessions that are due in a lawful tree have ids above 0
 pub due_above : (t : Tree) (tick : ℕ) → IsLawful t → AllByRecursion (λ id. 0 < id) (due_sessions t.sessions tick)
 due_above t tick lawful = all_entries nat_cmp_total nat_cmp-IsAntisymmetric (λ (s : Session). nat_le s.deadline tick) (λ id. 0 < id) t.sessions lawful.ids
-
--- a tick that ends the due sessions keeps a tree lawful
-pub lawful_ticked : (t : Tree) → IsLawful t → IsLawful (with_next_tick (without_sessions t (due_sessions t.sessions (t.time + 1))))
-lawful_ticked t lawful =
-    let ids = due_sessions t.sessions (t.time + 1) in
-    lawful_advanced (without_sessions t ids) (lawful_all_ended t ids lawful (due_above t (t.time + 1) lawful)) (rw (time-all_ended t ids) (none_due t (t.time + 1)))

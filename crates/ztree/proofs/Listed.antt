@@ -12,7 +12,9 @@ use Rattle.std.proofs.lemmas.Slice.Eq.{bytes_eq-Decides}
 use Rattle.zpath.specs.Grammar.{path_cmp}
 use Rattle.ztree.specs.declared.node.Node.{Node}
 use Rattle.ztree.specs.Tree.{Path, Name, child_name}
-use Rattle.ztree.specs.Laws.{ListsChildren, IsParentOfChild, ListsEphemerals}
+use Rattle.ztree.specs.Laws.{ListsChildren, IsParentOfChild, ListsEphemerals, ListsStale}
+use Rattle.ztree.specs.Stale.{is_stale}
+use Rattle.ztree.proofs.Among.{among_where}
 use Rattle.ztree.proofs.Sorted.{paths_total, same_path}
 use Rattle.ztree.proofs.Maps.{same_some, none_some, tied_same}
 use Rattle.ztree.proofs.Children.{child_name-front}
@@ -64,3 +66,6 @@ is_parent_of_child = parent_of-front
 
 pub lists_ephemerals : ListsEphemerals
 lists_ephemerals nodes session path = among_entries paths_total same_path (λ (n : Node). n.owner == session) nodes path
+
+pub lists_stale : ListsStale
+lists_stale nodes tick path = among_where paths_total same_path (is_stale nodes tick) nodes path

@@ -47,7 +47,7 @@ module _ {K : Type 0} {R : K → K → Ordering} (o : IsTotalOrder R) (same : Is
       by Equal is tie = same p q is
       by Greater is tie = cc
 
-  tied : (k : K) → eq_by_cmp R k k ≡ true
+  pub tied : (k : K) → eq_by_cmp R k k ≡ true
   tied k = ap is_eq (tied_itself o k)
 
   pub not_tied : (p q : K) → p ≢ q → eq_by_cmp R p q ≡ false

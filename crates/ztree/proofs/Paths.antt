@@ -40,12 +40,12 @@ paths_changed nodes path f all = by (finite.get nodes path) refl
 
 -- the opening has the root alone
 pub paths_opening : HasPaths opening_tree.nodes
-paths_opening = paths_inserted finite.empty [] (new_node [] 0 0 0) paths_empty root_is_path
+paths_opening = paths_inserted finite.empty [] (new_node [] 0 0 0 0) paths_empty root_is_path
 
 -- and each change of a tree keeps it
-pub paths_with_node : (t : Tree) (path : Path) (bytes : List ℕ) (owner : ℕ) (sequential : Bool) → HasPaths t.nodes → IsPath path → HasPaths (with_node t path bytes owner sequential).nodes
-paths_with_node t path bytes owner sequential all here =
-    let new = new_node bytes owner (t.zxid + 1) t.time in
+pub paths_with_node : (t : Tree) (path : Path) (bytes : List ℕ) (owner ttl : ℕ) (sequential : Bool) → HasPaths t.nodes → IsPath path → HasPaths (with_node t path bytes owner ttl sequential).nodes
+paths_with_node t path bytes owner ttl sequential all here =
+    let new = new_node bytes owner ttl (t.zxid + 1) t.time in
     paths_changed (finite.insert t.nodes path new) (parent_of path) (with_child (t.zxid + 1) sequential) (paths_inserted t.nodes path new all here)
 
 pub paths_without_node : (t : Tree) (path : Path) → HasPaths t.nodes → HasPaths (without_node t path).nodes

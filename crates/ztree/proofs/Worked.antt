@@ -1,12 +1,14 @@
 -- What is found at each path of a tree of two nodes after a change: what the worked rows ask for.
-use Rattle.std.proofs.Common.{◌≡◌, ◌≢◌, List, [], ◌∷◌, Option, Some, None, refl, sym, ap, ◌∙◌}
+use Rattle.std.proofs.Common.{◌≡◌, ◌≢◌, [], ◌∷◌, Some, None, sym, ap, ◌∙◌}
 use Rattle.std.specs.FinMap as finite
 use Rattle.ztree.specs.declared.node.Node.{Node}
 use Rattle.ztree.specs.Tree.{Name, Path, Nodes, with_change_at}
 use Rattle.ztree.specs.support.Samples.{a, b, some_node, two_nodes}
 use Rattle.ztree.proofs.Sorted.{paths_total, same_path}
 use Rattle.ztree.proofs.Maps.{get-insert-here, get-insert-elsewhere, get-remove-here, get-remove-elsewhere}
-use Rattle.ztree.proofs.Nodes.{changed_at-some}
+use Rattle.ztree.proofs.Nodes.{changed_at-some, no_entries}
+use Rattle.std.specs.FinMap.{put, entries-insert, entries-from_sorted}
+use Rattle.zpath.specs.Grammar.{path_cmp}
 
 module _ (m : Nodes) (p : Path) (f : Node → Node) (n : Node) (there : finite.get m p ≡ Some n) where
   pub found_changed : finite.get (with_change_at m p f) p ≡ Some (f n)
@@ -63,3 +65,10 @@ second_gone = get-remove-here paths_total same_path two_nodes.nodes (a ∷ [])
 
 pub second_is_below : (x : Name) → ◌≢◌ {A = Path} (x ∷ []) []
 second_is_below x e = cc
+
+-- the entries of the two nodes
+pub two_entries : finite.entries two_nodes.nodes ≡ ([], some_node) ∷ ((a ∷ []), some_node) ∷ []
+two_entries =
+    entries-insert paths_total (finite.insert finite.empty [] some_node) (a ∷ []) some_node
+    ∙ ap (put path_cmp (a ∷ []) some_node) (entries-insert paths_total finite.empty [] some_node
+    ∙ ap (put path_cmp [] some_node) (ap finite.entries (sym (no_entries path_cmp)) ∙ entries-from_sorted path_cmp [] tt))

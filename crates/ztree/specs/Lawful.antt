@@ -26,11 +26,21 @@ IsPersistent found = (n : Node) × (found ≡ Some n) × (n.owner ≡ 0)
 abbrev pub IsOwner : Sessions → ℕ → Type 0
 IsOwner sessions owner = (owner ≡ 0) ⊎ IsSome (get sessions owner)
 
+-- a session owns the node, or a time to live ends it, or neither
+abbrev pub HasOneEnd : Node → Type 0
+HasOneEnd n = (n.ttl ≡ 0) ⊎ (n.owner ≡ 0)
+
+-- no time to live ends the node
+abbrev pub Stays : Option Node → Type 0
+Stays found = (n : Node) → found ≡ Some n → n.ttl ≡ 0
+
 -- the lawful tree (the root counts as its own parent; 0 is nobody, and no session)
 pub record IsLawful (t : Tree) : Type 0 where
   pub root : IsPersistent (get t.nodes [])
+  pub root_stays : Stays (get t.nodes [])
   pub parents : (path : Path) → has_node t.nodes path ≡ true → IsPersistent (get t.nodes (parent_of path))
   pub owners : AllNodes (λ n. IsOwner t.sessions n.owner) t.nodes
+  pub ends : AllNodes HasOneEnd t.nodes
   pub ids : AllSessions (λ id s. 0 < id) t.sessions
   pub deadlines : AllSessions (λ id s. t.time < s.deadline) t.sessions
   pub few_nodes : finite.len t.nodes ≤ MAX_NODES

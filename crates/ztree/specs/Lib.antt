@@ -1,5 +1,6 @@
 pub mod Tree
 pub mod Sessions
+pub mod Stale
 pub mod Lawful
 pub mod Room
 pub mod Laws

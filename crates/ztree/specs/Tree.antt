@@ -36,14 +36,26 @@ pub record Tree : Type 0 where
   pub time : ℕ
   pub zxid : ℕ
 
--- a node made by change z at a tick
-abbrev pub new_node : List ℕ → ℕ → ℕ → ℕ → Node
-new_node bytes owner z time =
-    record { bytes = bytes; czxid = z; mzxid = z; pzxid = z; ctime = time; mtime = time; version = 0; cversion = 0; owner = owner; seq = 0 }
+-- a node made by change z at a tick, which an owner or nobody has, and a time to live ends or nothing
+abbrev pub new_node : List ℕ → ℕ → ℕ → ℕ → ℕ → Node
+new_node bytes owner ttl z time =
+    record {
+      bytes = bytes;
+      czxid = z;
+      mzxid = z;
+      pzxid = z;
+      ctime = time;
+      mtime = time;
+      version = 0;
+      cversion = 0;
+      owner = owner;
+      seq = 0;
+      ttl = ttl;
+    }
 
 -- the opening: the root alone, with no data and zeros, and no session
 abbrev pub opening_tree : Tree
-opening_tree = record { nodes = insert finite.empty [] (new_node [] 0 0 0); sessions = finite.empty; time = 0; zxid = 0 }
+opening_tree = record { nodes = insert finite.empty [] (new_node [] 0 0 0 0); sessions = finite.empty; time = 0; zxid = 0 }
 
 -- the path without its last name, and the root's is the root
 abbrev pub parent_of : Path → Path
@@ -105,9 +117,13 @@ abbrev pub with_change_at : Nodes → Path → (Node → Node) → Nodes
 with_change_at nodes p f = option_map_or (λ n. insert nodes p (f n)) (get nodes p) nodes
 
 -- one more node, made by the next change: the new node, and the marks at its parent
-abbrev pub with_node : Tree → Path → List ℕ → ℕ → Bool → Tree
-with_node t path bytes owner sequential =
-    record t { nodes = with_change_at (insert t.nodes path (new_node bytes owner (t.zxid + 1) t.time)) (parent_of path) (with_child (t.zxid + 1) sequential) }
+abbrev pub with_node : Tree → Path → List ℕ → ℕ → ℕ → Bool → Tree
+with_node t path bytes owner ttl sequential =
+    record t {
+      nodes =
+          with_change_at (insert t.nodes path (new_node bytes owner ttl (t.zxid + 1) t.time)) (parent_of path)
+          (with_child (t.zxid + 1) sequential);
+    }
 
 -- a node after change z took a child from beneath it
 abbrev pub without_child : ℕ → Node → Node

@@ -1,7 +1,7 @@
 //! The plain tree: the state of the sequential specification, and the values that it holds.
 //!
 //! Here stand the definitions on which every call of every layer is stated (`specs/Tree.antt`, the znodes;
-//! `specs/Sessions.antt`; `specs/Lawful.antt`, what holds of every tree that is ever shown), and the types of
+//! `specs/Sessions.antt`; `specs/Stale.antt`, the znodes that a tick removes; `specs/Lawful.antt`, what holds of every tree that is ever shown), and the types of
 //! the values in it. How a machine keeps a tree is the business of a crate above.
 #![tactic(auto)]
 
@@ -13,12 +13,14 @@ mod node_data;
 mod rows;
 mod session;
 mod session_id;
+mod ttl;
 mod zxid;
 
 pub use client::ClientId;
-pub use limits::{MAX_DATA, MAX_NODES, MAX_SESSIONS};
+pub use limits::{MAX_DATA, MAX_NODES, MAX_SESSIONS, MAX_TTL};
 pub use node::{Node, Stat};
 pub use node_data::Data;
 pub use session::Session;
 pub use session_id::SessionId;
+pub use ttl::Ttl;
 pub use zxid::Zxid;

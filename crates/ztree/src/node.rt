@@ -29,6 +29,8 @@ pub struct Node {
     pub owner: u64,
     /// What the next sequential create beneath it appends to the name.
     pub seq: u64,
+    /// How many ticks it lives after the last change of its data while it has no children, or 0: for good.
+    pub ttl: u64,
 }
 
 /// What is told of a node: the stat structure of the ZooKeeper Programmer's Guide, in the guide's
@@ -60,10 +62,11 @@ pub struct Stat {
 impl Node {
     ghost use Rattle.std.specs.Prelude.{◌≡◌, IfOk};
     ghost use Rattle.ztree.specs.Tree.{new_node, stat_with};
+    ghost use Rattle.ztree.specs.Stale.{is_due};
 
-    /// A node made by this change, at this tick; its owner is a session, or 0.
-    pub fn new(bytes: Data, owner: u64, zxid: Zxid, time: u64) -> Node
-        ensures { result ≡ new_node bytes owner zxid time }
+    /// A node made by this change, at this tick; its owner is a session, or 0, and it lives so many ticks, or for good where that is 0.
+    pub fn new(bytes: Data, owner: u64, ttl: u64, zxid: Zxid, time: u64) -> Node
+        ensures { result ≡ new_node bytes owner ttl zxid time }
     {
         Node {
             bytes,
@@ -76,6 +79,7 @@ impl Node {
             cversion: 0,
             owner,
             seq: 0,
+            ttl,
         }
     }
 
@@ -97,6 +101,13 @@ impl Node {
         }
     }
 
+    /// Whether a tick reaches the end of its time to live; of a node without one none does.
+    pub fn is_due(&self, tick: u64) -> bool
+        ensures { result ≡ is_due tick self.now }
+    {
+        self.ttl != 0 && tick.saturating_sub(self.mtime) >= self.ttl
+    }
+
     /// The same node once more.
     pub fn copied(&self, alloc: Global) -> Result<Node, Memory>
         ensures { IfOk result (λ copy. copy ≡ self.now) }
@@ -112,6 +123,7 @@ impl Node {
             cversion: self.cversion,
             owner: self.owner,
             seq: self.seq,
+            ttl: self.ttl,
         })
     }
 }

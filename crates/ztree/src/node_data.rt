@@ -8,7 +8,7 @@ use std::alloc::Global;
 use std::marker::Model;
 use zpath::Memory;
 
-/// A znode's data: at most 4,096 bytes, which are read and written whole.
+/// A znode's data: at most 65,536 bytes, which are read and written whole.
 #[derive(Debug, Drop)]
 pub struct Data {
     bytes: Vec<u8>,
@@ -26,7 +26,7 @@ impl Model for Data {
 }
 
 impl Data {
-    /// Takes the bytes, and allocates nothing. Where there are more than 4,096, hands them back.
+    /// Takes the bytes, and allocates nothing. Where there are more than 65,536, hands them back.
     pub fn new(bytes: Vec<u8>) -> Result<Data, Vec<u8>>
         ensures taken { IfOk result (λ d. d ≡ bytes.items) }
         ensures fits { OnOk result (length bytes.items ≤ MAX_DATA) }

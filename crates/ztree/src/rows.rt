@@ -1,12 +1,13 @@
 //! Worked rows of the definitions. The functions do nothing.
 
 ghost use Rattle.std.specs.Prelude.{◌≡◌, [], ◌∷◌, None, Some, true, false};
-ghost use Rattle.ztree.specs.declared.limits.TheConstants.{MAX_DATA, MAX_NODES, MAX_SESSIONS, MAX_CLIENTS};
+ghost use Rattle.ztree.specs.declared.limits.TheConstants.{MAX_DATA, MAX_NODES, MAX_SESSIONS, MAX_CLIENTS, MAX_TTL};
 ghost use Rattle.ztree.specs.declared.limits.TheConstants.{ZXID_BOUND, TICK_BOUND, COUNTER_BOUND, DEADLINE_BOUND};
 ghost use Rattle.std.specs.FinMap as finite;
 ghost use Rattle.ztree.specs.Tree.{parent_of, child_name, stat_with};
 ghost use Rattle.ztree.specs.Tree.{with_child, without_child, with_data, new_node, with_node, without_node};
 ghost use Rattle.ztree.specs.Sessions.{new_session, renewed_session};
+ghost use Rattle.ztree.specs.Stale.{is_due, stale_nodes};
 ghost use Rattle.ztree.specs.Lawful.{HasPaths};
 ghost use Rattle.ztree.specs.support.Samples.{a, b, some_node, some_stat, some_session, two_nodes};
 
@@ -30,6 +31,16 @@ pub fn changes_of_a_node()
         ≡ record some_node { bytes = b; mzxid = 20; mtime = 21; version = 7 } }
 {}
 
+/// When a node is due, and which of two due nodes a tick removes: the one that has no child.
+pub fn times_to_live()
+    ensures early { is_due 16 some_node ≡ false }
+    ensures due { is_due 17 some_node ≡ true }
+    ensures late { is_due 18 some_node ≡ true }
+    ensures for_good { is_due 17 (record some_node { ttl = 0 }) ≡ false }
+    ensures none_yet { stale_nodes two_nodes.nodes 16 ≡ [] }
+    ensures leaves_alone { stale_nodes two_nodes.nodes 17 ≡ (a ∷ []) ∷ [] }
+{}
+
 /// The deadlines of a session.
 pub fn changes_of_a_session()
     ensures opened { new_session 3 5 4 ≡ some_session }
@@ -43,7 +54,7 @@ pub fn keys_are_paths()
 
 /// A new node has the number and the tick of the change that makes it, wherever it tells one.
 pub fn new_nodes()
-    ensures { new_node b 9 20 21 ≡ record {
+    ensures { new_node b 9 12 20 21 ≡ record {
       bytes = b;
       czxid = 20;
       mzxid = 20;
@@ -54,32 +65,34 @@ pub fn new_nodes()
       cversion = 0;
       owner = 9;
       seq = 0;
+      ttl = 12;
     } }
 {}
 
 /// What change 41, at tick 30, leaves of a tree of two nodes where it makes a node beneath the second one, or takes that
 /// one away.
 pub fn changes_of_a_tree()
-    ensures made { finite.get (with_node two_nodes (a ∷ (b ∷ [])) b 9 false).nodes (a ∷ (b ∷ []))
-        ≡ Some (new_node b 9 41 30) }
-    ensures parent { finite.get (with_node two_nodes (a ∷ (b ∷ [])) b 9 false).nodes (a ∷ [])
+    ensures made { finite.get (with_node two_nodes (a ∷ (b ∷ [])) b 9 12 false).nodes (a ∷ (b ∷ []))
+        ≡ Some (new_node b 9 12 41 30) }
+    ensures parent { finite.get (with_node two_nodes (a ∷ (b ∷ [])) b 9 12 false).nodes (a ∷ [])
         ≡ Some (record some_node { pzxid = 41; cversion = 9 }) }
-    ensures sequential { finite.get (with_node two_nodes (a ∷ (b ∷ [])) b 9 true).nodes (a ∷ [])
+    ensures sequential { finite.get (with_node two_nodes (a ∷ (b ∷ [])) b 9 12 true).nodes (a ∷ [])
         ≡ Some (record some_node { pzxid = 41; cversion = 9; seq = 11 }) }
-    ensures grandparent { finite.get (with_node two_nodes (a ∷ (b ∷ [])) b 9 true).nodes []
+    ensures grandparent { finite.get (with_node two_nodes (a ∷ (b ∷ [])) b 9 12 true).nodes []
         ≡ Some some_node }
     ensures gone { finite.get (without_node two_nodes (a ∷ [])).nodes (a ∷ []) ≡ None }
     ensures left { finite.get (without_node two_nodes (a ∷ [])).nodes []
         ≡ Some (record some_node { pzxid = 41; cversion = 9 }) }
-    ensures number_is_taken_later { (with_node two_nodes (a ∷ (b ∷ [])) b 9 true).zxid ≡ 40 }
+    ensures number_is_taken_later { (with_node two_nodes (a ∷ (b ∷ [])) b 9 12 true).zxid ≡ 40 }
 {}
 
 /// The limits, as numbers.
 pub fn limits_are_numbers()
-    ensures data { MAX_DATA ≡ 4096 }
+    ensures data { MAX_DATA ≡ 65536 }
     ensures nodes { MAX_NODES ≡ 4096 }
     ensures sessions { MAX_SESSIONS ≡ 1024 }
     ensures clients { MAX_CLIENTS ≡ 32 }
+    ensures ttls { MAX_TTL ≡ 1048576 }
     ensures zxids { ZXID_BOUND ≡ 1099511627776 }
     ensures ticks { TICK_BOUND ≡ 1099511627776 }
     ensures counters { COUNTER_BOUND ≡ 4611686018427387904 }

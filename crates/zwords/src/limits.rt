@@ -4,4 +4,4 @@
 pub const MAX_PASSES: usize = 32;
 
 /// The last bit of a halt word. The first is 0.
-pub const LAST_BIT: u32 = 8;
+pub const LAST_BIT: u32 = 16;

@@ -1,6 +1,6 @@
 -- What a process makes of a message.
 use Rattle.std.proofs.Common.{◌≡◌, ◌⊎◌, ℕ, ◌+◌, ◌<◌, Bool, true, false, if◌then◌else◌, Option, None, Some, List, [], ◌∷◌, ◌++◌, length, get_or, set, refl, sym, ap, subst, ◌∙◌, inl, inr, append-nil, eqb-true, add-one}
-use Rattle.std.specs.Prelude.{◌==◌, nat_lt, is_none}
+use Rattle.std.specs.Prelude.{◌==◌, nat_lt, is_none, Ok, Err}
 use mathlib.Core.Bool.{true≢false}
 use Rattle.ztree.specs.Tree.{Tree}
 use Rattle.zcalls.specs.Kept.{KeptState}
@@ -14,22 +14,25 @@ use Rattle.zprotocol.specs.server.Memory.{may_be_unheard, may_stop}
 use Rattle.zprotocol.specs.server.View.{ServerView, Transfer, MessageOf, Post, spare}
 use Rattle.zprotocol.specs.client.View.{ClientView}
 use Rattle.zprotocol.specs.client.Table.{ClientResult, client_step, answer_row, config_row, is_waiting_for}
-use Rattle.zprotocol.specs.server.Table.{server_step}
+use Rattle.zprotocol.specs.server.Table.{is_retirement, server_step}
 use Rattle.zprotocol.specs.master.Table.{master_step}
 use Rattle.zserver.specs.Server.{TreeView}
 use Rattle.zworld_model.specs.declared.event.Event.TheVariants as event
-use Rattle.zworld_model.specs.declared.outcome.Outcome.TheVariants as outcome
+use Rattle.zserver.specs.declared.stopped.Stopped.{Stopped}
+use Rattle.zserver.specs.declared.stopped.Stopped.TheVariants.{Memory, Retired}
+use Rattle.zserver.specs.declared.taken.Taken.{Taken}
+use Rattle.zserver.specs.declared.taken.Taken.TheVariants.{Acted, Unheard}
 use Rattle.zworld_model.specs.declared.history.CallEvent.TheVariants as call_event
 use Rattle.zworld_model.specs.History.{History}
 use Rattle.zworld_model.specs.Links.{is_same, messages_to}
 use Rattle.zworld_model.specs.World.{at}
 use Rattle.zprotocol.specs.Places.{is_server}
-use Rattle.zworld_model.specs.Events.{has_failed, acts, process_step, server_does, client_does, with_answer}
+use Rattle.zworld_model.specs.Events.{has_failed, acts, process_step, server_does, server_stops, client_does, with_answer}
 use Rattle.zworld_model.specs.Alike.{IsAlike}
 use Rattle.zlinks.specs.Places.{links_of, without_receiver}
-use Rattle.zworld.specs.Held.{Held, MemberView, bystander, nobody, is_gone, owes, view_of, member_at, last_words, world_of}
+use Rattle.zworld.specs.Held.{Held, MemberView, bystander, gone_member, nobody, is_gone, owes, view_of, member_at, last_words, world_of}
 use Rattle.zworld.specs.support.Posting.{Rows, IsPosted, is_lost}
-use Rattle.zworld.specs.support.Fronts.{IsGiven, answered_number, answers_of}
+use Rattle.zworld.specs.support.Fronts.{IsGiven, IsGivenToServer, did_of, answered_number, answers_of}
 use Rattle.zworld.specs.support.Members.{HasTaken}
 use Rattle.zworld.proofs.Alike.{alike_by, member_set}
 use Rattle.zworld.proofs.Posting.{posted}
@@ -50,7 +53,7 @@ given_to_master held from m rows done history =
 -- a server acts on a message
 module _ (held : Held) (from : Process) (s place : ℕ) (m : MessageOf (KeptState Tree)) (member : MemberView) (view : TreeView) (rows : Rows)
     (is : s ≡ place + 1) (inside : place < length held.members) (had : (member_at held.members s).view ≡ Some view)
-    (has : member.view ≡ Some (server_step kept_tree view from m).0)
+    (has : member.view ≡ Some (server_step kept_tree view from m).0) (serves : is_retirement from m ≡ false)
     (done : IsPosted (set held.members place member) held.links (Server s) (server_step kept_tree view from m).1 rows) where
   abbrev members_then : List MemberView
   members_then = set held.members place member
@@ -126,8 +129,10 @@ module _ (held : Held) (from : Process) (s place : ℕ) (m : MessageOf (KeptStat
   given_to_server history =
       let new : Held = record held { members = members_then; links = rows } in
       subst (λ (h : History). IsAlike (process_step kept_tree (world_of held history) from (Server s) m) (world_of new h)) (sym (append-nil history))
+      (subst (λ b. IsAlike (if b then server_stops (world_of held history) s else server_does (world_of held history) s (server_step kept_tree (view_of (member_at held.members s)) from m))
+      (world_of new history)) (sym serves)
       (subst (λ (v : TreeView). IsAlike (server_does (world_of held history) s (server_step kept_tree v from m)) (world_of new history)) (sym view_was)
-      (server_alike history))
+      (server_alike history)))
 
 -- the reply that a client hands out is that of the message, with its number
 abbrev pub IsHandedOut : MessageOf (KeptState Tree) → Option (ℕ × Reply) → Type 0
@@ -188,10 +193,18 @@ has_view m lives = by_view m.view lives
     by_view None lives = absurd (true≢false lives)
     by_view (Some view) lives = (view, refl)
 
+-- what a member says of what it made of a message, once that is known
+pub when_known : (from : Process) (m : MessageOf (KeptState Tree)) (was member : MemberView) (before after : List (Post (KeptState Tree))) (taken known : Taken)
+    → taken ≡ known
+    → ((view : TreeView) → was.view ≡ Some view → HasTaken was view from m (Ok taken) member before after)
+    → (view : TreeView) → was.view ≡ Some view → HasTaken was view from m (Ok known) member before after
+when_known from m was member before after taken known is =
+    subst (λ (t : Taken). (view : TreeView) → was.view ≡ Some view → HasTaken was view from m (Ok t) member before after) is
+
 -- a server that acted, by what its member says
 pub acted_given : (old held : Held) (from : Process) (s place : ℕ) (m : MessageOf (KeptState Tree)) (was member : MemberView) (before after : List (Post (KeptState Tree))) (now : List MemberView) (rows : Rows)
     → held ≡ old → s ≡ place + 1 → place < length held.members → was ≡ get_or held.members place was → is_lost old.members (Server s) ≡ false → before ≡ []
-    → ((view : TreeView) → was.view ≡ Some view → HasTaken was view from m outcome.Acted member before after)
+    → ((view : TreeView) → was.view ≡ Some view → HasTaken was view from m (Ok Acted) member before after)
     → now ≡ set held.members place member → IsPosted now held.links (Server s) after rows
     → IsGiven old from (Server s) m [] (record held { members = set held.members place member; links = rows })
 acted_given old held from s place m was member before after now rows same is inside read alive silent took written done =
@@ -204,7 +217,7 @@ acted_given old held from s place m was member before after now rows same is ins
     subst (λ (ps : List (Post (KeptState Tree))). IsPosted (set held.members place member) held.links (Server s) ps rows) puts
     (subst (λ (ms : List MemberView). IsPosted ms held.links (Server s) after rows) written done) in
     subst (λ (o : Held). IsGiven o from (Server s) m [] (record held { members = set held.members place member; links = rows })) same
-    (given_to_server held from s place m member view.0 rows is inside (ap (λ (x : MemberView). x.view) here ∙ view.1) had.0 posts)
+    (given_to_server held from s place m member view.0 rows is inside (ap (λ (x : MemberView). x.view) here ∙ view.1) (ap (λ (x : MemberView). x.view) had.0) had.3 posts)
 
 -- a test that a member's view passes is passed by the world's view of that server
 wants_there : (old held : Held) (s : ℕ) (view : TreeView) (test : TreeView → Bool) → held ≡ old → (member_at held.members s).view ≡ Some view
@@ -216,20 +229,43 @@ wants_there old held s view test same is passed =
 -- a server that didn't hear
 pub unheard_given : (old held : Held) (from : Process) (s place : ℕ) (m : MessageOf (KeptState Tree)) (was member : MemberView) (before after : List (Post (KeptState Tree)))
     → held ≡ old → s ≡ place + 1 → place < length held.members → was ≡ get_or held.members place was → is_lost old.members (Server s) ≡ false
-    → ((view : TreeView) → was.view ≡ Some view → HasTaken was view from m outcome.Unheard member before after)
+    → ((view : TreeView) → was.view ≡ Some view → HasTaken was view from m (Ok Unheard) member before after)
     → (record held { members = set held.members place member } ≡ old) × (may_be_unheard kept_tree ((world_of old []).servers s) from m ≡ true)
 unheard_given old held from s place m was member before after same is inside read alive took =
     let here = member_was held.members s place was is inside read in
     let lives : is_gone was ≡ false = ap is_gone (sym here) ∙ ap (λ (h : Held). is_gone (member_at h.members s)) same ∙ alive in
     let view = has_view was lives in
     let had = took view.0 view.1 in
-    let list : set held.members place member ≡ held.members = ap (λ x. set held.members place x) (had.0 ∙ read) ∙ set-get_or held.members place was in
-    (ap (λ (ms : List MemberView). record held { members = ms }) list ∙ same, wants_there old held s view.0 (λ v. may_be_unheard kept_tree v from m) same (ap (λ (x : MemberView). x.view) here ∙ view.1) had.1)
+    let stays : member ≡ was = had.0 ∙ ap (λ o. record was { view = o }) (sym view.1) in
+    let list : set held.members place member ≡ held.members = ap (λ x. set held.members place x) (stays ∙ read) ∙ set-get_or held.members place was in
+    (ap (λ (ms : List MemberView). record held { members = ms }) list ∙ same, wants_there old held s view.0 (λ v. may_be_unheard kept_tree v from m) same (ap (λ (x : MemberView). x.view) here ∙ view.1) (had.2 refl))
 
--- a server that stopped
-pub stopped_given : (old held : Held) (from : Process) (s place : ℕ) (m : MessageOf (KeptState Tree)) (was member : MemberView) (before after : List (Post (KeptState Tree))) (rows : Rows)
+-- one that didn't hear put nothing
+pub unheard_put : (old held : Held) (from : Process) (s place : ℕ) (m : MessageOf (KeptState Tree)) (was member : MemberView) (before after : List (Post (KeptState Tree)))
+    → held ≡ old → s ≡ place + 1 → place < length held.members → was ≡ get_or held.members place was → is_lost old.members (Server s) ≡ false → before ≡ []
+    → ((view : TreeView) → was.view ≡ Some view → HasTaken was view from m (Ok Unheard) member before after)
+    → after ≡ []
+unheard_put old held from s place m was member before after same is inside read alive silent took =
+    let here = member_was held.members s place was is inside read in
+    let view = has_view was (ap is_gone (sym here) ∙ ap (λ (h : Held). is_gone (member_at h.members s)) same ∙ alive) in
+    let had = took view.0 view.1 in
+    had.1 ∙ ap (λ ps. ps ++ []) silent
+
+-- nor did one that has stopped
+pub ended_put : (old held : Held) (from : Process) (s place : ℕ) (m : MessageOf (KeptState Tree)) (was member : MemberView) (before after : List (Post (KeptState Tree))) (why : Stopped)
+    → held ≡ old → s ≡ place + 1 → place < length held.members → was ≡ get_or held.members place was → is_lost old.members (Server s) ≡ false → before ≡ []
+    → ((view : TreeView) → was.view ≡ Some view → HasTaken was view from m (Err why) member before after)
+    → after ≡ []
+ended_put old held from s place m was member before after why same is inside read alive silent took =
+    let here = member_was held.members s place was is inside read in
+    let view = has_view was (ap is_gone (sym here) ∙ ap (λ (h : Held). is_gone (member_at h.members s)) same ∙ alive) in
+    let had = took view.0 view.1 in
+    had.2 ∙ silent
+
+-- a server that stopped for want of memory
+stopped_given : (old held : Held) (from : Process) (s place : ℕ) (m : MessageOf (KeptState Tree)) (was member : MemberView) (before after : List (Post (KeptState Tree))) (rows : Rows)
     → held ≡ old → s ≡ place + 1 → place < length held.members → was ≡ get_or held.members place was → is_lost old.members (Server s) ≡ false
-    → ((view : TreeView) → was.view ≡ Some view → HasTaken was view from m outcome.Stopped member before after)
+    → ((view : TreeView) → was.view ≡ Some view → HasTaken was view from m (Err Memory) member before after)
     → ((p q : Process) → links_of rows p q ≡ without_receiver (links_of held.links) (Server s) p q)
     → is_server s ≡ true
     → (is_server s ≡ true) × (may_stop kept_tree ((world_of old []).servers s) from m ≡ true) × ((history : History) → IsAlike (acts kept_tree (world_of old history) (event.Fail s)) (world_of (record held { members = set held.members place member; links = rows }) history))
@@ -245,6 +281,37 @@ stopped_given old held from s place m was member before after rows same is insid
           (subst (λ (x : MemberView). IsAlike (acts kept_tree (world_of held history) (event.Fail s)) (world_of (record held { members = set held.members place x; links = rows }) history)) (sym had.0)
           (failed_alike held s place rows is inside (ap is_gone here ∙ lives) cleared history)),
     )
+
+-- a server that took the order to leave
+left_given : (old held : Held) (from : Process) (s place : ℕ) (m : MessageOf (KeptState Tree)) (was member : MemberView) (before after : List (Post (KeptState Tree))) (rows : Rows)
+    → held ≡ old → s ≡ place + 1 → place < length held.members → was ≡ get_or held.members place was → is_lost old.members (Server s) ≡ false
+    → ((view : TreeView) → was.view ≡ Some view → HasTaken was view from m (Err Retired) member before after)
+    → ((p q : Process) → links_of rows p q ≡ without_receiver (links_of held.links) (Server s) p q)
+    → IsGiven old from (Server s) m [] (record held { members = set held.members place member; links = rows })
+left_given old held from s place m was member before after rows same is inside read alive took cleared history =
+    let here = member_was held.members s place was is inside read in
+    let lives : is_gone was ≡ false = ap is_gone (sym here) ∙ ap (λ (h : Held). is_gone (member_at h.members s)) same ∙ alive in
+    let view = has_view was lives in
+    let had = took view.0 view.1 in
+    let new : MemberView → Held = λ x. record held { members = set held.members place x; links = rows } in
+    subst (λ (h : History). IsAlike (process_step kept_tree (world_of old history) from (Server s) m) (world_of (new member) h)) (sym (append-nil history))
+    (subst (λ (o : Held). IsAlike (process_step kept_tree (world_of o history) from (Server s) m) (world_of (new member) history)) same
+    (subst (λ (x : MemberView). IsAlike (process_step kept_tree (world_of held history) from (Server s) m) (world_of (new x) history)) (sym had.0)
+    (subst (λ b. IsAlike (if b then server_stops (world_of held history) s else server_does (world_of held history) s (server_step kept_tree (view_of (member_at held.members s)) from m))
+    (world_of (new gone_member) history)) (sym had.1)
+    (failed_alike held s place rows is inside (ap is_gone here ∙ lives) cleared history))))
+
+-- a server that has stopped, for the one or the other
+pub ended_given : (old held : Held) (from : Process) (s place : ℕ) (m : MessageOf (KeptState Tree)) (was member : MemberView) (before after : List (Post (KeptState Tree))) (rows : Rows) (why : Stopped)
+    → held ≡ old → s ≡ place + 1 → place < length held.members → was ≡ get_or held.members place was → is_lost old.members (Server s) ≡ false
+    → ((view : TreeView) → was.view ≡ Some view → HasTaken was view from m (Err why) member before after)
+    → ((p q : Process) → links_of rows p q ≡ without_receiver (links_of held.links) (Server s) p q)
+    → is_server s ≡ true
+    → IsGivenToServer old from s m (record held { members = set held.members place member; links = rows }) (did_of why)
+ended_given old held from s place m was member before after rows Memory same is inside read alive took cleared one =
+    stopped_given old held from s place m was member before after rows same is inside read alive took cleared one
+ended_given old held from s place m was member before after rows Retired same is inside read alive took cleared one =
+    left_given old held from s place m was member before after rows same is inside read alive took cleared
 
 -- what is told of what a client hands out
 told_of : (c : ℕ) (m : MessageOf (KeptState Tree)) (handed : Option (ℕ × Reply)) → IsHandedOut m handed

@@ -7,7 +7,7 @@ use Rattle.zpath.specs.declared.memory.Memory.{Memory}
 use Rattle.zcalls.specs.Kept.{KeptState}
 use Rattle.zprotocol.specs.server.Machine.{kept_tree}
 use Rattle.zworld_model.specs.declared.event.Event.{Event}
-use Rattle.zworld_model.specs.declared.event.Event.TheVariants.{Begin, Retry, Take, Ignore, Fail, Join}
+use Rattle.zworld_model.specs.declared.event.Event.TheVariants.{Begin, Retry, Take, Ignore, Fail, Join, Retire}
 use Rattle.zworld_model.specs.declared.outcome.Outcome.{Outcome}
 use Rattle.zworld_model.specs.declared.outcome.Outcome.TheVariants.{Acted}
 use Rattle.zworld_model.specs.History.{History}
@@ -251,6 +251,7 @@ can_anyway held history (Begin c call) = enabled_anyway held history (Begin c ca
 can_anyway held history (Retry c) = enabled_anyway held history (Retry c)
 can_anyway held history (Take from to) = enabled_anyway held history (Take from to)
 can_anyway held history (Join s) = enabled_anyway held history (Join s)
+can_anyway held history (Retire s) = enabled_anyway held history (Retire s)
 
 -- so nor does what is said of an event that was refused
 pub needed_anyway : (r : Result Did Memory) (held : Held) (history : History) (event : Event)

@@ -1,7 +1,7 @@
 -- What is said of an event that was asked for, in the words of the definitions.
 use Rattle.std.specs.Prelude.{◌≡◌, Bool, true, false, nat_lt, Some, []}
 use Rattle.zprotocol.specs.client.Table.{begin_fault}
-use Rattle.zprotocol.specs.master.Table.{join_fault}
+use Rattle.zprotocol.specs.master.Table.{join_fault, retire_fault}
 use Rattle.zworld_model.specs.declared.event.Event.{Event}
 use Rattle.zworld_model.specs.declared.event.Event.TheVariants as event
 use Rattle.zworld_model.specs.declared.outcome.Outcome.{Outcome}
@@ -30,4 +30,6 @@ IsCause old (event.Begin client call) (cause.Begin fault) =
 IsCause old (event.Begin client call) why = (why ≡ cause.Nothing) × (nat_lt client old.master.clients ≡ false)
 IsCause old (event.Join server) (cause.Join fault) = join_fault old.master server ≡ Some fault
 IsCause old (event.Join server) why = ⊥
+IsCause old (event.Retire server) (cause.Retire fault) = retire_fault old.master server ≡ Some fault
+IsCause old (event.Retire server) why = ⊥
 IsCause old event why = why ≡ cause.Nothing

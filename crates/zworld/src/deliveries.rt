@@ -9,7 +9,7 @@ ghost use Rattle.zworld_model.specs.Events.{front_is, is_enabled, is_request};
 ghost use Rattle.zworld.specs.declared.did.Did.TheVariants.{Done};
 ghost use Rattle.zworld.specs.Held.{world_of};
 ghost use Rattle.zworld.specs.support.Posting.{is_lost};
-ghost use Rattle.zworld.specs.support.Fronts.{HasPopped, IsGiven, IsGivenToServer, answered_number, answers_of};
+ghost use Rattle.zworld.specs.support.Fronts.{HasPopped, IsGiven, IsGivenToServer, did_of, answered_number, answers_of};
 
 use crate::did::{Did, IdleCause};
 use crate::post::{is_lost, post};
@@ -18,8 +18,8 @@ use zcalls::{CallNumber, ClientId, Reply};
 use zmaster::MAX_POSTS;
 use zpath::Memory;
 use zprotocol::{Message, Process, ServerId};
-use zserver::Snapshot;
-use zworld_model::{CallEvent, Outcome};
+use zserver::{Snapshot, Stopped, Taken};
+use zworld_model::CallEvent;
 
 impl Processes {
     /// The front message of a link is delivered.
@@ -84,7 +84,7 @@ impl Processes {
         Ok(Did::Done)
     }
 
-    // A server that has not failed acts on a message, stops at it, or doesn't hear it.
+    // A server that has not failed acts on a message, stops or leaves at it, or doesn't hear it.
     fn give_to_server(
         &mut self,
         from: Process,
@@ -96,7 +96,7 @@ impl Processes {
     {
         let member = &mut self.members[server.number() as usize - 1];
         match member.take(from, message, &mut self.out) {
-            Outcome::Acted => {
+            Ok(Taken::Acted) => {
                 post(
                     self.alloc,
                     &mut self.links,
@@ -106,10 +106,10 @@ impl Processes {
                 )?;
                 Ok(Did::Done)
             }
-            Outcome::Unheard => Ok(Did::Unheard),
-            Outcome::Stopped => {
+            Ok(Taken::Unheard) => Ok(Did::Unheard),
+            Err(why) => {
                 self.links.clear(&Process::Server(server));
-                Ok(Did::Stopped)
+                Ok(did_of(why))
             }
         }
     }
@@ -171,6 +171,16 @@ impl Processes {
             Some(Message::Query(_, _)) => true,
             _ => false,
         }
+    }
+}
+
+// What became of a delivery at which a server stopped.
+fn did_of(why: Stopped) -> Did
+    ensures { result ≡ did_of why }
+{
+    match why {
+        Stopped::Memory => Did::Stopped,
+        Stopped::Retired => Did::Done,
     }
 }
 

@@ -1,7 +1,7 @@
 //! What became of an event.
 
 use zclient::BeginFault;
-use zmaster::JoinFault;
+use zmaster::{JoinFault, RetireFault};
 
 /// Why an event didn't happen.
 #[derive(Clone, Copy, Debug, PartialEq, Eq)]
@@ -12,6 +12,8 @@ pub enum IdleCause {
     Begin(BeginFault),
     /// The master refused the server.
     Join(JoinFault),
+    /// The master keeps the server.
+    Retire(RetireFault),
 }
 
 /// What became of an event.

@@ -1,6 +1,6 @@
 //! The world as a program: all processes in one thread, one event at a time, with the history of what callers saw.
 //!
-//! What comes in are events (calls that begin, deliveries, failures, joins); what goes out is the history of calls
+//! What comes in are events (calls that begin, deliveries, failures, joins, orders to leave); what goes out is the history of calls
 //! and answers. Each event is what the definition of the world says, and whatever the events are, the plain tree
 //! explains the history: that is the promise of the whole chain, and a clause of `World`'s calls.
 #![tactic(auto)]
@@ -14,6 +14,7 @@ mod member;
 mod opening;
 mod post;
 mod processes;
+mod retirements;
 mod settling;
 mod world;
 

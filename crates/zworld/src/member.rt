@@ -15,7 +15,6 @@ use std::marker::Model;
 use zpath::Memory;
 use zprotocol::{Message, Out, Process, ServerId};
 use zserver::{Server, Snapshot, Stopped, Taken};
-use zworld_model::Outcome;
 
 /// A server that goes on; or one that has stopped, and the word that it may still owe to the master.
 #[derive(Drop)]
@@ -104,26 +103,26 @@ impl Member {
         false
     }
 
-    /// Takes a message. Where it finds no memory it fails, but at a query, which it doesn't hear then.
+    /// Takes a message. It fails where it finds no memory, but at a query, which it doesn't hear then; and it fails at the
+    /// master's order to leave.
     pub(crate) fn take(
         &mut self,
         from: Process,
         message: Message<Snapshot>,
         out: &mut Out<Snapshot>,
-    ) -> Outcome
+    ) -> Result<Taken, Stopped>
         ensures { (view : ServerView (KeptState Tree)) → self.old.view ≡ Some view
             → HasTaken self.old view from message result self.new out.old.posts out.new.posts }
     {
         let Life::Running(server) = &mut self.life else {
             drop(message);
-            return Outcome::Acted;
+            return Ok(Taken::Acted);
         };
         match server.take(from, message, out) {
-            Ok(Taken::Acted) => Outcome::Acted,
-            Ok(Taken::Unheard) => Outcome::Unheard,
-            Err(Stopped) => {
+            Ok(taken) => Ok(taken),
+            Err(why) => {
                 self.life = Life::Owing;
-                Outcome::Stopped
+                Err(why)
             }
         }
     }

@@ -71,6 +71,7 @@ impl Processes {
             Event::Ignore(from, to) => Ok(self.ignore(from, to)),
             Event::Fail(server) => Ok(self.fail(server)),
             Event::Join(server) => self.join(server),
+            Event::Retire(server) => self.retire(server),
         }
     }
 }

@@ -11,10 +11,10 @@ use Rattle.zprotocol.specs.server.View.{ServerView, Transfer, MessageOf, Post}
 use Rattle.zprotocol.specs.server.Table as server
 use Rattle.zprotocol.specs.client.Table as client
 use Rattle.zworld_model.specs.declared.event.Event.{Event}
-use Rattle.zworld_model.specs.declared.event.Event.TheVariants.{Begin, Retry, Take, Ignore, Fail, Join}
+use Rattle.zworld_model.specs.declared.event.Event.TheVariants.{Begin, Retry, Take, Ignore, Fail, Join, Retire}
 use Rattle.zworld_model.specs.Links.{Links, put, without_front, is_same, messages_to}
 use Rattle.zworld_model.specs.World.{World, at}
-use Rattle.zworld_model.specs.Events.{front_is, is_request, has_failed, is_enabled, with_answer, server_does, client_does, process_step, front_step, acts, happens, run}
+use Rattle.zworld_model.specs.Events.{front_is, is_request, has_failed, is_enabled, with_answer, server_does, server_stops, client_does, process_step, front_step, acts, happens, run}
 use Rattle.zworld_model.specs.declared.outcome.Outcome.{Outcome}
 use Rattle.zworld_model.specs.declared.outcome.Outcome.TheVariants.{Acted, Stopped, Unheard}
 use Rattle.zprotocol.specs.server.Memory.{may_be_unheard, may_stop}
@@ -81,6 +81,31 @@ module _ {M : Type 0} (machine : Does M) (v : World M) (others : ℕ → ServerV
     links = put_agrees v _ _ (Server s) did.1 (front_agrees v _ _ from (Server s) agree);
   }
 
+  -- who hasn't failed after one more failure had not failed before it
+  was_alive : (s t : ℕ) (b : Bool) → (t == s) ≡ b → at s true v.failed t ≡ false → v.failed t ≡ false
+  was_alive s t true is alive = absurd (true≢false (sym (ap (λ x. if x then true else v.failed t) is) ∙ alive))
+  was_alive s t false is alive = sym (ap (λ x. if x then true else v.failed t) is) ∙ alive
+
+  -- and so no process
+  none_failed : (s : ℕ) (to : Process) → has_failed (record v { failed = at s true v.failed }) to ≡ false → has_failed v to ≡ false
+  none_failed s Master alive = refl
+  none_failed s (Server t) alive = was_alive s t (t == s) refl alive
+  none_failed s (Client c) alive = refl
+
+  -- a server that stops, in worlds whose links agree too
+  stops_alike : (s : ℕ) (one another : Links M) → Agree v one another
+      → IsAlike (server_stops (record v { links = one }) s) (server_stops (record other { links = another }) s)
+  stops_alike s one another same = record {
+    rest = refl;
+    servers = λ t alive. same_views t (was_alive s t (t == s) refl alive);
+    links = λ from to alive. put_agrees v one another (Server s) ((Master, message.Gone) ∷ []) same from to (none_failed s to alive);
+  }
+
+  -- worlds that are alike, by one choice in both
+  chosen_alike : (b : Bool) (x y x' y' : World M) → IsAlike x x' → IsAlike y y' → IsAlike (if b then x else y) (if b then x' else y')
+  chosen_alike true x y x' y' first second = first
+  chosen_alike false x y x' y' first second = second
+
   -- what a taker that has not failed does
   takes_alike : (from to : Process) (message : MessageOf M) → has_failed v to ≡ false
       → IsAlike (process_step machine (popped from to) from to message) (process_step machine (other_popped from to) from to message)
@@ -91,8 +116,13 @@ module _ {M : Type 0} (machine : Does M) (v : World M) (others : ℕ → ServerV
   }
   takes_alike from (Server s) message alive =
       let did : ServerView M → ServerView M × List (Post M) = λ view. server.server_step machine view from message in
-      subst (λ view. IsAlike (server_does (popped from (Server s)) s (did (v.servers s))) (server_does (other_popped from (Server s)) s (did view)))
-      (same_views s alive) (server_does_alike from s (did (v.servers s)))
+      let first : World M = popped from (Server s) in
+      let second : World M = other_popped from (Server s) in
+      chosen_alike (server.is_retirement from message) (server_stops first s) (server_does first s (did (v.servers s))) (server_stops second s)
+      (server_does second s (did (others s)))
+      (stops_alike s _ _ (front_agrees v _ _ from (Server s) agree))
+      (subst (λ view. IsAlike (server_does first s (did (v.servers s))) (server_does second s (did view))) (same_views s alive)
+      (server_does_alike from s (did (v.servers s))))
   takes_alike from (Client c) message alive =
       let took : client.ClientResult (Transfer M) = client.client_step (v.clients c) from message in
       answered_alike (client_does (popped from (Client c)) c took.0 took.1) (client_does (other_popped from (Client c)) c took.0 took.1) c took.2
@@ -108,17 +138,6 @@ module _ {M : Type 0} (machine : Does M) (v : World M) (others : ℕ → ServerV
   takes_front_alike from to [] alive = as_they_are
   takes_front_alike from to (message ∷ more) alive = takes_alike from to message alive
 
-  -- who hasn't failed after one more failure had not failed before it
-  was_alive : (s t : ℕ) (b : Bool) → (t == s) ≡ b → at s true v.failed t ≡ false → v.failed t ≡ false
-  was_alive s t true is alive = absurd (true≢false (sym (ap (λ x. if x then true else v.failed t) is) ∙ alive))
-  was_alive s t false is alive = sym (ap (λ x. if x then true else v.failed t) is) ∙ alive
-
-  -- and so no process
-  none_failed : (s : ℕ) (to : Process) → has_failed (record v { failed = at s true v.failed }) to ≡ false → has_failed v to ≡ false
-  none_failed s Master alive = refl
-  none_failed s (Server t) alive = was_alive s t (t == s) refl alive
-  none_failed s (Client c) alive = refl
-
   -- what an event does that can happen in the first world
   acts_alike : (event : Event) → is_enabled v event ≡ true → IsAlike (acts machine v event) (acts machine other event)
   acts_alike (Begin c call) enabled = record { rest = refl; servers = same_views; links = put_agrees v _ _ (Client c) _ agree }
@@ -128,12 +147,9 @@ module _ {M : Type 0} (machine : Does M) (v : World M) (others : ℕ → ServerV
       subst (λ link. IsAlike (front_step machine v from to (v.links from to)) (front_step machine other from to link)) (agree from to alive)
       (takes_front_alike from to (v.links from to) alive)
   acts_alike (Ignore from to) enabled = record { rest = refl; servers = same_views; links = front_agrees v _ _ from to agree }
-  acts_alike (Fail s) enabled = record {
-    rest = refl;
-    servers = λ t alive. same_views t (was_alive s t (t == s) refl alive);
-    links = λ from to alive. put_agrees v _ _ (Server s) ((Master, message.Gone) ∷ []) agree from to (none_failed s to alive);
-  }
+  acts_alike (Fail s) enabled = stops_alike s v.links links agree
   acts_alike (Join s) enabled = record { rest = refl; servers = same_views; links = put_agrees v _ _ Master _ agree }
+  acts_alike (Retire s) enabled = record { rest = refl; servers = same_views; links = put_agrees v _ _ Master _ agree }
 
   -- the same events can happen in both
   enabled_alike : (event : Event) → is_enabled v event ≡ is_enabled other event
@@ -143,6 +159,7 @@ module _ {M : Type 0} (machine : Does M) (v : World M) (others : ℕ → ServerV
   enabled_alike (Ignore from to) = same_where_alive (has_failed v to) _ _ (λ alive. ap (front_is is_request) (agree from to alive))
   enabled_alike (Fail s) = refl
   enabled_alike (Join s) = refl
+  enabled_alike (Retire s) = refl
 
   -- an event that is enabled in both, or in neither
   happens_as : (event : Event) (b : Bool) → is_enabled v event ≡ b → is_enabled other event ≡ b

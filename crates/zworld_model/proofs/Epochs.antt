@@ -1,5 +1,5 @@
 -- In every run from an opening the master keeps its bounds, so it gives few epochs.
-use Rattle.std.proofs.Common.{◌≡◌, ℕ, ◌+◌, ◌<◌, ◌≤◌, true, List, [], ◌∷◌, Option, Some, None, length, refl, sym, inl, inr, arith}
+use Rattle.std.proofs.Common.{◌≡◌, ℕ, ◌+◌, ◌<◌, ◌≤◌, Bool, true, false, if◌then◌else◌, List, [], ◌∷◌, Option, Some, None, length, refl, sym, inl, inr, arith}
 use mathlib.Core.Bool.{true≢false}
 use Rattle.std.specs.Prelude.{is_none}
 use Rattle.std.specs.List.{AllByRecursion}
@@ -10,16 +10,17 @@ use Rattle.zprotocol.specs.declared.process.Process.{Process}
 use Rattle.zprotocol.specs.declared.process.Process.TheVariants.{Master, Server, Client}
 use Rattle.zprotocol.specs.server.Machine.{Does, kept_tree}
 use Rattle.zprotocol.specs.server.View.{Transfer, MessageOf}
+use Rattle.zprotocol.specs.server.Table.{is_retirement, server_step}
 use Rattle.zprotocol.specs.master.Laws.{IsRisingFrom, IsBounded}
-use Rattle.zprotocol.specs.master.Table.{join_fault}
-use Rattle.zprotocol.proofs.master_lemmas.Bounds.{opening_is_bounded, messages_keep, joins_keep}
+use Rattle.zprotocol.specs.master.Table.{join_fault, retire_fault}
+use Rattle.zprotocol.proofs.master_lemmas.Bounds.{opening_is_bounded, messages_keep, joins_keep, retires_keep}
 use Rattle.zprotocol.specs.client.Table.{ClientResult, client_step}
 use Rattle.zworld_model.specs.declared.event.Event.{Event}
-use Rattle.zworld_model.specs.declared.event.Event.TheVariants.{Begin, Retry, Take, Ignore, Fail, Join}
+use Rattle.zworld_model.specs.declared.event.Event.TheVariants.{Begin, Retry, Take, Ignore, Fail, Join, Retire}
 use Rattle.zworld_model.specs.Links.{without_front}
 use Rattle.zworld_model.specs.World.{World, opening_world}
 use Rattle.zprotocol.specs.Places.{is_server}
-use Rattle.zworld_model.specs.Events.{is_enabled, process_step, front_step, acts, happens, run, with_answer, client_does}
+use Rattle.zworld_model.specs.Events.{is_enabled, process_step, front_step, acts, happens, run, with_answer, server_does, server_stops, client_does}
 use Rattle.zworld_model.specs.Laws.{world_after, EpochsAreFew}
 use Rattle.zworld_model.specs.support.Within.{IsServer}
 use Rattle.zworld_model.proofs.Tests.{both}
@@ -35,10 +36,16 @@ is_none_of : {A : Type 0} (o : Option A) → is_none o ≡ true → o ≡ None
 is_none_of None none = refl
 is_none_of (Some x) none = absurd (true≢false (sym none))
 
+-- nor is a server's choice
+chosen_keeps : {M : Type 0} (b : Bool) (x y : World M) → IsBounded x.master → IsBounded y.master → IsBounded (if b then x else y).master
+chosen_keeps true x y first second = first
+chosen_keeps false x y first second = second
+
 module _ {M : Type 0} (machine : Does M) where
   taken_keeps : (w : World M) (from to : Process) (m : MessageOf M) → IsBounded w.master → IsBounded (process_step machine w from to m).master
   taken_keeps w from Master m bounded = messages_keep w.master from m bounded
-  taken_keeps w from (Server s) m bounded = bounded
+  taken_keeps w from (Server s) m bounded =
+      chosen_keeps (is_retirement from m) (server_stops w s) (server_does w s (server_step machine (w.servers s) from m)) bounded bounded
   taken_keeps w from (Client c) m bounded =
       let did : ClientResult (Transfer M) = client_step (w.clients c) from m in
       answer_keeps (client_does w c did.0 did.1) c did.2 bounded
@@ -55,6 +62,8 @@ module _ {M : Type 0} (machine : Does M) where
   acts_keeps w (Fail s) bounded enabled = bounded
   acts_keeps w (Join s) bounded enabled =
       joins_keep (Transfer M) w.master s (is_none_of (join_fault w.master s) (both (is_server s) (is_none (join_fault w.master s)) enabled).1) bounded
+  acts_keeps w (Retire s) bounded enabled =
+      retires_keep (Transfer M) w.master s (is_none_of (retire_fault w.master s) (both (is_server s) (is_none (retire_fault w.master s)) enabled).1) bounded
 
   happens_keeps : (w : World M) (event : Event) → IsBounded w.master → IsBounded (happens machine w event).master
   happens_keeps w event bounded = elim (test (is_enabled w event)) [

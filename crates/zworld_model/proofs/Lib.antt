@@ -4,6 +4,7 @@ pub mod RunOrder
 pub mod FirstCalls
 pub mod Tables
 pub mod Alike
+pub mod Retiring
 pub mod Settling
 pub mod LogWorlds
 pub mod FirstUpdate

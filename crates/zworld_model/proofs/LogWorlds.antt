@@ -14,17 +14,17 @@ use Rattle.zprotocol.specs.server.support.Homomorphism.{IsHomomorphism, message_
 use Rattle.zprotocol.proofs.server_lemmas.Projection.{table_with}
 use Rattle.zprotocol.specs.master.Table as master
 use Rattle.zprotocol.specs.master.Laws.{master_result_with as master_with}
-use Rattle.zprotocol.proofs.master_lemmas.Projection.{table_with as master_takes_with, join_with as joins_with}
+use Rattle.zprotocol.proofs.master_lemmas.Projection.{table_with as master_takes_with, join_with as joins_with, retire_with as retires_with}
 use Rattle.zprotocol.specs.client.View.{ClientView}
 use Rattle.zprotocol.specs.client.Table as client
 use Rattle.zprotocol.proofs.client_lemmas.Projection.{begins_with, retries_with, table_with as client_takes_with}
 use Rattle.zworld_model.specs.declared.event.Event.{Event}
-use Rattle.zworld_model.specs.declared.event.Event.TheVariants.{Begin, Retry, Take, Ignore, Fail, Join}
+use Rattle.zworld_model.specs.declared.event.Event.TheVariants.{Begin, Retry, Take, Ignore, Fail, Join, Retire}
 use Rattle.zworld_model.specs.declared.history.CallEvent.TheVariants as call_event
 use Rattle.zworld_model.specs.Links.{Links, put, without_front, is_same, messages_to}
 use Rattle.zworld_model.specs.World.{World, at, opening_world}
 use Rattle.zworld_model.specs.Events.{front_is, is_request, has_failed, is_enabled, process_step, front_step, acts, happens, run}
-use Rattle.zworld_model.specs.Events.{server_does, master_does, client_does, with_answer, client_took, client_began}
+use Rattle.zworld_model.specs.Events.{server_does, server_stops, master_does, client_does, with_answer, client_took, client_began}
 use Rattle.zworld_model.specs.support.LogWorld.{world_with}
 
 module _ {M N : Type 0} (h : M → N) where
@@ -85,6 +85,10 @@ module _ {M N : Type 0} (h : M → N) where
       → client_does (world_with h w) c view (posts_with h posts) ≡ world_with h (client_does w c view posts)
   client_does_with w c view posts = λ i. record (world_with h w) { clients = at c view w.clients; links = λ from to. put_with w.links (Client c) posts from to i }
 
+  stops_with : (w : World M) (s : ℕ) → server_stops (world_with h w) s ≡ world_with h (server_stops w s)
+  stops_with w s =
+      λ i. record (world_with h w) { failed = at s true w.failed; links = λ from to. put_with w.links (Server s) ((Master, message.Gone) ∷ []) from to i }
+
   answered_with : (w : World M) (c : ℕ) (reply : Option (ℕ × Reply)) → with_answer (world_with h w) c reply ≡ world_with h (with_answer w c reply)
   answered_with w c None = refl
   answered_with w c (Some reply) = refl
@@ -102,6 +106,7 @@ module _ {M N : Type 0} (h : M → N) where
   request_with (message.NewSucc epoch succ last) = refl
   request_with (message.BecomeHead epoch) = refl
   request_with (message.BecomeTail epoch) = refl
+  request_with message.Retire = refl
   request_with (message.Joined epoch) = refl
   request_with message.Gone = refl
   request_with (message.Config epoch head tail) = refl
@@ -127,13 +132,29 @@ module _ {M N : Type 0} (h : M → N) where
   enabled_with w (Ignore from to) = λ i. front_test (w.links from to) i && not (failed_with w to i)
   enabled_with w (Fail s) = refl
   enabled_with w (Join s) = refl
+  enabled_with w (Retire s) = refl
+
+  -- an order to retire is one in both
+  retirement_with : (from : Process) (m : MessageOf M) → server.is_retirement from (message_with h m) ≡ server.is_retirement from m
+  retirement_with Master message.Retire = refl
+  retirement_with from m = refl
+
+  -- a choice between two worlds
+  chosen_with : (b : Bool) (x y : World M) (x' y' : World N) → x' ≡ world_with h x → y' ≡ world_with h y
+      → (if b then x' else y') ≡ world_with h (if b then x else y)
+  chosen_with true x y x' y' first second = first
+  chosen_with false x y x' y' first second = second
 
   module _ {d : Does M} {e : Does N} (same : IsHomomorphism d e h) where
     -- a message is taken
     takes_with : (w : World M) (from to : Process) (m : MessageOf M) → process_step e (world_with h w) from to (message_with h m) ≡ world_with h (process_step d w from to m)
     takes_with w from Master m = ap (master_does (world_with h w)) (master_takes_with h w.master from m) ∙ master_does_with w (master.master_step w.master from m)
     takes_with w from (Server s) m =
-        ap (server_does (world_with h w) s) (table_with h same (w.servers s) from m) ∙ server_does_with w s (server.server_step d (w.servers s) from m)
+        rw (retirement_with from m)
+        (chosen_with (server.is_retirement from m) (server_stops w s) (server_does w s (server.server_step d (w.servers s) from m))
+        (server_stops (world_with h w) s) (server_does (world_with h w) s (server.server_step e (view_with h (w.servers s)) from (message_with h m)))
+        (stops_with w s)
+        (ap (server_does (world_with h w) s) (table_with h same (w.servers s) from m) ∙ server_does_with w s (server.server_step d (w.servers s) from m)))
     takes_with w from (Client c) m =
         let did : client.ClientResult (Transfer M) = client.client_step (w.clients c) from m in
         ap (client_took (world_with h w) c) (client_takes_with h (w.clients c) from m)
@@ -155,9 +176,9 @@ module _ {M N : Type 0} (h : M → N) where
         ap (client_does (world_with h w) c (w.clients c)) (retries_with h (w.clients c)) ∙ client_does_with w c (w.clients c) (client.retry_posts (w.clients c))
     acts_with w (Take from to) = takes_front_with w from to (w.links from to)
     acts_with w (Ignore from to) = popped_with w from to
-    acts_with w (Fail s) =
-        λ i. record (world_with h w) { failed = at s true w.failed; links = λ from to. put_with w.links (Server s) ((Master, message.Gone) ∷ []) from to i }
+    acts_with w (Fail s) = stops_with w s
     acts_with w (Join s) = ap (master_does (world_with h w)) (joins_with h w.master s) ∙ master_does_with w (master.join_step w.master s)
+    acts_with w (Retire s) = ap (master_does (world_with h w)) (retires_with h w.master s) ∙ master_does_with w (master.retire_step w.master s)
 
     -- where it can happen
     happens_if : (b : Bool) (w acted : World M) (acted' : World N) → acted' ≡ world_with h acted

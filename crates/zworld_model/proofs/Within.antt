@@ -12,24 +12,24 @@ use Rattle.zprotocol.specs.declared.process.Process.{Process}
 use Rattle.zprotocol.specs.declared.process.Process.TheVariants.{Master, Server, Client}
 use Rattle.zprotocol.specs.server.Machine.{Does}
 use Rattle.zprotocol.specs.server.View.{ServerView, Transfer, MessageOf, Post}
-use Rattle.zprotocol.specs.server.Table.{server_step}
+use Rattle.zprotocol.specs.server.Table.{is_retirement, server_step}
 use Rattle.zprotocol.proofs.server_lemmas.Cases.{server_case}
 use Rattle.zprotocol.specs.master.View.{MasterView}
-use Rattle.zprotocol.specs.master.Table.{master_step, join_step}
+use Rattle.zprotocol.specs.master.Table.{master_step, join_step, retire_step}
 use Rattle.zprotocol.proofs.master_lemmas.Cases.{master_case}
 use Rattle.zprotocol.specs.client.View.{ClientView}
 use Rattle.zprotocol.specs.client.Table.{ClientResult, client_step, begin_step, retry_posts}
 use Rattle.zprotocol.specs.client.support.Cases as client
 use Rattle.zprotocol.proofs.client_lemmas.Cases.{client_case}
 use Rattle.zworld_model.specs.declared.event.Event.{Event}
-use Rattle.zworld_model.specs.declared.event.Event.TheVariants.{Begin, Retry, Take, Ignore, Fail, Join}
+use Rattle.zworld_model.specs.declared.event.Event.TheVariants.{Begin, Retry, Take, Ignore, Fail, Join, Retire}
 use Rattle.zworld_model.specs.Links.{Links, put, without_front, is_same, messages_to}
 use Rattle.zworld_model.specs.World.{World, at}
 use Rattle.zprotocol.specs.Places.{is_server}
-use Rattle.zworld_model.specs.Events.{is_enabled, process_step, front_step, acts, happens, run, with_answer, client_does}
+use Rattle.zworld_model.specs.Events.{is_enabled, process_step, front_step, acts, happens, run, with_answer, server_does, server_stops, client_does}
 use Rattle.zworld_model.specs.support.Within.{is_process, SpeaksWithin, GoesWithin, IsViewWithin, IsClientWithin, AreLinksWithin, IsWithin}
 use Rattle.zworld_model.proofs.Tests.{both}
-use Rattle.zworld_model.proofs.WithinTables.{row_within, outstanding_within, IsMasterWithin, master_within, join_within}
+use Rattle.zworld_model.proofs.WithinTables.{row_within, outstanding_within, IsMasterWithin, master_within, join_within, retire_within}
 
 -- two that are the same
 same_process : (p q : Process) → is_same p q ≡ true → p ≡ q
@@ -153,6 +153,22 @@ module _ (M : Type 0) (n : ℕ) where
     outstanding_within M n (client.with_config v epoch head tail) v.outstanding speaks.0 speaks.1,
   )
 
+  -- a server that stops
+  stops_within : (w : World M) (s : ℕ) → IsWithin n w → is_server s ≡ true → IsWithin n (server_stops w s)
+  stops_within w s within is = record {
+    counted = within.counted;
+    chain = within.chain;
+    used = within.used;
+    views = within.views;
+    callers = within.callers;
+    sent = put_within w.links (Server s) ((Master, message.Gone) ∷ []) within.sent is ((refl, tt), tt);
+  }
+
+  -- a choice between two worlds
+  chosen_within : (b : Bool) (x y : World M) → IsWithin n x → IsWithin n y → IsWithin n (if b then x else y)
+  chosen_within true x y first second = first
+  chosen_within false x y first second = second
+
   module _ (machine : Does M) where
     -- a process takes a message
     taken_within : (w : World M) (from to : Process) (m : MessageOf M) → IsWithin n w → is_process n from ≡ true → is_process n to ≡ true → SpeaksWithin n m
@@ -161,8 +177,9 @@ module _ (M : Type 0) (n : ℕ) where
         master_acts w (master_step w.master from m) within
         (master_within M n w.master (record { counted = within.counted; chain = within.chain; used = within.used }) from m (master_step w.master from m) sender (master_case w.master from m))
     taken_within w from (Server s) m within sender taker speaks =
-        server_acts w s (server_step machine (w.servers s) from m) within taker
-        (row_within M n machine (w.servers s) (within.views s) from m (server_step machine (w.servers s) from m) sender speaks (server_case machine (w.servers s) from m))
+        chosen_within (is_retirement from m) (server_stops w s) (server_does w s (server_step machine (w.servers s) from m)) (stops_within w s within taker)
+        (server_acts w s (server_step machine (w.servers s) from m) within taker
+        (row_within M n machine (w.servers s) (within.views s) from m (server_step machine (w.servers s) from m) sender speaks (server_case machine (w.servers s) from m)))
     taken_within w from (Client c) m within sender taker speaks =
         let did : ClientResult (Transfer M) = client_step (w.clients c) from m in
         let good = client_row c (w.clients c) taker (within.callers c) from m did speaks (client_case (w.clients c) from m) in
@@ -221,17 +238,13 @@ module _ (M : Type 0) (n : ℕ) where
       callers = within.callers;
       sent = front_within w.links from to within.sent;
     }
-    acts_within w (Fail s) within enabled = record {
-      counted = within.counted;
-      chain = within.chain;
-      used = within.used;
-      views = within.views;
-      callers = within.callers;
-      sent = put_within w.links (Server s) ((Master, message.Gone) ∷ []) within.sent (both (is_server s) _ enabled).0 ((refl, tt), tt);
-    }
+    acts_within w (Fail s) within enabled = stops_within w s within (both (is_server s) _ enabled).0
     acts_within w (Join s) within enabled =
         master_acts w (join_step w.master s) within
         (join_within M n w.master s (record { counted = within.counted; chain = within.chain; used = within.used }) (both (is_server s) _ enabled).0)
+    acts_within w (Retire s) within enabled =
+        master_acts w (retire_step w.master s) within
+        (retire_within M n w.master s (record { counted = within.counted; chain = within.chain; used = within.used }) (both (is_server s) _ enabled).0)
 
     -- an event, and a run
     happens_within : (w : World M) (event : Event) → IsWithin n w → IsWithin n (happens machine w event)

@@ -2,15 +2,19 @@
 -- messages on links into them. So a program may drop both, and the definition of the events keeps them.
 -- That servers fail for good: van Renesse and Schneider, "Chain Replication for Supporting High Throughput and
 -- Availability" (OSDI 2004), section 3.
-use Rattle.std.specs.Prelude.{◌≡◌, ℕ, false, List}
+use Rattle.std.specs.Prelude.{◌≡◌, ℕ, true, false, List, ◌∷◌}
 use Rattle.ztree.specs.Tree.{Tree}
 use Rattle.zcalls.specs.Kept.{KeptState}
+use Rattle.zprotocol.specs.declared.message.Message.TheVariants as message
 use Rattle.zprotocol.specs.declared.process.Process.{Process}
+use Rattle.zprotocol.specs.declared.process.Process.TheVariants.{Master, Server}
 use Rattle.zprotocol.specs.server.Machine.{kept_tree}
+use Rattle.zprotocol.specs.server.View.{MessageOf}
 use Rattle.zworld_model.specs.declared.event.Event.{Event}
+use Rattle.zworld_model.specs.declared.event.Event.TheVariants.{Take, Fail}
 use Rattle.zworld_model.specs.World.{World}
 use Rattle.zworld_model.specs.declared.outcome.Outcome.{Outcome}
-use Rattle.zworld_model.specs.Events.{has_failed, is_enabled, run}
+use Rattle.zworld_model.specs.Events.{has_failed, is_enabled, happens, run}
 use Rattle.zworld_model.specs.Reading.{read, is_fitting}
 
 -- the worlds are alike
@@ -45,3 +49,10 @@ AreAlikeThemselves = (w : World (KeptState Tree)) → IsAlike w w
 
 abbrev pub AlikeIsTransitive : Type 0
 AlikeIsTransitive = (u v w : World (KeptState Tree)) → IsAlike u v → IsAlike v w → IsAlike u w
+
+-- a server that takes an order to retire is like one that failed at that moment
+abbrev pub RetiredHaveFailed : Type 0
+RetiredHaveFailed =
+    (w : World (KeptState Tree)) (s : ℕ) (more : List (MessageOf (KeptState Tree)))
+    → w.links Master (Server s) ≡ message.Retire ∷ more → is_enabled w (Fail s) ≡ true
+    → IsAlike (happens kept_tree w (Fail s)) (happens kept_tree w (Take Master (Server s)))

@@ -1,8 +1,9 @@
 -- The events of the world, and its runs. Each event is one atomic step: one process takes the front message of one link,
 -- or one outside input, changes its own view by its table, and puts messages on its outgoing links.
 -- Van Renesse and Schneider, "Chain Replication for Supporting High Throughput and Availability" (OSDI 2004), sections 2
--- and 3: a request may be ignored, servers fail for good, links keep order.
-use Rattle.std.specs.Prelude.{ℕ, Bool, true, false, ◌&&◌, not, nat_lt, nat_le, is_some, is_none, if◌then◌else◌, List, [], ◌∷◌, ◌++◌, Option, None, Some}
+-- and 3: a request may be ignored, servers fail for good, links keep order. That a server can be ordered to stop for good is
+-- this project's profile.
+use Rattle.std.specs.Prelude.{ℕ, Bool, true, false, ◌&&◌, not, nat_lt, is_some, is_none, if◌then◌else◌, List, [], ◌∷◌, ◌++◌, Option, None, Some}
 use Rattle.zcalls.specs.declared.call.Call.{Call}
 use Rattle.zcalls.specs.declared.reply.Reply.{Reply}
 use Rattle.zprotocol.specs.declared.message.Message.TheVariants as message
@@ -17,7 +18,7 @@ use Rattle.zprotocol.specs.master.Table as master
 use Rattle.zprotocol.specs.client.View.{ClientView}
 use Rattle.zprotocol.specs.client.Table as client
 use Rattle.zworld_model.specs.declared.event.Event.{Event}
-use Rattle.zworld_model.specs.declared.event.Event.TheVariants.{Begin, Retry, Take, Ignore, Fail, Join}
+use Rattle.zworld_model.specs.declared.event.Event.TheVariants.{Begin, Retry, Take, Ignore, Fail, Join, Retire}
 use Rattle.zworld_model.specs.declared.history.CallEvent.TheVariants as call_event
 use Rattle.zworld_model.specs.Links.{put, without_front}
 use Rattle.zworld_model.specs.World.{World, at}
@@ -47,10 +48,16 @@ is_enabled w (Take from to) = front_is (λ message. true) (w.links from to) && n
 is_enabled w (Ignore from to) = front_is is_request (w.links from to) && not (has_failed w to)
 is_enabled w (Fail s) = is_server s && not (w.failed s)
 is_enabled w (Join s) = is_server s && is_none (master.join_fault w.master s)
+is_enabled w (Retire s) = is_server s && is_none (master.retire_fault w.master s)
 
 -- a server's new view, and what it puts
 abbrev pub server_does : {M : Type 0} → World M → ℕ → ServerView M × List (Post M) → World M
 server_does w s did = record w { servers = at s did.0 w.servers; links = put w.links (Server s) did.1 }
+
+-- a server stops for good: it has failed, and its last message is Gone. It keeps its view and what is on links into it:
+-- nobody sees them again (Alike.antt), and what it had put is still delivered
+abbrev pub server_stops : {M : Type 0} → World M → ℕ → World M
+server_stops w s = record w { failed = at s true w.failed; links = put w.links (Server s) ((Master, message.Gone) ∷ []) }
 
 -- the master's new view, and what it puts
 abbrev pub master_does : {M : Type 0} → World M → MasterView × List (Post M) → World M
@@ -73,10 +80,12 @@ client_took w c did = with_answer (client_does w c did.0 did.1) c did.2
 abbrev pub client_began : {M : Type 0} → World M → ℕ → Call → ClientView × List (Post M) → World M
 client_began w c call did = record (client_does w c did.0 did.1) { history = w.history ++ call_event.Begin c did.0.number call ∷ [] }
 
--- the taker acts on a message by its table
+-- the taker acts on a message by its table; a server that takes an order to retire stops for good
 abbrev pub process_step : {M : Type 0} → Does M → World M → Process → Process → MessageOf M → World M
 process_step machine w from Master message = master_does w (master.master_step w.master from message)
-process_step machine w from (Server s) message = server_does w s (server.server_step machine (w.servers s) from message)
+process_step machine w from (Server s) message =
+    if server.is_retirement from message then server_stops w s
+    else server_does w s (server.server_step machine (w.servers s) from message)
 process_step machine w from (Client c) message = client_took w c (client.client_step (w.clients c) from message)
 
 -- the front of a link is taken, if there is one
@@ -84,15 +93,15 @@ abbrev pub front_step : {M : Type 0} → Does M → World M → Process → Proc
 front_step machine w from to [] = w
 front_step machine w from to (message ∷ more) = process_step machine (record w { links = without_front w.links from to }) from to message
 
--- what an enabled event does. A server that fails keeps its view and what is on links into it: nobody sees them again
--- (Alike.antt), and what it had put is still delivered
+-- what an enabled event does
 abbrev pub acts : {M : Type 0} → Does M → World M → Event → World M
 acts machine w (Begin c call) = client_began w c call (client.begin_step (w.clients c) call)
 acts machine w (Retry c) = client_does w c (w.clients c) (client.retry_posts (w.clients c))
 acts machine w (Take from to) = front_step machine w from to (w.links from to)
 acts machine w (Ignore from to) = record w { links = without_front w.links from to }
-acts machine w (Fail s) = record w { failed = at s true w.failed; links = put w.links (Server s) ((Master, message.Gone) ∷ []) }
+acts machine w (Fail s) = server_stops w s
 acts machine w (Join s) = master_does w (master.join_step w.master s)
+acts machine w (Retire s) = master_does w (master.retire_step w.master s)
 
 -- an event that isn't enabled changes nothing
 abbrev pub happens : {M : Type 0} → Does M → World M → Event → World M

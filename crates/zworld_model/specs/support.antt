@@ -8,3 +8,4 @@ pub mod RepairRows
 pub mod JoinRows
 pub mod SettleRows
 pub mod ScenarioRows
+pub mod RetireRows

@@ -3,8 +3,8 @@
 use zcalls::{Call, ClientId};
 use zprotocol::{Process, ServerId};
 
-/// One event: a call that begins, a delivery, a failure or a join. Each is one atomic step: at most one process changes
-/// its state, takes at most one message and puts messages. An event that is not enabled changes nothing.
+/// One event: a call that begins, a delivery, a failure, a join or a retirement. Each is one atomic step: at most one
+/// process changes its state, takes at most one message and puts messages. An event that is not enabled changes nothing.
 #[derive(Drop)]
 pub enum Event {
     /// A client begins a call. Enabled where the client is one of the world's, has no outstanding call and has call
@@ -22,4 +22,6 @@ pub enum Event {
     Fail(ServerId),
     /// A server is asked to join behind the tail. Enabled where the master takes it.
     Join(ServerId),
+    /// A member of the chain is ordered to leave. Enabled where the master takes it.
+    Retire(ServerId),
 }

@@ -10,6 +10,7 @@ ghost use Rattle.zcalls.specs.Step.{step, query_reply};
 ghost use Rattle.zworld_model.specs.PlainTree.{service_of};
 ghost use Rattle.zworld_model.specs.Alike.{HaveTheSameEnabled, StayAlike, ReadAlike};
 ghost use Rattle.zworld_model.specs.Alike.{HaveTheSameOutcomes, AreAlikeThemselves, AlikeIsTransitive};
+ghost use Rattle.zworld_model.specs.Alike.{RetiredHaveFailed};
 ghost use Rattle.zprotocol.specs.server.Machine.{kept_tree};
 ghost use Rattle.zworld_model.specs.support.Learning.{DoneIsLearnt, IdleIsPassed, PassBegins};
 ghost use Rattle.zworld_model.specs.support.Learning.{PassesEnd, ReadingIsLearnt};
@@ -34,6 +35,11 @@ pub fn failed_servers_do_not_matter()
     ensures outcomes { HaveTheSameOutcomes }
     ensures itself { AreAlikeThemselves }
     ensures through { AlikeIsTransitive }
+{}
+
+/// A server that takes an order to retire is like one that failed at that moment.
+pub fn retired_servers_have_failed()
+    ensures { RetiredHaveFailed }
 {}
 
 /// In every world settling is a run, and does no more events than its limit; where it ends quiet, no message can be

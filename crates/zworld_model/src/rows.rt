@@ -3,6 +3,7 @@
 mod joins;
 mod orders;
 mod repairs;
+mod retirements;
 mod runs;
 mod scenarios;
 mod settling;

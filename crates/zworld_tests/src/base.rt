@@ -14,6 +14,7 @@ pub enum Move {
     Take(u8, u8),
     Fail(u8),
     Join(u8),
+    Retire(u8),
 }
 
 /// A base list: the last server of its opening chain, and the events.

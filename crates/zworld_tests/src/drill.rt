@@ -5,7 +5,6 @@ use crate::base::{Base, Move, client, process, server};
 use crate::trouble::Trouble;
 use std::alloc::Global;
 use zcalls::Kind;
-use zprotocol::MAX_SERVERS;
 use zworld::World;
 use zworld_model::Event;
 
@@ -16,15 +15,18 @@ pub struct Counts {
     pub answered: usize,
 }
 
-/// A failure: before the event at that place, or at the end.
-type Failure = (usize, u8);
+/// A loss of a server, which fails or is ordered to leave: before the event at that place, or at the end.
+type Loss = (usize, Move);
 
-/// Runs the list with each failure, and with each two of them: two at one place come in both orders.
+/// The last server that is lost: the base lists name four, so that this one is spare.
+const LAST_LOST: u8 = 5;
+
+/// Runs the list with each loss, and with each two of them: two at one place come in both orders.
 pub fn drilled(alloc: Global, base: &Base, counts: &mut Counts) -> Result<(), Trouble> {
-    let failures = failures(alloc, base)?;
-    for &first in &failures {
+    let losses = losses(alloc, base)?;
+    for &first in &losses {
         note(drill(alloc, base, &[first])?, counts);
-        for &second in &failures {
+        for &second in &losses {
             if first.0 <= second.0 {
                 note(drill(alloc, base, &[first, second])?, counts);
             }
@@ -40,21 +42,22 @@ fn note(lives: bool, counts: &mut Counts) {
     }
 }
 
-// Each server at each place, the spare ones among them.
-fn failures(alloc: Global, base: &Base) -> Result<Vec<Failure>, Trouble> {
+// Each server at each place, the spare one among them: it fails, or it is ordered to leave.
+fn losses(alloc: Global, base: &Base) -> Result<Vec<Loss>, Trouble> {
     let mut all = Vec::new(alloc);
     for place in 0..=base.moves.len() {
-        for number in 1..=MAX_SERVERS {
-            all.push((place, number))?;
+        for number in 1..=LAST_LOST {
+            all.push((place, Move::Fail(number)))?;
+            all.push((place, Move::Retire(number)))?;
         }
     }
     Ok(all)
 }
 
-// One run with failures, in a world of its own: whether the state lived, and then all was answered.
-fn drill(alloc: Global, base: &Base, failures: &[Failure]) -> Result<bool, Trouble> {
+// One run with losses, in a world of its own: whether the state lived, and then all was answered.
+fn drill(alloc: Global, base: &Base, losses: &[Loss]) -> Result<bool, Trouble> {
     let mut world = World::new(alloc, server(base.last)?, 2)?;
-    let lives = drill_in(&mut world, alloc, base, failures);
+    let lives = drill_in(&mut world, alloc, base, losses);
     drop(world);
     lives
 }
@@ -64,12 +67,12 @@ fn drill_in(
     world: &mut World,
     alloc: Global,
     base: &Base,
-    failures: &[Failure],
+    losses: &[Loss],
 ) -> Result<bool, Trouble> {
     prepares(alloc, world)?;
-    world.run(events(alloc, base, failures)?)?;
+    world.run(events(alloc, base, losses)?)?;
     settles(world)?;
-    if !lives(base, failures) {
+    if !lives(base, losses) {
         return Ok(false);
     }
     is_well(alloc, world)?;
@@ -105,10 +108,10 @@ fn is_well(alloc: Global, world: &mut World) -> Result<(), Trouble> {
     }
 }
 
-// The base list, with the failures in their places.
-fn events(alloc: Global, base: &Base, failures: &[Failure]) -> Result<Vec<Event>, Trouble> {
+// The base list, with the losses in their places.
+fn events(alloc: Global, base: &Base, losses: &[Loss]) -> Result<Vec<Event>, Trouble> {
     let mut events = Vec::new(alloc);
-    match add_events(&mut events, alloc, base, failures) {
+    match add_events(&mut events, alloc, base, losses) {
         Ok(()) => Ok(events),
         Err(trouble) => {
             drop(events);
@@ -122,20 +125,25 @@ fn add_events(
     events: &mut Vec<Event>,
     alloc: Global,
     base: &Base,
-    failures: &[Failure],
+    losses: &[Loss],
 ) -> Result<(), Trouble> {
     for (place, &each) in base.moves.iter().enumerate() {
-        fail_at(events, failures, place)?;
+        lose_at(events, alloc, losses, place)?;
         events.push(event(alloc, each)?)?;
     }
-    fail_at(events, failures, base.moves.len())
+    lose_at(events, alloc, losses, base.moves.len())
 }
 
-// The failures at this place.
-fn fail_at(events: &mut Vec<Event>, failures: &[Failure], place: usize) -> Result<(), Trouble> {
-    for &(at, number) in failures {
+// The losses at this place.
+fn lose_at(
+    events: &mut Vec<Event>,
+    alloc: Global,
+    losses: &[Loss],
+    place: usize,
+) -> Result<(), Trouble> {
+    for &(at, loss) in losses {
         if at == place {
-            events.push(Event::Fail(server(number)?))?;
+            events.push(event(alloc, loss)?)?;
         }
     }
     Ok(())
@@ -148,19 +156,23 @@ fn event(alloc: Global, each: Move) -> Result<Event, Trouble> {
         Move::Take(from, to) => Ok(Event::Take(process(from)?, process(to)?)),
         Move::Fail(number) => Ok(Event::Fail(server(number)?)),
         Move::Join(number) => Ok(Event::Join(server(number)?)),
+        Move::Retire(number) => Ok(Event::Retire(server(number)?)),
     }
 }
 
-// Whether a server of the opening chain lives: each of them has the state.
-fn lives(base: &Base, failures: &[Failure]) -> bool {
-    (1..=base.last).any(|number| !fails(base, failures, number))
+// Whether a server of the opening chain surely lives: each of them has the state.
+fn lives(base: &Base, losses: &[Loss]) -> bool {
+    (1..=base.last).any(|number| !may_be_lost(base, losses, number))
 }
 
-fn fails(base: &Base, failures: &[Failure], number: u8) -> bool {
-    failures.iter().any(|failure| failure.1 == number)
-        || base.moves.iter().any(|each| is_failure(each, number))
+fn may_be_lost(base: &Base, losses: &[Loss], number: u8) -> bool {
+    losses.iter().any(|loss| is_loss(&loss.1, number))
+        || base.moves.iter().any(|each| is_loss(each, number))
 }
 
-fn is_failure(each: &Move, number: u8) -> bool {
-    matches!(each, Move::Fail(server) if *server == number)
+fn is_loss(each: &Move, number: u8) -> bool {
+    match each {
+        Move::Fail(server) | Move::Retire(server) => *server == number,
+        _ => false,
+    }
 }

@@ -1,6 +1,7 @@
-//! Failures everywhere: each base list of events is run with each failure of a server at each place, spare ones among them, and with
-//! each two of these, at one place in both orders, each through one `World::run`; then `World::settle` settles it. Where a server of the opening
-//! chain lives, the state lives: then every call is answered, an update has acted once, and another one is answered.
+//! Losses everywhere: each base list of events is run with each loss of a server (it fails, or is ordered to leave) at each place, a spare
+//! one among them, and with each two of these, at one place in both orders, each through one `World::run`; then `World::settle` settles it.
+//! Where a server of the opening chain is not lost, the state lives: then every call is answered, an update has acted once, and another one
+//! is answered.
 #![tactic(auto)]
 
 mod asking;

@@ -1,4 +1,4 @@
-//! A call from its beginning to its answer, a join, a call that settles, and a history that is forgotten.
+//! A call from its beginning to its answer, a join, a server that leaves, a call that settles, and a history that is forgotten.
 
 use Who::{Client, Master, Server};
 use std::alloc::Global;
@@ -29,6 +29,13 @@ const JOIN: Links = &[
     (Server(2), Master),
 ];
 
+// The second server leaves, and the first one is the last.
+const LEAVE: Links = &[
+    (Master, Server(2)),
+    (Server(2), Master),
+    (Master, Server(1)),
+];
+
 #[test]
 fn answers_a_call(rt: HostRuntime) {
     let mut world = opened(&rt, rt.alloc(), 1);
@@ -44,6 +51,21 @@ fn lets_a_server_join(rt: HostRuntime) {
     does(&rt, &mut world, Event::Join(server(&rt, 2)));
     takes(&rt, &mut world, JOIN);
     assert!(rt; world.history().is_empty());
+    drop(world);
+}
+
+#[test]
+fn lets_a_server_leave(rt: HostRuntime) {
+    let mut world = opened(&rt, rt.alloc(), 2);
+    does(&rt, &mut world, Event::Retire(server(&rt, 2)));
+    refuses(&rt, &mut world, Event::Retire(server(&rt, 2)));
+    refuses(&rt, &mut world, Event::Retire(server(&rt, 1)));
+    takes(&rt, &mut world, LEAVE);
+    refuses(&rt, &mut world, Event::Retire(server(&rt, 1)));
+    refuses(&rt, &mut world, Event::Fail(server(&rt, 2)));
+    begins(&rt, &mut world);
+    takes(&rt, &mut world, CALL);
+    assert!(rt; is_of_the_tick(world.history()));
     drop(world);
 }
 
@@ -97,10 +119,16 @@ fn does(rt: &impl Abort, world: &mut World, event: Event) {
     assert!(rt; did == Ok(Did::Done));
 }
 
+// An event is not enabled.
+fn refuses(rt: &impl Abort, world: &mut World, event: Event) {
+    let did = world.step(event);
+    assert!(rt; did != Ok(Did::Done));
+}
+
 // Whether the client's first call began and was answered, as a tick, and no more.
 fn is_of_the_tick(history: &[CallEvent]) -> bool {
     match history.last() {
-        Some(CallEvent::Answer(_, number, Reply::Ticked(1, 0))) => {
+        Some(CallEvent::Answer(_, number, Reply::Ticked(1, 0, 0))) => {
             history.len() == 2 && number.number() == 1
         }
         _ => false,

@@ -1,16 +1,17 @@
 -- What the world's answer to a replayed event means.
 use Rattle.std.specs.Prelude.{Bool, true, false, Result, Ok, Err, if◌then◌else◌}
 use Rattle.zworld_model.specs.declared.event.Event.{Event}
-use Rattle.zworld_model.specs.declared.event.Event.TheVariants.{Join}
+use Rattle.zworld_model.specs.declared.event.Event.TheVariants.{Join, Retire}
 use Rattle.zworld.specs.declared.did.Did.{Did}
 use Rattle.zworld.specs.declared.did.Did.TheVariants as did
 use Rattle.zaudit.specs.declared.faults.AuditFault.{AuditFault}
 use Rattle.zaudit.specs.declared.faults.AuditFault.TheVariants.{Disorder, Memory}
 
--- it asks for a join
-abbrev pub is_join : Event → Bool
-is_join (Join server) = true
-is_join other = false
+-- it is asked of the master, which may refuse it
+abbrev pub asks_the_master : Event → Bool
+asks_the_master (Join server) = true
+asks_the_master (Retire server) = true
+asks_the_master other = false
 
 -- what the answer means
 abbrev pub verdict : Bool → Did → Result (Unit {0}) AuditFault

@@ -1,5 +1,5 @@
 -- What the worked rows of lines and texts speak of.
-use Rattle.std.specs.Prelude.{ℕ, List, [], ◌∷◌, Result, Ok}
+use Rattle.std.specs.Prelude.{ℕ, [], ◌∷◌, Result, Ok}
 use Rattle.zcalls.specs.declared.call.Call.{Call}
 use Rattle.zcalls.specs.declared.call.Call.TheVariants.{Update, Query}
 use Rattle.zcalls.specs.declared.call.Kind.TheVariants.{Persistent}

@@ -10,6 +10,10 @@ abbrev pub joins : Option ℕ → ℕ → Bool
 joins None s = false
 joins (Some joining) s = joining == s
 
+-- who is left of one that may be the one that is gone
+abbrev pub who_stays : Option ℕ → ℕ → Option ℕ
+who_stays who s = if elim who [ None ↦ false | Some one ↦ one == s ] then None else who
+
 -- the server stands first at this place
 abbrev pub IsPlace : ℕ → ℕ → List Neighbour → Type 0
 IsPlace s at [] = ⊥

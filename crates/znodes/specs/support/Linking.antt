@@ -1,5 +1,5 @@
 -- What the calls write: how a row is put into its lists, and taken out of them.
-use Rattle.std.specs.Prelude.{◌≡◌, ◌+◌, ℕ, Option, None, Some}
+use Rattle.std.specs.Prelude.{◌≡◌, ◌+◌, ◌==◌, ℕ, Option, None, Some, if◌then◌else◌}
 use Rattle.std.specs.Option.{option_map_or, option_and_then}
 use Rattle.std.specs.FinMap.{get, insert}
 use Rattle.zslots.specs.declared.id.Id.{Id}
@@ -11,7 +11,7 @@ use Rattle.zslots.specs.Lists.{first_id, list_with_front, list_without}
 use Rattle.ztree.specs.declared.node.Node.{Node}
 use Rattle.znodes.specs.declared.row.Row.{Row}
 use Rattle.znodes.specs.NodesView.{NodesView, Taken, path_of}
-use Rattle.znodes.specs.support.Rows.{Key, sibling_links, fellow_links}
+use Rattle.znodes.specs.support.Rows.{Key, sibling_links, fellow_links, timed_links}
 use Rattle.znodes.specs.support.OwnerLists.{OwnerLists}
 
 -- a row with other links among its siblings
@@ -21,6 +21,10 @@ with_siblings r to = record r { siblings = to }
 -- a row with other links among the nodes of its owner
 abbrev pub with_fellows : Row → Links → Row
 with_fellows r to = record r { fellows = to }
+
+-- a row with other links among the nodes with a time to live
+abbrev pub with_timed_links : Row → Links → Row
+with_timed_links r to = record r { timed = to }
 
 -- the rows with one changed, where it is there
 abbrev pub with_row_at : Items Row → Id → (Row → Row) → Items Row
@@ -74,6 +78,23 @@ abbrev pub owners_without : Items Row → OwnerLists → ℕ → Option (IdList 
 owners_without m owners owner None id = owners
 owners_without m owners owner (Some list) id =
     insert owners owner (list_without fellow_links m list id)
+
+-- a row put before those with a time to live, where its node has one
+abbrev pub with_timed : Items Row → IdList 2 → ℕ → Id → Items Row
+with_timed m list ttl id =
+    if ttl == 0 then m else with_front timed_links with_timed_links m (first_id list) id
+
+-- a row taken out of those with a time to live, where its node has one
+abbrev pub without_timed : Items Row → ℕ → Id → Items Row
+without_timed m ttl id = if ttl == 0 then m else without timed_links with_timed_links m id
+
+-- the list of those with the row in it
+abbrev pub timed_with : IdList 2 → ℕ → Id → IdList 2
+timed_with list ttl id = if ttl == 0 then list else list_with_front list id
+
+-- the list of those with the row out of it
+abbrev pub timed_without : Items Row → IdList 2 → ℕ → Id → IdList 2
+timed_without m list ttl id = if ttl == 0 then list else list_without timed_links m list id
 
 -- the rows with one row's node changed
 abbrev pub with_node_at : Items Row → Id → (Node → Node) → Items Row

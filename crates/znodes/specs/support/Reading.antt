@@ -1,12 +1,14 @@
 -- What is read of the rows.
-use Rattle.std.specs.Prelude.{List, [], ◌∷◌, Option, None, Some, if◌then◌else◌}
-use Rattle.std.specs.Option.{option_and_then}
+use Rattle.std.specs.Prelude.{◌≡◌, ◌↔◌, ℕ, Bool, true, false, ◌==◌, ◌&&◌, List, [], ◌∷◌, Option, None, Some, if◌then◌else◌}
+use Rattle.std.specs.Option.{option_map_or, option_and_then}
 use Rattle.std.specs.List.{filter_map}
 use Rattle.std.specs.FinMap.{get}
 use Rattle.zslots.specs.declared.id.Id.{Id}
-use Rattle.zslots.specs.Ids.{Ids}
+use Rattle.zslots.specs.Ids.{Ids, IsIn, NoTwo}
 use Rattle.zslots.specs.SlotsView.{Items}
 use Rattle.ztree.specs.Tree.{Name, Path}
+use Rattle.ztree.specs.Stale.{is_due, is_stale_at}
+use Rattle.znodes.specs.NodesView.{NodesView, path_of}
 use Rattle.znodes.specs.declared.row.Row.{Row}
 use Rattle.znodes.specs.support.Rows.{is_live}
 
@@ -31,3 +33,22 @@ name_at m id = option_and_then (λ (r : Row). last_name r.path) (get m id)
 -- these of the rows of a list
 abbrev pub names_at : Items Row → Ids → List Name
 names_at m ids = filter_map (name_at m) ids
+
+-- a tick removes the node of the row that an Id names, if it is in the tree: it is due, and has no children
+abbrev pub is_stale_row : Items Row → ℕ → Id → Bool
+is_stale_row m tick id =
+    option_map_or (λ (r : Row). is_due tick r.node && (r.children.len == 0)) (get m id) false
+
+-- a tick removes the node that an Id names
+abbrev pub IsStale : NodesView → ℕ → Id → Type 0
+IsStale v tick id =
+    (path : Path) × (path_of v id ≡ Some path) × (is_stale_at v.nodes tick path ≡ true)
+
+-- these are the Ids of the nodes that a tick removes, each once
+pub record AreStaleIds (v : NodesView) (tick : ℕ) (ids : Ids) : Type 0 where
+  pub each : (id : Id) → IsIn id ids ↔ IsStale v tick id
+  pub once : NoTwo ids
+
+-- those of these rows that a tick removes
+abbrev pub stale_of : Items Row → ℕ → Ids → Ids
+stale_of m tick ids = filter_map (λ id. if is_stale_row m tick id then Some id else None) ids

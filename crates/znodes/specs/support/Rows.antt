@@ -1,5 +1,5 @@
 -- The rows of the nodes, the lists in which they stand, and what they stand for.
-use Rattle.std.specs.Prelude.{◌≡◌, ℕ, Bool, true, false, [], ◌∷◌, List, Option, None, Some, if◌then◌else◌}
+use Rattle.std.specs.Prelude.{◌≡◌, ℕ, Bool, true, false, [], ◌∷◌, List, Option, None, Some, if◌then◌else◌, ◌==◌}
 use Rattle.std.specs.Global.{Global}
 use Rattle.std.specs.Option.{option_map, option_map_or}
 use Rattle.std.specs.Ordering.{nat_cmp}
@@ -33,6 +33,7 @@ lone_row alloc path node key =
       children = empty_list;
       siblings = no_links;
       fellows = no_links;
+      timed = no_links;
       key = key;
       alloc = alloc;
     }
@@ -54,6 +55,14 @@ parent_key r = if is_live r then above r.path else None
 abbrev pub owner_key : Row → Option ℕ
 owner_key r = if is_live r then somebody r.node.owner else None
 
+-- where a time to live ends the node, its one list's key
+abbrev pub timed_by : ℕ → Option (Unit {0})
+timed_by ttl = if ttl == 0 then None else Some tt
+
+-- a live node with a time to live stands in the one list of these
+abbrev pub timed_key : Row → Option (Unit {0})
+timed_key r = if is_live r then timed_by r.node.ttl else None
+
 -- the links among the children of one parent
 abbrev pub sibling_links : Row → Links
 sibling_links r = r.siblings
@@ -61,6 +70,10 @@ sibling_links r = r.siblings
 -- the links among the nodes of one owner
 abbrev pub fellow_links : Row → Links
 fellow_links r = r.fellows
+
+-- the links among the nodes with a time to live
+abbrev pub timed_links : Row → Links
+timed_links r = r.timed
 
 -- the list of the children of a row, and of no row
 abbrev pub children_at : Items Row → Id → IdList 0
@@ -88,6 +101,16 @@ pub record IsLinked (m : Items Row) (ids : IdsByPath) (owners : OwnerLists) : Ty
   pub keyed : (id : Id) (r : Row) → get m id ≡ Some r → KeepsKey r
   pub children : HasFamilies sibling_links parent_key m (children_of m ids)
   pub owned : HasFamilies fellow_links owner_key m (owned_by owners)
+
+-- the list holds exactly the live nodes with a time to live
+abbrev pub HasTimed : Items Row → IdList 2 → Type 0
+HasTimed m timed = HasFamilies timed_links timed_key m (λ _. timed)
+
+-- what is kept of all lists
+pub record IsThreaded (m : Items Row) (ids : IdsByPath) (owners : OwnerLists)
+    (timed : IdList 2) : Type 0 where
+  pub linked : IsLinked m ids owners
+  pub mortal : HasTimed m timed
 
 -- where a live row is
 abbrev pub live_path : Row → Option Path

@@ -1,10 +1,14 @@
 -- When a store is ready for a call, and what a call leaves of it.
-use Rattle.std.specs.Prelude.{◌≡◌, ℕ, ◌+◌, ◌*◌, ◌<◌, ◌≤◌, Some}
+use Rattle.std.specs.Prelude.{◌≡◌, ◌≢◌, true, List, [], ℕ, ◌+◌, ◌*◌, ◌<◌, ◌≤◌, Some}
 use Rattle.ztree.specs.Room.{HasRoom}
 use Rattle.ztree.specs.Lawful.{AllNodes}
 use Rattle.ztree.specs.declared.limits.TheConstants.{ZXID_BOUND}
 use Rattle.zstore.specs.declared.limits.TheConstants.{ID_BOUND}
-use Rattle.zstore.specs.StoreView.{StoreView, Mark}
+use Rattle.zstore.specs.StoreView.{StoreView, Mark, Id, Ids, AreAt, path_of}
+use Rattle.zpath.specs.Grammar.{path_cmp}
+use Rattle.ztree.specs.Tree.{Path, has_node, children}
+use Rattle.ztree.specs.Laws.{NoneTwice}
+use Rattle.std.specs.List.{AllByRecursion}
 use Rattle.zcalls.specs.declared.limits.TheConstants.{MAX_PARTS, MAX_RAISES}
 use Rattle.zops.specs.declared.limits.TheConstants.{MAX_APPLIED}
 use Rattle.zcalls.specs.Bounds.{IsBounded, IsWithin}
@@ -34,6 +38,18 @@ pub record StaysBounded (old new : StoreView) : Type 0 where
 -- the tree is as it was, and every Id names what it named; some numbers of Ids may be used up
 abbrev pub IsAsItWas : StoreView → StoreView → Type 0
 IsAsItWas old new = (new.tree ≡ old.tree) × (new.places ≡ old.places)
+
+-- an Id that named a path names it still, where it has a node still
+abbrev pub KeepsLeft : StoreView → StoreView → Type 0
+KeepsLeft old new = (id : Id) (path : Path) → path_of old id ≡ Some path → has_node new.tree.nodes path ≡ true → path_of new id ≡ Some path
+
+-- the Ids name nodes that can be taken away one after the other: leaves below the root, each once
+pub record CanRemove (store : StoreView) (ids : Ids) : Type 0 where
+  pub paths : List Path
+  pub named : AreAt store.places ids paths
+  pub leaves : AllByRecursion (λ path. (path ≢ []) × (children store.tree.nodes path ≡ [])) paths
+  pub there : AllByRecursion (λ path. has_node store.tree.nodes path ≡ true) paths
+  pub apart : NoneTwice path_cmp paths
 
 -- a mark stands that remembers what this one does, with room for undoing so many parts
 abbrev pub HasMark : ℕ → Mark → StoreView → Type 0

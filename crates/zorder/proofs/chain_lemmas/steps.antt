@@ -5,5 +5,6 @@ pub mod Opening
 pub mod Puts
 pub mod Sends
 pub mod ServerSteps
+pub mod Stops
 pub mod Takes
 pub mod Views

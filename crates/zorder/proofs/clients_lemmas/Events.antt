@@ -1,5 +1,5 @@
 -- The events of clients, and that a server fails.
-use Rattle.std.proofs.Common.{◌≡◌, ℕ, true, false, List, ◌∷◌, refl, sym, subst, inl}
+use Rattle.std.proofs.Common.{◌≡◌, ℕ, List, ◌∷◌, refl, sym, subst, inl}
 use Rattle.zcalls.specs.Lists.{Among}
 use Rattle.zcalls.specs.PlainTree.{plain_tree}
 use Rattle.zprotocol.specs.declared.message.Message.TheVariants as message
@@ -8,16 +8,14 @@ use Rattle.zprotocol.specs.declared.process.Process.TheVariants.{Master, Server,
 use Rattle.zprotocol.specs.client.Table as client
 use Rattle.zworld_model.specs.declared.event.Event.TheVariants.{Begin, Retry, Take, Fail}
 use Rattle.zworld_model.specs.Links.{without_front}
-use Rattle.zworld_model.specs.World.{at}
 use Rattle.zworld_model.specs.Events.{acts, front_step}
 use Rattle.zorder.specs.chain.Flow.{log_machine, LogMessage}
-use Rattle.zorder.specs.chain.Chain.{IsMember}
 use Rattle.zorder.specs.chain.Account.{Account}
 use Rattle.zorder.specs.chain.Sound.{IsSound}
-use Rattle.zorder.proofs.chain_lemmas.links.Links.{at_cases, at_same, front_among}
+use Rattle.zorder.proofs.chain_lemmas.links.Links.{front_among}
 use Rattle.zorder.proofs.chain_lemmas.links.LaterWorlds.{justified_later}
 use Rattle.zorder.proofs.chain_lemmas.tables.Lasts.{lasts}
-use Rattle.zorder.proofs.chain_lemmas.steps.Puts.{put_unread, unread_foreign}
+use Rattle.zorder.proofs.chain_lemmas.steps.Stops.{stop_sound}
 use Rattle.zorder.proofs.chain_lemmas.steps.Drops.{kept_not_to, dropped_sound}
 use Rattle.zorder.proofs.chain_lemmas.Events.{where_enabled, quiet_event, front_there}
 use Rattle.zorder.specs.clients.Laws.{ClientsHear, CallsBegin, CallsAreSentAgain, ServersFail}
@@ -55,38 +53,6 @@ again_account t s c = again_sound plain_tree t s c (t.world.clients c) refl refl
 pub calls_are_sent_again : CallsAreSentAgain
 calls_are_sent_again c t lasts s = where_enabled t (Retry c) s (λ e. quiet_event t _ (again_account t s c))
 
--- a server fails
-fail_sound : (t : Account) → IsSound plain_tree t → (x : ℕ) → IsSound plain_tree (record t { world = record t.world { failed = at x true t.world.failed } })
-fail_sound t s x = record {
-  distinct = s.distinct;
-  used = s.used;
-  blank = s.blank;
-  live = λ z is alive. at_cases (λ b. b ≡ false → IsMember t.world z) x true t.world.failed z (λ e h. absurd (cc h)) (λ f h. s.live z is h) alive;
-  line = s.line;
-  successors = s.successors;
-  epochs = s.epochs;
-  tail_orders = s.tail_orders;
-  ordered = λ a b before log is. let h = s.ordered a b before log is in
-      record { own = h.own; holds = h.holds; begins = h.begins; has_successor = h.has_successor; no_tail_order = h.no_tail_order };
-  committed = s.committed;
-  tail = s.tail;
-  sent = s.sent;
-  begun = s.begun;
-  committed_begun = s.committed_begun;
-  justified = λ from to m a. justified_later t.world (record t.world { failed = at x true t.world.failed }) t.items t.items
-      (record { begun = λ o h. h; given = λ i h. h; opened = λ z k h. h; failed = λ z h. at_cases (λ b. b ≡ true) x true t.world.failed z (λ e. refl) (λ f. h) }) from to m (s.justified from to m a);
-  acted = s.acted;
-  replays = s.replays;
-  rising = s.rising;
-  in_time = s.in_time;
-  answered = s.answered;
-  once = s.once;
-  numbered = s.numbered;
-  waits = s.waits;
-}
-
 -- the event Fail
 pub servers_fail : ServersFail
-servers_fail x t lasts s = where_enabled t (Fail x) s (λ e. quiet_event t _
-    (put_unread plain_tree (record t { world = record t.world { failed = at x true t.world.failed } }) x Master message.Gone (unread_foreign message.Gone tt)
-    (at_same x true t.world.failed) (fail_sound t s x)))
+servers_fail x t lasts s = where_enabled t (Fail x) s (λ e. quiet_event t _ (stop_sound plain_tree t s x))

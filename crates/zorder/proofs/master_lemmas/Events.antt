@@ -1,16 +1,17 @@
 -- The events of the master, and every run: all of it is sound.
 use Rattle.std.specs.Prelude.{is_none}
-use Rattle.std.proofs.Common.{◌≡◌, ℕ, Bool, true, false, List, ◌∷◌, sym, subst, inl, refl}
+use Rattle.std.proofs.Common.{◌≡◌, ℕ, Bool, true, false, List, ◌∷◌, sym, subst, inl, inr, refl}
 use Rattle.zcalls.specs.declared.call.Entry.{Entry}
 use Rattle.zcalls.specs.Lists.{Among}
 use Rattle.zcalls.specs.PlainTree.{plain_tree}
+use Rattle.zcalls.proofs.Among.{test}
 use Rattle.zprotocol.specs.declared.message.Message.TheVariants as message
 use Rattle.zprotocol.specs.declared.process.Process.{Process}
 use Rattle.zprotocol.specs.declared.process.Process.TheVariants.{Master, Server, Client}
 use Rattle.zprotocol.specs.server.View.{Transfer}
-use Rattle.zprotocol.specs.master.View.{MasterView, is_among}
+use Rattle.zprotocol.specs.master.View.{MasterView, members, is_among}
 use Rattle.zprotocol.specs.master.Table as master
-use Rattle.zworld_model.specs.declared.event.Event.TheVariants.{Take, Join}
+use Rattle.zworld_model.specs.declared.event.Event.TheVariants.{Take, Join, Retire}
 use Rattle.zworld_model.specs.Links.{without_front}
 use Rattle.zprotocol.specs.Places.{is_server}
 use Rattle.zworld_model.specs.Events.{front_step}
@@ -21,11 +22,12 @@ use Rattle.zorder.specs.chain.Account.{Account}
 use Rattle.zorder.specs.chain.Sound.{IsSound}
 use Rattle.zorder.proofs.chain_lemmas.links.Links.{front_among}
 use Rattle.zorder.proofs.chain_lemmas.links.LaterWorlds.{justified_later}
+use Rattle.zorder.proofs.chain_lemmas.steps.Opening.{among_tested}
 use Rattle.zorder.proofs.chain_lemmas.steps.Drops.{kept_not_to, dropped_sound}
 use Rattle.zorder.proofs.chain_lemmas.Events.{where_enabled, front_there, quiet_event}
-use Rattle.zorder.specs.master.Laws.{MasterHears, ServersJoin}
+use Rattle.zorder.specs.master.Laws.{MasterHears, ServersJoin, MembersRetire}
 use Rattle.zorder.proofs.master_lemmas.chain.Moves.{world_with_move}
-use Rattle.zorder.proofs.master_lemmas.chain.StandingChains.{unheard, have_heard, joined_heard}
+use Rattle.zorder.proofs.master_lemmas.chain.StandingChains.{unheard, have_heard, joined_heard, retire_ordered}
 use Rattle.zorder.proofs.master_lemmas.chain.Departures.{gone_heard}
 use Rattle.zorder.proofs.master_lemmas.chain.Joins.{joins_sound}
 
@@ -65,3 +67,16 @@ not_used v x free used = let not : ◌≡◌ {A = Bool} false true = rw used at 
 -- the event Join
 pub servers_join : ServersJoin
 servers_join x t lasts s = where_enabled t (Join x) s (λ e. quiet_event t _ (joins_sound plain_tree t s x (not_used t.world.master x (right_of (is_server x) (is_none (master.join_fault t.world.master x)) e))))
+
+-- who may be ordered to leave is a member
+is_member : (v : MasterView) (x : ℕ) → is_none (master.retire_fault v x) ≡ true → Among x (members v)
+unfolding master.retire_fault
+is_member v x free = elim (test (is_among x (members v))) [
+  | inl among ↦ among_tested x (members v) among
+  | inr not ↦ let no : ◌≡◌ {A = Bool} false true = rw not at free in absurd (cc no)
+]
+
+-- the event Retire
+pub members_retire : MembersRetire
+members_retire x t lasts s = where_enabled t (Retire x) s (λ e. quiet_event t _
+    (retire_ordered plain_tree t s x (is_member t.world.master x (right_of (is_server x) (is_none (master.retire_fault t.world.master x)) e))))

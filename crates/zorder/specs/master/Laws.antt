@@ -1,8 +1,9 @@
--- The events that repair and extend the chain: the master's orders at servers, what the master hears, and joins.
+-- The events that repair and extend the chain: the master's orders at servers, what the master hears, joins, and
+-- orders to leave.
 use Rattle.std.specs.Prelude.{ℕ}
 use Rattle.zprotocol.specs.declared.process.Process.{Process}
 use Rattle.zprotocol.specs.declared.process.Process.TheVariants.{Master, Server}
-use Rattle.zworld_model.specs.declared.event.Event.TheVariants.{Take, Join}
+use Rattle.zworld_model.specs.declared.event.Event.TheVariants.{Take, Join, Retire}
 use Rattle.zorder.specs.chain.Events.{KeepsSound}
 
 -- a server takes a message of the master, whatever it is
@@ -16,3 +17,7 @@ MasterHears = (from : Process) → KeepsSound (Take from Master)
 -- a server joins
 abbrev pub ServersJoin : Type 0
 ServersJoin = (s : ℕ) → KeepsSound (Join s)
+
+-- a member is ordered to leave
+abbrev pub MembersRetire : Type 0
+MembersRetire = (s : ℕ) → KeepsSound (Retire s)

@@ -1,8 +1,8 @@
 //! The laws.
 
-ghost use Rattle.zorder.specs.master.Laws.{MasterHears, ServersHearMaster, ServersJoin};
+ghost use Rattle.zorder.specs.master.Laws.{MasterHears, ServersHearMaster, ServersJoin, MembersRetire};
 
-/// A server takes any message from the master: an order, or one that doesn't count.
+/// A server takes any message from the master: an order, also one to leave, or one that doesn't count.
 pub fn servers_hear_master()
     ensures { ServersHearMaster }
 {}
@@ -15,4 +15,9 @@ pub fn master_hears()
 /// A server joins.
 pub fn servers_join()
     ensures { ServersJoin }
+{}
+
+/// A member is ordered to leave.
+pub fn members_retire()
+    ensures { MembersRetire }
 {}

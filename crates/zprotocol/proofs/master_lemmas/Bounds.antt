@@ -1,6 +1,7 @@
 -- The master keeps its bounds.
 use Rattle.std.proofs.Common.{◌≡◌, ℕ, ◌+◌, ◌≤◌, Bool, true, false, ◌==◌, List, [], ◌∷◌, ◌++◌, Option, Some, None, zero, suc, length, refl, sym, ap, subst, ◌∙◌, inl, inr, arith, length-append}
-use Rattle.std.specs.Prelude.{◌||◌, if◌then◌else◌}
+use mathlib.Core.Bool.{true≢false}
+use Rattle.std.specs.Prelude.{◌||◌, not, if◌then◌else◌}
 use Rattle.std.proofs.lemmas.List.FromFn.{length-range_with_len, length-map-range_with_len}
 use Rattle.std.specs.List.{range_with_len, last_or}
 use Rattle.std.proofs.lemmas.Bool.Decides.{nat_tests}
@@ -13,7 +14,9 @@ use Rattle.zprotocol.specs.server.View.{Neighbour}
 use Rattle.zprotocol.specs.master.View.{MasterView, is_among, with_number, members, is_joining}
 use Rattle.zprotocol.specs.declared.master.join_fault.JoinFault.{JoinFault}
 use Rattle.zprotocol.specs.declared.master.join_fault.JoinFault.TheVariants.{Used}
-use Rattle.zprotocol.specs.master.Table.{MasterResult, no_effect, MendedChain, join_fault, join_step, master_step}
+use Rattle.zprotocol.specs.declared.master.retire_fault.RetireFault.{RetireFault}
+use Rattle.zprotocol.specs.declared.master.retire_fault.RetireFault.TheVariants.{NotMember}
+use Rattle.zprotocol.specs.master.Table.{MasterResult, no_effect, MendedChain, join_fault, join_step, retire_fault, retire_step, master_step}
 use Rattle.zprotocol.specs.master.support.Cases.{IsMended, Only, First, Last, Between, IsMasterRow, Ignores, Reports, Joins, LeavesOutside, Leaves}
 use Rattle.zprotocol.specs.master.Laws.{IsRisingFrom, joining_count, IsBounded, OpeningIsBounded}
 use Rattle.zprotocol.proofs.master_lemmas.Numbers.{numbers_of, later, among_behind, no_fewer, one_more, still_rising}
@@ -52,11 +55,11 @@ module _ {T : Type 0} (epoch s : ℕ) where
 turned : (j s x : ℕ) → (j == s) ≡ false → j ≡ x → (s == x) ≡ false
 turned j s x other is = grind (arith, nat_tests, other, is)
 
--- who joins while another one may have stopped joining
-stays_joining : (s x : ℕ) (v : MasterView) (joining : Option ℕ) → ◌≡◌ {A = Option ℕ} (if is_joining (record v { joining = joining }) s then None else joining) (Some x)
-    → ◌≡◌ {A = Option ℕ} joining (Some x) × ((s == x) ≡ false)
-stays_joining s x v None is = let none : ⊥ = cc in absurd none
-stays_joining s x v (Some j) is = elim (test (j == s)) [
+-- who stays joining, or retiring, where another one has left
+stays : (s x : ℕ) (who : Option ℕ) → ◌≡◌ {A = Option ℕ} (if elim who [ None ↦ false | Some j ↦ j == s ] then None else who) (Some x)
+    → ◌≡◌ {A = Option ℕ} who (Some x) × ((s == x) ≡ false)
+stays s x None is = let none : ⊥ = cc in absurd none
+stays s x (Some j) is = elim (test (j == s)) [
   | inl same ↦
       let none : ◌≡◌ {A = Option ℕ} None (Some x) = sym (ap (λ b. if b then None else Some j) same) ∙ is in
       let no_one : ⊥ = cc in absurd no_one
@@ -76,6 +79,7 @@ module _ {T : Type 0} where
     enough = b.enough;
     epochs = omega (arith, b.epochs, joined_count v.joining s is);
     joins = λ x none. let no_one : ⊥ = cc in absurd no_one;
+    retires = b.retires;
   }
   row_keeps v b _ _ _ (LeavesOutside s out) =
       let more : length v.used ≤ length (with_number s v.used) = no_fewer s v.used in
@@ -84,6 +88,7 @@ module _ {T : Type 0} where
         enough = omega (arith, b.enough, more);
         epochs = omega (arith, b.epochs, more);
         joins = b.joins;
+        retires = b.retires;
       }
   row_keeps v b _ _ _ (Leaves s chain among mended) =
       let one : length chain.0 + 1 ≡ length v.chain = one_fewer (v.epoch + 1) s v.chain chain mended in
@@ -92,8 +97,11 @@ module _ {T : Type 0} where
         enough = omega (arith, b.enough, one);
         epochs = omega (arith, b.epochs, one, fewer_join (is_joining v s) v.joining);
         joins = λ x is.
-            let who = stays_joining s x v v.joining is in
+            let who = stays s x v.joining is in
             others_stay (v.epoch + 1) s x who.1 v.chain chain mended (b.joins x who.0);
+        retires = λ x is.
+            let who = stays s x v.retiring is in
+            others_stay (v.epoch + 1) s x who.1 v.chain chain mended (b.retires x who.0);
       }
 
   pub messages_keep : (v : MasterView) (from : Process) (m : Message T) → IsBounded v → IsBounded (master_step v from m).0
@@ -111,6 +119,7 @@ opening_is_bounded servers clients = record {
   enough = omega (arith, length-map-range_with_len {X = Neighbour} (λ (s : ℕ). (s, 0)) 1 servers, length-range_with_len 1 servers);
   epochs = omega (arith, length-map-range_with_len {X = Neighbour} (λ (s : ℕ). (s, 0)) 1 servers, length-range_with_len 1 servers);
   joins = λ s none. let no_one : ⊥ = cc in absurd no_one;
+  retires = λ s none. let no_one : ⊥ = cc in absurd no_one;
 }
 
 -- who isn't refused has a new number
@@ -126,6 +135,21 @@ last_among s epoch (t ∷ chain) = rw (last_among s epoch chain) (or_true (t.0 =
     or_true : (b : Bool) → (b || true) ≡ true
     or_true true = refl
     or_true false = refl
+
+-- and who was one is still one
+longer_among : (x : ℕ) (more : Neighbour) (chain : List Neighbour) → is_among x (numbers_of chain) ≡ true → is_among x (numbers_of (chain ++ more ∷ [])) ≡ true
+longer_among x more [] among = absurd (true≢false (sym among))
+longer_among x more (t ∷ chain) among = either (t.0 == x) (longer_among x more chain) among
+  where
+    either : (b : Bool) → (is_among x (numbers_of chain) ≡ true → is_among x (numbers_of (chain ++ more ∷ [])) ≡ true)
+        → (b || is_among x (numbers_of chain)) ≡ true → (b || is_among x (numbers_of (chain ++ more ∷ []))) ≡ true
+    either true later among = refl
+    either false later among = later among
+
+-- who may be ordered to leave is a member
+is_member : (member : Bool) (rest : Option RetireFault) → ◌≡◌ {A = Option RetireFault} (if not member then Some NotMember else rest) None → member ≡ true
+is_member true rest none = refl
+is_member false rest none = let no_one : ⊥ = cc in absurd no_one
 
 module _ (T : Type 0) (v : MasterView) (s : ℕ) where
   -- a join, by the last member that is found
@@ -147,9 +171,23 @@ module _ (T : Type 0) (v : MasterView) (s : ℕ) where
         enough = omega (arith, b.enough, one, longer);
         epochs = omega (arith, b.epochs, one, longer);
         joins = λ x is. let same : s ≡ x = cc in subst (λ y. is_among y (numbers_of (v.chain ++ (s, v.epoch + 1) ∷ [])) ≡ true) same (last_among s (v.epoch + 1) v.chain);
+        retires = λ x is. longer_among x (s, v.epoch + 1) v.chain (b.retires x is);
       }
 
   -- a join keeps the bounds
   pub joins_keep : join_fault v s ≡ None → IsBounded v → IsBounded (join_step {T = T} v s).0
   unfolding join_fault join_step join_found
   joins_keep free b = found_keeps (is_new (is_among s v.used) _ free) b (last_or None (members v))
+
+  -- and so does an order to leave
+  pub retires_keep : retire_fault v s ≡ None → IsBounded v → IsBounded (retire_step {T = T} v s).0
+  unfolding retire_fault retire_step
+  retires_keep free b =
+      let among = is_member (is_among s (members v)) _ free in
+      record {
+        rising = b.rising;
+        enough = b.enough;
+        epochs = b.epochs;
+        joins = b.joins;
+        retires = λ x is. let same : s ≡ x = cc in subst (λ y. is_among y (members v) ≡ true) same among;
+      }

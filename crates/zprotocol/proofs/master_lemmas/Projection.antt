@@ -8,7 +8,7 @@ use Rattle.zprotocol.specs.declared.process.Process.TheVariants.{Server, Client}
 use Rattle.zprotocol.specs.server.View.{Neighbour, Transfer, MessageOf, Post}
 use Rattle.zprotocol.specs.server.support.Homomorphism.{message_with, posts_with}
 use Rattle.zprotocol.specs.master.View.{MasterView, is_among, with_number, members, is_joining, head_of, tail_of}
-use Rattle.zprotocol.specs.master.Table.{MasterResult, no_effect, config_posts, and_tell_clients, join_step, before, have_row, joined_row, MendedChain, without_first, without_next, mended_chain_behind, mended_chain, gone_row, master_step}
+use Rattle.zprotocol.specs.master.Table.{MasterResult, no_effect, config_posts, and_tell_clients, join_step, retire_step, before, have_row, joined_row, MendedChain, without_first, without_next, mended_chain_behind, mended_chain, without_member, gone_row, master_step}
 use Rattle.zprotocol.specs.master.Laws.{master_result_with}
 
 module _ {M N : Type 0} (h : M → N) where
@@ -76,8 +76,7 @@ module _ {M N : Type 0} (h : M → N) where
 
   -- the master after a member has failed, when it is known how the chain is mended
   after_gone : {K : Type 0} → MasterView → ℕ → MendedChain K → MasterResult K
-  after_gone v s chain =
-      and_tell_clients (record v { chain = chain.0; joining = if is_joining v s then None else v.joining; epoch = v.epoch + 1 }) chain.1
+  after_gone v s chain = and_tell_clients (without_member v s chain.0) chain.1
 
   -- one row after the other
   gone_with : (v : MasterView) (s : ℕ) → gone_row v s ≡ master_result_with h (gone_row v s)
@@ -88,7 +87,7 @@ module _ {M N : Type 0} (h : M → N) where
       (after_gone v s did) (record v { used = with_number s v.used }, [])
       (after_gone v s (mended_chain (v.epoch + 1) s v.chain)) (record v { used = with_number s v.used }, [])
       (ap (after_gone v s) (mended_with (v.epoch + 1) s v.chain)
-      ∙ told_with (record v { chain = did.0; joining = if is_joining v s then None else v.joining; epoch = v.epoch + 1 }) did.1 (posts_with h did.1) refl)
+      ∙ told_with (without_member v s did.0) did.1 (posts_with h did.1) refl)
       refl
 
   joined_with : (v : MasterView) (s : ℕ) → joined_row v s ≡ master_result_with h (joined_row v s)
@@ -125,6 +124,10 @@ module _ {M N : Type 0} (h : M → N) where
   pub join_with : (v : MasterView) (s : ℕ) → join_step v s ≡ master_result_with h (join_step v s)
   unfolding join_step join_found
   join_with v s = join_found_with v s (last_or None (members v))
+
+  pub retire_with : (v : MasterView) (s : ℕ) → retire_step v s ≡ master_result_with h (retire_step v s)
+  unfolding retire_step
+  retire_with v s = refl
 
   -- the table
   pub table_with : (v : MasterView) (from : Process) (m : MessageOf M) → master_step v from (message_with h m) ≡ master_result_with h (master_step v from m)

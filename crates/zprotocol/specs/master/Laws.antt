@@ -6,7 +6,7 @@ use Rattle.zprotocol.specs.server.Machine.{Does, replay}
 use Rattle.zprotocol.specs.server.View.{Transfer, MessageOf}
 use Rattle.zprotocol.specs.server.support.Homomorphism.{message_with, posts_with}
 use Rattle.zprotocol.specs.master.View.{MasterView, is_among, members, opening_master}
-use Rattle.zprotocol.specs.master.Table.{MasterResult, join_fault, join_step, master_step}
+use Rattle.zprotocol.specs.master.Table.{MasterResult, join_fault, join_step, retire_fault, retire_step, master_step}
 
 -- the same view, and posts whose machines are mapped
 abbrev pub master_result_with : {M N : Type 0} → (M → N) → MasterResult (Transfer M) → MasterResult (Transfer N)
@@ -21,6 +21,10 @@ TableKeepsLogs does =
 -- and so is a join
 abbrev pub JoinKeepsLogs : {M : Type 0} → Does M → Type 0
 JoinKeepsLogs does = (v : MasterView) (s : ℕ) → join_step v s ≡ master_result_with (replay does) (join_step v s)
+
+-- and an order to leave
+abbrev pub RetireKeepsLogs : {M : Type 0} → Does M → Type 0
+RetireKeepsLogs does = (v : MasterView) (s : ℕ) → retire_step v s ≡ master_result_with (replay does) (retire_step v s)
 
 -- the numbers rise, from this one on
 abbrev pub IsRisingFrom : ℕ → List ℕ → Type 0
@@ -43,6 +47,8 @@ pub record IsBounded (v : MasterView) : Type 0 where
   pub epochs : v.epoch + length v.chain + joining_count v.joining ≤ 3 * length v.used
   -- who is joining is a member
   pub joins : (s : ℕ) → v.joining ≡ Some s → is_among s (members v) ≡ true
+  -- and so is who was ordered to leave
+  pub retires : (s : ℕ) → v.retiring ≡ Some s → is_among s (members v) ≡ true
 
 -- the opening has these bounds
 abbrev pub OpeningIsBounded : Type 0
@@ -55,3 +61,7 @@ MessagesKeepBounds {M} does = (v : MasterView) (from : Process) (m : MessageOf M
 -- and so does every join that isn't refused
 abbrev pub JoinsKeepBounds : {M : Type 0} → Does M → Type 0
 JoinsKeepBounds {M} does = (v : MasterView) (s : ℕ) → join_fault v s ≡ None → IsBounded v → IsBounded (join_step {T = Transfer M} v s).0
+
+-- and every order to leave that isn't refused
+abbrev pub RetiresKeepBounds : {M : Type 0} → Does M → Type 0
+RetiresKeepBounds {M} does = (v : MasterView) (s : ℕ) → retire_fault v s ≡ None → IsBounded v → IsBounded (retire_step {T = Transfer M} v s).0

@@ -1,8 +1,8 @@
--- The master table: what the master does with each message of a server, and at a join. It never looks at what a Snapshot hands
--- over, which may be anything.
+-- The master table: what the master does with each message of a server, at a join, and at an order to leave. It never looks at
+-- what a Snapshot hands over, which may be anything.
 -- Van Renesse and Schneider, "Chain Replication for Supporting High Throughput and Availability" (OSDI 2004),
--- section 3; epochs, Have, Joined and the rules of joining are this project's profile.
-use Rattle.std.specs.Prelude.{ℕ, ◌+◌, Bool, false, ◌&&◌, Option, None, Some, List, [], ◌∷◌, ◌++◌, length, if◌then◌else◌, is_some, nat_lt, ◌==◌, map}
+-- section 3; epochs, Have, Joined, and the rules of joining and of leaving are this project's profile.
+use Rattle.std.specs.Prelude.{ℕ, ◌+◌, Bool, false, not, ◌&&◌, Option, None, Some, List, [], ◌∷◌, ◌++◌, length, if◌then◌else◌, is_some, nat_lt, ◌==◌, map}
 use Rattle.std.specs.List.{range_with_len, last_or}
 use Rattle.zpath.specs.First.{first_that_holds}
 use Rattle.zprotocol.specs.declared.message.Message.{Message}
@@ -11,8 +11,10 @@ use Rattle.zprotocol.specs.declared.process.Process.{Process}
 use Rattle.zprotocol.specs.declared.process.Process.TheVariants.{Server, Client}
 use Rattle.zprotocol.specs.server.View.{Neighbour, PostOf}
 use Rattle.zprotocol.specs.declared.master.join_fault.JoinFault.{JoinFault}
-use Rattle.zprotocol.specs.declared.master.join_fault.JoinFault.TheVariants.{Used, Joining, NoChain, Lost}
-use Rattle.zprotocol.specs.master.View.{MasterView, is_among, with_number, members, is_joining, head_of, tail_of}
+use Rattle.zprotocol.specs.declared.master.join_fault.JoinFault.TheVariants.{Used, Joining, NoChain, Lost, Retiring}
+use Rattle.zprotocol.specs.declared.master.retire_fault.RetireFault.{RetireFault}
+use Rattle.zprotocol.specs.declared.master.retire_fault.RetireFault.TheVariants as retire
+use Rattle.zprotocol.specs.master.View.{MasterView, is_among, with_number, members, is_joining, is_retiring, head_of, tail_of}
 
 -- the view after an input, and what is put
 abbrev pub MasterResult : Type 0 → Type 0
@@ -47,6 +49,7 @@ join_fault v s =
     ∷ (is_another_joining v, Joining)
     ∷ (length v.chain == 0, NoChain)
     ∷ (is_only_member_joining v (members v), Lost)
+    ∷ (is_some v.retiring, Retiring)
     ∷ []
     )
 
@@ -60,6 +63,21 @@ join_step v s =
         (Server s, message.NewPred (v.epoch + 1) last) ∷ [],
       )
     ]
+
+-- why a server can't be ordered to leave, by the first test that holds
+unfoldable pub retire_fault : MasterView → ℕ → Option RetireFault
+retire_fault v s =
+    first_that_holds (
+    (not (is_among s (members v)), retire.NotMember)
+    ∷ (is_some v.joining, retire.Joining)
+    ∷ (length v.chain == 1, retire.Last)
+    ∷ (is_some v.retiring, retire.Retiring)
+    ∷ []
+    )
+
+-- an order to leave that isn't refused: the member is told, and stays one until its Gone is taken
+unfoldable pub retire_step : {T : Type 0} → MasterView → ℕ → MasterResult T
+retire_step v s = (record v { retiring = Some s }, (Server s, message.Retire) ∷ [])
 
 -- the member before this one, where their pair has this epoch; none before the first
 abbrev pub before : ℕ → ℕ → List Neighbour → Option ℕ
@@ -108,12 +126,21 @@ mended_chain epoch s (t ∷ rest) =
     let mended_chain = mended_chain_behind epoch s t.0 rest in
     (t ∷ mended_chain.0, mended_chain.1)
 
+-- the view without a member, when it is known what is left of its chain: it isn't joining any more, nor retiring
+abbrev pub without_member : MasterView → ℕ → List Neighbour → MasterView
+without_member v s chain =
+    record v {
+      chain = chain;
+      joining = if is_joining v s then None else v.joining;
+      retiring = if is_retiring v s then None else v.retiring;
+      epoch = v.epoch + 1;
+    }
+
 -- Gone from a server: outside the chain its number is used; in the chain, the chain is mended in a new epoch, and told
 unfoldable pub gone_row : {T : Type 0} → MasterView → ℕ → MasterResult T
 gone_row v s =
     if is_among s (members v) then
-    (let chain = mended_chain (v.epoch + 1) s v.chain in
-    and_tell_clients (record v { chain = chain.0; joining = if is_joining v s then None else v.joining; epoch = v.epoch + 1 }) chain.1)
+    (let chain = mended_chain (v.epoch + 1) s v.chain in and_tell_clients (without_member v s chain.0) chain.1)
     else (record v { used = with_number s v.used }, [])
 
 -- the table; every other message changes nothing and puts nothing

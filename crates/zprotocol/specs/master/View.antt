@@ -1,16 +1,17 @@
 -- The view of the master: what it knows of the chain.
 -- Van Renesse and Schneider, "Chain Replication for Supporting High Throughput and Availability" (OSDI 2004),
--- section 3; epochs, and that no server's number is used again, are this project's profile.
+-- section 3; epochs, orders to leave, and that no server's number is used again, are this project's profile.
 use Rattle.std.specs.Prelude.{ℕ, Bool, false, not, Option, None, Some, List, [], ◌∷◌, ◌==◌, nat_lt, if◌then◌else◌, map, filter}
 use Rattle.std.specs.List.{list_any, range_with_len, last_or}
 use Rattle.zprotocol.specs.server.View.{Neighbour}
 
 -- what the master knows: the chain from the head down, each member with the epoch of its pair with the one before it; the
--- member that has no state yet; the numbers of servers that were ever used, a rising list; the last epoch that it gave; and
--- how many clients there are, with numbers from 0
+-- member that has no state yet; the member that was ordered to leave, until its Gone is taken; the numbers of servers that
+-- were ever used, a rising list; the last epoch that it gave; and how many clients there are, with numbers from 0
 pub record MasterView : Type 0 where
   pub chain : List Neighbour
   pub joining : Option ℕ
+  pub retiring : Option ℕ
   pub used : List ℕ
   pub epoch : ℕ
   pub clients : ℕ
@@ -21,6 +22,7 @@ opening_master servers clients =
     record {
       chain = map (λ s. (s, 0)) (range_with_len 1 servers);
       joining = None;
+      retiring = None;
       used = range_with_len 1 servers;
       epoch = 0;
       clients = clients;
@@ -45,6 +47,10 @@ members v = map (λ member. member.0) v.chain
 -- this member has no state yet
 abbrev pub is_joining : MasterView → ℕ → Bool
 is_joining v s = elim v.joining [ None ↦ false | Some joining ↦ joining == s ]
+
+-- this member was ordered to leave
+abbrev pub is_retiring : MasterView → ℕ → Bool
+is_retiring v s = elim v.retiring [ None ↦ false | Some retiring ↦ retiring == s ]
 
 -- the first of a list
 abbrev pub first_of : List ℕ → Option ℕ

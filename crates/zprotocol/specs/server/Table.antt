@@ -1,8 +1,8 @@
 -- The server table: what a server does with each message, over any machine. A row for each message, in their order;
 -- a row's conditions stand before its effect.
 -- Van Renesse and Schneider, "Chain Replication for Supporting High Throughput and Availability" (OSDI 2004),
--- section 3; epochs, Have, Joined and the one Snapshot for a new server are this project's profile.
-use Rattle.std.specs.Prelude.{ℕ, ◌+◌, Bool, false, Option, None, Some, List, [], ◌∷◌, ◌++◌, if◌then◌else◌, is_none, nat_lt, ◌==◌, map, filter}
+-- section 3; epochs, Have, Joined, the one Snapshot for a new server and Retire are this project's profile.
+use Rattle.std.specs.Prelude.{ℕ, ◌+◌, Bool, true, false, Option, None, Some, List, [], ◌∷◌, ◌++◌, if◌then◌else◌, is_none, nat_lt, ◌==◌, map, filter}
 use Rattle.zcalls.specs.declared.call.Entry.{Entry}
 use Rattle.zcalls.specs.declared.call.Update.{Update}
 use Rattle.zcalls.specs.declared.call.Query.{Query}
@@ -130,6 +130,12 @@ become_head_row v = (record v { pred = None }, [])
 -- BecomeTail from the master, always: all of Sent is processed now, which an initialised server acknowledges
 unfoldable pub become_tail_row : {M : Type 0} → ServerView M → ServerResult M
 become_tail_row v = (record v { sent = []; succ = None }, elim v.machine [ None ↦ [] | Some m ↦ ack_posts v.pred v.last ])
+
+-- Retire from the master: it changes nothing and puts nothing, and the server that takes it has stopped for good, as if it
+-- had failed
+abbrev pub is_retirement : {M : Type 0} → Process → MessageOf M → Bool
+is_retirement Master message.Retire = true
+is_retirement from other = false
 
 -- the table; every other message changes nothing and puts nothing, and so does one whose conditions don't hold
 unfoldable pub server_step : {M : Type 0} → Does M → ServerView M → Process → MessageOf M → ServerResult M

@@ -11,4 +11,6 @@ pub enum JoinFault {
     NoChain,
     /// The chain's only member is joining, and there is nobody to give it the state.
     Lost,
+    /// A member was ordered to leave, and the master hasn't heard that it is gone.
+    Retiring,
 }

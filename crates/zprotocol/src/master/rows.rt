@@ -5,12 +5,13 @@ ghost use Rattle.std.specs.Prelude.{◌≡◌, None, Some, [], ◌∷◌};
 ghost use Rattle.zprotocol.specs.declared.message.Message.TheVariants as message;
 ghost use Rattle.zprotocol.specs.declared.process.Process.TheVariants.{Server, Client};
 ghost use Rattle.zprotocol.specs.declared.master.join_fault.JoinFault.TheVariants.{Used, Joining, NoChain};
-ghost use Rattle.zprotocol.specs.declared.master.join_fault.JoinFault.TheVariants.{Lost};
+ghost use Rattle.zprotocol.specs.declared.master.join_fault.JoinFault.TheVariants.{Lost, Retiring};
+ghost use Rattle.zprotocol.specs.declared.master.retire_fault.RetireFault.TheVariants as retire;
 ghost use Rattle.zprotocol.specs.master.View.{opening_master, with_number, head_of, tail_of};
-ghost use Rattle.zprotocol.specs.master.Table.{join_fault};
+ghost use Rattle.zprotocol.specs.master.Table.{join_fault, retire_fault};
 ghost use Rattle.zprotocol.specs.master.support.Rows.{after, Ignores, after_join, with_fifth};
 ghost use Rattle.zprotocol.specs.master.support.Rows.{opening_of_two, three, four, growing, one};
-ghost use Rattle.zprotocol.specs.master.support.Rows.{lost, empty, tells};
+ghost use Rattle.zprotocol.specs.master.support.Rows.{lost, empty, tells, retiring, after_retire};
 ghost use Rattle.zprotocol.specs.master.support.Rows.{after_gone, with_chain, without_joining, hears_pred};
 
 /// What the master does with a server's report of its log, and when a new server has the state.
@@ -72,6 +73,57 @@ pub fn servers_join()
     ensures no_chain { join_fault empty 5 ≡ Some NoChain }
     ensures lost { join_fault lost 5 ≡ Some Lost }
     ensures one_with_state { join_fault one 5 ≡ None }
+    ensures retiring { join_fault (retiring 2) 5 ≡ Some Retiring }
+    ensures used_before_retiring { join_fault (retiring 2) 3 ≡ Some Used }
+    ensures joining_before_retiring { join_fault (record growing { retiring = Some 2 }) 5
+        ≡ Some Joining }
+    ensures lost_before_retiring { join_fault (record lost { retiring = Some 4 }) 5 ≡ Some Lost }
+{}
+
+/// How a member is ordered to leave, and why it isn't.
+pub fn servers_retire()
+    ensures head { after_retire three 1 ≡ (retiring 1, (Server 1, message.Retire) ∷ []) }
+    ensures middle { after_retire three 2 ≡ (retiring 2, (Server 2, message.Retire) ∷ []) }
+    ensures tail { after_retire three 4 ≡ (retiring 4, (Server 4, message.Retire) ∷ []) }
+    ensures allowed { retire_fault three 1 ≡ None }
+    ensures not_member { retire_fault three 3 ≡ Some retire.NotMember }
+    ensures not_member_before_all { retire_fault lost 3 ≡ Some retire.NotMember }
+    ensures empty_chain { retire_fault empty 1 ≡ Some retire.NotMember }
+    ensures joining { retire_fault growing 1 ≡ Some retire.Joining }
+    ensures joining_itself { retire_fault growing 4 ≡ Some retire.Joining }
+    ensures joining_before_last { retire_fault lost 4 ≡ Some retire.Joining }
+    ensures last { retire_fault one 2 ≡ Some retire.Last }
+    ensures last_before_retiring { retire_fault (record one { retiring = Some 2 }) 2
+        ≡ Some retire.Last }
+    ensures retiring { retire_fault (retiring 1) 2 ≡ Some retire.Retiring }
+    ensures retiring_itself { retire_fault (retiring 1) 1 ≡ Some retire.Retiring }
+{}
+
+/// When the one that was ordered to leave is gone, the chain is mended as for any other, and another may be ordered to
+/// leave, or join; when another one is gone, the order stands.
+pub fn retired_servers_are_gone()
+    ensures head { after_gone (retiring 1) 1
+        ≡ (
+          with_chain ((2, 3) ∷ (4, 5) ∷ []) three,
+          (Server 2, message.BecomeHead 7) ∷ tells (Some 2) (Some 4),
+        ) }
+    ensures middle { after_gone (retiring 2) 2
+        ≡ (with_chain ((1, 0) ∷ (4, 7) ∷ []) three, hears_pred 4 1 1 4) }
+    ensures tail { after_gone (retiring 4) 4
+        ≡ (
+          with_chain ((1, 0) ∷ (2, 3) ∷ []) three,
+          (Server 2, message.BecomeTail 7) ∷ tells (Some 1) (Some 2),
+        ) }
+    ensures another { after_gone (retiring 1) 4
+        ≡ (
+          with_chain ((1, 0) ∷ (2, 3) ∷ []) (retiring 1),
+          (Server 2, message.BecomeTail 7) ∷ tells (Some 1) (Some 2),
+        ) }
+    ensures outside { Ignores (retiring 1) (Server 3) message.Gone }
+    ensures next { retire_fault (after_gone (retiring 1) 1).0 2 ≡ None }
+    ensures next_joins { join_fault (after_gone (retiring 1) 1).0 5 ≡ None }
+    ensures gone_one { retire_fault (after_gone (retiring 1) 1).0 1 ≡ Some retire.NotMember }
+    ensures gone_one_joins { join_fault (after_gone (retiring 1) 1).0 1 ≡ Some Used }
 {}
 
 /// The opening of a chain of two with three clients, the head and tail that clients are told, and the used

@@ -11,7 +11,7 @@ ghost use Rattle.zprotocol.specs.server.Machine.{replay};
 ghost use Rattle.zprotocol.specs.Places.{is_server, place_of, process_at};
 ghost use Rattle.zprotocol.specs.server.View.{spare, member, opening_server, is_initialised, is_head};
 ghost use Rattle.zprotocol.specs.server.View.{is_tail};
-ghost use Rattle.zprotocol.specs.server.Table.{server_step};
+ghost use Rattle.zprotocol.specs.server.Table.{server_step, is_retirement};
 ghost use Rattle.zprotocol.specs.server.support.Rows.{number_reply, counting_machine, update, query};
 ghost use Rattle.zprotocol.specs.server.support.Rows.{call, submit, ask, answer, update_of, update_to};
 ghost use Rattle.zprotocol.specs.server.support.Rows.{ack_to, have, with_pred, before_4, as_tail};
@@ -174,6 +174,16 @@ pub fn servers_stop_where_they_grow()
     ensures becomes_head_and_tail { stops head Master (message.BecomeTail 8) ≡ false }
 {}
 
+/// An order to retire comes from the master alone. It changes nothing and puts nothing, and no memory is wanted for it.
+pub fn servers_are_retired()
+    ensures middle { is_retirement {M = ℕ} Master message.Retire ≡ true }
+    ensures changes_nothing { Ignores middle Master message.Retire }
+    ensures wants_no_memory { stops middle Master message.Retire ≡ false }
+    ensures order_of_a_server { is_retirement {M = ℕ} (Server 1) message.Retire ≡ false }
+    ensures order_of_a_client { is_retirement {M = ℕ} (Client 5) message.Retire ≡ false }
+    ensures other_order { is_retirement {M = ℕ} Master (message.BecomeTail 8) ≡ false }
+{}
+
 /// Where there is no memory for a query, it is lost at a tail, and no server stops at it.
 pub fn queries_are_lost_at_a_tail()
     ensures unheard { is_unheard tail (Client 5) ask ≡ true }
@@ -195,7 +205,7 @@ pub fn answers_are_told_apart()
 
 /// The limits, as numbers.
 pub fn limits_are_numbers()
-    ensures servers { MAX_SERVERS ≡ 8 }
+    ensures servers { MAX_SERVERS ≡ 16 }
     ensures log_number { MAX_LOG_NUMBER ≡ 4611686018427387903 }
     ensures epoch { MAX_EPOCH ≡ 4611686018427387903 }
 {}

@@ -14,13 +14,14 @@ use Rattle.zworld.specs.declared.did.IdleCause.{IdleCause}
 use Rattle.zworld.specs.declared.did.IdleCause.TheVariants as cause
 use Rattle.zworld.specs.Did.{IsCause}
 use Rattle.zworld.specs.Steps.{WorldView, HasHappened, world_in}
-use Rattle.zscript.specs.Line.{ServiceWorld, ScriptState, script_state, LineEffect, begin_fault_text, join_fault_name, taken_text, reply_in}
+use Rattle.zscript.specs.Line.{ServiceWorld, ScriptState, script_state, LineEffect, begin_fault_text, join_fault_name, retire_fault_name, taken_text, reply_in}
 
 -- why an event didn't happen
 abbrev pub cause_text : IdleCause → List ℕ
 cause_text cause.Nothing = codes "idle"
 cause_text (cause.Begin fault) = begin_fault_text fault
 cause_text (cause.Join fault) = codes "no " ++ join_fault_name fault
+cause_text (cause.Retire fault) = codes "no " ++ retire_fault_name fault
 
 -- what became of an event
 abbrev pub did_text : Did → List ℕ

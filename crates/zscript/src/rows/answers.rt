@@ -4,23 +4,27 @@ ghost use Rattle.std.specs.Prelude.{◌≡◌, [], ◌∷◌, ◌++◌, codes, S
 ghost use Rattle.zpath.specs.declared.fault.PathFault.TheVariants.{Empty};
 ghost use Rattle.zcalls.specs.declared.reply.Reply.TheVariants.{Children, Deleted, Pinged};
 ghost use Rattle.zprotocol.specs.declared.master.join_fault.JoinFault.TheVariants.{Used, Joining, NoChain, Lost};
+ghost use Rattle.zprotocol.specs.declared.master.join_fault.JoinFault.TheVariants.{Retiring};
+ghost use Rattle.zprotocol.specs.declared.master.retire_fault.RetireFault.TheVariants as retire;
 ghost use Rattle.zprotocol.specs.declared.client.begin_fault.BeginFault.TheVariants.{Busy, Exhausted};
 ghost use Rattle.zworld_model.specs.declared.settled.Settled.TheVariants.{Quiet, Limit};
 ghost use Rattle.zlines.specs.declared.request.LineFault.TheVariants.{BadLine, BadPath, BadData};
 ghost use Rattle.zscript.specs.declared.limits.TheConstants.{MAX_EVENTS};
 ghost use Rattle.zworld_model.specs.declared.history.CallEvent.TheVariants.{Answer};
 ghost use Rattle.zscript.specs.Line.{taken_text, reply_in, join_fault_name, begin_fault_text, settled_text};
-ghost use Rattle.zscript.specs.Line.{line_fault_text};
+ghost use Rattle.zscript.specs.Line.{line_fault_text, retire_fault_name};
 ghost use Rattle.zscript.specs.support.Rows.{AreAnswered};
 
 /// Events that aren't enabled, failures and joins.
-#[tactic(auto, unfolding(crate::specs::Line::effect_of, crate::specs::Line::answer, crate::specs::Line::after, zlines::specs::Line::line_of, zprotocol::specs::master::Table::join_fault))]
+#[tactic(auto, unfolding(crate::specs::Line::effect_of, crate::specs::Line::answer, crate::specs::Line::after, zlines::specs::Line::line_of, zprotocol::specs::master::Table::join_fault, zprotocol::specs::master::Table::retire_fault))]
 pub fn chain_lines()
     ensures own_link { AreAnswered ((codes "take s1 s1", codes "idle") ∷ []) }
-    ensures no_server { AreAnswered ((codes "take s9 m", codes "bad line") ∷ []) }
+    ensures no_server { AreAnswered ((codes "take s17 m", codes "bad line") ∷ []) }
     ensures fails_once { AreAnswered
         ((codes "fail s1", codes "done") ∷ (codes "fail s1", codes "idle") ∷ []) }
     ensures used { AreAnswered ((codes "join s1", codes "no Used") ∷ []) }
+    ensures only_member { AreAnswered ((codes "retire s1", codes "no Last") ∷ []) }
+    ensures not_member { AreAnswered ((codes "retire s2", codes "no NotMember") ∷ []) }
     ensures nothing_outstanding { AreAnswered ((codes "retry c1", codes "idle") ∷ []) }
 {}
 
@@ -56,6 +60,11 @@ pub fn words_of_answers()
     ensures joining { join_fault_name Joining ≡ codes "Joining" }
     ensures no_chain { join_fault_name NoChain ≡ codes "NoChain" }
     ensures lost { join_fault_name Lost ≡ codes "Lost" }
+    ensures retiring { join_fault_name Retiring ≡ codes "Retiring" }
+    ensures not_member { retire_fault_name retire.NotMember ≡ codes "NotMember" }
+    ensures waits_for_a_join { retire_fault_name retire.Joining ≡ codes "Joining" }
+    ensures last { retire_fault_name retire.Last ≡ codes "Last" }
+    ensures another_retires { retire_fault_name retire.Retiring ≡ codes "Retiring" }
     ensures busy { begin_fault_text Busy ≡ codes "busy" }
     ensures no_numbers { begin_fault_text Exhausted ≡ codes "no Numbers" }
     ensures quiet { settled_text Quiet ≡ codes "quiet" }

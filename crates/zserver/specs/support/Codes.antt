@@ -1,12 +1,14 @@
 -- How the values of servers are stored.
-use Rattle.std.specs.Prelude.{ℕ, Bool, Option, List, refl}
-use Rattle.std.specs.Coded.{Coded, code_by, coded×, coded_ℕ, coded_bool, coded_list, coded_option}
+use Rattle.std.specs.Prelude.{ℕ, Option, List, refl}
+use Rattle.std.specs.Coded.{Coded, code_by, coded×, coded_ℕ, coded_list, coded_option}
 use Rattle.ztree.specs.Tree.{Tree}
 use Rattle.zcalls.specs.declared.call.Entry.{Entry}
 use Rattle.zcalls.specs.contracts.call.Entry as entry
 use Rattle.zcalls.specs.Kept.{KeptState}
 use Rattle.zops.specs.support.Codes.{coded_service}
 use Rattle.zprotocol.specs.server.View.{Transfer, Neighbour}
+use Rattle.zserver.specs.declared.stopped.Stopped.{Stopped}
+use Rattle.zserver.specs.contracts.stopped.Stopped as stopped
 use Rattle.zserver.specs.Server.{ServerState, TreeView}
 
 -- how what a Snapshot hands over is stored
@@ -23,4 +25,4 @@ coded_view =
 
 -- how a server is stored
 abbrev pub coded_server : Coded ServerState
-coded_server = code_by (TreeView × Bool) (coded× coded_view coded_bool) (λ s. (s.view, s.is_stopped)) (λ p. record { view = p.0; is_stopped = p.1 }) (λ _. refl)
+coded_server = code_by (TreeView × Option Stopped) (coded× coded_view (coded_option stopped.the_row.coded)) (λ s. (s.view, s.stopped)) (λ p. record { view = p.0; stopped = p.1 }) (λ _. refl)

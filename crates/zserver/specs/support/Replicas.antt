@@ -1,5 +1,5 @@
 -- How a server's replica makes its state, and how the fields of the replica make its view.
-use Rattle.std.specs.Prelude.{◌≡◌, ℕ, ◌+◌, true, false, Option, None, Some, if◌then◌else◌}
+use Rattle.std.specs.Prelude.{◌≡◌, ℕ, ◌+◌, false, Option, None, Some, Result, Ok, Err, if◌then◌else◌}
 use Rattle.ztree.specs.Tree.{Tree}
 use Rattle.zcalls.specs.declared.call.Entry.{Entry}
 use Rattle.zcalls.specs.declared.reply.Reply.{Reply}
@@ -8,12 +8,13 @@ use Rattle.zops.specs.Machine.{MachineView}
 use Rattle.zprotocol.specs.server.Machine.{kept_tree}
 use Rattle.zprotocol.specs.server.Table.{ServerResult, accept_result, has_room, if_initialised}
 use Rattle.zprotocol.specs.server.View.{spare}
+use Rattle.zserver.specs.declared.stopped.Stopped.{Stopped}
 use Rattle.zserver.specs.Server.{ServerState, TreeView, running}
 
 -- a server that has stopped has no replica
-abbrev pub server_of : Option TreeView → ServerState
-server_of None = record { view = spare; is_stopped = true }
-server_of (Some v) = running v
+abbrev pub server_of : Result TreeView Stopped → ServerState
+server_of (Err why) = record { view = spare; stopped = Some why }
+server_of (Ok v) = running v
 
 -- the tree with kept replies that the machine stands for, where there is one
 abbrev pub state_of : Option MachineView → Option (KeptState Tree)

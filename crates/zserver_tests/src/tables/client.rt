@@ -72,10 +72,10 @@ fn hears_of_tail(rt: &impl Abort, client: &mut ClientCore, tail: u8, out: &mut O
 // The time that the client is told, where its first call was a tick.
 fn tick_told(rt: &impl Abort, client: &mut ClientCore, out: &mut Outbox) -> Option<u64> {
     let first = CallNumber::new(1).expect(rt, "there is such a number");
-    let answer = Message::Answer(first, Reply::Ticked(1, 0));
+    let answer = Message::Answer(first, Reply::Ticked(1, 0, 0));
     let told = client.take(Process::Server(server(rt, 1)), answer, out);
     let time = match &told {
-        Ok(Some(Reply::Ticked(now, _))) => Some(*now),
+        Ok(Some(Reply::Ticked(now, _, _))) => Some(*now),
         _ => None,
     };
     drop(told);

@@ -1,10 +1,10 @@
-//! The master mends a chain, and lets servers join it or says why not.
+//! The master mends a chain, lets servers join it and orders them to leave, or says why not.
 
 use crate::tables::posts::{Outbox, next_config, next_server, server};
-use Act::{Gone, Join};
+use Act::{Gone, Join, Retire};
 use std::alloc::Global;
 use std::process::Abort;
-use zmaster::{JoinFault, MAX_POSTS, Master};
+use zmaster::{JoinFault, MAX_POSTS, Master, RetireFault};
 use zprotocol::{Epoch, Message, Out, Process};
 
 // The server that is told, and the epoch and the tail of which a client hears.
@@ -17,6 +17,15 @@ const REFUSED: [(u8, [Act; 3], JoinFault); 5] = [
     (1, [Gone(2), Gone(1), Join(2)], JoinFault::Used),
     (1, [Gone(2), Gone(1), Join(3)], JoinFault::NoChain),
     (1, [Join(2), Gone(1), Join(3)], JoinFault::Lost),
+];
+
+// How many servers there are, what happens to them, and which of them isn't ordered to leave then, and why.
+const STAYS: [(u8, [Act; 2], u8, RetireFault); 5] = [
+    (3, [Gone(4), Gone(2)], 2, RetireFault::NotMember),
+    (2, [Gone(4), Join(3)], 1, RetireFault::Joining),
+    (1, [Gone(4), Gone(3)], 1, RetireFault::Last),
+    (3, [Gone(4), Retire(1)], 2, RetireFault::Retiring),
+    (3, [Retire(1), Gone(1)], 1, RetireFault::NotMember),
 ];
 
 #[test]
@@ -41,11 +50,33 @@ fn refuses_by_the_first_fault(rt: HostRuntime) {
     }
 }
 
-// What happens to a chain: a server fails, or is to join.
+#[test]
+fn orders_a_member_to_leave(rt: HostRuntime) {
+    let told = posts_of_retirement(&rt, rt.alloc());
+    assert!(rt; told == Some(2));
+}
+
+#[test]
+fn lets_members_stay_by_the_first_fault(rt: HostRuntime) {
+    for (servers, acts, member, fault) in &STAYS {
+        let stays = leaves_after(&rt, rt.alloc(), *servers, acts, *member);
+        assert!(rt; stays == Some(*fault));
+    }
+}
+
+#[test]
+fn refuses_to_join_while_a_member_leaves(rt: HostRuntime) {
+    let acts = [Gone(5), Retire(1), Join(4)];
+    let refused = last_fault(&rt, rt.alloc(), 3, &acts);
+    assert!(rt; refused == Some(JoinFault::Retiring));
+}
+
+// What happens to a chain: a server fails, is to join, or is ordered to leave.
 #[derive(Clone, Copy)]
 enum Act {
     Gone(u8),
     Join(u8),
+    Retire(u8),
 }
 
 // Why the last of these acts was refused, on a chain of so many servers.
@@ -68,7 +99,42 @@ fn act_on(rt: &impl Abort, master: &mut Master, act: Act, out: &mut Outbox) -> O
             None
         }
         Join(number) => master.join(server(rt, number), out).err(),
+        Retire(number) => {
+            master
+                .retire(server(rt, number), out)
+                .expect(rt, "it may leave");
+            None
+        }
     }
+}
+
+// Why this member isn't ordered to leave after these acts, on a chain of so many servers.
+fn leaves_after(
+    rt: &impl Abort,
+    alloc: Global,
+    servers: u8,
+    acts: &[Act],
+    member: u8,
+) -> Option<RetireFault> {
+    let mut master = Master::new(server(rt, servers), 1);
+    let mut out: Outbox = Out::new(alloc);
+    for act in acts {
+        let _ = act_on(rt, &mut master, *act, &mut out);
+    }
+    out.reserve(MAX_POSTS).expect(rt, "there is memory");
+    let fault = master.retire(server(rt, member), &mut out).err();
+    drop(out);
+    fault
+}
+
+// Whom the master tells where the second of three servers is ordered to leave.
+fn posts_of_retirement(rt: &impl Abort, alloc: Global) -> Option<u8> {
+    let mut master = Master::new(server(rt, 3), 1);
+    let mut out: Outbox = Out::new(alloc);
+    act_on(rt, &mut master, Retire(2), &mut out);
+    let told = next_server(&mut out);
+    drop(out);
+    told
 }
 
 // What the master puts where this one of three servers fails.

@@ -9,7 +9,7 @@ use Rattle.zslots.proofs.Maps.{id_cmp_total, id_cmp_same}
 use Rattle.ztree.specs.declared.node.Node.{Node}
 use Rattle.ztree.specs.declared.limits.TheConstants.{MAX_NODES}
 use Rattle.ztree.specs.Tree.{Path, Nodes, Sessions, parent_of, has_node, child_name, children, with_change_at}
-use Rattle.ztree.specs.Lawful.{IsPersistent, IsOwner}
+use Rattle.ztree.specs.Lawful.{IsPersistent, IsOwner, HasOneEnd}
 use Rattle.ztree.proofs.Sorted.{paths_total, same_path}
 use Rattle.ztree.proofs.Maps.{is_there, same_or_other, get-insert-here, get-insert-elsewhere, get-remove-here, get-remove-elsewhere, get-removed, get-inserted, none_of_map}
 use Rattle.ztree.proofs.Nodes.{parent_is_other}
@@ -141,11 +141,11 @@ module _ (nodes : Nodes) (places : Places) (sessions : Sessions) (time zxid : �
   -- one more node, beneath a persistent one
   pub kept_with : (id : Id) (path : Path) (n : Node) → has_node nodes path ≡ false →
       IsPersistent (finite.get nodes (parent_of path)) → IsOwner sessions n.owner →
-      finite.len nodes < MAX_NODES → IsPath path →
+      HasOneEnd n → finite.len nodes < MAX_NODES → IsPath path →
       IsKept (finite.insert nodes path n) (finite.insert places id path) sessions time zxid
-  kept_with id path n free parent owner few is_path = record {
+  kept_with id path n free parent owner one few is_path = record {
     lawful = lawful_inserted (tree_of nodes sessions time zxid) path n kept.lawful free parent owner
-        few;
+        one few;
     paths = paths_inserted nodes path n kept.paths is_path;
     named = names_with nodes path n places kept.named id free;
   }
@@ -160,8 +160,9 @@ module _ (nodes : Nodes) (places : Places) (sessions : Sessions) (time zxid : �
     named = names_without nodes places kept.named id path is;
   }
 
-  -- a node written, by a change that leaves its owner
-  pub kept_changed : (path : Path) (f : Node → Node) → ((n : Node) → (f n).owner ≡ n.owner) →
+  -- a node written, by a change that leaves its owner and its time to live
+  pub kept_changed : (path : Path) (f : Node → Node) →
+      ((n : Node) → ((f n).owner ≡ n.owner) × ((f n).ttl ≡ n.ttl)) →
       IsKept (with_change_at nodes path f) places sessions time zxid
   kept_changed path f owner = record {
     lawful = lawful_changed (tree_of nodes sessions time zxid) path f owner kept.lawful;

@@ -141,7 +141,7 @@ module _ (old new : NodesView) (sessions : Sessions) (time zxid : ℕ) (notes : 
     marks_stored =
         written_stored old new sessions time zxid notes stored id (undo.Marked id before) path node
         (node_with_marks marks) (node_with_marks before) (writes path named) named found marks_again
-        (λ p. refl) (λ p some. some) refl (λ m. refl)
+        (λ p. refl) (λ p some. some) refl (λ m. (refl, refl))
 
   module _ (content before : Content) (writes : Writes old new id (node_with_content content))
       (was : AtNode old id (λ n. before ≡ content_of n)) where
@@ -166,4 +166,4 @@ module _ (old new : NodesView) (sessions : Sessions) (time zxid : ℕ) (notes : 
     content_stored =
         written_stored old new sessions time zxid notes stored id (undo.Written id before) path node
         (node_with_content content) (node_with_content before) (writes path named) named found
-        content_again (λ p. refl) (λ p some. some) refl (λ m. refl)
+        content_again (λ p. refl) (λ p some. some) refl (λ m. (refl, refl))

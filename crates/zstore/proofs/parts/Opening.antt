@@ -19,7 +19,7 @@ use Rattle.zstore.proofs.parts.Noted.{stored_plain}
 
 -- the opening's root
 abbrev pub root_node : Node
-root_node = new_node [] 0 0 0
+root_node = new_node [] 0 0 0 0
 
 nothing_named : NamesNodes finite.empty finite.empty
 nothing_named = record {

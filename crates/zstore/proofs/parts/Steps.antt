@@ -7,7 +7,7 @@ use Rattle.zslots.specs.declared.id.Id.{Id}
 use Rattle.ztree.specs.declared.node.Node.{Node}
 use Rattle.ztree.specs.declared.limits.TheConstants.{MAX_NODES}
 use Rattle.ztree.specs.Tree.{Path, Sessions, parent_of, has_node, children, with_change_at}
-use Rattle.ztree.specs.Lawful.{IsPersistent, IsOwner}
+use Rattle.ztree.specs.Lawful.{IsPersistent, IsOwner, HasOneEnd}
 use Rattle.znodes.specs.NodesView.{NodesView, Adds, Takes}
 use Rattle.zstore.specs.declared.undo.Undo.{Undo}
 use Rattle.zstore.specs.declared.undo.Undo.TheVariants as undo
@@ -41,15 +41,15 @@ module _ (old new : NodesView) (sessions : Sessions) (time zxid : ℕ) (notes : 
         added_fits
 
     pub added_stored : IsPersistent (finite.get old.nodes (parent_of path)) →
-        IsOwner sessions n.owner → finite.len old.nodes < MAX_NODES → IsPath path →
+        IsOwner sessions n.owner → HasOneEnd n → finite.len old.nodes < MAX_NODES → IsPath path →
         IsStored (add_note (undo.Added id) notes)
         (with_held new (held_after (undo.Added id) notes new.held)) sessions time zxid
-    added_stored parent owner few is_path =
+    added_stored parent owner one few is_path =
         let room = adds.room in
         let kept =
         subst (λ (p : Parts). IsKept p.nodes p.places sessions time zxid) (sym added_parts)
         (kept_with old.nodes old.places sessions time zxid stored.kept id path n free parent
-        owner few is_path) in
+        owner one few is_path) in
         let apart =
         subst (λ (p : Parts). (a : Id) (q : Path) → finite.get p.places a ≡ Some q →
         finite.get p.held a ≡ None) (sym added_parts)
@@ -121,7 +121,7 @@ module _ (old new : NodesView) (sessions : Sessions) (time zxid : ℕ) (notes : 
     written_held =
         noted_held u old new sessions time zxid written_back notes stored owners written_fits
 
-    pub written_stored : ((m : Node) → (f m).owner ≡ m.owner) →
+    pub written_stored : ((m : Node) → ((f m).owner ≡ m.owner) × ((f m).ttl ≡ m.ttl)) →
         IsStored (add_note u notes) (with_held new (held_after u notes new.held)) sessions time zxid
     written_stored same =
         let room = ap (λ (v : NodesView). v.room) writes in

@@ -16,7 +16,7 @@ use ztree::{Data, Node, Zxid};
 pub(crate) fn opened(rt: &impl Abort, alloc: Global) -> Nodes
     ensures { IsSome (get result.owners 7) }
 {
-    let mut nodes = Nodes::new(alloc, node(alloc, 0)).expect(rt, "there is memory");
+    let mut nodes = Nodes::new(alloc, node(alloc, 0, 0)).expect(rt, "there is memory");
     nodes.open_owner(7).expect(rt, "there is memory");
     nodes
 }
@@ -32,11 +32,12 @@ pub(crate) fn opened_with(rt: &impl Abort, alloc: Global, rows: &[(&str, u64)]) 
     nodes
 }
 
-// A node of an owner.
-fn node(alloc: Global, owner: u64) -> Node
-    ensures { result.owner ≡ owner }
+// A node of an owner, with a time to live or none.
+fn node(alloc: Global, owner: u64, ttl: u64) -> Node
+    ensures owner { result.owner ≡ owner }
+    ensures ttl { result.ttl ≡ ttl }
 {
-    Node::new(Data::empty(alloc), owner, Zxid::new(0), 0)
+    Node::new(Data::empty(alloc), owner, ttl, Zxid::new(0), 0)
 }
 
 // Adds a node of an owner at a free path.
@@ -48,7 +49,7 @@ fn add(rt: &impl Abort, alloc: Global, nodes: &mut Nodes, path: Path, owner: u64
     let parent = parent_of(rt, alloc, nodes, &path);
     is_free(rt, nodes, &path);
     nodes
-        .add(parent, path, node(alloc, owner))
+        .add(parent, path, node(alloc, owner, 0))
         .expect(rt, "there is memory");
 }
 

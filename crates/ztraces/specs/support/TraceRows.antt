@@ -14,7 +14,7 @@ use Rattle.zworld_model.specs.History.{History}
 use Rattle.zworld_model.specs.World.{World, opening_world}
 use Rattle.zworld_model.specs.Events.{run}
 use Rattle.ztraces.specs.declared.trace.Act.{Act}
-use Rattle.ztraces.specs.declared.trace.Act.TheVariants.{Took, Began, Retried, Joined, Halted}
+use Rattle.ztraces.specs.declared.trace.Act.TheVariants.{Took, Began, Retried, Joined, Retired, Left, Halted}
 use Rattle.ztraces.specs.declared.trace.TraceEvent.{TraceEvent}
 use Rattle.ztraces.specs.Traces.{Step, events_of, at_process, are_in_place}
 use Rattle.ztraces.specs.Deeds.{Deed, Row, Standing, Stamped, AtServer, AtClient}
@@ -79,6 +79,19 @@ mended =
     ∷ step_of Master 9 (Joined 4)
     ∷ step_of c0 10 (Took Master Acted)
     ∷ step_of c0 11 Retried
+    ∷ []
+
+-- over three servers: the client begins a write, the first is ordered to leave and leaves, and the client hears of the new
+-- head and asks that one
+abbrev pub retirement : List Step
+retirement =
+    step_of c0 1 (Began write)
+    ∷ step_of Master 2 (Retired 1)
+    ∷ step_of s1 3 Left
+    ∷ step_of Master 4 (Took s1 Acted)
+    ∷ step_of (Server 2) 5 (Took Master Acted)
+    ∷ step_of c0 6 (Took Master Acted)
+    ∷ step_of (Server 2) 7 (Took c0 Acted)
     ∷ []
 
 -- what the caller sees of them

@@ -13,9 +13,9 @@ coded_path = coded_list (coded_list coded_ℕ)
 -- how a node is stored
 abbrev pub coded_node : Coded Node
 coded_node =
-    code_by (List ℕ × (ℕ × (ℕ × (ℕ × (ℕ × (ℕ × (ℕ × (ℕ × (ℕ × ℕ)))))))))
-    (coded× (coded_list coded_ℕ) (coded× coded_ℕ (coded× coded_ℕ (coded× coded_ℕ (coded× coded_ℕ (coded× coded_ℕ (coded× coded_ℕ (coded× coded_ℕ (coded× coded_ℕ coded_ℕ)))))))))
-    (λ n. (n.bytes, (n.czxid, (n.mzxid, (n.pzxid, (n.ctime, (n.mtime, (n.version, (n.cversion, (n.owner, n.seq))))))))))
+    code_by (List ℕ × (ℕ × (ℕ × (ℕ × (ℕ × (ℕ × (ℕ × (ℕ × (ℕ × (ℕ × ℕ))))))))))
+    (coded× (coded_list coded_ℕ) (coded× coded_ℕ (coded× coded_ℕ (coded× coded_ℕ (coded× coded_ℕ (coded× coded_ℕ (coded× coded_ℕ (coded× coded_ℕ (coded× coded_ℕ (coded× coded_ℕ coded_ℕ))))))))))
+    (λ n. (n.bytes, (n.czxid, (n.mzxid, (n.pzxid, (n.ctime, (n.mtime, (n.version, (n.cversion, (n.owner, (n.seq, n.ttl)))))))))))
     (λ p. record {
       bytes = p.0;
       czxid = p.1.0;
@@ -26,7 +26,8 @@ coded_node =
       version = p.1.1.1.1.1.1.0;
       cversion = p.1.1.1.1.1.1.1.0;
       owner = p.1.1.1.1.1.1.1.1.0;
-      seq = p.1.1.1.1.1.1.1.1.1;
+      seq = p.1.1.1.1.1.1.1.1.1.0;
+      ttl = p.1.1.1.1.1.1.1.1.1.1;
     }) (λ _. refl)
 
 -- how a session is stored

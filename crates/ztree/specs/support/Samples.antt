@@ -16,7 +16,19 @@ b = codes "b"
 -- a node no two of whose numbers are the same
 abbrev pub some_node : Node
 some_node =
-    record { bytes = 7 ∷ 7 ∷ []; czxid = 1; mzxid = 2; pzxid = 3; ctime = 4; mtime = 5; version = 6; cversion = 8; owner = 9; seq = 10 }
+    record {
+      bytes = 7 ∷ 7 ∷ [];
+      czxid = 1;
+      mzxid = 2;
+      pzxid = 3;
+      ctime = 4;
+      mtime = 5;
+      version = 6;
+      cversion = 8;
+      owner = 9;
+      seq = 10;
+      ttl = 12;
+    }
 
 -- what is told of it where it has eleven children
 abbrev pub some_stat : Stat

@@ -17,6 +17,8 @@ use Rattle.zprotocol.specs.Places.{is_server}
 use Rattle.zworld_model.specs.Events.{process_step, acts}
 use Rattle.zworld_model.specs.Alike.{IsAlike}
 use Rattle.zcalls.specs.declared.reply.Reply.{Reply}
+use Rattle.zserver.specs.declared.stopped.Stopped.{Stopped}
+use Rattle.zserver.specs.declared.stopped.Stopped.TheVariants.{Memory, Retired}
 use Rattle.zworld.specs.declared.did.Did.{Did}
 use Rattle.zworld.specs.declared.did.Did.TheVariants as did
 use Rattle.zworld.specs.Held.{Held, world_of}
@@ -48,7 +50,12 @@ abbrev pub IsGiven : Held → Process → Process → MessageOf (KeptState Tree)
 IsGiven old from to message told new =
     (history : History) → IsAlike (process_step kept_tree (world_of old history) from to message) (world_of new (history ++ told))
 
--- a server acted on a message, stopped at it, or didn't hear it
+-- what became of a delivery at which a server stopped
+abbrev pub did_of : Stopped → Did
+did_of Memory = did.Stopped
+did_of Retired = did.Done
+
+-- a server acted on a message, which may be the order to leave, stopped at it, or didn't hear it
 abbrev pub IsGivenToServer : Held → Process → ℕ → MessageOf (KeptState Tree) → Held → Did → Type 0
 IsGivenToServer old from s message new did.Done = IsGiven old from (Server s) message [] new
 IsGivenToServer old from s message new (did.Idle why) = ⊥

@@ -1,5 +1,5 @@
 -- What a member says of a message.
-use Rattle.std.specs.Prelude.{◌≡◌, true, false, None, Some, List, [], ◌++◌, length}
+use Rattle.std.specs.Prelude.{◌≡◌, true, false, None, Some, Result, Ok, Err, List, [], ◌++◌, length}
 use Rattle.ztree.specs.declared.limits.TheConstants.{MAX_CLIENTS}
 use Rattle.zprotocol.specs.declared.limits.TheConstants.{MAX_SERVERS}
 use Rattle.zprotocol.specs.client.View.{ClientView}
@@ -7,11 +7,13 @@ use Rattle.ztree.specs.Tree.{Tree}
 use Rattle.zcalls.specs.Kept.{KeptState}
 use Rattle.zprotocol.specs.declared.process.Process.{Process}
 use Rattle.zprotocol.specs.server.Machine.{kept_tree}
-use Rattle.zprotocol.specs.server.Memory.{may_be_unheard, may_stop}
+use Rattle.zprotocol.specs.server.Memory.{may_be_unheard}
 use Rattle.zprotocol.specs.server.View.{ServerView, MessageOf, Post}
-use Rattle.zprotocol.specs.server.Table.{server_step}
-use Rattle.zworld_model.specs.declared.outcome.Outcome.{Outcome}
-use Rattle.zworld_model.specs.declared.outcome.Outcome.TheVariants.{Acted, Stopped, Unheard}
+use Rattle.zprotocol.specs.server.Table.{is_retirement}
+use Rattle.zserver.specs.declared.stopped.Stopped.{Stopped}
+use Rattle.zserver.specs.declared.taken.Taken.{Taken}
+use Rattle.zserver.specs.declared.taken.Taken.TheVariants.{Unheard}
+use Rattle.zserver.specs.Server.{taken_result, StopsAt}
 use Rattle.zworld.specs.declared.life.Life.{Life}
 use Rattle.zworld.specs.declared.life.Life.TheVariants.{Running, Owing, Gone}
 use Rattle.zworld.specs.Held.{MemberView, gone_member}
@@ -24,18 +26,16 @@ member_of Gone = record { view = None; owes_gone = false }
 
 -- one that runs hasn't stopped
 abbrev pub GoesOn : Life → Type 0
-GoesOn (Running server) = server.is_stopped ≡ false
+GoesOn (Running server) = server.stopped ≡ None
 GoesOn other = Unit {0}
 
--- a member that had this view took a message, with this outcome; so it is now, and this was put before and after
-abbrev pub HasTaken : MemberView → ServerView (KeptState Tree) → Process → MessageOf (KeptState Tree) → Outcome → MemberView
+-- a member that had this view took a message, and this became of it; so it is now, and this was put before and after
+abbrev pub HasTaken : MemberView → ServerView (KeptState Tree) → Process → MessageOf (KeptState Tree) → Result Taken Stopped → MemberView
     → List (Post (KeptState Tree)) → List (Post (KeptState Tree)) → Type 0
-HasTaken old view from message Acted new before after =
-    (new.view ≡ Some (server_step kept_tree view from message).0) × (after ≡ before ++ (server_step kept_tree view from message).1)
-HasTaken old view from message Stopped new before after =
-    (new ≡ gone_member) × (may_stop kept_tree view from message ≡ true) × (after ≡ before)
-HasTaken old view from message Unheard new before after =
-    (new ≡ old) × (may_be_unheard kept_tree view from message ≡ true) × (after ≡ before)
+HasTaken old view from message (Ok taken) new before after =
+    (new ≡ record old { view = Some (taken_result taken view from message).0 }) × (after ≡ before ++ (taken_result taken view from message).1)
+    × (taken ≡ Unheard → may_be_unheard kept_tree view from message ≡ true) × (is_retirement from message ≡ false)
+HasTaken old view from message (Err why) new before after = (new ≡ gone_member) × StopsAt why view from message × (after ≡ before)
 
 -- there are all members and all clients, and nothing waits to be put on links
 abbrev pub IsFull : List MemberView → List ClientView → List (Post (KeptState Tree)) → Type 0

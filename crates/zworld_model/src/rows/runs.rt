@@ -58,9 +58,9 @@ pub fn only_enabled_events_happen()
     ensures failed_twice { is_enabled (after 3 (Fail 1 ∷ [])) (Fail 1) ≡ false }
     ensures spare_can_fail { is_enabled (after 3 []) (Fail 4) ≡ true }
     ensures server_0_does_not_fail { is_enabled (after 3 []) (Fail 0) ≡ false }
-    ensures server_9_does_not_fail { is_enabled (after 3 []) (Fail 9) ≡ false }
-    ensures server_9_does_not_join { is_enabled (after 3 []) (Join 9) ≡ false }
-    ensures server_8_joins { is_enabled (after 3 []) (Join 8) ≡ true }
+    ensures server_17_does_not_fail { is_enabled (after 3 []) (Fail 17) ≡ false }
+    ensures server_17_does_not_join { is_enabled (after 3 []) (Join 17) ≡ false }
+    ensures server_16_joins { is_enabled (after 3 []) (Join 16) ≡ true }
     ensures member_joins { is_enabled (after 3 []) (Join 3) ≡ false }
     ensures spare_joins { is_enabled (after 3 []) (Join 4) ≡ true }
     ensures unchanged { link 3 (Begin 1 create ∷ Fail 1 ∷ Take c1 s1 ∷ []) c1 s1 ≡ request }

@@ -13,3 +13,7 @@ returns-clause-opened c = refl
 pub returns-clause-ticked : goal.returns-clause-ticked
 unfolding digits
 returns-clause-ticked c = refl
+
+pub returns-clause-removed : goal.returns-clause-removed
+unfolding digits
+returns-clause-removed c = refl

@@ -8,7 +8,7 @@ use Rattle.zcalls.specs.declared.change.ChangeReply.TheVariants.{Created}
 use Rattle.zcalls.specs.Part.{create_step, is_owned, node_has}
 use Rattle.zcalls.proofs.Paths.{below, is_over-path, at_least, less_than, parent_of-made, made-below_root, not_root}
 use Rattle.zops.proofs.Creating.{created-refused, created-done, nameless, taken, full, all_clear}
-use Rattle.zcalls.proofs.Owners.{persistent, owner_lives}
+use Rattle.zcalls.proofs.Owners.{persistent, owner_lives, one_end}
 use Rattle.zops.proofs.Marks.{mark_steps}
 use Rattle.zops.proofs.change.create.Goals as goal
 
@@ -116,7 +116,7 @@ returns-clause-done c =
     record {
       step_is = created-done t c.args.client create
           (all_clear t c.args.client create owner below.root there owned c.in_ok-made.made c.in_ok-made.ensures.made c.in_ok-made.ensures.allowed free few)
-          ∙ (λ i. Ok (with_node t (sym c.in_ok-made.ensures.made i) create.bytes (sym c.owner-owner.ensures i) (sym c.is_sequential-is_sequential.ensures i), Created (sym c.in_ok-made.ensures.made i)))
+          ∙ (λ i. Ok (with_node t (sym c.in_ok-made.ensures.made i) create.bytes (sym c.owner-owner.ensures i) (sym c.ttl-ttl.ensures i) (sym c.is_sequential-is_sequential.ensures i), Created (sym c.in_ok-made.ensures.made i)))
           ∙ (λ i. Ok (sym c.in_ok-add.ensures.added i, Created (sym c.in-Ok.ensures i)));
       given = c.in_ok-add.ensures.given.1;
       mark = mark_steps 2 c.args.store.now c.add.new.self (omega arith) c.in_ok-add.ensures.marked;
@@ -138,3 +138,6 @@ add-requires-clause-owner c =
     let sessions = c.args.store.now.tree.sessions in
     subst (IsOwner sessions) (sym c.owner-owner.ensures)
     (owner_lives sessions c.args.client c.args.create.kind (sym c.has_no_owner.ensures ∙ c.if-has_no_owner.false))
+
+pub add-requires-clause-one_end : goal.add-requires-clause-one_end
+add-requires-clause-one_end c = rw (c.ttl-ttl.ensures, c.owner-owner.ensures) (one_end c.args.create.kind)

@@ -1,6 +1,11 @@
-use Rattle.std.proofs.Common.{◌+◌, ◌*◌, refl, ap, sym, subst, ◌∙◌, arith}
-use Rattle.ztree.specs.Tree.{Tree, parent_of}
-use Rattle.ztree.specs.Sessions.{without_sessions}
+use Rattle.std.proofs.Common.{◌+◌, ◌*◌, cond, Some, None, refl, ap, sym, subst, ◌∙◌, arith}
+use Rattle.std.specs.FinMap as finite
+use Rattle.std.specs.Option.{option_and_then}
+use Rattle.ztree.proofs.Maps.{has_some, is_there}
+use Rattle.ztree.proofs.Ending.{found-ended}
+use Rattle.zstore.specs.StoreView.{while_there}
+use Rattle.ztree.specs.Tree.{Tree, parent_of, has_node}
+use Rattle.ztree.specs.Sessions.{without_session, without_sessions}
 use Rattle.zcalls.proofs.Ends.{RoomForEnds, AreLive, room_before, ended-room, few_ephemerals, ended-ends, due_live}
 use Rattle.zops.proofs.session_calls.end_all.Goals as goal
 
@@ -13,6 +18,7 @@ loop-id-init c =
       room = room_before (4096 * t.zxid) t.nodes c.requires.ready.steady.bounded.counters c.keeps_lawful.ensures.few_nodes;
       zxid = refl;
       live = subst (AreLive t.sessions) (sym (all ∙ c.requires.due)) (due_live t.sessions (t.time + 1));
+      still = λ id path at there. at;
       given = refl;
     }
 
@@ -36,5 +42,11 @@ loop-id-preserved c =
       room = subst (λ (u : Tree). RoomForEnds (4096 * c.args.store.now.tree.zxid + 4096) u.nodes) (sym now) (ended-room (4096 * c.args.store.now.tree.zxid + 4096) before id here.room);
       zxid = ap (λ (u : Tree). u.zxid) now ∙ (ended-ends before id).zxid ∙ here.zxid;
       live = subst (λ (u : Tree). AreLive u.sessions rest) (sym now) (subst (AreLive before.sessions) steps here.live).1;
+      still = λ q path at there.
+          let left = has_some (finite.get (without_session before id).nodes path) (ap (λ (u : Tree). has_node u.nodes path) (sym now) ∙ there) in
+          let was = found-ended before id path left.0 left.1 in
+          c.end_session.ensures.forgotten q
+          ∙ ap (option_and_then (while_there c.end_session.new.self.tree.nodes)) (here.still q path at (is_there (finite.get before.nodes path) was.0 was.1))
+          ∙ ap (λ b. cond b (Some path) None) there;
       given = c.end_session.ensures.given ∙ here.given;
     }

@@ -1,6 +1,7 @@
 use Rattle.std.proofs.Common.{◌≡◌, ◌+◌, ◌*◌}
 use Rattle.ztree.specs.Sessions.{without_sessions}
 use Rattle.zcalls.proofs.Ends.{RoomForEnds, AreLive}
+use Rattle.zops.specs.support.Ready.{KeepsLeft}
 use Rattle.zops.proofs.session_calls.end_all.Given as goal
 
 abbrev pub invariant-loop-id : goal.invariant-loop-id
@@ -9,5 +10,6 @@ invariant-loop-id l = record {
   room : RoomForEnds (4096 * l.initial.store.tree.zxid + 4096) l.store.tree.nodes;
   zxid : l.store.tree.zxid ≡ l.initial.store.tree.zxid;
   live : AreLive l.store.tree.sessions l.id-iterator.rest.items;
+  still : KeepsLeft l.initial.store l.store;
   given : l.store.given ≡ l.initial.store.given;
 }

@@ -1,4 +1,4 @@
-use Rattle.std.proofs.Common.{◌≡◌, ◌+◌, ◌*◌, ◌≤◌, false, true, Result, Ok, Err, IfOk, OnErr, length, refl, subst, sym, ap, ◌∙◌, arith}
+use Rattle.std.proofs.Common.{◌≡◌, ◌+◌, ◌*◌, false, true, Result, Ok, Err, IfOk, OnErr, length, subst, sym, ap, ◌∙◌, arith}
 use Rattle.ztree.specs.Lawful.{AllNodes}
 use Rattle.zcalls.specs.declared.reply.Reply.TheVariants.{MultiRefused}
 use Rattle.zcalls.specs.Bounds.{IsBounded, IsWithin}

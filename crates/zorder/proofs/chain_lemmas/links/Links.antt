@@ -35,6 +35,13 @@ at_cases P n v f m same other = elim (test (m == n)) [ inl t ↦ rw t (same (eqb
 pub at_same : {V : Type 0} (n : ℕ) (v : V) (f : ℕ → V) → at n v f n ≡ v
 at_same n v f = ap (λ b. cond b v (f n)) (eq-eqb n n refl)
 
+-- what is replaced by itself stays
+at_itself_by : {V : Type 0} (n : ℕ) (f : ℕ → V) (m : ℕ) → at n (f n) f m ≡ f m
+at_itself_by n f m = elim (test (m == n)) [ inl e ↦ rw e (ap f (sym (eqb-true m n e))) | inr other ↦ rw other refl ]
+
+pub at_itself : {V : Type 0} (n : ℕ) (f : ℕ → V) → at n (f n) f ≡ f
+at_itself n f = λ i m. at_itself_by n f m i
+
 -- the others
 pub at_other : {V : Type 0} (n : ℕ) (v : V) (f : ℕ → V) (m : ℕ) → (m == n) ≡ false → at n v f m ≡ f m
 at_other n v f m e = ap (λ b. cond b v (f m)) e

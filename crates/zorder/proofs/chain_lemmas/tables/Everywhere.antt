@@ -1,6 +1,6 @@
 -- What each server's view and each message has on its own: it holds of every run where the server table keeps it and all
 -- orders and requests have it.
-use Rattle.std.proofs.Common.{ℕ, List, [], ◌∷◌, Option, Some, None, refl, inl, inr}
+use Rattle.std.proofs.Common.{ℕ, Bool, true, false, if◌then◌else◌, List, [], ◌∷◌, Option, Some, None, refl, inl, inr}
 use Rattle.zcalls.specs.declared.reply.Reply.{Reply}
 use Rattle.zcalls.specs.Lists.{Among}
 use Rattle.zcalls.proofs.Among.{test}
@@ -14,12 +14,12 @@ use Rattle.zprotocol.specs.master.Table as master
 use Rattle.zprotocol.specs.client.View.{ClientView}
 use Rattle.zprotocol.specs.client.Table as client
 use Rattle.zworld_model.specs.declared.event.Event.{Event}
-use Rattle.zworld_model.specs.declared.event.Event.TheVariants.{Begin, Retry, Take, Ignore, Fail, Join}
+use Rattle.zworld_model.specs.declared.event.Event.TheVariants.{Begin, Retry, Take, Ignore, Fail, Join, Retire}
 use Rattle.zworld_model.specs.Links.{Links, put, without_front}
 use Rattle.zworld_model.specs.World.{World}
-use Rattle.zworld_model.specs.Events.{is_enabled, client_does, with_answer, process_step, front_step, acts, happens, run}
+use Rattle.zworld_model.specs.Events.{is_enabled, server_does, server_stops, client_does, with_answer, process_step, front_step, acts, happens, run}
 use Rattle.zorder.proofs.chain_lemmas.links.Links.{put_among, front_among, at_cases, AllPosts, all_none, all_and}
-use Rattle.zorder.proofs.chain_lemmas.tables.OtherPosts.{IsOrder, IsRequest, master_orders, join_orders, begin_requests, retry_requests, client_requests}
+use Rattle.zorder.proofs.chain_lemmas.tables.OtherPosts.{IsOrder, IsRequest, master_orders, join_orders, retire_orders, begin_requests, retry_requests, client_requests}
 
 -- each view has the one, and each message under way the other
 pub record Everywhere {M : Type 0} (V : ServerView M → Type 0) (Q : MessageOf M → Type 0) (w : World M) : Type 0 where
@@ -49,16 +49,26 @@ module _ {M : Type 0} (does : Does M) (V : ServerView M → Type 0) (Q : Message
   answered_all w c None h = h
   answered_all w c (Some reply) h = record { views = h.views; under_way = h.under_way }
 
+  -- a server stops
+  stops_all : (w : World M) (s : ℕ) → Everywhere V Q w → Everywhere V Q (server_stops w s)
+  stops_all w s h = record { views = h.views; under_way = put_all w.links (Server s) ((Master, message.Gone) ∷ []) (all_and Q (Master, message.Gone) [] gone (all_none Q)) h.under_way }
+
+  -- a choice between two worlds
+  chosen_all : (b : Bool) (x y : World M) → Everywhere V Q x → Everywhere V Q y → Everywhere V Q (if b then x else y)
+  chosen_all true x y first second = first
+  chosen_all false x y first second = second
+
   -- a message is taken
   takes_all : (w : World M) (from to : Process) (m : MessageOf M) → Q m → Everywhere V Q w → Everywhere V Q (process_step does w from to m)
   takes_all w from Master m q h =
       record { views = h.views; under_way = put_all w.links Master (master.master_step w.master from m).1 (ordered_all _ (master_orders w.master from m)) h.under_way }
   takes_all w from (Server s) m q h =
       let row = rows (w.servers s) from m (h.views s) q in
-      record {
+      chosen_all (server.is_retirement from m) (server_stops w s) (server_does w s (server.server_step does (w.servers s) from m)) (stops_all w s h)
+      (record {
         views = λ t. at_cases V s (server.server_step does (w.servers s) from m).0 w.servers t (λ e. row.0) (λ f. h.views t);
         under_way = put_all w.links (Server s) (server.server_step does (w.servers s) from m).1 row.1 h.under_way;
-      }
+      })
   takes_all w from (Client c) m q h =
       let did : client.ClientResult (Transfer M) = client.client_step (w.clients c) from m in
       answered_all (client_does w c did.0 did.1) c did.2 (client_does_all w c did.0 did.1 (asked_all did.1 (client_requests (w.clients c) from m)) h)
@@ -78,9 +88,11 @@ module _ {M : Type 0} (does : Does M) (V : ServerView M → Type 0) (Q : Message
   acts_all w (Retry c) h = client_does_all w c (w.clients c) (client.retry_posts (w.clients c)) (asked_all (client.retry_posts (w.clients c)) (retry_requests (w.clients c))) h
   acts_all w (Take from to) h = front_all w from to (w.links from to) (h.under_way from to) h
   acts_all w (Ignore from to) h = popped_all w from to h
-  acts_all w (Fail s) h = record { views = h.views; under_way = put_all w.links (Server s) ((Master, message.Gone) ∷ []) (all_and Q (Master, message.Gone) [] gone (all_none Q)) h.under_way }
+  acts_all w (Fail s) h = stops_all w s h
   acts_all w (Join s) h =
       record { views = h.views; under_way = put_all w.links Master (master.join_step w.master s).1 (ordered_all _ (join_orders w.master s)) h.under_way }
+  acts_all w (Retire s) h =
+      record { views = h.views; under_way = put_all w.links Master (master.retire_step w.master s).1 (ordered_all _ (retire_orders w.master s)) h.under_way }
 
   -- an event
   pub happens_all : (w : World M) (event : Event) → Everywhere V Q w → Everywhere V Q (happens does w event)

@@ -1,6 +1,6 @@
 -- What the master and clients put: orders and configurations, and requests.
 use Rattle.std.specs.List.{range_with_len, last_or}
-use Rattle.std.proofs.Common.{ℕ, ◌+◌, if◌then◌else◌, nat_lt, ◌==◌, List, [], ◌∷◌, ◌++◌, Option, Some, None, inl, inr}
+use Rattle.std.proofs.Common.{ℕ, ◌+◌, nat_lt, ◌==◌, List, [], ◌∷◌, ◌++◌, Option, Some, None, inl, inr}
 use Rattle.zcalls.specs.declared.call.Call.{Call}
 use Rattle.zcalls.specs.declared.call.Call.TheVariants as call
 use Rattle.zcalls.specs.declared.reply.Reply.{Reply}
@@ -21,6 +21,7 @@ IsOrder (message.NewPred epoch p) = Unit {0}
 IsOrder (message.NewSucc epoch t last) = Unit {0}
 IsOrder (message.BecomeHead epoch) = Unit {0}
 IsOrder (message.BecomeTail epoch) = Unit {0}
+IsOrder message.Retire = Unit {0}
 IsOrder (message.Config epoch head tail) = Unit {0}
 IsOrder other = ⊥
 
@@ -80,7 +81,7 @@ module _ {M : Type 0} where
   takes_gone_orders : (v : MasterView) (s : ℕ) → AllPosts IsOrder (master.gone_row {T = Transfer M} v s).1
   unfolding master.gone_row
   takes_gone_orders v s = elim (test (is_among s (members v))) [
-    | inl t ↦ rw t (told_orders (record v { chain = (master.mended_chain {T = Transfer M} (v.epoch + 1) s v.chain).0; joining = if is_joining v s then None else v.joining; epoch = v.epoch + 1 })
+    | inl t ↦ rw t (told_orders (master.without_member v s (master.mended_chain {T = Transfer M} (v.epoch + 1) s v.chain).0)
         (master.mended_chain (v.epoch + 1) s v.chain).1 (mended_orders (v.epoch + 1) s v.chain))
     | inr f ↦ rw f (all_none IsOrder)
   ]
@@ -108,6 +109,11 @@ module _ {M : Type 0} where
   pub join_orders : (v : MasterView) (s : ℕ) → AllPosts IsOrder (master.join_step {T = Transfer M} v s).1
   unfolding master.join_step
   join_orders v s = join_orders_by v s (last_or None (members v))
+
+  -- at an order to leave
+  pub retire_orders : (v : MasterView) (s : ℕ) → AllPosts IsOrder (master.retire_step {T = Transfer M} v s).1
+  unfolding master.retire_step
+  retire_orders v s = one_order (Server s, message.Retire) tt
 
   -- a client's
   one_request : (post : Post M) → IsRequest post.1 → AllPosts IsRequest (post ∷ [])

@@ -1,6 +1,6 @@
 -- The master hears Gone: from outside the chain, or from a member, which is taken out.
 use Rattle.std.specs.List.{last_or}
-use Rattle.std.proofs.Common.{◌≡◌, ◌⊎◌, ℕ, ◌+◌, ◌≤◌, true, false, if◌then◌else◌, ◌==◌, List, [], ◌∷◌, ◌++◌, Option, Some, None, refl, sym, ap, ◌∙◌, subst, inl, inr, append-nil, arith, eqb-true}
+use Rattle.std.proofs.Common.{◌≡◌, ◌⊎◌, ℕ, ◌+◌, ◌≤◌, true, false, ◌==◌, List, [], ◌∷◌, ◌++◌, Option, Some, None, refl, sym, ap, ◌∙◌, subst, inl, inr, append-nil, arith, eqb-true}
 use Rattle.zcalls.specs.declared.call.Entry.{Entry}
 use Rattle.zcalls.specs.Lists.{Among, ComesBefore, NoTwo}
 use Rattle.zcalls.specs.Kept.{Plain}
@@ -8,7 +8,7 @@ use Rattle.zcalls.proofs.Among.{test}
 use Rattle.zprotocol.specs.declared.message.Message.TheVariants as message
 use Rattle.zprotocol.specs.declared.process.Process.TheVariants.{Master, Server}
 use Rattle.zprotocol.specs.server.View.{Post, Neighbour, Transfer}
-use Rattle.zprotocol.specs.master.View.{MasterView, members, is_among, is_joining, with_number}
+use Rattle.zprotocol.specs.master.View.{MasterView, members, is_among, with_number}
 use Rattle.zprotocol.specs.master.Table as master
 use Rattle.zworld_model.specs.Links.{messages_to}
 use Rattle.zorder.proofs.legal_lemmas.lists.Members.{among_left, among_right, among_insert, among_inserted}
@@ -60,7 +60,7 @@ module _ {P : Type 0} (plain : Plain P) (t : Account) (s : IsSound plain t) (x :
   outside_sound = move_sound plain t s used_view [] good_outside
 
 -- from a member
-module _ {P : Type 0} (plain : Plain P) (t : Account) (s : IsSound plain t) (x : ℕ) (gone : t.world.failed x ≡ true) (x_in : Among x (members t.world.master)) (joining : Option ℕ) where
+module _ {P : Type 0} (plain : Plain P) (t : Account) (s : IsSound plain t) (x : ℕ) (gone : t.world.failed x ≡ true) (x_in : Among x (members t.world.master)) where
   abbrev w : LogWorld
   w = t.world
 
@@ -80,7 +80,7 @@ module _ {P : Type 0} (plain : Plain P) (t : Account) (s : IsSound plain t) (x :
   e = t.world.master.epoch + 1
 
   abbrev v : MasterView
-  v = record t.world.master { chain = front ++ (repair before e rest).0; joining = joining; epoch = e }
+  v = master.without_member t.world.master x (front ++ (repair before e rest).0)
 
   abbrev posts : List (Post (List Entry))
   posts = (repair before e rest).1 ++ master.config_posts v
@@ -228,14 +228,14 @@ module _ {P : Type 0} (plain : Plain P) (t : Account) (s : IsSound plain t) (x :
   -- all facts hold without the member
   pub inside_sound : IsSound plain (record t {
     world = world_with_move t.world
-        (record t.world.master { chain = (master.mended_chain {T = Transfer (List Entry)} (t.world.master.epoch + 1) x t.world.master.chain).0; joining = joining; epoch = t.world.master.epoch + 1 })
+        (master.without_member t.world.master x (master.mended_chain {T = Transfer (List Entry)} (t.world.master.epoch + 1) x t.world.master.chain).0)
         ((master.mended_chain {T = Transfer (List Entry)} (t.world.master.epoch + 1) x t.world.master.chain).1
-        ++ master.config_posts (record t.world.master { chain = (master.mended_chain {T = Transfer (List Entry)} (t.world.master.epoch + 1) x t.world.master.chain).0; joining = joining; epoch = t.world.master.epoch + 1 }));
+        ++ master.config_posts (master.without_member t.world.master x (master.mended_chain {T = Transfer (List Entry)} (t.world.master.epoch + 1) x t.world.master.chain).0));
   })
   inside_sound = subst (λ (c : List Neighbour × List (Post (List Entry))). IsSound plain (record t {
     world = world_with_move t.world
-        (record t.world.master { chain = c.0; joining = joining; epoch = t.world.master.epoch + 1 })
-        (c.1 ++ master.config_posts (record t.world.master { chain = c.0; joining = joining; epoch = t.world.master.epoch + 1 }));
+        (master.without_member t.world.master x c.0)
+        (c.1 ++ master.config_posts (master.without_member t.world.master x c.0));
   }))
       (sym mended_here) (move_sound plain t s v posts good_inside)
 
@@ -245,6 +245,6 @@ module _ {P : Type 0} (plain : Plain P) (t : Account) (s : IsSound plain t) wher
       → IsSound plain (record t { world = world_with_move t.world (master.gone_row {T = Transfer (List Entry)} t.world.master x).0 (master.gone_row t.world.master x).1 })
   unfolding master.gone_row
   gone_heard x gone = elim (test (is_among x (members t.world.master))) [
-    | inl member ↦ rw member (inside_sound plain t s x gone (among_tested x (members t.world.master) member) (if is_joining t.world.master x then None else t.world.master.joining))
+    | inl member ↦ rw member (inside_sound plain t s x gone (among_tested x (members t.world.master) member))
     | inr f ↦ rw f (outside_sound plain t s x gone)
   ]

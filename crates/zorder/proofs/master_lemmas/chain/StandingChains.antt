@@ -1,4 +1,4 @@
--- The master hears Have or Joined, or a message that doesn't count: the chain stays.
+-- The master hears Have or Joined, or a message that doesn't count, or orders a member to leave: the chain stays.
 use Rattle.std.specs.Prelude.{◌&&◌}
 use Rattle.std.specs.List.{range_with_len}
 use Rattle.std.proofs.Common.{◌≡◌, ◌⊎◌, ℕ, ◌+◌, ◌≤◌, true, ◌==◌, List, [], ◌∷◌, ◌++◌, map, Option, Some, None, refl, sym, ap, subst, inl, inr, append-nil, arith, eqb-true}
@@ -10,7 +10,7 @@ use Rattle.zprotocol.specs.declared.message.Message.TheVariants as message
 use Rattle.zprotocol.specs.declared.process.Process.{Process}
 use Rattle.zprotocol.specs.declared.process.Process.TheVariants.{Master, Server, Client}
 use Rattle.zprotocol.specs.server.View.{Post, Neighbour}
-use Rattle.zprotocol.specs.master.View.{MasterView, is_among, is_joining, head_of, tail_of}
+use Rattle.zprotocol.specs.master.View.{MasterView, members, is_among, is_joining, head_of, tail_of}
 use Rattle.zprotocol.specs.master.Table as master
 use Rattle.zworld_model.specs.Links.{is_same, messages_to}
 use Rattle.zorder.specs.chain.Flow.{LogWorld, LogMessage}
@@ -21,15 +21,17 @@ use Rattle.zorder.specs.chain.Sound.{IsSound}
 use Rattle.zorder.proofs.chain_lemmas.places.Orders.{unread_order}
 use Rattle.zorder.proofs.master_lemmas.chain.Moves.{world_with_move, IsGoodPost, IsGoodMove, move_sound}
 
--- an order that tells no predecessor and that isn't one to become the tail, or a configuration
+-- an order that tells no predecessor and that isn't one to become the tail, also one to leave; or a configuration
 abbrev pub IsStanding : LogWorld → LogMessage → Type 0
 IsStanding w (message.NewSucc k t n) = IsOpened w t k
 IsStanding w (message.Config epoch head tail) = Unit {0}
+IsStanding w message.Retire = Unit {0}
 IsStanding w other = ⊥
 
 standing_turn : (w : LogWorld) (m : LogMessage) → IsStanding w m → turn_of m ≡ None
 standing_turn w (message.NewSucc k t n) h = refl
 standing_turn w (message.Config epoch head tail) h = refl
+standing_turn w message.Retire h = refl
 standing_turn w m h = absurd h
 
 not_pred : (w : LogWorld) (k p : ℕ) (m : LogMessage) → m ≡ message.NewPred k p → IsStanding w m → ⊥
@@ -64,14 +66,14 @@ told_among v first post a = elim (among_cases post first (master.config_posts v)
     each (c ∷ cs) (inl e) = sym (ap (λ (p : Post (List Entry)). p.1) e)
     each (c ∷ cs) (inr b) = each cs b
 
-module _ {P : Type 0} (plain : Plain P) (t : Account) (s : IsSound plain t) (joining : Option ℕ) (e : ℕ) (low : t.world.master.epoch ≤ e) (posts : List (Post (List Entry)))
+module _ {P : Type 0} (plain : Plain P) (t : Account) (s : IsSound plain t) (joining retiring : Option ℕ) (e : ℕ) (low : t.world.master.epoch ≤ e) (posts : List (Post (List Entry)))
     (standing : (post : Post (List Entry)) → Among post posts → IsStanding t.world post.1)
     (each : (z : ℕ) → (messages_to (Server z) posts ≡ []) ⊎ ((m : LogMessage) × (messages_to (Server z) posts ≡ m ∷ []) × (is_among z t.world.master.used ≡ true) × IsStanding t.world m)) where
   abbrev w : LogWorld
   w = t.world
 
   abbrev v : MasterView
-  v = record t.world.master { joining = joining; epoch = e }
+  v = record t.world.master { joining = joining; retiring = retiring; epoch = e }
 
   good_post : (z : ℕ) (m : LogMessage) → is_among z w.master.used ≡ true → IsStanding w m → IsGoodPost w v z m
   good_post z m used h = record { is_used = used; new_epoch = λ k p e'. absurd (not_pred w k p m e' h); is_last = λ k e'. absurd (not_tail w k m e' h) }
@@ -91,6 +93,7 @@ module _ {P : Type 0} (plain : Plain P) (t : Account) (s : IsSound plain t) (joi
   standing_justified : (to : Process) (m : LogMessage) → IsStanding w m → IsJustified (world_with_move w v posts) t.items Master to m
   standing_justified to (message.NewSucc k x n) h = opened x k h
   standing_justified to (message.Config epoch head tail) h = tt
+  standing_justified to message.Retire h = tt
   standing_justified to m h = absurd h
 
   good_standing : IsGoodMove w t.items v posts
@@ -132,7 +135,7 @@ module _ {P : Type 0} (plain : Plain P) (t : Account) (s : IsSound plain t) wher
 
   -- a message that doesn't count
   pub unheard : IsSound plain (after (t.world.master, []))
-  unheard = standing_sound plain t s t.world.master.joining t.world.master.epoch (omega arith) [] (λ post a. absurd a) (λ z. inl refl)
+  unheard = standing_sound plain t s t.world.master.joining t.world.master.retiring t.world.master.epoch (omega arith) [] (λ post a. absurd a) (λ z. inl refl)
 
   have_by : (x epoch : ℕ) (last : Option ℕ) → IsOpened t.world x epoch → (found : Option ℕ) → master.before x epoch t.world.master.chain ≡ found
       → IsSound plain (after (elim found as (λ y. MasterView × List (Post (List Entry))) [
@@ -141,7 +144,7 @@ module _ {P : Type 0} (plain : Plain P) (t : Account) (s : IsSound plain t) wher
       ]))
   have_by x epoch last opened None is = unheard
   have_by x epoch last opened (Some p) is =
-      standing_sound plain t s t.world.master.joining t.world.master.epoch (omega arith) ((Server p, message.NewSucc epoch x last) ∷ []) one
+      standing_sound plain t s t.world.master.joining t.world.master.retiring t.world.master.epoch (omega arith) ((Server p, message.NewSucc epoch x last) ∷ []) one
       (λ z. elim (test (z == p)) [
         | inl same ↦ inr (message.NewSucc epoch x last, rw same refl, subst (λ y. is_among y t.world.master.used ≡ true) (sym (eqb-true _ _ same)) (s.used p (before_in x epoch t.world.master.chain p is)), opened)
         | inr f ↦ inl (rw f refl)
@@ -163,8 +166,22 @@ module _ {P : Type 0} (plain : Plain P) (t : Account) (s : IsSound plain t) wher
   pub joined_heard : (x : ℕ) → IsSound plain (after (master.joined_row t.world.master x))
   unfolding master.joined_row
   joined_heard x = elim (test (is_joining t.world.master x)) [
-    | inl joins ↦ rw joins (standing_sound plain t s None (t.world.master.epoch + 1) (omega arith) (master.config_posts settled)
+    | inl joins ↦ rw joins (standing_sound plain t s None t.world.master.retiring (t.world.master.epoch + 1) (omega arith) (master.config_posts settled)
         (λ post a. elim (told_among settled [] post a) [ inl b ↦ absurd b | inr c ↦ subst (IsStanding t.world) (sym c) tt ])
         (λ z. inl (addressed_told z settled [])))
     | inr f ↦ rw f unheard
   ]
+
+  -- a member is ordered to leave
+  pub retire_ordered : (x : ℕ) → Among x (members t.world.master) → IsSound plain (after (master.retire_step t.world.master x))
+  unfolding master.retire_step
+  retire_ordered x member =
+      standing_sound plain t s t.world.master.joining (Some x) t.world.master.epoch (omega arith) ((Server x, message.Retire) ∷ []) one
+      (λ z. elim (test (z == x)) [
+        | inl same ↦ inr (message.Retire, rw same refl, subst (λ y. is_among y t.world.master.used ≡ true) (sym (eqb-true _ _ same)) (s.used x member), tt)
+        | inr f ↦ inl (rw f refl)
+      ])
+    where
+      one : (post : Post (List Entry)) → Among post ((Server x, message.Retire) ∷ []) → IsStanding t.world post.1
+      one post (inl e) = subst (λ (q : Post (List Entry)). IsStanding t.world q.1) e tt
+      one post (inr b) = absurd b

@@ -13,7 +13,7 @@ use Rattle.zprotocol.specs.server.Table as server
 use Rattle.zprotocol.specs.server.support.Cases.{acks_all}
 use Rattle.zworld_model.specs.declared.event.Event.TheVariants.{Take}
 use Rattle.zworld_model.specs.Links.{without_front}
-use Rattle.zworld_model.specs.Events.{process_step}
+use Rattle.zworld_model.specs.Events.{process_step, server_does}
 use Rattle.zorder.specs.legal.Items.{Item, new_items}
 use Rattle.zorder.proofs.legal_lemmas.lists.Prefixes.{prefix_same}
 use Rattle.zorder.specs.chain.Flow.{log_machine, LogWorld, LogMessage, Log, or_else, log_at, final_log_by, final_log, first_snapshot_by, first_log}
@@ -84,21 +84,21 @@ module _ {P : Type 0} (plain : Plain P) (t : Account) (s : IsSound plain t) (y :
   taken = server.server_step (log_machine plain) (t.world.servers y) Master m
 
   account_of : (r : ServerResult (List Entry)) → server.server_step (log_machine plain) (t.world.servers y) Master m ≡ r
-      → account_with_puts (account_with_view plain t Master y r.0) y r.1 ≡ account_by plain t (Take Master (Server y)) (process_step (log_machine plain) popped Master (Server y) m)
+      → account_with_puts (account_with_view plain t Master y r.0) y r.1 ≡ account_by plain t (Take Master (Server y)) (server_does popped y taken)
   account_of r is =
       ap (λ (x : ServerResult (List Entry)). account_with_puts (account_with_view plain t Master y x.0) y x.1) (sym is)
       ∙ puts_at_once (account_with_view plain t Master y taken.0) y taken.1
       ∙ (λ i.
       let committed : List Entry = committed_after (tail_log (sym (at_same y taken.0 w.servers) i)) t.committed in
       record {
-        world = process_step (log_machine plain) popped Master (Server y) m;
+        world = server_does popped y taken;
         committed = committed;
         items = t.items ++ new_items plain (length w.history) t.committed committed;
       })
 
   -- the whole event, from the view and what is put
   pub after_turn : (r : ServerResult (List Entry)) → server.server_step (log_machine plain) (t.world.servers y) Master m ≡ r → IsGoodTurn t.world y r.0 rest
-      → IsSound plain (account_with_puts (account_with_view plain t Master y r.0) y r.1) → IsSoundAfter plain t (account_by plain t (Take Master (Server y)) (process_step (log_machine plain) popped Master (Server y) m))
+      → IsSound plain (account_with_puts (account_with_view plain t Master y r.0) y r.1) → IsSoundAfter plain t (account_by plain t (Take Master (Server y)) (server_does popped y taken))
   after_turn r is good sound =
       after_puts plain t (account_with_view plain t Master y r.0) _ y r.1 (account_of r is) sound (turn_begins plain t s y m rest link alive r.0 good)
 

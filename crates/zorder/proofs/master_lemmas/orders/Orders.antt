@@ -11,15 +11,18 @@ use Rattle.zprotocol.specs.server.Table.{new_succ_row}
 use Rattle.zprotocol.proofs.server_lemmas.Fields.{view_of}
 use Rattle.zworld_model.specs.declared.event.Event.TheVariants.{Take}
 use Rattle.zworld_model.specs.Links.{without_front}
-use Rattle.zworld_model.specs.Events.{process_step, front_step}
+use Rattle.zworld_model.specs.Events.{server_does, server_stops, front_step}
 use Rattle.zorder.proofs.legal_lemmas.lists.Prefixes.{prefix_same}
 use Rattle.zorder.specs.chain.Flow.{log_machine, LogMessage, Log, or_else, log_at}
 use Rattle.zorder.specs.chain.Chain.{Place, IsPast, LeadsTo, is_fresh, turn_of}
 use Rattle.zorder.specs.chain.Account.{Account, account_by}
 use Rattle.zorder.specs.chain.Sound.{IsSound, IsSoundAfter}
+use Rattle.zorder.proofs.chain_lemmas.links.Links.{at_itself}
+use Rattle.zorder.proofs.chain_lemmas.steps.ServerSteps.{account_with_view}
+use Rattle.zorder.proofs.chain_lemmas.steps.Stops.{stop_sound}
 use Rattle.zorder.proofs.chain_lemmas.Events.{where_enabled, front_there}
 use Rattle.zorder.specs.master.Laws.{ServersHearMaster}
-use Rattle.zorder.proofs.master_lemmas.orders.OrderSteps.{IsGoodTurn, turn_sound}
+use Rattle.zorder.proofs.master_lemmas.orders.OrderSteps.{IsGoodTurn, turn_sound, turn_begins}
 use Rattle.zorder.proofs.master_lemmas.orders.Neighbours.{final_log_of, first_log_of, same_final_log, same_first, after_turn, take_tail_order, take_head_order, take_pred_order}
 use Rattle.zorder.proofs.master_lemmas.orders.Successors.{take_succ_order}
 use Rattle.zorder.proofs.master_lemmas.orders.Handovers.{take_whole_order}
@@ -54,9 +57,21 @@ module _ {P : Type 0} (plain : Plain P) (t : Account) (s : IsSound plain t) (y :
   -- the event
   pub take_ignored : turn_of m ≡ None → server.server_step (log_machine plain) (t.world.servers y) Master m ≡ (t.world.servers y, [])
       → IsSoundAfter plain t (account_by plain t (Take Master (Server y))
-      (process_step (log_machine plain) (record t.world { links = without_front t.world.links Master (Server y) }) Master (Server y) m))
+      (server_does (record t.world { links = without_front t.world.links Master (Server y) }) y (server.server_step (log_machine plain) (t.world.servers y) Master m)))
   take_ignored turn is = after_turn plain t s y m rest link alive (old, []) is (good_same turn)
       (turn_sound plain t s y m rest link alive old (good_same turn))
+
+  -- an order to retire: the server ignores it, and stops
+  pub take_retirement : turn_of m ≡ None
+      → IsSoundAfter plain t (account_by plain t (Take Master (Server y)) (server_stops (record t.world { links = without_front t.world.links Master (Server y) }) y))
+  take_retirement turn = (
+    subst (λ (servers : ℕ → ServerView (List Entry)). IsSound plain (record (account_with_view plain t Master y old) {
+      world = record (server_stops (record t.world { links = without_front t.world.links Master (Server y) }) y) { servers = servers };
+    }))
+        (at_itself y t.world.servers)
+        (stop_sound plain (account_with_view plain t Master y old) (turn_sound plain t s y m rest link alive old (good_same turn)) y),
+    turn_begins plain t s y m rest link alive old (good_same turn),
+  )
 
 -- a server without a log ignores a successor
 without_log : {P : Type 0} (plain : Plain P) (machine : Log) (last : ℕ) (sent : List (ℕ × Entry)) (pred succ : Option Neighbour) (epoch z : ℕ) (n : Option ℕ) → machine ≡ None
@@ -91,6 +106,7 @@ module _ (t : Account) (s : IsSound plain_tree t) (y : ℕ) where
   heard (message.Snapshot epoch transfer) rest link alive = take_ignored plain_tree t s y (message.Snapshot epoch transfer) rest link alive refl refl
   heard (message.Have epoch last) rest link alive = take_ignored plain_tree t s y (message.Have epoch last) rest link alive refl refl
   heard (message.Joined epoch) rest link alive = take_ignored plain_tree t s y (message.Joined epoch) rest link alive refl refl
+  heard message.Retire rest link alive = take_retirement plain_tree t s y message.Retire rest link alive refl
   heard message.Gone rest link alive = take_ignored plain_tree t s y message.Gone rest link alive refl refl
   heard (message.Config epoch head tail) rest link alive = take_ignored plain_tree t s y (message.Config epoch head tail) rest link alive refl refl
 

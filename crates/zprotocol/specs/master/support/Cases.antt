@@ -1,13 +1,13 @@
 -- What the master does with a message, as one of five kinds of row, each with the conditions under which it happens; and
 -- how a chain is mended, as one of four. A proof that splits the master table by cases has a case for each.
-use Rattle.std.specs.Prelude.{◌≡◌, ℕ, ◌+◌, true, false, if◌then◌else◌, List, [], ◌∷◌, ◌++◌, Option, Some, None}
+use Rattle.std.specs.Prelude.{◌≡◌, ℕ, ◌+◌, true, false, List, [], ◌∷◌, ◌++◌, Option, Some, None}
 use Rattle.zprotocol.specs.declared.message.Message.{Message}
 use Rattle.zprotocol.specs.declared.message.Message.TheVariants as message
 use Rattle.zprotocol.specs.declared.process.Process.{Process}
 use Rattle.zprotocol.specs.declared.process.Process.TheVariants.{Server}
 use Rattle.zprotocol.specs.server.View.{Neighbour}
-use Rattle.zprotocol.specs.master.View.{MasterView, is_among, with_number, members, is_joining}
-use Rattle.zprotocol.specs.master.Table.{MasterResult, and_tell_clients, before, MendedChain}
+use Rattle.zprotocol.specs.master.View.{MasterView, is_among, with_number, members}
+use Rattle.zprotocol.specs.master.Table.{MasterResult, and_tell_clients, before, MendedChain, without_member}
 
 -- a chain from which a server has failed: the only one, the first, the last, or one between two others
 pub data IsMended {T : Type 0} (epoch s : ℕ) : List Neighbour → MendedChain T → Type 0 where
@@ -22,8 +22,7 @@ pub data IsMended {T : Type 0} (epoch s : ℕ) : List Neighbour → MendedChain 
 
 -- the view when a member has failed and its chain was mended
 abbrev pub after_gone : {T : Type 0} → MasterView → ℕ → MendedChain T → MasterView
-after_gone v s chain =
-    record v { chain = chain.0; joining = if is_joining v s then None else v.joining; epoch = v.epoch + 1 }
+after_gone v s chain = without_member v s chain.0
 
 -- the rows that do something, and that nothing is done
 pub data IsMasterRow {T : Type 0} (v : MasterView) : Process → Message T → MasterResult T → Type 0 where

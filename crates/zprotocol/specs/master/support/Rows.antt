@@ -5,11 +5,11 @@ use Rattle.zprotocol.specs.declared.process.Process.TheVariants.{Server, Client}
 use Rattle.zprotocol.specs.declared.process.Process.{Process}
 use Rattle.zprotocol.specs.server.View.{Neighbour, Transfer, MessageOf, Post}
 use Rattle.zprotocol.specs.master.View.{MasterView}
-use Rattle.zprotocol.specs.master.Table.{MasterResult, master_step, join_step}
+use Rattle.zprotocol.specs.master.Table.{MasterResult, master_step, join_step, retire_step}
 
 -- the master of two clients, of servers 1 to 4 and of epochs up to 6, with this chain and this server joining
 abbrev pub master : List Neighbour → Option ℕ → MasterView
-master chain joining = record { chain = chain; joining = joining; used = 1 ∷ 2 ∷ 3 ∷ 4 ∷ []; epoch = 6; clients = 2 }
+master chain joining = record { chain = chain; joining = joining; retiring = None; used = 1 ∷ 2 ∷ 3 ∷ 4 ∷ []; epoch = 6; clients = 2 }
 
 -- three members, and four
 abbrev pub three : MasterView
@@ -31,11 +31,15 @@ with_fifth =
 -- the master at the opening of a chain of two, with three clients
 abbrev pub opening_of_two : MasterView
 opening_of_two =
-    record { chain = (1, 0) ∷ (2, 0) ∷ []; joining = None; used = 1 ∷ 2 ∷ []; epoch = 0; clients = 3 }
+    record { chain = (1, 0) ∷ (2, 0) ∷ []; joining = None; retiring = None; used = 1 ∷ 2 ∷ []; epoch = 0; clients = 3 }
 
 -- three members, of which the last has no state yet
 abbrev pub growing : MasterView
 growing = master ((1, 0) ∷ (2, 3) ∷ (4, 5) ∷ []) (Some 4)
+
+-- three members, of which this one was ordered to leave
+abbrev pub retiring : ℕ → MasterView
+retiring s = record three { retiring = Some s }
 
 -- one member; one that has no state; and none
 abbrev pub one : MasterView
@@ -62,6 +66,10 @@ Ignores v from m = after v from m ≡ (v, [])
 -- what the master does when a server joins
 abbrev pub after_join : MasterView → ℕ → MasterResult (Transfer ℕ)
 after_join v s = join_step v s
+
+-- and when it orders one to leave
+abbrev pub after_retire : MasterView → ℕ → MasterResult (Transfer ℕ)
+after_retire v s = retire_step v s
 
 -- when a server is gone
 abbrev pub after_gone : MasterView → ℕ → MasterResult (Transfer ℕ)

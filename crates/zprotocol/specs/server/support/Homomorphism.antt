@@ -29,6 +29,7 @@ message_with h (message.Have epoch last) = message.Have epoch last
 message_with h (message.NewSucc epoch succ last) = message.NewSucc epoch succ last
 message_with h (message.BecomeHead epoch) = message.BecomeHead epoch
 message_with h (message.BecomeTail epoch) = message.BecomeTail epoch
+message_with h message.Retire = message.Retire
 message_with h (message.Joined epoch) = message.Joined epoch
 message_with h message.Gone = message.Gone
 message_with h (message.Config epoch head tail) = message.Config epoch head tail

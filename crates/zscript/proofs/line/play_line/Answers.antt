@@ -1,7 +1,7 @@
 use Rattle.std.proofs.Common.{refl}
 use Rattle.std.proofs.lemmas.Result.{on_ok_weaker}
 use Rattle.zworld_model.specs.declared.event.Event.TheVariants.{Take, Ignore, Fail, Retry}
-use Rattle.zscript.proofs.Effects.{plain_done, join_done}
+use Rattle.zscript.proofs.Effects.{plain_done, join_done, retire_done}
 use Rattle.zscript.proofs.line.play_line.Goals as goal
 
 pub returns-in-Call : goal.returns-in-Call
@@ -28,6 +28,10 @@ returns-in-Fail c =
 pub returns-in-Join : goal.returns-in-Join
 returns-in-Join c =
     rw c.in-Join.is (on_ok_weaker c.do_event-in-Join.result (join_done _ _ c.in-Join.server _) c.do_event-in-Join.ensures)
+
+pub returns-in-Retire : goal.returns-in-Retire
+returns-in-Retire c =
+    rw c.in-Retire.is (on_ok_weaker c.do_event-in-Retire.result (retire_done _ _ c.in-Retire.server _) c.do_event-in-Retire.ensures)
 
 pub returns-in-Retry : goal.returns-in-Retry
 returns-in-Retry c =

@@ -8,4 +8,4 @@ pub returns : goal.returns
 returns g c =
     let added = rw c.expect.ensures at c.add.ensures.added in
     let tree = c.raise.ensures.tree ∙ ap with_next_zxid added in
-    record { low = λ low. subst IsLow (sym tree) (low_added c.args.store.now.tree c.path-path.result _ c.args.owner false low) }
+    record { low = λ low. subst IsLow (sym tree) (low_added c.args.store.now.tree c.path-path.result _ c.args.owner 0 false low) }

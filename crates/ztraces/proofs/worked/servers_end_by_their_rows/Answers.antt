@@ -1,12 +1,23 @@
 use Rattle.std.proofs.Common.{refl, sym}
 use mathlib.Core.Bool.{true≢false}
+use Rattle.zprotocol.specs.declared.message.Message.TheVariants as message
 use Rattle.zprotocol.specs.server.Table.{server_step, query_row}
-use Rattle.ztraces.specs.Deeds.{ServerIgnores, ServerStops, ServerHalts}
+use Rattle.ztraces.specs.Deeds.{ServerTakes, ServerIgnores, ServerStops, ServerLeaves, ServerHalts}
 use Rattle.ztraces.specs.support.TraceRows.{c0, server_with, request, asked}
 use Rattle.ztraces.proofs.worked.servers_end_by_their_rows.Goals as goal
 
 pub returns-clause-stops : goal.returns-clause-stops
 returns-clause-stops c = ServerStops 1 (server_with 0) c0 (1, request)
+
+pub returns-clause-leaves : goal.returns-clause-leaves
+returns-clause-leaves c = ServerLeaves 1 (server_with 0) (1, message.Retire) refl
+
+pub returns-clause-acts_on_no_such_order : goal.returns-clause-acts_on_no_such_order
+unfolding server_step
+returns-clause-acts_on_no_such_order c (ServerTakes s v from m no_order) = absurd (true≢false no_order)
+
+pub returns-clause-leaves_at_no_other_order : goal.returns-clause-leaves_at_no_other_order
+returns-clause-leaves_at_no_other_order c (ServerLeaves s v m order) = absurd (true≢false (sym order))
 
 pub returns-clause-halts : goal.returns-clause-halts
 returns-clause-halts c = ServerHalts 1 (server_with 0)

@@ -11,4 +11,4 @@ returns-clause-client c = (ClientBegins 0 (opening_client 1 1 0) write refl, ome
 
 pub returns-clause-server : goal.returns-clause-server
 unfolding all_tables
-returns-clause-server c = (ServerTakes 1 (server_with 0) c0 (1, request), refl, tt)
+returns-clause-server c = (ServerTakes 1 (server_with 0) c0 (1, request) refl, refl, tt)

@@ -1,4 +1,4 @@
-use Rattle.std.proofs.Common.{refl, ap, sym, ◌∙◌}
+use Rattle.std.proofs.Common.{ap}
 use Rattle.crossbeam_channel.specs.Claims.{view}
 use Rattle.zconsole.proofs.Orders.{begins, forks}
 use Rattle.zconsole.proofs.ends.Console.open.Goals as goal

@@ -10,7 +10,7 @@ use Rattle.znodes.proofs.nodes.Nodes.add.Goals as goal
 -- the view with more room in the index
 module _ (c : goal.After-put_under-arg-1) where
   abbrev roomy : NodesView
-  roomy = view_of (record { slots = c.self.inside.slots; index = c.reserve.new.self; owners = c.self.inside.owners; alloc = c.self.inside.alloc })
+  roomy = view_of (record { slots = c.self.inside.slots; index = c.reserve.new.self; owners = c.self.inside.owners; timed = c.self.inside.timed; alloc = c.self.inside.alloc })
 
   same : SameButRoom c.args.self.now roomy
   same =
@@ -30,7 +30,7 @@ put_under-requires-clause-held c =
 
 pub put_under-requires-clause-fits : goal.put_under-requires-clause-fits
 put_under-requires-clause-fits c =
-    let above = parent-has_node c.self.inside c.args.self.now c.self.view_is c.self.invariant c.args.parent (parent_of c.args.path) c.requires.parent in
+    let above = parent-has_node c.self.inside c.args.self.now c.self.view_is c.self.invariant.linked c.args.parent (parent_of c.args.path) c.requires.parent in
     fits c.args.self.now (roomy c) c.insert_taken.new.self c.in_ok-id.id c.args.parent c.args.path c.args.node (same c) c.in_ok-id.ensures.held c.requires.below_root c.requires.free above c.requires.owner
 
 pub put_under-requires-clause-under : goal.put_under-requires-clause-under
@@ -40,7 +40,7 @@ put_under-requires-clause-under c =
 pub returns-clause-added : goal.returns-clause-added
 returns-clause-added c =
     let view = c.self.view_is in
-    let roomy_end = view_of (record { slots = c.self.inside.slots; index = c.reserve.new.self; owners = c.self.inside.owners; alloc = c.self.inside.alloc }) in
+    let roomy_end = view_of (record { slots = c.self.inside.slots; index = c.reserve.new.self; owners = c.self.inside.owners; timed = c.self.inside.timed; alloc = c.self.inside.alloc }) in
     let nodes = ap (nodes_of c.self.inside.slots.items) c.in-Ok-reserve.ensures.same ∙ ap (λ (v : NodesView). v.nodes) view in
     let alike : SameButRoom c.args.self.now roomy_end =
     λ i. record {

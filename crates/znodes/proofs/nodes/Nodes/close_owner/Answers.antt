@@ -11,13 +11,16 @@ pub invariant_of-self : goal.invariant_of-self
 invariant_of-self c =
     let s = c.self.inside in
     let none = ap (λ (v : NodesView). ephemerals v.nodes c.args.owner) c.self.view_is ∙ c.requires.owns_none in
-    subst (IsLinked s.slots.items s.index.ids) (sym c.close.ensures) (linked-closed s.slots.items s.index.ids s.owners c.args.owner c.self.invariant none)
+    record {
+      linked = subst (IsLinked s.slots.items s.index.ids) (sym c.close.ensures) (linked-closed s.slots.items s.index.ids s.owners c.args.owner c.self.invariant.linked none);
+      mortal = c.self.invariant.mortal;
+    }
 
 pub returns : goal.returns
 returns c =
     let s = c.self.inside in
     let view = c.self.view_is in
-    let owners = ap known_of c.close.ensures ∙ known-closed s.slots.items s.index.ids s.owners c.args.owner c.self.invariant ∙ ap (λ (v : NodesView). remove v.owners c.args.owner) view in
+    let owners = ap known_of c.close.ensures ∙ known-closed s.slots.items s.index.ids s.owners c.args.owner c.self.invariant.linked ∙ ap (λ (v : NodesView). remove v.owners c.args.owner) view in
     λ i. record {
       nodes = (view i).nodes;
       places = (view i).places;

@@ -7,4 +7,4 @@ use Rattle.znodes.proofs.nodes.Nodes.len.Goals as goal
 pub returns : goal.returns
 returns c =
     let s = c.self.inside in
-    c.len.ensures ∙ sym (len-nodes s.slots.items s.index.ids s.owners c.self.invariant) ∙ ap (λ (v : NodesView). finite.len v.nodes) c.self.view_is
+    c.len.ensures ∙ sym (len-nodes s.slots.items s.index.ids s.owners c.self.invariant.linked) ∙ ap (λ (v : NodesView). finite.len v.nodes) c.self.view_is

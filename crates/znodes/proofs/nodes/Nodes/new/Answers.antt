@@ -3,18 +3,19 @@ use mathlib.Core.Path.{subst}
 use Rattle.std.specs.FinMap as finite
 use Rattle.std.specs.FinMap.{insert}
 use Rattle.zslots.specs.declared.id.Id.{Id}
+use Rattle.zslots.specs.declared.list.List.{List as IdList}
 use Rattle.zslots.specs.SlotsView.{Items, SlotsView}
 use Rattle.znodes.specs.index.IndexView.{IdsByPath}
 use Rattle.ztree.specs.Tree.{Path}
 use Rattle.znodes.specs.declared.row.Row.{Row}
 use Rattle.znodes.specs.support.OwnerLists.{OwnerLists}
-use Rattle.znodes.specs.support.Rows.{IsLinked, lone_row, nodes_of, places_of, held_of, known_of}
+use Rattle.znodes.specs.support.Rows.{IsThreaded, lone_row, nodes_of, places_of, held_of, known_of}
 use Rattle.znodes.proofs.Opening as opening
-use Rattle.znodes.proofs.Opening.{known-none, linked-alone, nodes-alone, places-alone, held-alone}
+use Rattle.znodes.proofs.Opening.{known-none, linked-alone, mortal-alone, nodes-alone, places-alone, held-alone}
 use Rattle.znodes.proofs.nodes.Nodes.new.Goals as goal
 
 -- what the parts are, once all are made
-module _ (c : goal.After-new-2) where
+module _ (c : goal.After-new-3) where
   abbrev id : Id
   id = c.in-Ok.id
 
@@ -38,9 +39,11 @@ insert-requires-2 c = search rules
 
 pub invariant_of-result : goal.invariant_of-result
 invariant_of-result c =
-    let all : (Items Row × (IdsByPath × OwnerLists)) → Type 0 = λ w. IsLinked w.0 w.1.0 w.1.1 in
-    subst all (λ i. (sym (rows c) i, (sym (ids c) i, sym c.new-2.ensures i)))
-    (linked-alone c.args.alloc c.args.root (id c) c.requires.nobodys)
+    let all : (Items Row × (IdsByPath × (OwnerLists × IdList 2))) → Type 0 = λ w. IsThreaded w.0 w.1.0 w.1.1.0 w.1.1.1 in
+    subst all (λ i. (sym (rows c) i, (sym (ids c) i, (sym c.new-2.ensures i, sym c.new-3.ensures i)))) (record {
+      linked = linked-alone c.args.alloc c.args.root (id c) c.requires.nobodys;
+      mortal = mortal-alone c.args.alloc c.args.root (id c) c.requires.stays;
+    })
 
 pub returns : goal.returns
 returns c =

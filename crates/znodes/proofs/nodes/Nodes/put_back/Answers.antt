@@ -23,7 +23,7 @@ put_under-requires-clause-under c = λ t at.
     let same = same_some (r.path, r.node) t (sym shown.2 ∙ at) in
     let named = sym (c.id_above.ensures ∙ ap (λ names. get s.index.ids (parent_of names)) c.names.ensures.names) ∙ c.in-Some-id_above.is in
     ap (λ w. path_of w c.in-Some-id_above.parent) (sym c.self.view_is)
-    ∙ place-of s.slots.items s.index.ids s.owners c.self.invariant (parent_of r.path) c.in-Some-id_above.parent named
+    ∙ place-of s.slots.items s.index.ids s.owners c.self.invariant.linked (parent_of r.path) c.in-Some-id_above.parent named
     ∙ ap (λ (u : Taken). Some (parent_of u.0)) same
 
 pub unreachable-requires-in-None : goal.unreachable-requires-in-None
@@ -31,5 +31,5 @@ unreachable-requires-in-None c =
     let s = c.self.inside in
     let r = c.in-Some.row.now in
     let shown = shown-taken s c.args.self.now c.self.view_is c.args.id r c.requires.held (sym c.in-Some.ensures) in
-    let can = can-return s c.args.self.now c.self.view_is c.self.invariant r (c.requires.fits (r.path, r.node) shown.2) in
+    let can = can-return s c.args.self.now c.self.view_is c.self.invariant.linked r (c.requires.fits (r.path, r.node) shown.2) in
     none_some can.1.0 (sym c.in-None.is ∙ c.id_above.ensures ∙ ap (λ names. get s.index.ids (parent_of names)) c.names.ensures.names ∙ can.1.1)

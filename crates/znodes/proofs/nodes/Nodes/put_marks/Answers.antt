@@ -6,8 +6,9 @@ use Rattle.ztree.specs.Tree.{with_change_at}
 use Rattle.ztree.proofs.Maps.{same_some, none_some}
 use Rattle.znodes.specs.declared.row.Row.{Row}
 use Rattle.znodes.specs.NodesView.{NodesView, marks_of, node_with_marks}
-use Rattle.znodes.specs.support.Rows.{IsLinked, nodes_of, places_of, held_of}
+use Rattle.znodes.specs.support.Rows.{IsThreaded, nodes_of, places_of, held_of}
 use Rattle.znodes.proofs.Linked.{live-shown, node-is}
+use Rattle.znodes.proofs.Mortal.{mortal-written}
 use Rattle.znodes.proofs.Written.{linked-written, nodes-written, places-written, held-written}
 use Rattle.znodes.proofs.nodes.Nodes.put_marks.Goals as goal
 
@@ -20,8 +21,10 @@ pub invariant_of-self : goal.invariant_of-self
 invariant_of-self c =
     let s = c.self.inside in
     let r = live-shown s c.args.self.now c.self.view_is c.args.id c.requires.live in
-    subst (λ m. IsLinked m s.index.ids s.owners) (ap (λ (h : SlotsView Row). h.items) (sym c.marks_put.ensures.rows))
-    (linked-written s.slots.items s.index.ids s.owners c.args.id r.0 (node_with_marks c.args.marks) c.self.invariant r.1 r.2 (λ _. refl))
+    subst (λ m. IsThreaded m s.index.ids s.owners s.timed) (ap (λ (h : SlotsView Row). h.items) (sym c.marks_put.ensures.rows)) (record {
+      linked = linked-written s.slots.items s.index.ids s.owners c.args.id r.0 (node_with_marks c.args.marks) c.self.invariant.linked r.1 r.2 (λ _. refl);
+      mortal = mortal-written s.slots.items s.timed c.args.id (node_with_marks c.args.marks) (λ _. refl) c.self.invariant.mortal;
+    })
 
 pub returns-clause-written : goal.returns-clause-written
 returns-clause-written c = λ path at.
@@ -31,10 +34,10 @@ returns-clause-written c = λ path at.
     let r = live-shown s c.args.self.now view c.args.id c.requires.live in
     let rows = ap (λ (h : SlotsView Row). h.items) c.marks_put.ensures.rows in
     let nodes =
-    ap (λ m. nodes_of m s.index.ids) rows ∙ nodes-written s.slots.items s.index.ids s.owners c.args.id r.0 f c.self.invariant r.1 r.2 (λ _. refl)
+    ap (λ m. nodes_of m s.index.ids) rows ∙ nodes-written s.slots.items s.index.ids s.owners c.args.id r.0 f c.self.invariant.linked r.1 r.2 (λ _. refl)
     ∙ (λ i. with_change_at (view i).nodes (same_some r.0.path path (sym r.3 ∙ at) i) f) in
-    let places = ap places_of rows ∙ places-written s.slots.items s.index.ids s.owners c.args.id r.0 f c.self.invariant r.1 r.2 (λ _. refl) ∙ ap (λ (v : NodesView). v.places) view in
-    let held = ap held_of rows ∙ held-written s.slots.items s.index.ids s.owners c.args.id r.0 f c.self.invariant r.1 r.2 (λ _. refl) ∙ ap (λ (v : NodesView). v.held) view in
+    let places = ap places_of rows ∙ places-written s.slots.items s.index.ids s.owners c.args.id r.0 f c.self.invariant.linked r.1 r.2 (λ _. refl) ∙ ap (λ (v : NodesView). v.places) view in
+    let held = ap held_of rows ∙ held-written s.slots.items s.index.ids s.owners c.args.id r.0 f c.self.invariant.linked r.1 r.2 (λ _. refl) ∙ ap (λ (v : NodesView). v.held) view in
     let given = ap (λ (h : SlotsView Row). h.given) c.marks_put.ensures.rows ∙ ap (λ (v : NodesView). v.given) view in
     λ i. record {
       nodes = nodes i;
@@ -48,5 +51,5 @@ returns-clause-written c = λ path at.
 pub returns-clause-before : goal.returns-clause-before
 returns-clause-before c = λ n at.
     let r = live-shown c.self.inside c.args.self.now c.self.view_is c.args.id c.requires.live in
-    let node = same_some r.0.node n (sym (node-is c.self.inside c.args.self.now c.self.view_is c.self.invariant c.args.id r.0 r.1 r.2 r.3) ∙ at) in
+    let node = same_some r.0.node n (sym (node-is c.self.inside c.args.self.now c.self.view_is c.self.invariant.linked c.args.id r.0 r.1 r.2 r.3) ∙ at) in
     same_some c.in-Some.before (marks_of r.0.node) (sym c.in-Some.is ∙ c.marks_put.ensures.before ∙ ap (option_map marks_of) (ap (option_map (λ (x : Row). x.node)) r.1)) ∙ ap marks_of node

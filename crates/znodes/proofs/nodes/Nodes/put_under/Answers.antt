@@ -5,6 +5,7 @@ use Rattle.std.specs.FinMap as finite
 use Rattle.std.specs.FinMap.{get, insert, remove}
 use Rattle.zslots.specs.declared.id.Id.{Id}
 use Rattle.zslots.specs.declared.limits.TheConstants.{MAX_LENGTH}
+use Rattle.zslots.specs.declared.list.List.{List as IdList}
 use Rattle.zslots.specs.SlotsView.{SlotsView, Items}
 use Rattle.zslots.proofs.Items.{some_there}
 use Rattle.znodes.specs.index.IndexView.{IdsByPath}
@@ -13,13 +14,14 @@ use Rattle.ztree.proofs.Maps.{same_some, none_some}
 use Rattle.znodes.specs.declared.row.Row.{Row}
 use Rattle.znodes.specs.NodesView.{NodesView, CanReturn}
 use Rattle.znodes.specs.support.OwnerLists.{OwnerLists, list_of}
-use Rattle.znodes.specs.support.Rows.{Key, IsLinked, nodes_of, places_of, held_of, known_of}
-use Rattle.znodes.specs.support.Linking.{with_key, kept_key, with_child, with_owned}
+use Rattle.znodes.specs.support.Rows.{Key, IsThreaded, nodes_of, places_of, held_of, known_of}
+use Rattle.znodes.specs.support.Linking.{with_key, kept_key, with_child, with_owned, with_timed}
 use Rattle.znodes.proofs.OwnerMaps.{listed}
 use Rattle.znodes.proofs.Linked.{taken-row, shown-taken, can-return, parent-named}
 use Rattle.znodes.proofs.Heads.{known-with}
 use Rattle.znodes.proofs.Back.{put, back, more, owners_back, key-kept}
 use Rattle.znodes.proofs.Returned.{child-room, owned-room, linked-back, nodes-returned, places-returned, held-returned}
+use Rattle.znodes.proofs.Mortal.{nodes-same, places-same, held-same, mortal-back, timed-room, linked-listed, listed-faces}
 use Rattle.znodes.proofs.nodes.Nodes.put_under.Goals as goal
 
 pub unreachable-requires : goal.unreachable-requires
@@ -35,8 +37,8 @@ put_child-requires c =
     let there = sym c.in-Some.ensures in
     let shown = shown-taken s c.args.self.now c.self.view_is c.args.id r c.requires.held there in
     let few : finite.len s.slots.items ≤ MAX_LENGTH = omega (arith, c.len.ensures, c.len.type_inv) in
-    child-room s.slots.items s.index.ids s.owners c.args.id r shown.0 c.self.invariant there shown.1 MAX_LENGTH few
-    (Some c.args.parent) (sym (parent-named s c.args.self.now c.self.view_is c.self.invariant c.args.parent (parent_of r.path) (c.requires.under (r.path, r.node) shown.2)))
+    child-room s.slots.items s.index.ids s.owners c.args.id r shown.0 c.self.invariant.linked there shown.1 MAX_LENGTH few
+    (Some c.args.parent) (sym (parent-named s c.args.self.now c.self.view_is c.self.invariant.linked c.args.parent (parent_of r.path) (c.requires.under (r.path, r.node) shown.2)))
 
 pub put_owned-requires : goal.put_owned-requires
 put_owned-requires c =
@@ -45,8 +47,17 @@ put_owned-requires c =
     let there = sym c.in-Some.ensures in
     let shown = shown-taken s c.args.self.now c.self.view_is c.args.id r c.requires.held there in
     let few : finite.len s.slots.items ≤ MAX_LENGTH = omega (arith, c.len.ensures, c.len.type_inv) in
-    owned-room s.slots.items s.index.ids s.owners c.args.id r shown.0 c.self.invariant there shown.1 MAX_LENGTH few
+    owned-room s.slots.items s.index.ids s.owners c.args.id r shown.0 c.self.invariant.linked there shown.1 MAX_LENGTH few
     (list_of s.owners r.node.owner) (λ list e. listed s.owners r.node.owner list e)
+
+pub put_timed-requires : goal.put_timed-requires
+put_timed-requires c = λ some.
+    let s = c.self.inside in
+    let r = c.in-Some.row.now in
+    let there = sym c.in-Some.ensures in
+    let shown = shown-taken s c.args.self.now c.self.view_is c.args.id r c.requires.held there in
+    let few : finite.len s.slots.items ≤ MAX_LENGTH = omega (arith, c.len.ensures, c.len.type_inv) in
+    timed-room s.slots.items s.index.ids s.owners s.timed c.args.id r shown.0 c.self.invariant.mortal there shown.1 MAX_LENGTH few
 
 -- it has a key
 pub unreachable-requires-in-None : goal.unreachable-requires-in-None
@@ -57,14 +68,14 @@ unreachable-requires-in-None c =
     let there = sym c.in-Some.ensures in
     let shown = shown-taken s c.args.self.now c.self.view_is id r c.requires.held there in
     let list = list_of s.owners r.node.owner in
-    let parent = sym (parent-named s c.args.self.now c.self.view_is c.self.invariant c.args.parent (parent_of r.path) (c.requires.under (r.path, r.node) shown.2)) in
+    let parent = sym (parent-named s c.args.self.now c.self.view_is c.self.invariant.linked c.args.parent (parent_of r.path) (c.requires.under (r.path, r.node) shown.2)) in
     let put-is = ap (λ (h : SlotsView Row). h.items) c.put_child.ensures ∙ ap (λ o. with_child s.slots.items o id) parent in
     let owned = ap (λ (h : SlotsView Row). h.items) c.put_owned.ensures.rows ∙ ap (λ w. with_owned w list id) put-is in
     none_some shown.0
     (sym c.in-None.is ∙ c.take_key.ensures.key ∙ ap (λ w. kept_key w id) owned ∙ key-kept s.slots.items s.index.ids s.owners id r there list ∙ shown.1)
 
 -- what is known at the end
-module _ (c : goal.After-insert) where
+module _ (c : goal.After-put_timed) where
   abbrev m : Items Row
   m = c.self.inside.slots.items
 
@@ -87,18 +98,21 @@ module _ (c : goal.After-insert) where
   fits = c.requires.fits (r.path, r.node) shown.2
 
   can : (get ids r.path ≡ None) × ((p : Id) × (get ids (parent_of r.path) ≡ Some p)) × ((r.node.owner ≡ 0) ⊎ IsSome (get owners r.node.owner))
-  can = can-return c.self.inside c.args.self.now c.self.view_is c.self.invariant r fits
+  can = can-return c.self.inside c.args.self.now c.self.view_is c.self.invariant.linked r fits
 
   put-is : c.put_child.new.slots.items ≡ put m ids owners c.args.id r
   put-is =
       ap (λ (h : SlotsView Row). h.items) c.put_child.ensures
-      ∙ ap (λ o. with_child m o c.args.id) (sym (parent-named c.self.inside c.args.self.now c.self.view_is c.self.invariant c.args.parent (parent_of r.path) (c.requires.under (r.path, r.node) shown.2)))
+      ∙ ap (λ o. with_child m o c.args.id) (sym (parent-named c.self.inside c.args.self.now c.self.view_is c.self.invariant.linked c.args.parent (parent_of r.path) (c.requires.under (r.path, r.node) shown.2)))
 
   owned : c.put_owned.new.slots.items ≡ with_owned (put m ids owners c.args.id r) (list_of owners r.node.owner) c.args.id
   owned = ap (λ (h : SlotsView Row). h.items) c.put_owned.ensures.rows ∙ ap (λ w. with_owned w (list_of owners r.node.owner) c.args.id) put-is
 
-  rows : c.take_key.new.slots.items ≡ back m ids owners c.args.id r
-  rows = ap (λ (h : SlotsView Row). h.items) c.take_key.ensures.rows ∙ ap (λ w. with_key w c.args.id None) owned
+  back-rows : c.take_key.new.slots.items ≡ back m ids owners c.args.id r
+  back-rows = ap (λ (h : SlotsView Row). h.items) c.take_key.ensures.rows ∙ ap (λ w. with_key w c.args.id None) owned
+
+  rows : c.put_timed.new.slots.items ≡ with_timed (back m ids owners c.args.id r) c.self.inside.timed r.node.ttl c.args.id
+  rows = ap (λ (h : SlotsView Row). h.items) c.put_timed.ensures.rows ∙ ap (λ w. with_timed w c.self.inside.timed r.node.ttl c.args.id) back-rows
 
   key : c.in-Some-take_key.key ≡ shown.0
   key =
@@ -106,7 +120,7 @@ module _ (c : goal.After-insert) where
       (sym c.in-Some-take_key.is ∙ c.take_key.ensures.key ∙ ap (λ w. kept_key w c.args.id) owned ∙ key-kept m ids owners c.args.id r there (list_of owners r.node.owner) ∙ shown.1)
 
   index : c.insert.new.self.ids ≡ more m ids owners c.args.id r
-  index = c.insert.ensures.ids ∙ ap (λ (k : Key). insert ids k c.args.id) (c.into_names.ensures ∙ key) ∙ ap (λ q. insert ids q c.args.id) (c.self.invariant.keyed c.args.id r there shown.0 shown.1).0
+  index = c.insert.ensures.ids ∙ ap (λ (k : Key). insert ids k c.args.id) (c.into_names.ensures ∙ key) ∙ ap (λ q. insert ids q c.args.id) (c.self.invariant.linked.keyed c.args.id r there shown.0 shown.1).0
 
   lists : c.put_owned.new.owners ≡ owners_back m ids owners c.args.id r
   lists = c.put_owned.ensures.owners
@@ -114,33 +128,41 @@ module _ (c : goal.After-insert) where
 pub invariant_of-self : goal.invariant_of-self
 invariant_of-self c =
     let ends = can c in
-    let linked = linked-back (m c) (ids c) (owners c) c.args.id (r c) (shown c).0 c.self.invariant (there c) (shown c).1 (fits c).below_root ends.0 ends.1.0 ends.1.1 ends.2 in
-    subst (λ a. IsLinked a c.insert.new.self.ids c.put_owned.new.owners) (sym (rows c))
-    (subst (λ b. IsLinked (back (m c) (ids c) (owners c) c.args.id (r c)) b c.put_owned.new.owners) (sym (index c))
-    (subst (IsLinked (back (m c) (ids c) (owners c) c.args.id (r c)) (more (m c) (ids c) (owners c) c.args.id (r c))) (sym (lists c)) linked))
+    let linked = linked-back (m c) (ids c) (owners c) c.args.id (r c) (shown c).0 c.self.invariant.linked (there c) (shown c).1 (fits c).below_root ends.0 ends.1.0 ends.1.1 ends.2 in
+    let here = back (m c) (ids c) (owners c) c.args.id (r c) in
+    let all : (Items Row × (IdsByPath × (OwnerLists × IdList 2))) → Type 0 = λ w. IsThreaded w.0 w.1.0 w.1.1.0 w.1.1.1 in
+    subst all (λ i. (sym (rows c) i, (sym (index c) i, (sym (lists c) i, sym c.put_timed.ensures.timed i)))) (record {
+      linked = linked-listed here (more (m c) (ids c) (owners c) c.args.id (r c)) (owners_back (m c) (ids c) (owners c) c.args.id (r c)) c.self.inside.timed (r c).node.ttl c.args.id linked;
+      mortal = mortal-back (m c) (ids c) (owners c) c.self.inside.timed c.args.id (r c) (shown c).0 c.self.invariant.mortal (there c) (shown c).1;
+    })
 
 pub returns : goal.returns
 returns c = λ t at.
     let id = c.args.id in
     let view = c.self.view_is in
     let ends = can c in
+    let here = back (m c) (ids c) (owners c) id (r c) in
+    let faces = listed-faces here (ids c) (owners c) c.self.inside.timed (r c).node.ttl id in
     let same = same_some ((r c).path, (r c).node) t (sym (shown c).2 ∙ at) in
     record {
       nodes =
           (λ i. nodes_of (rows c i) (index c i))
-          ∙ nodes-returned (m c) (ids c) (owners c) id (r c) (shown c).0 c.self.invariant (there c) (shown c).1 (fits c).below_root ends.0 ends.1.0 ends.1.1 ends.2
+          ∙ nodes-same here (with_timed here c.self.inside.timed (r c).node.ttl id) (more (m c) (ids c) (owners c) id (r c)) faces
+          ∙ nodes-returned (m c) (ids c) (owners c) id (r c) (shown c).0 c.self.invariant.linked (there c) (shown c).1 (fits c).below_root ends.0 ends.1.0 ends.1.1 ends.2
           ∙ (λ i. insert (view i).nodes (same i).0 (same i).1);
       places =
           ap places_of (rows c)
-          ∙ places-returned (m c) (ids c) (owners c) id (r c) (shown c).0 c.self.invariant (there c) (shown c).1 (fits c).below_root ends.0 ends.1.0 ends.1.1 ends.2
+          ∙ places-same here (with_timed here c.self.inside.timed (r c).node.ttl id) (ids c) faces
+          ∙ places-returned (m c) (ids c) (owners c) id (r c) (shown c).0 c.self.invariant.linked (there c) (shown c).1 (fits c).below_root ends.0 ends.1.0 ends.1.1 ends.2
           ∙ (λ i. insert (view i).places id (same i).0);
       held =
           ap held_of (rows c)
-          ∙ held-returned (m c) (ids c) (owners c) id (r c) (shown c).0 c.self.invariant (there c) (shown c).1 (fits c).below_root ends.0 ends.1.0 ends.1.1 ends.2
+          ∙ held-same here (with_timed here c.self.inside.timed (r c).node.ttl id) (ids c) faces
+          ∙ held-returned (m c) (ids c) (owners c) id (r c) (shown c).0 c.self.invariant.linked (there c) (shown c).1 (fits c).below_root ends.0 ends.1.0 ends.1.1 ends.2
           ∙ ap (λ (v : NodesView). remove v.held id) view;
       owners = ap known_of (lists c) ∙ known-with (owners c) (r c).node.owner id ∙ ap (λ (v : NodesView). v.owners) view;
       given =
-          ap (λ (h : SlotsView Row). h.given) c.take_key.ensures.rows ∙ ap (λ (h : SlotsView Row). h.given) c.put_owned.ensures.rows
+          ap (λ (h : SlotsView Row). h.given) c.put_timed.ensures.rows ∙ ap (λ (h : SlotsView Row). h.given) c.take_key.ensures.rows ∙ ap (λ (h : SlotsView Row). h.given) c.put_owned.ensures.rows
           ∙ ap (λ (h : SlotsView Row). h.given) c.put_child.ensures ∙ ap (λ (v : NodesView). v.given) view;
       room = subst (λ room. room ≤ c.insert.new.self.room + 1) (ap (λ (v : NodesView). v.room) view) c.insert.ensures.room;
     }

@@ -2,6 +2,7 @@ use Rattle.std.proofs.Common.{◌≡◌, ◌≢◌, ◌≤◌, [], Option, Some,
 use mathlib.Core.Path.{subst}
 use Rattle.std.specs.Option.{option_copied, option_and_then}
 use Rattle.std.specs.FinMap.{get, insert, remove}
+use Rattle.zslots.specs.declared.list.List.{List as IdList}
 use Rattle.zslots.specs.SlotsView.{SlotsView, Items}
 use Rattle.znodes.specs.index.IndexView.{IdsByPath}
 use Rattle.std.specs.Prelude.{Vec}
@@ -13,12 +14,13 @@ use Rattle.zslots.proofs.Items.{some_there}
 use Rattle.znodes.specs.declared.row.Row.{Row}
 use Rattle.znodes.specs.NodesView.{NodesView, path_of}
 use Rattle.znodes.specs.support.OwnerLists.{OwnerLists, list_of}
-use Rattle.znodes.specs.support.Rows.{Key, IsLinked, nodes_of, places_of, held_of, known_of}
-use Rattle.znodes.specs.support.Linking.{with_key, without_child, without_owned, owners_without}
+use Rattle.znodes.specs.support.Rows.{Key, IsThreaded, nodes_of, places_of, held_of, known_of}
+use Rattle.znodes.specs.support.Linking.{with_key, without_child, without_owned, owners_without, without_timed, timed_without}
 use Rattle.znodes.proofs.Linked.{live-row, shown-row, node-shown}
 use Rattle.znodes.proofs.Heads.{known-without}
 use Rattle.znodes.proofs.Away.{cut, away, fewer, owners_after}
 use Rattle.znodes.proofs.Taken.{child-counted, owned-counted, linked-away, nodes-away, places-away, held-away}
+use Rattle.znodes.proofs.Mortal.{nodes-same, places-same, held-same, mortal-away, timed-counted, linked-unlisted, unlisted-faces}
 use Rattle.znodes.proofs.nodes.Nodes.take.Goals as goal
 
 pub unreachable-requires : goal.unreachable-requires
@@ -34,7 +36,7 @@ cut_child-requires c =
     let r = c.in-Some.row.now in
     let there = sym c.in-Some.ensures in
     let shown = shown-row s c.args.self.now c.self.view_is c.args.id r c.requires.live there in
-    child-counted s.slots.items s.index.ids s.owners c.args.id r c.self.invariant there shown.0 (c.requires.below_root r.path shown.1)
+    child-counted s.slots.items s.index.ids s.owners c.args.id r c.self.invariant.linked there shown.0 (c.requires.below_root r.path shown.1)
     c.id_above-parent.result (c.id_above-parent.ensures ∙ ap (λ names. get s.index.ids (parent_of names)) c.names-names.ensures.names)
 
 pub cut_owned-requires : goal.cut_owned-requires
@@ -43,10 +45,18 @@ cut_owned-requires c =
     let r = c.in-Some.row.now in
     let there = sym c.in-Some.ensures in
     let shown = shown-row s c.args.self.now c.self.view_is c.args.id r c.requires.live there in
-    owned-counted s.slots.items s.index.ids s.owners c.args.id r c.self.invariant there shown.0
+    owned-counted s.slots.items s.index.ids s.owners c.args.id r c.self.invariant.linked there shown.0
+
+pub cut_timed-requires : goal.cut_timed-requires
+cut_timed-requires c =
+    let s = c.self.inside in
+    let r = c.in-Some.row.now in
+    let there = sym c.in-Some.ensures in
+    let shown = shown-row s c.args.self.now c.self.view_is c.args.id r c.requires.live there in
+    timed-counted s.slots.items s.index.ids s.owners s.timed c.args.id r r.path c.self.invariant.mortal there shown.0
 
 -- what is known at the end
-module _ (c : goal.After-set_key) where
+module _ (c : goal.After-cut_timed) where
   abbrev m : Items Row
   m = c.self.inside.slots.items
 
@@ -77,7 +87,7 @@ module _ (c : goal.After-set_key) where
   raw : (names : Vec Name Global) × (c.remove-key.result ≡ Some names)
   raw =
       has_some c.remove-key.result
-      (c.remove-key.ensures.there ∙ ap (λ q. is_some (get ids q)) names ∙ ap is_some (c.self.invariant.found c.args.id r there shown.0))
+      (c.remove-key.ensures.there ∙ ap (λ q. is_some (get ids q)) names ∙ ap is_some (c.self.invariant.linked.found c.args.id r there shown.0))
 
   key : (k : Key) × (names_of c.remove-key.result ≡ Some k)
   key = (raw.0.items, ap names_of raw.1)
@@ -91,11 +101,17 @@ module _ (c : goal.After-set_key) where
       ap (λ (h : SlotsView Row). h.items) c.cut_child.ensures
       ∙ ap (λ o. without_child m o c.args.id) (c.id_above-parent.ensures ∙ ap (λ q. get ids (parent_of q)) names)
 
-  rows : c.set_key.new.slots.items ≡ away m ids owners c.args.id r key.0
-  rows =
+  kept-rows : c.set_key.new.slots.items ≡ away m ids owners c.args.id r key.0
+  kept-rows =
       let list = list_of owners r.node.owner in
       let owned = ap (λ (h : SlotsView Row). h.items) c.cut_owned.ensures.rows ∙ ap (λ w. without_owned w list c.args.id) cut-is in
       ap (λ (h : SlotsView Row). h.items) c.set_key.ensures ∙ (λ i. with_key (owned i) c.args.id (key.1 i))
+
+  rows : c.cut_timed.new.slots.items ≡ without_timed (away m ids owners c.args.id r key.0) r.node.ttl c.args.id
+  rows = ap (λ (h : SlotsView Row). h.items) c.cut_timed.ensures.rows ∙ ap (λ w. without_timed w r.node.ttl c.args.id) kept-rows
+
+  timed : c.cut_timed.new.timed ≡ timed_without (away m ids owners c.args.id r key.0) c.self.inside.timed r.node.ttl c.args.id
+  timed = c.cut_timed.ensures.timed ∙ ap (λ w. timed_without w c.self.inside.timed r.node.ttl c.args.id) kept-rows
 
   index : c.remove-key.new.self.ids ≡ fewer m ids owners c.args.id r key.0
   index = c.remove-key.ensures.ids ∙ ap (remove ids) names
@@ -105,36 +121,46 @@ module _ (c : goal.After-set_key) where
 
 pub invariant_of-self : goal.invariant_of-self
 invariant_of-self c =
-    let linked = linked-away (m c) (ids c) (owners c) c.args.id (r c) (key c).0 c.self.invariant (there c) (shown c).0 (below c) (leaf c) (named c) in
-    subst (λ a. IsLinked a c.remove-key.new.self.ids c.cut_owned.new.owners) (sym (rows c))
-    (subst (λ b. IsLinked (away (m c) (ids c) (owners c) c.args.id (r c) (key c).0) b c.cut_owned.new.owners) (sym (index c))
-    (subst (IsLinked (away (m c) (ids c) (owners c) c.args.id (r c) (key c).0) (fewer (m c) (ids c) (owners c) c.args.id (r c) (key c).0)) (sym (lists c)) linked))
+    let linked = linked-away (m c) (ids c) (owners c) c.args.id (r c) (key c).0 c.self.invariant.linked (there c) (shown c).0 (below c) (leaf c) (named c) in
+    let gone = away (m c) (ids c) (owners c) c.args.id (r c) (key c).0 in
+    let left = fewer (m c) (ids c) (owners c) c.args.id (r c) (key c).0 in
+    let after = owners_after (m c) (ids c) (owners c) c.args.id (r c) (key c).0 in
+    let all : (Items Row × (IdsByPath × (OwnerLists × IdList 2))) → Type 0 = λ w. IsThreaded w.0 w.1.0 w.1.1.0 w.1.1.1 in
+    subst all (λ i. (sym (rows c) i, (sym (index c) i, (sym (lists c) i, sym (timed c) i)))) (record {
+      linked = linked-unlisted gone left after (r c).node.ttl c.args.id linked;
+      mortal = mortal-away (m c) (ids c) (owners c) c.self.inside.timed c.args.id (r c) (key c).0 c.self.invariant.mortal (there c) (shown c).0;
+    })
 
 pub returns : goal.returns
 returns c = λ path at n node.
     let id = c.args.id in
     let view = c.self.view_is in
+    let gone = away (m c) (ids c) (owners c) id (r c) (key c).0 in
+    let faces = unlisted-faces gone (ids c) (owners c) (r c).node.ttl id in
     let is_path = same_some (r c).path path (sym (shown c).1 ∙ at) in
     let is_node = same_some (r c).node n
-    (sym (node-shown (m c) (ids c) (owners c) c.self.invariant id (r c) (there c) (shown c).0) ∙ ap (λ (v : NodesView). get v.nodes (r c).path) view ∙ ap (option_and_then (get c.args.self.now.nodes)) (sym (shown c).1) ∙ node) in
+    (sym (node-shown (m c) (ids c) (owners c) c.self.invariant.linked id (r c) (there c) (shown c).0) ∙ ap (λ (v : NodesView). get v.nodes (r c).path) view ∙ ap (option_and_then (get c.args.self.now.nodes)) (sym (shown c).1) ∙ node) in
     record {
       nodes =
           (λ i. nodes_of (rows c i) (index c i))
-          ∙ nodes-away (m c) (ids c) (owners c) id (r c) (key c).0 c.self.invariant (there c) (shown c).0 (below c) (leaf c) (named c)
+          ∙ nodes-same gone (without_timed gone (r c).node.ttl id) (fewer (m c) (ids c) (owners c) id (r c) (key c).0) faces
+          ∙ nodes-away (m c) (ids c) (owners c) id (r c) (key c).0 c.self.invariant.linked (there c) (shown c).0 (below c) (leaf c) (named c)
           ∙ (λ i. remove (view i).nodes (is_path i));
       places =
           ap places_of (rows c)
-          ∙ places-away (m c) (ids c) (owners c) id (r c) (key c).0 c.self.invariant (there c) (shown c).0 (below c) (leaf c) (named c)
+          ∙ places-same gone (without_timed gone (r c).node.ttl id) (ids c) faces
+          ∙ places-away (m c) (ids c) (owners c) id (r c) (key c).0 c.self.invariant.linked (there c) (shown c).0 (below c) (leaf c) (named c)
           ∙ ap (λ (v : NodesView). remove v.places id) view;
       held =
           ap held_of (rows c)
-          ∙ held-away (m c) (ids c) (owners c) id (r c) (key c).0 c.self.invariant (there c) (shown c).0 (below c) (leaf c) (named c)
+          ∙ held-same gone (without_timed gone (r c).node.ttl id) (ids c) faces
+          ∙ held-away (m c) (ids c) (owners c) id (r c) (key c).0 c.self.invariant.linked (there c) (shown c).0 (below c) (leaf c) (named c)
           ∙ (λ i. insert (view i).held id (is_path i, is_node i));
       owners =
           ap known_of (lists c) ∙ known-without (cut (m c) (ids c) (owners c) id (r c) (key c).0) (owners c) (r c).node.owner id
           ∙ ap (λ (v : NodesView). v.owners) view;
       given =
-          ap (λ (h : SlotsView Row). h.given) c.set_key.ensures ∙ ap (λ (h : SlotsView Row). h.given) c.cut_owned.ensures.rows
+          ap (λ (h : SlotsView Row). h.given) c.cut_timed.ensures.rows ∙ ap (λ (h : SlotsView Row). h.given) c.set_key.ensures ∙ ap (λ (h : SlotsView Row). h.given) c.cut_owned.ensures.rows
           ∙ ap (λ (h : SlotsView Row). h.given) c.cut_child.ensures ∙ ap (λ (v : NodesView). v.given) view;
       room = subst (λ room. room ≤ c.remove-key.new.self.room) (ap (λ (v : NodesView). v.room) view) c.remove-key.ensures.room;
     }

@@ -13,4 +13,8 @@ returns c = record {
   no_chain = refl;
   lost = refl;
   one_with_state = refl;
+  retiring = refl;
+  used_before_retiring = refl;
+  joining_before_retiring = refl;
+  lost_before_retiring = refl;
 }

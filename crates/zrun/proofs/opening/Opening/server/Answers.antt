@@ -12,4 +12,4 @@ new-requires-clause-at c =
     let s = c.args.id in
     let number = c.number.ensures in
     let is = server_is s (subst (λ x. 0 < x) number.same number.some) (subst (λ x. x ≤ MAX_SERVERS) number.same number.small) in
-    subst (λ (s : TreeStanding). IsAt c.new-desk.result s) (server_opening o.last o.clients s is ∙ ap (λ v. AtServer v) (sym c.in_ok-server.ensures)) c.new-desk.ensures.at
+    subst (λ (s : TreeStanding). IsAt c.new-desk.result s) (server_opening o.last o.clients s is ∙ ap (λ v. AtServer v) (sym c.in_ok-server.ensures.view)) c.new-desk.ensures.at

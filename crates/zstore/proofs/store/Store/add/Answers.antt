@@ -35,8 +35,8 @@ returns-clause-added c =
     (parent_of path) c.in_ok-id.ensures.named c.requires.live in
     let made =
     c.new-node.ensures
-    ∙ ap (λ z. new_node c.args.bytes c.args.owner z c.self.inside.time) c.next.ensures
-    ∙ ap (λ (h : StoreView). new_node c.args.bytes c.args.owner (h.tree.zxid + 1) h.tree.time)
+    ∙ ap (λ z. new_node c.args.bytes c.args.owner c.args.ttl z c.self.inside.time) c.next.ensures
+    ∙ ap (λ (h : StoreView). new_node c.args.bytes c.args.owner c.args.ttl (h.tree.zxid + 1) h.tree.time)
     c.self.view_is in
     c.child_changed.ensures.tree (parent_of path) live
     ∙ ap (λ (t : Tree). record t {

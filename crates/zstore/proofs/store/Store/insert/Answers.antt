@@ -41,7 +41,7 @@ invariant_of-self-2 c =
     rw (c.note.ensures.notes, c.note.ensures.nodes) (
     added_stored s.nodes c.add.new.self s.sessions s.time s.zxid (notes_of s.log) c.self.invariant
     c.in_ok-id.id path c.args.node c.in_ok-id.ensures.added free c.requires.below_root parent
-    owner few c.names.ensures.path)
+    owner c.requires.one_end few c.names.ensures.path)
 
 pub returns-clause-marked : goal.returns-clause-marked
 returns-clause-marked c =

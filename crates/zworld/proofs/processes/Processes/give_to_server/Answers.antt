@@ -1,29 +1,56 @@
-use Rattle.std.proofs.Common.{◌≡◌, ◌<◌, ◌-◌, ◌+◌, length, arith}
+use Rattle.std.proofs.Common.{◌≡◌, ◌<◌, ◌-◌, ◌+◌, length, length-set, ◌∙◌, arith}
+use Rattle.zserver.specs.declared.taken.Taken.TheVariants.{Acted, Unheard}
 use Rattle.zworld.proofs.FailureSteps.{is_server_number}
-use Rattle.zworld.proofs.GivenSteps.{acted_given, unheard_given, stopped_given}
+use Rattle.zworld.proofs.GivenSteps.{when_known, acted_given, unheard_given, unheard_put, ended_given, ended_put}
 use Rattle.zworld.proofs.processes.Processes.give_to_server.Goals as goal
 
-pub returns-in_ok-post-in-Acted : goal.returns-in_ok-post-in-Acted
-returns-in_ok-post-in-Acted c =
+pub invariant_of-self-in-Ok-Unheard : goal.invariant_of-self-in-Ok-Unheard
+invariant_of-self-in-Ok-Unheard c =
+    let place = c.number.result - 1 in
+    let is : c.args.server ≡ place + 1 = omega (arith, c.number.ensures.same, c.number.ensures.some) in
+    let inside : place < length c.self.inside.members.items = omega (arith, c.number.ensures.small, c.number.ensures.some, c.self.invariant.0) in (
+      length-set _ _ _ ∙ c.self.invariant.0,
+      c.self.invariant.1,
+      unheard_put _ _ c.args.from c.args.server place c.args.message c.index_mut-member.result.now c.take.new.self c.self.inside.out.posts c.take.new.out.posts
+          c.self.view_is is inside c.index_mut-member.ensures.value c.requires c.self.invariant.2
+          (when_known c.args.from c.args.message c.index_mut-member.result.now c.take.new.self c.self.inside.out.posts c.take.new.out.posts _ Unheard c.in-Ok-Unheard.field-0-is c.in-Ok-Unheard.ensures),
+    )
+
+pub invariant_of-self-in-Err : goal.invariant_of-self-in-Err
+invariant_of-self-in-Err c =
+    let place = c.number.result - 1 in
+    let is : c.args.server ≡ place + 1 = omega (arith, c.number.ensures.same, c.number.ensures.some) in
+    let inside : place < length c.self.inside.members.items = omega (arith, c.number.ensures.small, c.number.ensures.some, c.self.invariant.0) in (
+      length-set _ _ _ ∙ c.self.invariant.0,
+      c.self.invariant.1,
+      ended_put _ _ c.args.from c.args.server place c.args.message c.index_mut-member.result.now c.take.new.self c.self.inside.out.posts c.take.new.out.posts c.in-Err.why
+          c.self.view_is is inside c.index_mut-member.ensures.value c.requires c.self.invariant.2 c.in-Err.ensures,
+    )
+
+pub returns-in_ok-post-in-Ok-Acted : goal.returns-in_ok-post-in-Ok-Acted
+returns-in_ok-post-in-Ok-Acted c =
     let place = c.number.result - 1 in
     let is : c.args.server ≡ place + 1 = omega (arith, c.number.ensures.same, c.number.ensures.some) in
     let inside : place < length c.self.inside.members.items = omega (arith, c.number.ensures.small, c.number.ensures.some, c.self.invariant.0) in
     acted_given _ _ c.args.from c.args.server place c.args.message c.index_mut-member.result.now c.take.new.self c.self.inside.out.posts c.take.new.out.posts c.deref.result.now c.post.new.links
-    c.self.view_is is inside c.index_mut-member.ensures.value c.requires c.self.invariant.2 c.in-Acted.ensures c.deref.ensures.value c.in_ok-post-in-Acted.ensures.posted
+    c.self.view_is is inside c.index_mut-member.ensures.value c.requires c.self.invariant.2
+    (when_known c.args.from c.args.message c.index_mut-member.result.now c.take.new.self c.self.inside.out.posts c.take.new.out.posts _ Acted c.in-Ok-Acted.field-0-is c.in-Ok-Acted.ensures) c.deref.ensures.value c.in_ok-post-in-Ok-Acted.ensures.posted
 
-pub returns-in-Unheard : goal.returns-in-Unheard
-returns-in-Unheard c =
+pub returns-in-Ok-Unheard : goal.returns-in-Ok-Unheard
+returns-in-Ok-Unheard c =
     let place = c.number.result - 1 in
     let is : c.args.server ≡ place + 1 = omega (arith, c.number.ensures.same, c.number.ensures.some) in
     let inside : place < length c.self.inside.members.items = omega (arith, c.number.ensures.small, c.number.ensures.some, c.self.invariant.0) in
     unheard_given _ _ c.args.from c.args.server place c.args.message c.index_mut-member.result.now c.take.new.self c.self.inside.out.posts c.take.new.out.posts
-    c.self.view_is is inside c.index_mut-member.ensures.value c.requires c.in-Unheard.ensures
+    c.self.view_is is inside c.index_mut-member.ensures.value c.requires
+    (when_known c.args.from c.args.message c.index_mut-member.result.now c.take.new.self c.self.inside.out.posts c.take.new.out.posts _ Unheard c.in-Ok-Unheard.field-0-is c.in-Ok-Unheard.ensures)
 
-pub returns-in-Stopped : goal.returns-in-Stopped
-returns-in-Stopped c =
+pub returns-in-Err : goal.returns-in-Err
+returns-in-Err c =
     let place = c.number.result - 1 in
     let is : c.args.server ≡ place + 1 = omega (arith, c.number.ensures.same, c.number.ensures.some) in
     let inside : place < length c.self.inside.members.items = omega (arith, c.number.ensures.small, c.number.ensures.some, c.self.invariant.0) in
-    stopped_given _ _ c.args.from c.args.server place c.args.message c.index_mut-member.result.now c.take.new.self c.self.inside.out.posts c.take.new.out.posts c.clear.new.self
-    c.self.view_is is inside c.index_mut-member.ensures.value c.requires c.in-Stopped.ensures c.clear.ensures
-    (is_server_number c.args.server (omega (arith, c.number.ensures.same, c.number.ensures.some)) (omega (arith, c.number.ensures.same, c.number.ensures.small)))
+    rw c.did_of.ensures
+    (ended_given _ _ c.args.from c.args.server place c.args.message c.index_mut-member.result.now c.take.new.self c.self.inside.out.posts c.take.new.out.posts c.clear.new.self c.in-Err.why
+    c.self.view_is is inside c.index_mut-member.ensures.value c.requires c.in-Err.ensures c.clear.ensures
+    (is_server_number c.args.server (omega (arith, c.number.ensures.same, c.number.ensures.some)) (omega (arith, c.number.ensures.same, c.number.ensures.small))))

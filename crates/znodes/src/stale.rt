@@ -1,0 +1,61 @@
+//! Which nodes a tick removes.
+
+ghost use Rattle.std.specs.Prelude.{◌≡◌, [], ◌∷◌, ◌++◌, IfOk, OnOk};
+ghost use Rattle.zslots.specs.Ids.{Ids};
+ghost use Rattle.zslots.specs.Lists.{IsList};
+ghost use Rattle.znodes.specs.NodesView.{AreStale};
+ghost use Rattle.znodes.specs.support.Rows.{timed_links};
+ghost use Rattle.znodes.specs.support.Reading.{is_stale_row, stale_of};
+
+use crate::nodes::Nodes;
+use crate::row::Row;
+use std::alloc::Global;
+use zpath::Memory;
+use zslots::{Id, List, Slots};
+
+impl Nodes {
+    /// The Ids of the nodes that a tick removes, each once: those that are due, and have no children. It costs by the
+    /// nodes with a time to live.
+    pub fn stale(&self, tick: u64) -> Result<Vec<Id>, Memory>
+        ensures { IfOk result (λ ids.
+            AreStale self.now.nodes self.now.places tick ids.items) }
+    {
+        stale_in(self.alloc, &self.slots, self.timed, tick)
+    }
+}
+
+// Those of a list's rows that a tick removes, in the list's order.
+fn stale_in(alloc: Global, slots: &Slots<Row>, list: List<2>, tick: u64) -> Result<Vec<Id>, Memory>
+    requires { (ids : Ids) × IsList timed_links slots.now.items list ids }
+    ensures { IfOk result (λ stale. (ids : Ids) → IsList timed_links slots.now.items list ids →
+        stale.items ≡ stale_of slots.now.items tick ids) }
+{
+    let mut stale = Vec::new(alloc);
+    let mut at = list.first();
+    while let Some(id) = at {
+        push_stale(slots, id, tick, &mut stale)?;
+        at = list.next(slots, id);
+    }
+    Ok(stale)
+}
+
+// Adds a row's Id where a tick removes its node.
+fn push_stale(slots: &Slots<Row>, id: Id, tick: u64, stale: &mut Vec<Id>) -> Result<(), Memory>
+    ensures { OnOk result
+        (stale.new.items ≡ stale.old.items ++ stale_of slots.now.items tick (id ∷ [])) }
+{
+    if is_stale(slots, id, tick) {
+        stale.push(id)?;
+    }
+    Ok(())
+}
+
+// Whether a tick removes a row's node, if it is in the tree.
+fn is_stale(slots: &Slots<Row>, id: Id, tick: u64) -> bool
+    ensures { result ≡ is_stale_row slots.now.items tick id }
+{
+    match slots.get(id) {
+        Some(row) => row.node.is_due(tick) && row.children.len() == 0,
+        None => false,
+    }
+}

@@ -1,0 +1,5 @@
+use Rattle.zorder.proofs.master_lemmas.Events.{members_retire}
+use Rattle.zorder.proofs.master.laws.members_retire.Goals as goal
+
+pub returns : goal.returns
+returns c = members_retire

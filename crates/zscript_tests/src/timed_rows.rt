@@ -1,0 +1,49 @@
+//! Worked scripts of nodes with a time to live.
+
+use crate::playing::{Row, plays_rows};
+use zscript::Servers;
+
+// No server fails and none joins: each row is answered alike over one server and over three.
+const ROWS: &[Row] = &[
+    // A node goes at the tick that finds it unwritten for so long.
+    &[
+        ("1 create /t t:2 -", "ok /t"),
+        ("0 tick", "ok tick 1 ended 0"),
+        ("1 set /t any aGk=", "ok stat 1 2 1 0 1 1 0 0 2 0"),
+        ("0 tick", "ok tick 2 ended 0"),
+        ("0 tick", "ok tick 3 ended 0 removed 1"),
+        ("1 exists /t", "no NoNode"),
+        ("1 exists /", "ok stat 0 0 3 0 0 0 2 0 0 0"),
+    ],
+    // What had a child before the tick stays, though the child goes.
+    &[
+        ("1 create /t t:1 -", "ok /t"),
+        ("1 create /t/u t:1 -", "ok /t/u"),
+        ("0 tick", "ok tick 1 ended 0 removed 1"),
+        ("0 tick", "ok tick 2 ended 0 removed 1"),
+        ("1 exists /", "ok stat 0 0 4 0 0 0 2 0 0 0"),
+    ],
+    // Ephemerals aren't counted among the removed.
+    &[
+        ("1 open 2", "ok session 1 timeout 2"),
+        ("1 create /t t:1 -", "ok /t"),
+        ("1 create /t/e e:1 -", "ok /t/e"),
+        ("0 tick", "ok tick 1 ended 0"),
+        ("0 tick", "ok tick 2 ended 1"),
+        ("0 tick", "ok tick 3 ended 0 removed 1"),
+    ],
+    // A time to live outside its range is no kind.
+    &[
+        ("1 create /t t:0 -", "bad line"),
+        ("1 create /t t:1048577 -", "bad line"),
+        ("1 create t t:0 -", "bad line"),
+        ("1 create t t:1 -", "bad path NotAbsolute"),
+        ("1 create /s- ts:5 -", "ok /s-0000000000"),
+    ],
+];
+
+#[test]
+fn plays_the_rows_of_times_to_live(rt: HostRuntime) {
+    plays_rows(&rt, rt.alloc(), Servers::new(1), ROWS);
+    plays_rows(&rt, rt.alloc(), Servers::new(3), ROWS);
+}

@@ -1,0 +1,49 @@
+//! How long a znode lives.
+
+ghost use Rattle.std.specs.Prelude.{◌≡◌, IfNone, IfSome};
+ghost use Rattle.ztree.specs.Stale.{IsTtl};
+
+use crate::limits::MAX_TTL;
+use std::marker::Model;
+
+/// A time to live (ZooKeeper Programmer's Guide, "TTL Nodes"; that it is counted in ticks, 1 to 1,048,576, is this
+/// project's profile).
+#[derive(Clone, Copy, Debug, PartialEq, Eq)]
+pub struct Ttl {
+    ticks: u64,
+}
+
+impl Model for Ttl {
+    ghost use Rattle.std.specs.Prelude.{ℕ};
+    ghost use Rattle.ztree.specs.Stale.{IsTtl};
+
+    ghost Value = { ℕ };
+
+    ghost view = { λ ttl. ttl.ticks };
+
+    ghost invariant = { λ ttl. IsTtl ttl.ticks };
+
+    ghost inverse = { λ n. record { ticks = n } };
+}
+
+impl Ttl {
+    /// So many ticks; none for 0 and for more than 1,048,576.
+    pub fn new(ticks: u64) -> Option<Ttl>
+        ensures ttl { IfSome result (λ ttl. (ttl ≡ ticks) × IsTtl ticks) }
+        ensures none { IfNone result (IsTtl ticks → ⊥) }
+    {
+        if 0 < ticks && ticks <= MAX_TTL {
+            Some(Ttl { ticks })
+        } else {
+            None
+        }
+    }
+
+    /// How many ticks.
+    pub fn ticks(self) -> u64
+        ensures same { result ≡ self }
+        ensures within { IsTtl result }
+    {
+        self.ticks
+    }
+}

@@ -1,0 +1,42 @@
+//! Members that are ordered to leave.
+
+ghost use Rattle.std.specs.Prelude.{◌≡◌, true, [], IfOk, OnErr};
+ghost use Rattle.zworld_model.specs.declared.event.Event.TheVariants.{Retire};
+ghost use Rattle.zworld_model.specs.Events.{is_enabled};
+ghost use Rattle.zworld.specs.Held.{world_of};
+ghost use Rattle.zworld.specs.support.Stepped.{HasStepped};
+
+use crate::did::{Did, IdleCause};
+use crate::post::post;
+use crate::processes::Processes;
+use zmaster::MAX_POSTS;
+use zpath::Memory;
+use zprotocol::{Process, ServerId};
+
+impl Processes {
+    /// A member is ordered to leave.
+    pub(crate) fn retire(&mut self, server: ServerId) -> Result<Did, Memory>
+        ensures stepped { IfOk result
+            (λ did. HasStepped self.old self.new (Retire server) did []) }
+        ensures needed { OnErr result
+            (is_enabled (world_of self.old []) (Retire server) ≡ true) }
+    {
+        if let Some(fault) = self.master.retire_fault(server) {
+            return Ok(Did::Idle(IdleCause::Retire(fault)));
+        }
+        self.out.reserve(MAX_POSTS)?;
+        match self.master.retire(server, &mut self.out) {
+            Ok(()) => {
+                post(
+                    self.alloc,
+                    &mut self.links,
+                    &self.members,
+                    &Process::Master,
+                    &mut self.out,
+                )?;
+                Ok(Did::Done)
+            }
+            Err(fault) => Ok(Did::Idle(IdleCause::Retire(fault))),
+        }
+    }
+}

@@ -1,0 +1,12 @@
+use Rattle.std.proofs.Common.{refl}
+use Rattle.zworld_model.proofs.Tables.{all_tables}
+use Rattle.zworld_model.proofs.rows.retirements.middle_retires_before_it_forwarded.Goals as goal
+
+pub returns : goal.returns
+unfolding all_tables
+returns c = record {
+  unsent = refl;
+  new_pred = refl;
+  sent_again = refl;
+  seen = refl;
+}

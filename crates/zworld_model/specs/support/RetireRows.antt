@@ -1,0 +1,85 @@
+-- Worked runs in which a member is ordered to leave, over a machine that counts, with two clients (0 and 1).
+use Rattle.std.specs.Prelude.{List, [], ◌∷◌}
+use Rattle.zworld_model.specs.declared.event.Event.{Event}
+use Rattle.zworld_model.specs.declared.event.Event.TheVariants.{Begin, Take, Fail, Join, Retire}
+use Rattle.zworld_model.specs.support.Counter.{create, exists}
+use Rattle.zworld_model.specs.support.RunRows.{m, s1, s2, s3, c1}
+use Rattle.zworld_model.specs.support.ScenarioRows.{Scene, Happen, Settles, Calls}
+
+-- the head of three is ordered to leave. It serves until it takes the order; then s2 is the head
+abbrev pub head_retires : List Event
+head_retires =
+    Begin 1 create
+    ∷ Retire 1
+    ∷ Take c1 s1
+    ∷ Take s1 s2
+    ∷ Take m s1
+    ∷ Take s1 m
+    ∷ Take m s2
+    ∷ Take s2 s3
+    ∷ Take s3 c1
+    ∷ []
+
+-- the middle is, and takes the order before client 1's update: s3 tells the master what it has, and s1 sends s3 what it
+-- lacks
+abbrev pub middle_retires : List Event
+middle_retires =
+    Begin 1 create
+    ∷ Take c1 s1
+    ∷ Retire 2
+    ∷ Take m s2
+    ∷ Take s2 m
+    ∷ Take m s3
+    ∷ Take s3 m
+    ∷ Take m s1
+    ∷ Take s1 s3
+    ∷ Take s3 c1
+    ∷ []
+
+-- the tail is, and takes the order before client 1's update: s2 is the tail, and has processed what it forwarded; asked
+-- again, it gives the kept reply
+abbrev pub tail_retires : List Event
+tail_retires =
+    Begin 1 create
+    ∷ Take c1 s1
+    ∷ Take s1 s2
+    ∷ Retire 3
+    ∷ Take m s3
+    ∷ Take s3 m
+    ∷ Take m s2
+    ∷ Take m c1
+    ∷ Take c1 s1
+    ∷ Take s1 s2
+    ∷ Take s2 c1
+    ∷ []
+
+-- two of three leave, one after the other
+abbrev pub two_retire : List Scene
+two_retire = Calls create ∷ Happen (Retire 1 ∷ []) ∷ Settles ∷ Happen (Retire 2 ∷ []) ∷ Settles ∷ Calls exists ∷ []
+
+-- a third server joins, and then the first leaves
+abbrev pub one_joins_and_one_retires : List Scene
+one_joins_and_one_retires = Happen (Join 3 ∷ []) ∷ Settles ∷ Happen (Retire 1 ∷ []) ∷ Settles ∷ []
+
+-- both servers of a chain are replaced by others
+abbrev pub both_are_replaced : List Scene
+both_are_replaced =
+    Calls create
+    ∷ Happen (Join 3 ∷ [])
+    ∷ Settles
+    ∷ Happen (Retire 1 ∷ [])
+    ∷ Settles
+    ∷ Happen (Join 4 ∷ [])
+    ∷ Settles
+    ∷ Happen (Retire 2 ∷ [])
+    ∷ Settles
+    ∷ Calls exists
+    ∷ []
+
+-- the head of three is ordered to leave, and the middle fails before it takes the order
+abbrev pub another_fails : List Scene
+another_fails = Calls create ∷ Happen (Retire 1 ∷ Fail 2 ∷ Take s2 m ∷ []) ∷ Settles ∷ Calls create ∷ []
+
+-- the head of three is ordered to leave, and fails before it takes the order
+abbrev pub retiring_server_fails : List Scene
+retiring_server_fails = Calls create ∷ Happen (Retire 1 ∷ Fail 1 ∷ []) ∷ Settles ∷ Calls create ∷ []
