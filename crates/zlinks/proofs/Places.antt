@@ -16,7 +16,7 @@ use Rattle.zprotocol.specs.Places.{is_server, place_of}
 use Rattle.zworld_model.specs.Links.{is_same}
 use Rattle.zlinks.specs.Places.{links_of, with_link, without_receiver, is_silent}
 use Rattle.zlinks.specs.support.Rows.{ClearedTo}
-use Rattle.zlinks.proofs.Rows.{silent_at}
+use Rattle.zlinks.proofs.Rows.{silent_at, not_true}
 
 -- processes that are the same have one place
 same_place : (p q : Process) → is_same p q ≡ true → place_of p ≡ place_of q
@@ -99,10 +99,6 @@ module _ {T : Type 0} where
   pub silent_links : (rows : List (List (List (Message T)))) (from to : Process) → is_silent rows from ≡ true → links_of rows from to ≡ []
   unfolding links_of is_silent
   silent_links rows from to silent = silent_at (get_or rows (place_of from) []) (place_of to) (not_true _ silent)
-    where
-      not_true : (b : Bool) → not b ≡ true → b ≡ false
-      not_true false is = refl
-      not_true true is = absurd (true≢false (sym is))
 
   -- a row that is read, at its place
   pub row_at : (view rows : List (List (List (Message T)))) (from to : Process) (i j : ℕ) (row : List (List (Message T)))

@@ -1,31 +1,37 @@
 -- Rows of queues: what they hold, and one that is written.
-use Rattle.std.proofs.Common.{◌≡◌, ℕ, ◌+◌, ◌-◌, ◌<◌, ◌≤◌, zero, suc, Bool, true, false, List, [], ◌∷◌, ◌++◌, length, get_or, set, refl, sym, ap, ◌∙◌, arith, length-set, get_or-set_same}
+use Rattle.std.proofs.Common.{◌≡◌, ℕ, ◌+◌, ◌<◌, ◌≤◌, zero, suc, Bool, true, false, List, [], ◌∷◌, ◌++◌, length, get_or, set, refl, sym, ap, ◌∙◌, arith, length-set, get_or-set_same}
 use Rattle.std.proofs.lemmas.List.Folds.{list_any_at}
 use mathlib.Core.Bool.{true≢false}
 use Rattle.std.proofs.lemmas.Bool.Decides.{nat_tests}
 use Rattle.std.specs.Prelude.{not, ◌==◌, ◌||◌}
 use Rattle.std.specs.List.{list_any}
 use Rattle.zlinks.specs.Places.{holds}
-use Rattle.zprotocol.specs.declared.limits.TheConstants.{PROCESSES}
-use Rattle.zlinks.specs.support.Rows.{share, passing, Counts, IsBlank, AreBlank}
+use Rattle.zlinks.specs.support.Rows.{share, passing, IsBlank, AreBlank}
 
--- the share of what passes a test, and of what doesn't
-pub share_some : (b : Bool) → not b ≡ false → share b ≡ 1
-share_some true is = refl
-share_some false is = absurd (true≢false is)
-
-pub share_none : (b : Bool) → not b ≡ true → share b ≡ 0
-share_none false is = refl
-share_none true is = absurd (true≢false (sym is))
-
+-- the share of one is one at most
 pub share_le : (b : Bool) → share b ≤ 1
 share_le false = omega arith
 share_le true = omega arith
 
--- what passed, and what is left of it, where that is less
-pub all_dropped : (before after : Bool) → share before ≡ share after + share true → share before ≡ 1
-all_dropped true after is = refl
+-- a test is turned, and what passed and what is left of it, by their shares
+pub not_true : (b : Bool) → not b ≡ true → b ≡ false
+not_true false is = refl
+not_true true is = absurd (true≢false (sym is))
+
+pub not_false : (b : Bool) → not b ≡ false → b ≡ true
+not_false true is = refl
+not_false false is = absurd (true≢false is)
+
+pub all_dropped : (before after : Bool) → share before ≡ share after + share true → (before ≡ true) × (after ≡ false)
+all_dropped true false is = (refl, refl)
+all_dropped true true is = absurd (omega (arith, is))
 all_dropped false after is = absurd (omega (arith, is))
+
+pub none_dropped : (before after : Bool) → share before ≡ share after + share false → after ≡ before
+none_dropped true true is = refl
+none_dropped false false is = refl
+none_dropped true false is = absurd (omega (arith, is))
+none_dropped false true is = absurd (omega (arith, is))
 
 module _ {X : Type 0} (test : X → Bool) where
   -- one that is written
@@ -46,6 +52,13 @@ module _ {X : Type 0} (test : X → Bool) where
   passing_at (x ∷ xs) zero d inside = omega arith
   passing_at (x ∷ xs) (suc i) d inside = omega (arith, passing_at xs i d (omega (arith, inside)))
 
+  -- one of them fails, so fewer pass than there are
+  pub passing_lt : (xs : List X) (i : ℕ) (d : X) → i < length xs → test (get_or xs i d) ≡ false → passing test xs < length xs
+  passing_lt [] i d inside fails = absurd (omega (arith, inside))
+  passing_lt (x ∷ xs) zero d inside fails = omega (arith, ap share fails, passing_le xs)
+  passing_lt (x ∷ xs) (suc i) d inside fails =
+      omega (arith, share_le (test x), passing_lt xs i d (omega (arith, inside)) fails)
+
   -- none passes
   pub none_passes : (xs : List X) → (passing test xs == 0) ≡ not (list_any test xs)
   none_passes [] = refl
@@ -64,25 +77,6 @@ module _ {X : Type 0} (test : X → Bool) where
       no_share false is = refl
       no_share true is = absurd (omega (arith, is))
   fails_at (x ∷ xs) (suc i) d outside none = fails_at xs i d outside (omega (arith, none))
-
-  -- one that is written, and counted
-  pub counts_written : (xs : List X) (held : ℕ) (i now : ℕ) (old new : X) → Counts test xs held → i < PROCESSES
-      → old ≡ get_or xs i old → now + share (test old) ≡ held + share (test new) → Counts test (set xs i new) now
-  counts_written xs held i now old new counts inside is counted =
-      let within : i < length xs = omega (arith, inside, counts.wide) in
-      let was = ap (λ x. share (test x)) is in
-      record {
-        wide = length-set xs i new ∙ counts.wide;
-        counted = omega (arith, counted, was, counts.counted, passing-set xs i new old within);
-      }
-
-  -- one that passes is counted
-  pub held_some : (xs : List X) (held : ℕ) (i : ℕ) (old : X) → Counts test xs held → i < PROCESSES
-      → old ≡ get_or xs i old → share (test old) ≡ 1 → 1 ≤ held
-  held_some xs held i old counts inside is some =
-      let within : i < length xs = omega (arith, inside, counts.wide) in
-      let was = ap (λ x. share (test x)) is in
-      omega (arith, was, some, counts.counted, passing_at xs i old within)
 
 module _ {X : Type 0} where
   -- a queue of a row in which none holds something
@@ -105,38 +99,6 @@ module _ {X : Type 0} where
 
   pub held_at : (queues : List (List X)) (i : ℕ) → i < length queues → holds (get_or queues i []) ≡ true → list_any holds queues ≡ true
   held_at queues i inside some = list_any_at holds queues i [] inside some
-
-  -- one on which nothing is
-  pub nothing_held : (queue : List X) → holds queue ≡ false → queue ≡ []
-  nothing_held [] none = refl
-  nothing_held (x ∷ xs) none = absurd (true≢false none)
-
-  -- a queue that held something is dropped, and counted
-  pub counts_dropped : (queues : List (List X)) (held at : ℕ) (queue new : List X) → Counts holds queues held → at < PROCESSES
-      → queue ≡ get_or queues at queue → not (holds queue) ≡ false → new ≡ [] → Counts holds (set queues at new) (held - 1)
-  counts_dropped queues held at queue new counts inside is some dropped =
-      let one = share_some (holds queue) some in
-      let none : share (holds new) ≡ 0 = ap (λ q. share (holds q)) dropped in
-      counts_written holds queues held at (held - 1) queue new counts inside is
-      (omega (arith, one, none, held_some holds queues held at queue counts inside is one))
-
-  -- then nothing is left in its row, or something is
-  pub share_dropped : (queues : List (List X)) (held at : ℕ) (queue new : List X) → Counts holds queues held → at < PROCESSES
-      → queue ≡ get_or queues at queue → not (holds queue) ≡ false → new ≡ []
-      → share (list_any holds queues) ≡ share (list_any holds (set queues at new)) + share (held - 1 == 0)
-  share_dropped queues held at queue new counts inside is some dropped =
-      let within : at < length queues = omega (arith, inside, counts.wide) in
-      let held_before : list_any holds queues ≡ true = list_any_at holds queues at queue within (ap holds (sym is) ∙ not_false (holds queue) some) in
-      let left = ap (λ n. n == 0) (counts_dropped queues held at queue new counts inside is some dropped).counted ∙ none_passes holds (set queues at new) in
-      rw (held_before, left) (one_of_both (list_any holds (set queues at new)))
-    where
-      not_false : (b : Bool) → not b ≡ false → b ≡ true
-      not_false true is = refl
-      not_false false is = absurd (true≢false is)
-
-      one_of_both : (b : Bool) → 1 ≡ share b + share (not b)
-      one_of_both true = refl
-      one_of_both false = refl
 
   -- blank rows
   pub blank_at : (queues : List (List X)) (i : ℕ) → IsBlank queues → get_or queues i [] ≡ []

@@ -5,6 +5,7 @@
 //! messages passes by the others. What a `Snapshot` hands over is a type parameter.
 #![tactic(auto)]
 
+mod held;
 mod link;
 mod links;
 mod row;

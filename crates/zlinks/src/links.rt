@@ -7,31 +7,32 @@ ghost use Rattle.zprotocol.specs.declared.limits.TheConstants.{PROCESSES};
 ghost use Rattle.zprotocol.specs.Places.{place_of};
 ghost use Rattle.zlinks.specs.Places.{links_of, with_link, without_receiver, is_silent, holds};
 
+use crate::held::Held;
 use crate::row::Row;
 use std::alloc::Global;
 use std::marker::Model;
 use zpath::Memory;
 use zprotocol::{Message, PROCESSES, Process};
 
-/// The links between all processes, and how many processes have put something that is still on one.
+/// The links between all processes, and which processes have put something that is still on one.
 #[derive(Drop)]
 pub struct Links<T> {
     rows: Vec<Row<T>>,
-    held: usize,
+    held: Held,
 }
 
 impl<T> Model for Links<T> {
-    ghost use Rattle.std.specs.Prelude.{List};
+    ghost use Rattle.std.specs.Prelude.{List, []};
     ghost use Rattle.std.specs.List.{list_any};
     ghost use Rattle.zprotocol.specs.declared.message.Message.{Message};
     ghost use Rattle.zlinks.specs.Places.{holds};
-    ghost use Rattle.zlinks.specs.support.Rows.{Counts};
+    ghost use Rattle.zlinks.specs.support.Bounds.{Tells};
 
     ghost Value = { List (List (List (Message T))) };
 
     ghost view = { λ links. links.rows.items };
 
-    ghost invariant = { λ links. Counts (list_any holds) links.rows.items links.held };
+    ghost invariant = { λ links. Tells (list_any holds) [] links.rows.items links.held };
 }
 
 impl<T: Drop> Links<T> {
@@ -43,11 +44,15 @@ impl<T: Drop> Links<T> {
         for place in 0..PROCESSES {
             rows.push(Row::new(alloc)?)?;
         }
-        Ok(Links { rows, held: 0 })
+        Ok(Links {
+            rows,
+            held: Held::none(),
+        })
     }
 
     /// The first place, from this one on, of a process of which something is under way; or `PROCESSES`, at once where
     /// nothing is. The master has place 0, then come the servers and the clients, each by number.
+    #[tactic(auto, unfolding(crate::specs::Places::is_silent))]
     pub fn next_sender(&self, at: usize) -> usize
         ensures few { result ≤ PROCESSES }
         ensures ahead { at ≤ PROCESSES → at ≤ result }
@@ -56,10 +61,7 @@ impl<T: Drop> Links<T> {
         ensures sends { (from : Process) → place_of from ≡ result → result < PROCESSES
             → is_silent self.now from ≡ false }
     {
-        if self.held == 0 {
-            return PROCESSES;
-        }
-        for place in at..PROCESSES {
+        for place in self.held.start(at)..self.held.end() {
             if !self.rows[place].is_silent() {
                 return place;
             }
@@ -87,11 +89,12 @@ impl<T: Drop> Links<T> {
         ensures same { OnErr result ((p q : Process) → links_of self.new p q
             ≡ links_of self.old p q) }
     {
-        let row = &mut self.rows[from.place()];
+        let sender = from.place();
+        let row = &mut self.rows[sender];
         let was_silent = row.is_silent();
         row.put(to.place(), message)?;
         if was_silent {
-            self.held += 1;
+            self.held.add(sender);
         }
         Ok(())
     }
@@ -118,7 +121,7 @@ impl<T: Drop> Links<T> {
         let row = &mut self.rows[from.place()];
         let front = row.next(to.place())?;
         if row.is_silent() {
-            self.held -= 1;
+            self.held.remove();
         }
         Some(front)
     }
@@ -132,7 +135,7 @@ impl<T: Drop> Links<T> {
         for from in 0..PROCESSES {
             let row = &mut self.rows[from];
             if row.clear(at) {
-                self.held -= 1;
+                self.held.remove();
             }
         }
     }

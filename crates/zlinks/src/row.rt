@@ -7,30 +7,31 @@ ghost use Rattle.zprotocol.specs.declared.limits.TheConstants.{PROCESSES};
 ghost use Rattle.zlinks.specs.Places.{holds};
 ghost use Rattle.zlinks.specs.support.Rows.{IsBlank, share};
 
+use crate::held::Held;
 use crate::link::Link;
 use std::alloc::Global;
 use std::marker::Model;
 use zpath::Memory;
 use zprotocol::{Message, PROCESSES};
 
-/// The links from one process, by the places of the receivers, and how many of them hold something.
+/// The links from one process, by the places of the receivers, and which of them hold something.
 #[derive(Drop)]
 pub(crate) struct Row<T> {
     links: Vec<Link<T>>,
-    held: usize,
+    held: Held,
 }
 
 impl<T> Model for Row<T> {
-    ghost use Rattle.std.specs.Prelude.{List};
+    ghost use Rattle.std.specs.Prelude.{List, []};
     ghost use Rattle.zprotocol.specs.declared.message.Message.{Message};
     ghost use Rattle.zlinks.specs.Places.{holds};
-    ghost use Rattle.zlinks.specs.support.Rows.{Counts};
+    ghost use Rattle.zlinks.specs.support.Bounds.{Tells};
 
     ghost Value = { List (List (Message T)) };
 
     ghost view = { λ row. row.links.items };
 
-    ghost invariant = { λ row. Counts holds row.links.items row.held };
+    ghost invariant = { λ row. Tells holds [] row.links.items row.held };
 }
 
 impl<T: Drop> Row<T> {
@@ -42,14 +43,17 @@ impl<T: Drop> Row<T> {
         for place in 0..PROCESSES {
             links.push(Link::new(alloc))?;
         }
-        Ok(Row { links, held: 0 })
+        Ok(Row {
+            links,
+            held: Held::none(),
+        })
     }
 
     /// Whether nothing is in it.
     pub(crate) fn is_silent(&self) -> bool
         ensures { result ≡ not (list_any holds self.now) }
     {
-        self.held == 0
+        self.held.is_none()
     }
 
     /// The first place, from this one on, on the link to which something is; or `PROCESSES`.
@@ -59,10 +63,7 @@ impl<T: Drop> Row<T> {
         ensures ahead { at ≤ PROCESSES → at ≤ result }
         ensures held { result < PROCESSES → holds (get_or self.now result []) ≡ true }
     {
-        if self.held == 0 {
-            return PROCESSES;
-        }
-        for place in at..PROCESSES {
+        for place in self.held.start(at)..self.held.end() {
             if !self.links[place].is_empty() {
                 return place;
             }
@@ -82,7 +83,7 @@ impl<T: Drop> Row<T> {
         let was_empty = link.is_empty();
         link.put(message)?;
         if was_empty {
-            self.held += 1;
+            self.held.add(at);
         }
         Ok(())
     }
@@ -108,7 +109,7 @@ impl<T: Drop> Row<T> {
         let link = &mut self.links[at];
         let front = link.next()?;
         if link.is_empty() {
-            self.held -= 1;
+            self.held.remove();
         }
         Some(front)
     }
@@ -126,7 +127,7 @@ impl<T: Drop> Row<T> {
             return false;
         }
         link.clear();
-        self.held -= 1;
-        self.held == 0
+        self.held.remove();
+        self.held.is_none()
     }
 }

@@ -10,6 +10,7 @@ pub mod OpeningViews
 pub mod Results
 pub mod TakeSteps
 pub mod Tries
+pub mod Counting
 pub mod Skips
 pub mod Passes
 pub mod Going

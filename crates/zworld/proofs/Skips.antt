@@ -1,10 +1,9 @@
 -- Places that are passed by: nothing is under way from them, or to them.
-use Rattle.std.proofs.Common.{◌≡◌, ℕ, ◌+◌, ◌-◌, ◌<◌, ◌≤◌, zero, suc, true, false, List, [], ◌∷◌, length, map, take, get_or, inl, inr, refl, sym, ap, subst, ◌∙◌, arith}
+use Rattle.std.proofs.Common.{◌≡◌, ℕ, ◌+◌, ◌-◌, ◌<◌, ◌≤◌, zero, suc, true, false, List, [], length, take, get_or, inl, inr, refl, sym, ap, subst, ◌∙◌, arith}
 use Rattle.std.proofs.lemmas.List.{take_all}
 use Rattle.std.proofs.lemmas.List.FromFn.{get_or-map-range_with_len, length-map-range_with_len}
 use Rattle.std.proofs.lemmas.Bool.Decides.{nat_tests}
 use Rattle.std.specs.Prelude.{nat_lt}
-use Rattle.std.specs.List.{range_with_len}
 use Rattle.zcalls.proofs.Among.{test}
 use Rattle.zprotocol.specs.declared.limits.TheConstants.{MAX_SERVERS, PROCESSES}
 use Rattle.zprotocol.specs.declared.process.Process.{Process}
@@ -21,12 +20,6 @@ use Rattle.zworld.proofs.Tries.{silent_tries, empty_try, one_more_receiver, one_
 -- there are so many processes
 pub length-processes : (clients : ℕ) → length (processes clients) ≡ MAX_SERVERS + 1 + clients
 length-processes clients = length-map-range_with_len process_at 0 (MAX_SERVERS + 1 + clients)
-
--- the master is the first
-pub first_receiver : (clients : ℕ) → take 1 (processes clients) ≡ Master ∷ []
-first_receiver clients =
-    let more : MAX_SERVERS + 1 + clients ≡ suc (MAX_SERVERS + clients) = omega arith in
-    ap (λ n. take 1 (map process_at (range_with_len 0 n))) more
 
 -- each stands in its place
 pub listed : (clients place : ℕ) → place < MAX_SERVERS + 1 + clients → process_at place ≡ get_or (processes clients) place (process_at place)

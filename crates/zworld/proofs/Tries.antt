@@ -1,6 +1,6 @@
 -- A settling goes on where the processes do: ways from one point to another, and events that are tried.
 use Rattle.std.proofs.Common.{◌≡◌, ℕ, ◌-◌, ◌<◌, ◌+◌, suc, Bool, true, false, not, if◌then◌else◌, nat_lt, List, [], ◌∷◌, ◌++◌, length, take, drop, get_or, refl, sym, ap, subst, ◌∙◌, append-nil, append_assoc, lt-ltb, arith}
-use Rattle.std.specs.Prelude.{◌&&◌, ◌||◌}
+use Rattle.std.specs.Prelude.{◌&&◌, ◌||◌, is_some}
 use Rattle.std.specs.List.{list_any}
 use Rattle.std.proofs.Math.Seq.{take-suc}
 use Rattle.std.proofs.lemmas.List.FromFn.{map-range_with_len_more}
@@ -22,7 +22,7 @@ use Rattle.zworld_model.proofs.Alike.{have_the_same_enabled, stay_alike, alike_i
 use Rattle.zworld_model.proofs.Settling.{none_is_done, none_may_be_done}
 use Rattle.zworld.specs.declared.did.Did.{Did}
 use Rattle.zworld.specs.declared.did.Did.TheVariants as became
-use Rattle.zworld.specs.Held.{Held, last_words, world_of}
+use Rattle.zworld.specs.Held.{Held, last_words, nobody, world_of}
 use Rattle.zlinks.specs.Places.{links_of, is_silent}
 use Rattle.zlinks.proofs.Places.{silent_links}
 use Rattle.zworld.specs.Did.{is_idle, outcome_of}
@@ -120,6 +120,13 @@ silent_tries from receivers p silent =
         → list_any (is_enabled s.world) (takes_from receivers from) ≡ false
     none_taken [] s none = refl
     none_taken (to ∷ receivers) s none = ap (λ b. b || list_any (is_enabled s.world) (takes_from receivers from)) (none to) ∙ none_taken receivers s none
+
+-- nor is anything sent once more by a client that waits for nothing
+pub idle_retry : (c : ℕ) (p : Point) → is_some (get_or p.held.clients c nobody).outstanding ≡ false → Tries (Retry c ∷ []) p p
+idle_retry c p none =
+    tries_nothing (Retry c ∷ []) p (λ history outcomes s stands.
+    none_is_done kept_tree s (Retry c ∷ []) (ap (λ b. b || false)
+    (have_the_same_enabled kept_tree s.world (world_of p.held history) (Retry c) stands.alike ∙ none)))
 
 -- nor from a link on which nothing is
 pub empty_try : (from to : Process) (p : Point) → (world_of p.held []).links from to ≡ [] → Tries (Take from to ∷ []) p p

@@ -92,6 +92,7 @@ impl Processes {
         let core = &mut self.clients[client.number() as usize];
         match core.begin(call, &mut self.out) {
             Ok(number) => {
+                self.waiting += 1;
                 post(
                     self.alloc,
                     &mut self.links,

@@ -1,6 +1,7 @@
 //! Messages that are delivered, and requests that are lost.
 
-ghost use Rattle.std.specs.Prelude.{◌≡◌, ◌++◌, [], true, false, IfOk, OnErr, OnOk};
+ghost use Rattle.std.specs.Prelude.{◌≡◌, ◌≤◌, ◌+◌, ◌++◌, [], true, false, IfOk, OnErr, OnOk, is_some};
+ghost use Rattle.zlinks.specs.support.Rows.{share};
 ghost use Rattle.zworld_model.specs.declared.event.Event.TheVariants.{Take, Ignore};
 ghost use Rattle.zprotocol.specs.declared.process.Process.TheVariants.{Master, Server, Client};
 ghost use Rattle.zworld_model.specs.History.{History};
@@ -59,6 +60,7 @@ impl Processes {
         };
         let member = &mut self.members[server.number() as usize - 1];
         if member.tell() {
+            self.owing -= 1;
             return Some(Message::Gone);
         }
         None
@@ -108,6 +110,7 @@ impl Processes {
             }
             Ok(Taken::Unheard) => Ok(Did::Unheard),
             Err(why) => {
+                self.owing += 1;
                 self.links.clear(&Process::Server(server));
                 Ok(did_of(why))
             }
@@ -137,6 +140,7 @@ impl Processes {
                 return Err(Memory);
             }
         };
+        self.waiting = left_waiting(self.waiting, &reply);
         let Ok(()) = post(
             self.alloc,
             &mut self.links,
@@ -171,6 +175,17 @@ impl Processes {
             Some(Message::Query(_, _)) => true,
             _ => false,
         }
+    }
+}
+
+// How many clients still wait, once one of them was handed this.
+fn left_waiting(waiting: usize, handed: &Option<Reply>) -> usize
+    requires { share (is_some handed.now) ≤ waiting }
+    ensures { result + share (is_some handed.now) ≡ waiting }
+{
+    match handed {
+        Some(_) => waiting - 1,
+        None => waiting,
     }
 }
 

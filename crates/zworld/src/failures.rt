@@ -23,6 +23,7 @@ impl Processes {
             return Did::Idle(IdleCause::Nothing);
         }
         member.fail();
+        self.owing += 1;
         self.links.clear(&Process::Server(server));
         Did::Done
     }

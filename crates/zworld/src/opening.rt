@@ -36,6 +36,8 @@ impl Processes {
             master: Master::new(last, clients),
             links,
             out: Out::new(alloc),
+            owing: 0,
+            waiting: 0,
         })
     }
 }

@@ -19,7 +19,8 @@ use zserver::Snapshot;
 use zworld_model::{CallEvent, Event};
 
 /// The servers from 1 on, the clients from 0 on, the master, and the messages under way but for `Gone`. The list for what
-/// an event puts is kept from one event to the next, and empty between them.
+/// an event puts is kept from one event to the next, and empty between them. How many members owe their last words, and
+/// how many clients wait for an answer, is counted, so that settling looks for them only where there are some.
 #[derive(Drop)]
 pub(crate) struct Processes {
     pub(crate) alloc: Global,
@@ -28,6 +29,8 @@ pub(crate) struct Processes {
     pub(crate) master: Master,
     pub(crate) links: Links<Snapshot>,
     pub(crate) out: Out<Snapshot>,
+    pub(crate) owing: usize,
+    pub(crate) waiting: usize,
 }
 
 impl Model for Processes {
@@ -46,7 +49,7 @@ impl Model for Processes {
       links = a.links;
     } };
 
-    ghost invariant = { λ a. IsFull a.members.items a.clients.items a.out.posts };
+    ghost invariant = { λ a. IsFull a.members.items a.clients.items a.out.posts a.owing a.waiting };
 }
 
 impl Processes {

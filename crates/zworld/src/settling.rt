@@ -101,11 +101,10 @@ impl Processes {
             (record { held = self.new; left = after; seen = seen.new.items })) }
         ensures partly { OnErr result (GoOn seen.new.items seen.old.items) }
     {
-        left = self.try_take(from, Process::Master, left, seen)?;
-        let mut place = self.links.next_receiver(&from, 1);
+        let mut place = self.next_receiver(&from, 0);
         while place < count_of(clients) {
             left = self.try_take(from, process_at(place), left, seen)?;
-            place = self.links.next_receiver(&from, place + 1);
+            place = self.next_receiver(&from, place + 1);
         }
         Ok(left)
     }
@@ -137,6 +136,9 @@ impl Processes {
             (record { held = self.old; left = left; seen = seen })
             (record { held = self.new; left = after; seen = seen })) }
     {
+        if self.waiting == 0 {
+            return Ok(left);
+        }
         for number in 0..clients {
             let Some(client) = ClientId::new(number) else {
                 unreachable!();
@@ -167,12 +169,32 @@ impl Processes {
             → (world_of self.now []).links from to ≡ [] }
     {
         let next = self.links.next_sender(at);
+        if self.owing == 0 {
+            return next;
+        }
         for server in 1..MAX_SERVERS as usize + 1 {
             if at <= server && server < next && self.members[server - 1].owes_gone() {
                 return server;
             }
         }
         next
+    }
+
+    // The first place, from this one on, of a process to which something of the first one may be under way. The master is
+    // tried where any server owes its last words.
+    fn next_receiver(&self, from: &Process, at: usize) -> usize
+        ensures few { result ≤ PROCESSES }
+        ensures ahead { at ≤ PROCESSES → at ≤ result }
+        ensures empty { (to : Process) → at ≤ place_of to → place_of to < result
+            → (world_of self.now []).links from.now to ≡ [] }
+    {
+        if self.owing == 0 {
+            return self.links.next_receiver(from, at);
+        }
+        if at == 0 {
+            return 0;
+        }
+        self.links.next_receiver(from, at)
     }
 }
 

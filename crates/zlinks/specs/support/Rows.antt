@@ -1,6 +1,5 @@
 -- What rows know of themselves.
-use Rattle.std.specs.Prelude.{◌≡◌, ℕ, ◌+◌, Bool, true, false, List, [], ◌∷◌, length, get_or, set, nat_lt, if◌then◌else◌}
-use Rattle.zprotocol.specs.declared.limits.TheConstants.{PROCESSES}
+use Rattle.std.specs.Prelude.{◌≡◌, ℕ, ◌+◌, Bool, true, false, List, [], ◌∷◌, get_or, set, nat_lt, if◌then◌else◌}
 
 -- 1 for what passes a test
 abbrev pub share : Bool → ℕ
@@ -11,11 +10,6 @@ share true = 1
 abbrev pub passing : {X : Type 0} → (X → Bool) → List X → ℕ
 passing test [] = 0
 passing test (x ∷ xs) = share (test x) + passing test xs
-
--- there is one for each process, and so many pass the test: queues that hold something, or rows with such a queue
-pub record Counts {X : Type 0} (test : X → Bool) (xs : List X) (held : ℕ) : Type 0 where
-  pub wide : length xs ≡ PROCESSES
-  pub counted : held ≡ passing test xs
 
 -- no queue of a row holds anything
 abbrev pub IsBlank : {X : Type 0} → List (List X) → Type 0

@@ -1,5 +1,5 @@
 -- What a member says of a message.
-use Rattle.std.specs.Prelude.{◌≡◌, true, false, None, Some, Result, Ok, Err, List, [], ◌++◌, length}
+use Rattle.std.specs.Prelude.{◌≡◌, ℕ, Bool, true, false, None, Some, is_some, Result, Ok, Err, List, [], ◌++◌, length}
 use Rattle.ztree.specs.declared.limits.TheConstants.{MAX_CLIENTS}
 use Rattle.zprotocol.specs.declared.limits.TheConstants.{MAX_SERVERS}
 use Rattle.zprotocol.specs.client.View.{ClientView}
@@ -16,7 +16,8 @@ use Rattle.zserver.specs.declared.taken.Taken.TheVariants.{Unheard}
 use Rattle.zserver.specs.Server.{taken_result, StopsAt}
 use Rattle.zworld.specs.declared.life.Life.{Life}
 use Rattle.zworld.specs.declared.life.Life.TheVariants.{Running, Owing, Gone}
-use Rattle.zworld.specs.Held.{MemberView, gone_member}
+use Rattle.zlinks.specs.support.Rows.{passing}
+use Rattle.zworld.specs.Held.{MemberView, gone_member, owes}
 
 -- the member that a server is by its life
 abbrev pub member_of : Life → MemberView
@@ -37,6 +38,12 @@ HasTaken old view from message (Ok taken) new before after =
     × (taken ≡ Unheard → may_be_unheard kept_tree view from message ≡ true) × (is_retirement from message ≡ false)
 HasTaken old view from message (Err why) new before after = (new ≡ gone_member) × StopsAt why view from message × (after ≡ before)
 
--- there are all members and all clients, and nothing waits to be put on links
-abbrev pub IsFull : List MemberView → List ClientView → List (Post (KeptState Tree)) → Type 0
-IsFull members clients posts = (length members ≡ MAX_SERVERS) × (length clients ≡ MAX_CLIENTS) × (posts ≡ [])
+-- a client waits for the answer to a call
+abbrev pub waits : ClientView → Bool
+waits client = is_some client.outstanding
+
+-- there are all members and all clients, and nothing waits to be put on links; so many members owe their last words, and so
+-- many clients wait
+abbrev pub IsFull : List MemberView → List ClientView → List (Post (KeptState Tree)) → ℕ → ℕ → Type 0
+IsFull members clients posts owing waiting =
+    (length members ≡ MAX_SERVERS) × (length clients ≡ MAX_CLIENTS) × (posts ≡ []) × (owing ≡ passing owes members) × (waiting ≡ passing waits clients)

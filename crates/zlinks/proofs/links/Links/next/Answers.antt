@@ -1,37 +1,37 @@
-use Rattle.std.proofs.Common.{◌≡◌, ◌-◌, ◌<◌, length, ap, sym, ◌∙◌, [], drop, get_or, arith}
+use Rattle.std.proofs.Common.{◌≡◌, ◌<◌, length, true, refl, ap, sym, subst, ◌∙◌, [], drop, get_or, set, arith}
 use Rattle.std.specs.List.{list_any}
 use Rattle.zlinks.specs.Places.{holds, links_of}
-use Rattle.zlinks.specs.support.Rows.{share}
+use Rattle.zlinks.specs.support.Bounds.{Tells}
+use Rattle.zlinks.proofs.Bounds.{some_held, tells_removed, tells_still}
 use Rattle.zlinks.proofs.Places.{row_written, row_at}
-use Rattle.zlinks.proofs.Rows.{counts_written, held_some, share_none, share_some, held_at}
+use Rattle.zlinks.proofs.Rows.{held_at, not_true, not_false}
 use Rattle.zlinks.proofs.links.Links.next.Goals as goal
 use Rattle.zlinks.proofs.links.Links.next.Goals.{then-is_silent, else-is_silent}
 
-pub overflow_sub-self : goal.overflow_sub-self
-overflow_sub-self g c =
+pub remove-requires : goal.remove-requires
+remove-requires g c =
     let row = c.index_mut-row.result.now in let at = c.place-2.result in
     let inside : at < length row = omega (arith, c.place-2.ensures.small, c.next.ensures.wide) in
-    held_some (list_any holds) c.self.inside.rows.items c.self.inside.held c.place.result row c.self.invariant c.place.ensures.small c.index_mut-row.ensures.value
-    (ap share (held_at row at inside (ap holds c.in_ok-front.ensures.front)))
+    some_held (list_any holds) [] c.self.inside.rows.items c.self.inside.held c.place.result row c.self.invariant c.place.ensures.small c.index_mut-row.ensures.value
+    (held_at row at inside (ap holds c.in_ok-front.ensures.front))
 
 pub invariant_of-self-then-is_silent : goal.invariant_of-self-then-is_silent
 invariant_of-self-then-is_silent g c =
-    let items = c.self.inside.rows.items in let held = c.self.inside.held in let row = c.index_mut-row.result.now in let new = c.next.new.self in let at = c.place-2.result in
+    let rows = c.self.inside.rows.items in let row = c.index_mut-row.result.now in let new = c.next.new.self in let at = c.place-2.result in
     let inside : at < length row = omega (arith, c.place-2.ensures.small, c.next.ensures.wide) in
-    let one : share (list_any holds row) ≡ 1 = ap share (held_at row at inside (ap holds c.in_ok-front.ensures.front)) in
-    let none : share (list_any holds new) ≡ 0 = share_none (list_any holds new) (sym c.is_silent.ensures ∙ c.if-is_silent.true) in
-    let some = held_some (list_any holds) items held c.place.result row c.self.invariant c.place.ensures.small c.index_mut-row.ensures.value one in
-    counts_written (list_any holds) items held c.place.result (held - 1) row new c.self.invariant c.place.ensures.small c.index_mut-row.ensures.value
-    (omega (arith, none, one, some))
+    subst (λ held. Tells (list_any holds) [] (set rows c.place.result new) held) (sym c.remove.ensures)
+    (tells_removed (list_any holds) [] rows c.self.inside.held c.place.result row new refl c.self.invariant c.place.ensures.small c.index_mut-row.ensures.value
+    (held_at row at inside (ap holds c.in_ok-front.ensures.front))
+    (not_true (list_any holds new) (sym c.is_silent.ensures ∙ c.if-is_silent.true)))
 
 pub invariant_of-self-else-is_silent : goal.invariant_of-self-else-is_silent
 invariant_of-self-else-is_silent g c =
-    let items = c.self.inside.rows.items in let held = c.self.inside.held in let row = c.index_mut-row.result.now in let new = c.next.new.self in let at = c.place-2.result in
+    let row = c.index_mut-row.result.now in let new = c.next.new.self in let at = c.place-2.result in
     let inside : at < length row = omega (arith, c.place-2.ensures.small, c.next.ensures.wide) in
-    let one : share (list_any holds row) ≡ 1 = ap share (held_at row at inside (ap holds c.in_ok-front.ensures.front)) in
-    let more : share (list_any holds new) ≡ 1 = share_some (list_any holds new) (sym c.is_silent.ensures ∙ c.if-is_silent.false) in
-    counts_written (list_any holds) items held c.place.result held row new c.self.invariant c.place.ensures.small c.index_mut-row.ensures.value
-    (omega (arith, one, more))
+    let some : list_any holds row ≡ true = held_at row at inside (ap holds c.in_ok-front.ensures.front) in
+    let more : list_any holds new ≡ true = not_false (list_any holds new) (sym c.is_silent.ensures ∙ c.if-is_silent.false) in
+    tells_still (list_any holds) [] c.self.inside.rows.items c.self.inside.held c.place.result row new c.self.invariant c.place.ensures.small
+    c.index_mut-row.ensures.value (more ∙ sym some)
 
 pub returns-in_err-front-clause-rest : goal.returns-in_err-front-clause-rest
 returns-in_err-front-clause-rest g c =

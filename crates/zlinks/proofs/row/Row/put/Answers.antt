@@ -1,20 +1,22 @@
-use Rattle.std.proofs.Common.{◌≡◌, ◌+◌, ap, sym, ◌∙◌, arith, set}
+use Rattle.std.proofs.Common.{◌≡◌, true, [], ap, sym, subst, ◌∙◌, set}
 use Rattle.std.proofs.lemmas.List.{set-get_or}
-use Rattle.zlinks.proofs.Results.{on_err}
 use Rattle.zlinks.specs.Places.{holds}
-use Rattle.zlinks.specs.support.Rows.{share}
-use Rattle.zlinks.proofs.Rows.{counts_written, share_none, share_some, holds_put, passing_le}
+use Rattle.zlinks.specs.support.Bounds.{Tells}
+use Rattle.zlinks.proofs.Bounds.{room_for_one, tells_added, tells_still}
+use Rattle.zlinks.proofs.Results.{on_err}
+use Rattle.zlinks.proofs.Rows.{holds_put, not_true, not_false}
 use Rattle.zlinks.proofs.row.Row.put.Goals as goal
 
-pub overflow_add-self : goal.overflow_add-self
-overflow_add-self g c =
-    omega (arith, passing_le holds c.self.inside.links.items, c.self.invariant.counted, c.self.invariant.wide)
+pub add-requires-clause-counted : goal.add-requires-clause-counted
+add-requires-clause-counted g c =
+    let queue = c.index_mut-link.result.now in
+    room_for_one holds [] c.self.inside.links.items c.self.inside.held c.args.at queue c.self.invariant c.requires c.index_mut-link.ensures.value
+    (not_true (holds queue) (sym c.is_empty-was_empty.ensures ∙ c.if-was_empty.true))
 
 pub invariant_of-self : goal.invariant_of-self
 invariant_of-self g c =
-    let held = c.self.inside.held in
-    counts_written holds c.self.inside.links.items held c.args.at held c.index_mut-link.result.now c.put.new.self c.self.invariant c.requires
-    c.index_mut-link.ensures.value (ap (λ queue. held + share (holds queue)) (sym c.in_err-put.ensures.same))
+    tells_still holds [] c.self.inside.links.items c.self.inside.held c.args.at c.index_mut-link.result.now c.put.new.self c.self.invariant c.requires
+    c.index_mut-link.ensures.value (ap holds c.in_err-put.ensures.same)
 
 pub returns-in_err-put-clause-same : goal.returns-in_err-put-clause-same
 returns-in_err-put-clause-same g c =
@@ -24,16 +26,15 @@ returns-in_err-put-clause-same g c =
 
 pub invariant_of-self-then-was_empty : goal.invariant_of-self-then-was_empty
 invariant_of-self-then-was_empty g c =
-    let held = c.self.inside.held in let queue = c.index_mut-link.result.now in
-    let none : share (holds queue) ≡ 0 = share_none (holds queue) (sym c.is_empty-was_empty.ensures ∙ c.if-was_empty.true) in
-    let one : share (holds c.put.new.self) ≡ 1 = ap (λ q. share (holds q)) c.in_ok-put.ensures.put ∙ ap share (holds_put queue c.args.message) in
-    counts_written holds c.self.inside.links.items held c.args.at (held + 1) queue c.put.new.self c.self.invariant c.requires
-    c.index_mut-link.ensures.value (omega (arith, none, one))
+    let items = c.self.inside.links.items in let queue = c.index_mut-link.result.now in let new = c.put.new.self in
+    subst (λ held. Tells holds [] (set items c.args.at new) held) (sym c.add.ensures)
+    (tells_added holds [] items c.self.inside.held c.args.at queue new c.self.invariant c.requires c.index_mut-link.ensures.value
+    (not_true (holds queue) (sym c.is_empty-was_empty.ensures ∙ c.if-was_empty.true))
+    (ap holds c.in_ok-put.ensures.put ∙ holds_put queue c.args.message))
 
 pub invariant_of-self-else-was_empty : goal.invariant_of-self-else-was_empty
 invariant_of-self-else-was_empty g c =
-    let held = c.self.inside.held in let queue = c.index_mut-link.result.now in
-    let some : share (holds queue) ≡ 1 = share_some (holds queue) (sym c.is_empty-was_empty.ensures ∙ c.if-was_empty.false) in
-    let one : share (holds c.put.new.self) ≡ 1 = ap (λ q. share (holds q)) c.in_ok-put.ensures.put ∙ ap share (holds_put queue c.args.message) in
-    counts_written holds c.self.inside.links.items held c.args.at held queue c.put.new.self c.self.invariant c.requires
-    c.index_mut-link.ensures.value (omega (arith, some, one))
+    let queue = c.index_mut-link.result.now in let new = c.put.new.self in
+    let some : holds queue ≡ true = not_false (holds queue) (sym c.is_empty-was_empty.ensures ∙ c.if-was_empty.false) in
+    tells_still holds [] c.self.inside.links.items c.self.inside.held c.args.at queue new c.self.invariant c.requires c.index_mut-link.ensures.value
+    (ap holds c.in_ok-put.ensures.put ∙ holds_put queue c.args.message ∙ sym some)

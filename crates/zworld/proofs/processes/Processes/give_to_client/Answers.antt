@@ -1,10 +1,50 @@
-use Rattle.std.proofs.Common.{◌≡◌, ◌<◌, List, length, get_or, ◌∙◌, ap, subst, arith}
+use Rattle.std.proofs.Common.{◌≡◌, ◌<◌, List, length, length-set, get_or, ◌∙◌, ap, subst, arith}
 use Rattle.zprotocol.specs.declared.process.Process.TheVariants.{Client}
 use Rattle.zworld.specs.Held.{MemberView}
 use Rattle.zworld.specs.support.Posting.{IsPosted}
 use Rattle.zworld.specs.support.Fronts.{answers_of}
+use Rattle.zworld.proofs.Counting.{has_waited, waits_no_more}
 use Rattle.zworld.proofs.GivenSteps.{client_given}
 use Rattle.zworld.proofs.processes.Processes.give_to_client.Goals as goal
+
+pub left_waiting-self-inside-requires : goal.left_waiting-self-inside-requires
+left_waiting-self-inside-requires c =
+    let inside : c.number.result < length c.self.inside.clients.items = omega (arith, c.number.ensures.small, c.self.invariant.1) in
+    has_waited c.self.inside.clients.items c.self.inside.waiting c.self.inside.waiting c.number.result c.index_mut-core.result.now c.take.new.self c.args.from c.args.message c.in-Ok.reply
+    c.self.invariant.4 inside c.index_mut-core.ensures.value c.in-Ok.ensures.next c.in-Ok.ensures.reply
+
+pub invariant_of-self-in_default : goal.invariant_of-self-in_default
+invariant_of-self-in_default c =
+    let inside : c.number.result < length c.self.inside.clients.items = omega (arith, c.number.ensures.small, c.self.invariant.1) in (
+      c.self.invariant.0,
+      length-set _ _ _ ∙ c.self.invariant.1,
+      c.post.ensures.emptied,
+      c.self.invariant.3,
+      waits_no_more c.self.inside.clients.items c.self.inside.waiting c.left_waiting-self-inside.result c.number.result c.index_mut-core.result.now c.take.new.self c.args.from c.args.message
+          c.in-Ok.reply c.self.invariant.4 inside c.index_mut-core.ensures.value c.in-Ok.ensures.next c.in-Ok.ensures.reply c.left_waiting-self-inside.ensures,
+    )
+
+pub invariant_of-self-in_err-tell : goal.invariant_of-self-in_err-tell
+invariant_of-self-in_err-tell c =
+    let inside : c.number.result < length c.self.inside.clients.items = omega (arith, c.number.ensures.small, c.self.invariant.1) in (
+      c.self.invariant.0,
+      length-set _ _ _ ∙ c.self.invariant.1,
+      c.post.ensures.emptied,
+      c.self.invariant.3,
+      waits_no_more c.self.inside.clients.items c.self.inside.waiting c.left_waiting-self-inside.result c.number.result c.index_mut-core.result.now c.take.new.self c.args.from c.args.message
+          c.in-Ok.reply c.self.invariant.4 inside c.index_mut-core.ensures.value c.in-Ok.ensures.next c.in-Ok.ensures.reply c.left_waiting-self-inside.ensures,
+    )
+
+pub invariant_of-self-2 : goal.invariant_of-self-2
+invariant_of-self-2 c =
+    let inside : c.number.result < length c.self.inside.clients.items = omega (arith, c.number.ensures.small, c.self.invariant.1) in (
+      c.self.invariant.0,
+      length-set _ _ _ ∙ c.self.invariant.1,
+      c.post.ensures.emptied,
+      c.self.invariant.3,
+      waits_no_more c.self.inside.clients.items c.self.inside.waiting c.left_waiting-self-inside.result c.number.result c.index_mut-core.result.now c.take.new.self c.args.from c.args.message
+          c.in-Ok.reply c.self.invariant.4 inside c.index_mut-core.ensures.value c.in-Ok.ensures.next c.in-Ok.ensures.reply c.left_waiting-self-inside.ensures,
+    )
 
 pub returns-clause-given : goal.returns-clause-given
 returns-clause-given c =

@@ -1,6 +1,29 @@
-use Rattle.std.proofs.Common.{◌≡◌, ◌<◌, ◌-◌, ◌+◌, length, ◌∙◌, sym, arith}
+use Rattle.std.proofs.Common.{◌≡◌, ◌<◌, ◌-◌, ◌+◌, length, length-set, ap, ◌∙◌, sym, arith}
+use Rattle.zworld.specs.Held.{owes}
+use Rattle.zworld.proofs.Counting.{one_fewer, is_counted}
 use Rattle.zworld.proofs.FrontSteps.{popped_some, told_popped}
 use Rattle.zworld.proofs.processes.Processes.next.Goals as goal
+
+pub overflow_sub-self : goal.overflow_sub-self
+overflow_sub-self c =
+    let place = c.number.result - 1 in
+    let members = c.self.inside.members.items in
+    let inside : place < length members = omega (arith, c.number.ensures.small, c.number.ensures.some, c.self.invariant.0) in
+    is_counted owes members c.self.inside.owing place c.index_mut-member.result.now c.tell.new.self c.self.invariant.3 inside c.index_mut-member.ensures.value
+    (sym c.tell.ensures.owed ∙ c.if-tell.true)
+
+pub invariant_of-self-then-tell : goal.invariant_of-self-then-tell
+invariant_of-self-then-tell c =
+    let place = c.number.result - 1 in
+    let members = c.self.inside.members.items in
+    let inside : place < length members = omega (arith, c.number.ensures.small, c.number.ensures.some, c.self.invariant.0) in (
+      length-set _ _ _ ∙ c.self.invariant.0,
+      c.self.invariant.1,
+      c.self.invariant.2,
+      one_fewer owes members c.self.inside.owing place c.index_mut-member.result.now c.tell.new.self c.self.invariant.3 inside c.index_mut-member.ensures.value
+          (sym c.tell.ensures.owed ∙ c.if-tell.true) (ap owes (c.tell.ensures.told c.if-tell.true)),
+      c.self.invariant.4,
+    )
 
 pub returns-in-Some : goal.returns-in-Some
 returns-in-Some c = popped_some _ _ c.next.new.self c.args.from.now c.args.to.now c.in-Some.message c.self.view_is c.in-Some.ensures.front c.next.ensures.rest

@@ -1,6 +1,13 @@
-use Rattle.std.proofs.Common.{◌<◌, arith}
+use Rattle.std.proofs.Common.{◌<◌, sym, ◌∙◌, arith}
+use Rattle.zlinks.proofs.Places.{silent_links}
+use Rattle.zworld.proofs.Counting.{paid_link}
 use Rattle.zworld.proofs.Skips.{silent_place}
 use Rattle.zworld.proofs.processes.Processes.next_sender.Goals as goal
+
+pub returns-then-self-eq0-clause-silent : goal.returns-then-self-eq0-clause-silent
+returns-then-self-eq0-clause-silent c from to behind before =
+    paid_link _ c.args.self.now from to c.self.view_is (sym c.self.invariant.3 ∙ c.if-self-eq0.true)
+    (silent_links _ from to (c.next_sender-next.ensures.silent from behind before))
 
 pub returns-then-owes_gone-clause-silent : goal.returns-then-owes_gone-clause-silent
 returns-then-owes_gone-clause-silent c from to behind before =

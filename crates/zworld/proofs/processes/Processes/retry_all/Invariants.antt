@@ -1,4 +1,3 @@
-use Rattle.std.proofs.Common.{List}
 use Rattle.zworld_model.specs.History.{History}
 use Rattle.zworld_model.specs.Settle.{retry_events}
 use Rattle.zworld.specs.support.Settling.{Tries}

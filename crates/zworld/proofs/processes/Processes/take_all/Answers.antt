@@ -1,21 +1,18 @@
-use Rattle.std.proofs.Common.{◌≤◌, ◌<◌, ◌+◌, length, subst, sym, arith}
+use Rattle.std.proofs.Common.{◌≤◌, ◌<◌, ◌+◌, length, subst, arith}
 use Rattle.std.proofs.lemmas.List.{take_all}
 use Rattle.zprotocol.specs.declared.limits.TheConstants.{PROCESSES}
 use Rattle.zworld_model.specs.Settle.{processes}
 use Rattle.zworld.specs.support.Settling.{Point, Tries, takes_from}
-use Rattle.zworld.proofs.Tries.{one_more_receiver}
-use Rattle.zworld.proofs.Skips.{empty_link, first_receiver, length-processes, listed_as, receivers_to}
+use Rattle.zworld.proofs.Tries.{goes_nowhere, one_more_receiver}
+use Rattle.zworld.proofs.Skips.{length-processes, listed_as, receivers_to}
 use Rattle.zworld.proofs.processes.Processes.take_all.Goals as goal
 
 pub loop-place-init : goal.loop-place-init
 loop-place-init c =
     let old : Point = record { held = c.args.self.now; left = c.args.left; seen = c.args.seen.now.items } in
-    let here : Point = record { held = c.try_take.new.self; left = c.in_ok-left.left; seen = c.try_take.new.seen.items } in
     let found = c.next_receiver-place.ensures in (
       found.few,
-      receivers_to c.args.clients here c.args.from old 1 c.next_receiver-place.result (found.ahead (omega arith)) found.few
-          (λ to behind before. empty_link _ c.try_take.new.self c.args.from to c.self.view_is (found.empty to behind before) behind)
-          (subst (λ ps. Tries (takes_from ps c.args.from) old here) (sym (first_receiver c.args.clients)) c.in_ok-left.ensures.done),
+      receivers_to c.args.clients old c.args.from old 0 c.next_receiver-place.result (omega arith) found.few found.empty (goes_nowhere (λ s. s) old),
     )
 
 pub process_at-requires : goal.process_at-requires
@@ -34,16 +31,16 @@ pub loop-place-preserved : goal.loop-place-preserved
 loop-place-preserved c =
     let old : Point = record { held = c.args.self.now; left = c.args.left; seen = c.args.seen.now.items } in
     let before : Point = record { held = c.loop-place.self; left = c.loop-place.left; seen = c.loop-place.seen.items } in
-    let here : Point = record { held = c.try_take-in-loop-place.new.self; left = c.in_ok-left-2.left; seen = c.try_take-in-loop-place.new.seen.items } in
+    let here : Point = record { held = c.try_take.new.self; left = c.in_ok-left.left; seen = c.try_take.new.seen.items } in
     let inside : c.loop-place.place < c.count_of.result = c.loop-place-test.true in
     let listed : c.loop-place.place < length (processes c.args.clients) = omega (arith, inside, c.count_of.ensures) in
     let small : c.loop-place.place < PROCESSES = omega (arith, listed, length-processes c.args.clients, c.requires) in
     let found = c.next_receiver-place-in-loop-place.ensures in (
       found.few,
       receivers_to c.args.clients here c.args.from old (c.loop-place.place + 1) c.next_receiver-place-in-loop-place.result (found.ahead (omega (arith, small))) found.few
-          (λ to behind until. empty_link _ c.try_take-in-loop-place.new.self c.args.from to c.self-in-loop-place.view_is (found.empty to behind until) (omega (arith, behind)))
+          found.empty
           (one_more_receiver (processes c.args.clients) c.loop-place.place c.args.from c.process_at.result old before here listed
-          (listed_as c.args.clients c.loop-place.place c.process_at.result c.process_at.ensures listed) c.loop-place.invariant.1 c.in_ok-left-2.ensures.done),
+          (listed_as c.args.clients c.loop-place.place c.process_at.result c.process_at.ensures listed) c.loop-place.invariant.1 c.in_ok-left.ensures.done),
     )
 
 pub returns-clause-done : goal.returns-clause-done

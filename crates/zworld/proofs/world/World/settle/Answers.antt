@@ -1,6 +1,5 @@
-use Rattle.std.proofs.Common.{◌≡◌, false, true, length, take, ap, sym, subst, ◌∙◌, arith}
+use Rattle.std.proofs.Common.{◌≡◌, true, length, take, sym, subst, ◌∙◌, arith}
 use Rattle.std.proofs.Math.Seq.{take-append_seam}
-use Rattle.zworld_model.specs.declared.settled.Settled.TheVariants.{Quiet}
 use Rattle.zworld.specs.Held.{world_of}
 use Rattle.zworld.specs.Steps.{WorldView, IsExplainedWithPast, HasSettled, world_in}
 use Rattle.zworld.specs.support.Stepped.{Settles}

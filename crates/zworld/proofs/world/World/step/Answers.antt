@@ -1,4 +1,4 @@
-use Rattle.std.proofs.Common.{sym, subst, ◌∙◌, ◌≡◌, true}
+use Rattle.std.proofs.Common.{sym, subst, ◌≡◌, true}
 use Rattle.std.specs.Prelude.{IfOk, OnErr}
 use Rattle.std.proofs.lemmas.Result.{IfOk-weaker}
 use Rattle.zworld.specs.declared.did.Did.TheVariants.{Idle}
