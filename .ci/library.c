@@ -102,7 +102,7 @@ static int play(long found) {
 static void open_again(int times) {
     jellqupas *service = room();
     for (int time = 0; time < times; time++) {
-        want(jellqupas_open(1 + time % 8, service) == JELLQUPAS_DONE, "a service is open", time);
+        want(jellqupas_open(1 + time % 16, service) == JELLQUPAS_DONE, "a service is open", time);
         want(hear(service, "1 create /a p aGk=") == JELLQUPAS_DONE, "a line is heard", time);
         size_t count;
         if (time % 2) free(told(service, &count));
@@ -117,7 +117,7 @@ static int refuse_numbers(void) {
     int numbers = 0;
     jellqupas *service = room();
     for (int servers = 0; servers < 256; servers++) {
-        if (1 <= servers && servers <= 8) continue;
+        if (1 <= servers && servers <= 16) continue;
         numbers++;
         want(jellqupas_open(servers, service) == JELLQUPAS_NO_SERVERS, "there is no such number of servers", servers);
         want(hear(service, "1 get /") == JELLQUPAS_NO_SERVERS, "no line is heard without servers", servers);
