@@ -1,9 +1,14 @@
 -- What holds of the server table, over all views and messages.
-use Rattle.std.specs.Prelude.{◌≡◌, Bool, true, false}
+use Rattle.std.specs.Prelude.{◌≡◌, ℕ, Bool, true, false, Option}
 use Rattle.std.specs.List.{list_any}
+use Rattle.ztree.specs.Tree.{Tree}
+use Rattle.zcalls.specs.declared.call.Entry.{Entry}
+use Rattle.zcalls.specs.declared.call.Update.{Update}
+use Rattle.zcalls.specs.declared.reply.Reply.{Reply}
+use Rattle.zcalls.specs.Kept.{nothing_kept}
 use Rattle.zprotocol.specs.declared.message.Message.TheVariants as message
 use Rattle.zprotocol.specs.declared.process.Process.{Process}
-use Rattle.zprotocol.specs.server.Machine.{Does}
+use Rattle.zprotocol.specs.server.Machine.{Does, kept_tree}
 use Rattle.zprotocol.specs.server.View.{ServerView, MessageOf, is_tail}
 use Rattle.zprotocol.specs.server.Table.{server_step}
 
@@ -17,3 +22,13 @@ abbrev pub OnlyTailsAnswer : {M : Type 0} → Does M → Type 0
 OnlyTailsAnswer {M} does =
     (v : ServerView M) (from : Process) (m : MessageOf M)
     → list_any (λ post. is_answer post.1) (server_step does v from m).1 ≡ true → is_tail v ≡ true
+
+-- a client's first call as an entry
+abbrev pub first_entry : ℕ → Update → Entry
+first_entry client update = record { client = client; number = 1; update = update }
+
+-- what a client's first update makes of a tree, where no reply is kept, and what it is answered
+abbrev pub first_step : Tree → ℕ → Update → Tree × Option Reply
+first_step t client update =
+    let did = kept_tree.apply (nothing_kept t) (first_entry client update) in
+    (did.0.plain, did.1)

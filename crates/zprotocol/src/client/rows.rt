@@ -2,7 +2,6 @@
 //! of `specs/support/Rows.antt`, and the messages those between servers whose machine is a number.
 
 ghost use Rattle.std.specs.Prelude.{◌≡◌, ◌-◌, None, Some, [], ◌∷◌};
-ghost use Rattle.zcalls.specs.declared.call.Call.TheVariants as call;
 ghost use Rattle.zcalls.specs.declared.limits.TheConstants.{MAX_CALL_NUMBER};
 ghost use Rattle.zcalls.specs.declared.reply.Reply.TheVariants.{Deleted};
 ghost use Rattle.zprotocol.specs.declared.message.Message.TheVariants as message;
@@ -10,27 +9,23 @@ ghost use Rattle.zprotocol.specs.declared.process.Process.TheVariants.{Master, S
 ghost use Rattle.zprotocol.specs.declared.client.begin_fault.BeginFault.TheVariants.{Busy, Exhausted};
 ghost use Rattle.zprotocol.specs.client.View.{opening_client};
 ghost use Rattle.zprotocol.specs.client.Table.{begin_fault};
-ghost use Rattle.zprotocol.specs.client.support.Rows.{Ignores, after_call, beginner, after_retry};
-ghost use Rattle.zprotocol.specs.client.support.Rows.{update};
-ghost use Rattle.zprotocol.specs.client.support.Rows.{query, client, idle, updating, asking};
-ghost use Rattle.zprotocol.specs.client.support.Rows.{eighth, told, submit_to, query_to, after_answer, after_config};
+ghost use Rattle.zprotocol.specs.client.support.Rows.{update_call, query_call, idle, updating};
+ghost use Rattle.zprotocol.specs.client.support.Rows.{asking, newcomer, beginner, outsider, eighth};
+ghost use Rattle.zprotocol.specs.client.support.Rows.{with_calls, headless, told, told_of_none};
+ghost use Rattle.zprotocol.specs.client.support.Rows.{submit_to, query_to, Ignores, after_call};
+ghost use Rattle.zprotocol.specs.client.support.Rows.{after_retry, after_answer, hears, hears_of_none};
 
 /// How a call begins: an update goes to the head and a query to the tail; and why it can't.
 pub fn calls_begin()
-    ensures first_call { after_call (opening_client 2 3 1) (call.Update update)
-        ≡ (beginner, submit_to 1 1 ∷ []) }
-    ensures update { after_call idle (call.Update update)
-        ≡ (eighth (call.Update update), submit_to 1 8 ∷ []) }
-    ensures query { after_call idle (call.Query query)
-        ≡ (eighth (call.Query query), query_to 3 8 ∷ []) }
-    ensures no_head { after_call (record idle { head = None }) (call.Update update)
-        ≡ (record (eighth (call.Update update)) { head = None }, []) }
+    ensures first_call { after_call newcomer update_call ≡ (beginner, submit_to 1 1 ∷ []) }
+    ensures update { after_call idle update_call ≡ (eighth update_call, submit_to 1 8 ∷ []) }
+    ensures query { after_call idle query_call ≡ (eighth query_call, query_to 3 8 ∷ []) }
+    ensures no_head { after_call (headless idle) update_call ≡ (headless (eighth update_call), []) }
     ensures allowed { begin_fault idle ≡ None }
     ensures busy { begin_fault updating ≡ Some Busy }
-    ensures exhausted { begin_fault (client MAX_CALL_NUMBER None) ≡ Some Exhausted }
-    ensures busy_before_exhausted { begin_fault (client MAX_CALL_NUMBER (asking.outstanding))
-        ≡ Some Busy }
-    ensures last_number { begin_fault (client (MAX_CALL_NUMBER - 1) None) ≡ None }
+    ensures exhausted { begin_fault (with_calls MAX_CALL_NUMBER idle) ≡ Some Exhausted }
+    ensures busy_before_exhausted { begin_fault (with_calls MAX_CALL_NUMBER asking) ≡ Some Busy }
+    ensures last_number { begin_fault (with_calls (MAX_CALL_NUMBER - 1) idle) ≡ None }
 {}
 
 /// What a client does with a server's answer, and with what it is told of the chain.
@@ -40,14 +35,10 @@ pub fn answers_are_taken()
     ensures old_answer { Ignores updating (Server 3) (message.Answer 6 Deleted) }
     ensures answer_again { Ignores idle (Server 3) (message.Answer 7 Deleted) }
     ensures answer_of_the_master { Ignores updating Master (message.Answer 7 Deleted) }
-    ensures config_and_update { after_config updating (Some 2) (Some 4)
-        ≡ (told (Some 2) (Some 4) updating, submit_to 2 7 ∷ [], None) }
-    ensures config_and_query { after_config asking (Some 2) (Some 4)
-        ≡ (told (Some 2) (Some 4) asking, query_to 4 7 ∷ [], None) }
-    ensures config_and_no_call { after_config idle (Some 2) (Some 4)
-        ≡ (told (Some 2) (Some 4) idle, [], None) }
-    ensures config_without_chain { after_config asking None None
-        ≡ (told None None asking, [], None) }
+    ensures config_and_update { hears updating 2 4 ≡ (told 2 4 updating, submit_to 2 7 ∷ [], None) }
+    ensures config_and_query { hears asking 2 4 ≡ (told 2 4 asking, query_to 4 7 ∷ [], None) }
+    ensures config_and_no_call { hears idle 2 4 ≡ (told 2 4 idle, [], None) }
+    ensures config_without_chain { hears_of_none asking ≡ (told_of_none asking, [], None) }
     ensures config_of_same_epoch { Ignores asking Master (message.Config 4 (Some 2) (Some 4)) }
     ensures config_of_a_server { Ignores asking (Server 1) (message.Config 5 (Some 2) (Some 4)) }
     ensures other_message { Ignores asking (Server 1) (message.Ack 4 7) }
@@ -55,10 +46,8 @@ pub fn answers_are_taken()
 
 /// The opening: a client of the world knows the chain, and a number beyond them has the view of nobody.
 pub fn opening_views()
-    ensures client { opening_client 2 3 1
-        ≡ record { number = 0; outstanding = None; epoch = 0; head = Some 1; tail = Some 2 } }
-    ensures nobody { opening_client 2 3 3
-        ≡ record { number = 0; outstanding = None; epoch = 0; head = None; tail = None } }
+    ensures client { opening_client 2 3 1 ≡ newcomer }
+    ensures nobody { opening_client 2 3 3 ≡ outsider }
 {}
 
 /// A retry sends the call again, under its number.

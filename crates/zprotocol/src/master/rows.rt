@@ -9,23 +9,23 @@ ghost use Rattle.zprotocol.specs.declared.master.join_fault.JoinFault.TheVariant
 ghost use Rattle.zprotocol.specs.declared.master.retire_fault.RetireFault.TheVariants as retire;
 ghost use Rattle.zprotocol.specs.master.View.{opening_master, with_number, head_of, tail_of};
 ghost use Rattle.zprotocol.specs.master.Table.{join_fault, retire_fault};
-ghost use Rattle.zprotocol.specs.master.support.Rows.{after, Ignores, after_join, with_fifth};
 ghost use Rattle.zprotocol.specs.master.support.Rows.{opening_of_two, three, four, growing, one};
-ghost use Rattle.zprotocol.specs.master.support.Rows.{lost, empty, tells, retiring, after_retire};
-ghost use Rattle.zprotocol.specs.master.support.Rows.{after_gone, with_chain, without_joining, hears_pred};
+ghost use Rattle.zprotocol.specs.master.support.Rows.{lost, empty, with_fifth, retiring, with_chain};
+ghost use Rattle.zprotocol.specs.master.support.Rows.{three_without_1, three_without_2, three_without_4};
+ghost use Rattle.zprotocol.specs.master.support.Rows.{four_without_2, four_without_3, growing_without_2};
+ghost use Rattle.zprotocol.specs.master.support.Rows.{without_joining, tells, tells_of_none, passed_on};
+ghost use Rattle.zprotocol.specs.master.support.Rows.{new_head, new_tail, new_pred, Ignores, after_join};
+ghost use Rattle.zprotocol.specs.master.support.Rows.{after_retire, after_have, after_joined, after_gone};
 
 /// What the master does with a server's report of its log, and when a new server has the state.
 pub fn reports_are_passed_on()
-    ensures have { after three (Server 4) (message.Have 5 (Some 9))
-        ≡ (three, (Server 2, message.NewSucc 5 4 (Some 9)) ∷ []) }
-    ensures have_no_state { after growing (Server 4) (message.Have 5 None)
-        ≡ (growing, (Server 2, message.NewSucc 5 4 None) ∷ []) }
+    ensures have { after_have three (Some 9) ≡ (three, passed_on (Some 9) ∷ []) }
+    ensures have_no_state { after_have growing None ≡ (growing, passed_on None ∷ []) }
     ensures have_of_old_epoch { Ignores three (Server 4) (message.Have 3 (Some 9)) }
     ensures have_of_the_head { Ignores three (Server 1) (message.Have 0 (Some 9)) }
     ensures have_of_a_stranger { Ignores three (Server 3) (message.Have 5 (Some 9)) }
     ensures have_of_a_client { Ignores three (Client 4) (message.Have 5 (Some 9)) }
-    ensures joined { after growing (Server 4) (message.Joined 5)
-        ≡ (without_joining growing, tells (Some 1) (Some 4)) }
+    ensures joined { after_joined growing ≡ (without_joining growing, tells 1 4) }
     ensures joined_of_another { Ignores growing (Server 2) (message.Joined 5) }
     ensures joined_again { Ignores three (Server 4) (message.Joined 5) }
     ensures order_of_a_server { Ignores three (Server 1) (message.BecomeTail 7) }
@@ -33,32 +33,14 @@ pub fn reports_are_passed_on()
 
 /// How the master mends the chain when a server has failed, and whom it tells.
 pub fn chain_is_mended()
-    ensures first { after_gone three 1
-        ≡ (
-          with_chain ((2, 3) ∷ (4, 5) ∷ []) three,
-          (Server 2, message.BecomeHead 7)
-              ∷ tells (Some 2) (Some 4),
-        ) }
-    ensures last { after_gone three 4
-        ≡ (
-          with_chain ((1, 0) ∷ (2, 3) ∷ []) three,
-          (Server 2, message.BecomeTail 7)
-              ∷ tells (Some 1) (Some 2),
-        ) }
-    ensures middle { after_gone three 2
-        ≡ (with_chain ((1, 0) ∷ (4, 7) ∷ []) three, hears_pred 4 1 1 4) }
-    ensures middle_of_four { after_gone four 3
-        ≡ (with_chain ((1, 0) ∷ (2, 3) ∷ (4, 7) ∷ []) four, hears_pred 4 2 1 4) }
-    ensures second_of_four { after_gone four 2
-        ≡ (with_chain ((1, 0) ∷ (3, 7) ∷ (4, 5) ∷ []) four, hears_pred 3 1 1 4) }
-    ensures joining { after_gone growing 4
-        ≡ (
-          with_chain ((1, 0) ∷ (2, 3) ∷ []) (without_joining growing),
-          (Server 2, message.BecomeTail 7) ∷ tells (Some 1) (Some 2),
-        ) }
-    ensures beneath_one_that_joins { after_gone growing 2
-        ≡ (with_chain ((1, 0) ∷ (4, 7) ∷ []) growing, hears_pred 4 1 1 1) }
-    ensures only { after_gone one 2 ≡ (with_chain [] one, tells None None) }
+    ensures first { after_gone three 1 ≡ (three_without_1, new_head 2 4) }
+    ensures last { after_gone three 4 ≡ (three_without_4, new_tail 1 2) }
+    ensures middle { after_gone three 2 ≡ (three_without_2, new_pred 4 1 1 4) }
+    ensures middle_of_four { after_gone four 3 ≡ (four_without_3, new_pred 4 2 1 4) }
+    ensures second_of_four { after_gone four 2 ≡ (four_without_2, new_pred 3 1 1 4) }
+    ensures joining { after_gone growing 4 ≡ (three_without_4, new_tail 1 2) }
+    ensures beneath_one_that_joins { after_gone growing 2 ≡ (growing_without_2, new_pred 4 1 1 1) }
+    ensures only { after_gone one 2 ≡ (with_chain [] one, tells_of_none) }
     ensures outside { Ignores three (Server 3) message.Gone }
     ensures spare { after_gone three 5 ≡ (record three { used = 1 ∷ 2 ∷ 3 ∷ 4 ∷ 5 ∷ [] }, []) }
 {}
@@ -73,18 +55,17 @@ pub fn servers_join()
     ensures no_chain { join_fault empty 5 ≡ Some NoChain }
     ensures lost { join_fault lost 5 ≡ Some Lost }
     ensures one_with_state { join_fault one 5 ≡ None }
-    ensures retiring { join_fault (retiring 2) 5 ≡ Some Retiring }
-    ensures used_before_retiring { join_fault (retiring 2) 3 ≡ Some Used }
-    ensures joining_before_retiring { join_fault (record growing { retiring = Some 2 }) 5
-        ≡ Some Joining }
-    ensures lost_before_retiring { join_fault (record lost { retiring = Some 4 }) 5 ≡ Some Lost }
+    ensures retiring { join_fault (retiring 2 three) 5 ≡ Some Retiring }
+    ensures used_before_retiring { join_fault (retiring 2 three) 3 ≡ Some Used }
+    ensures joining_before_retiring { join_fault (retiring 2 growing) 5 ≡ Some Joining }
+    ensures lost_before_retiring { join_fault (retiring 4 lost) 5 ≡ Some Lost }
 {}
 
 /// How a member is ordered to leave, and why it isn't.
 pub fn servers_retire()
-    ensures head { after_retire three 1 ≡ (retiring 1, (Server 1, message.Retire) ∷ []) }
-    ensures middle { after_retire three 2 ≡ (retiring 2, (Server 2, message.Retire) ∷ []) }
-    ensures tail { after_retire three 4 ≡ (retiring 4, (Server 4, message.Retire) ∷ []) }
+    ensures head { after_retire three 1 ≡ (retiring 1 three, (Server 1, message.Retire) ∷ []) }
+    ensures middle { after_retire three 2 ≡ (retiring 2 three, (Server 2, message.Retire) ∷ []) }
+    ensures tail { after_retire three 4 ≡ (retiring 4 three, (Server 4, message.Retire) ∷ []) }
     ensures allowed { retire_fault three 1 ≡ None }
     ensures not_member { retire_fault three 3 ≡ Some retire.NotMember }
     ensures not_member_before_all { retire_fault lost 3 ≡ Some retire.NotMember }
@@ -93,37 +74,23 @@ pub fn servers_retire()
     ensures joining_itself { retire_fault growing 4 ≡ Some retire.Joining }
     ensures joining_before_last { retire_fault lost 4 ≡ Some retire.Joining }
     ensures last { retire_fault one 2 ≡ Some retire.Last }
-    ensures last_before_retiring { retire_fault (record one { retiring = Some 2 }) 2
-        ≡ Some retire.Last }
-    ensures retiring { retire_fault (retiring 1) 2 ≡ Some retire.Retiring }
-    ensures retiring_itself { retire_fault (retiring 1) 1 ≡ Some retire.Retiring }
+    ensures last_before_retiring { retire_fault (retiring 2 one) 2 ≡ Some retire.Last }
+    ensures retiring { retire_fault (retiring 1 three) 2 ≡ Some retire.Retiring }
+    ensures retiring_itself { retire_fault (retiring 1 three) 1 ≡ Some retire.Retiring }
 {}
 
 /// When the one that was ordered to leave is gone, the chain is mended as for any other, and another may be ordered to
 /// leave, or join; when another one is gone, the order stands.
 pub fn retired_servers_are_gone()
-    ensures head { after_gone (retiring 1) 1
-        ≡ (
-          with_chain ((2, 3) ∷ (4, 5) ∷ []) three,
-          (Server 2, message.BecomeHead 7) ∷ tells (Some 2) (Some 4),
-        ) }
-    ensures middle { after_gone (retiring 2) 2
-        ≡ (with_chain ((1, 0) ∷ (4, 7) ∷ []) three, hears_pred 4 1 1 4) }
-    ensures tail { after_gone (retiring 4) 4
-        ≡ (
-          with_chain ((1, 0) ∷ (2, 3) ∷ []) three,
-          (Server 2, message.BecomeTail 7) ∷ tells (Some 1) (Some 2),
-        ) }
-    ensures another { after_gone (retiring 1) 4
-        ≡ (
-          with_chain ((1, 0) ∷ (2, 3) ∷ []) (retiring 1),
-          (Server 2, message.BecomeTail 7) ∷ tells (Some 1) (Some 2),
-        ) }
-    ensures outside { Ignores (retiring 1) (Server 3) message.Gone }
-    ensures next { retire_fault (after_gone (retiring 1) 1).0 2 ≡ None }
-    ensures next_joins { join_fault (after_gone (retiring 1) 1).0 5 ≡ None }
-    ensures gone_one { retire_fault (after_gone (retiring 1) 1).0 1 ≡ Some retire.NotMember }
-    ensures gone_one_joins { join_fault (after_gone (retiring 1) 1).0 1 ≡ Some Used }
+    ensures head { after_gone (retiring 1 three) 1 ≡ (three_without_1, new_head 2 4) }
+    ensures middle { after_gone (retiring 2 three) 2 ≡ (three_without_2, new_pred 4 1 1 4) }
+    ensures tail { after_gone (retiring 4 three) 4 ≡ (three_without_4, new_tail 1 2) }
+    ensures another { after_gone (retiring 1 three) 4 ≡ (retiring 1 three_without_4, new_tail 1 2) }
+    ensures outside { Ignores (retiring 1 three) (Server 3) message.Gone }
+    ensures next { retire_fault (after_gone (retiring 1 three) 1).0 2 ≡ None }
+    ensures next_joins { join_fault (after_gone (retiring 1 three) 1).0 5 ≡ None }
+    ensures gone_one { retire_fault (after_gone (retiring 1 three) 1).0 1 ≡ Some retire.NotMember }
+    ensures gone_one_joins { join_fault (after_gone (retiring 1 three) 1).0 1 ≡ Some Used }
 {}
 
 /// The opening of a chain of two with three clients, the head and tail that clients are told, and the used

@@ -8,8 +8,7 @@ ghost use Rattle.zcalls.specs.Kept.{KeptState, nothing_kept};
 ghost use Rattle.zcalls.specs.Step.{step, query_reply};
 ghost use Rattle.zprotocol.specs.server.Machine.{kept_tree};
 ghost use Rattle.zprotocol.specs.server.support.Homomorphism.{LogStandsForMachine, TableKeepsLogs};
-ghost use Rattle.zprotocol.specs.server.Laws.{OnlyTailsAnswer};
-ghost use Rattle.zprotocol.specs.server.support.Rows.{first_entry};
+ghost use Rattle.zprotocol.specs.server.Laws.{OnlyTailsAnswer, first_step};
 
 /// A log of entries stands for the tree with kept replies that it leads to: the log replies as that tree
 /// does, and a server does the same with either. So what holds of a chain of logs holds of a chain of
@@ -28,12 +27,8 @@ pub fn only_tails_answer()
 /// update does to it and is answered, and what a query is answered.
 pub fn machine_does_the_plain_step()
     ensures start { kept_tree.start ≡ nothing_kept opening_tree }
-    ensures first_update { (t : Tree) (client : ℕ) (update : Update)
-        → (kept_tree.apply (nothing_kept t) (first_entry client update)).0.plain
-        ≡ (step t client update).0 }
-    ensures first_reply { (t : Tree) (client : ℕ) (update : Update)
-        → (kept_tree.apply (nothing_kept t) (first_entry client update)).1
-        ≡ Some (step t client update).1 }
-    ensures query { (s : KeptState Tree) (query : Query)
-        → kept_tree.ask s query ≡ query_reply s.plain query }
+    ensures first_update { (t : Tree) (c : ℕ) (u : Update) → (first_step t c u).0 ≡ (step t c u).0 }
+    ensures first_reply { (t : Tree) (c : ℕ) (u : Update)
+        → (first_step t c u).1 ≡ Some (step t c u).1 }
+    ensures query { (s : KeptState Tree) (q : Query) → kept_tree.ask s q ≡ query_reply s.plain q }
 {}

@@ -1,7 +1,7 @@
 //! Worked rows of the server table, of views and of machines: each clause is one, and the bodies do
 //! nothing. The machine counts its entries, and the servers are those of `specs/support/Rows.antt`.
 
-ghost use Rattle.std.specs.Prelude.{◌≡◌, ◌+◌, ◌-◌, ℕ, true, false, None, Some, [], ◌∷◌};
+ghost use Rattle.std.specs.Prelude.{◌≡◌, ◌+◌, ◌-◌, ℕ, true, false, None, Some, [], ◌∷◌, ◌++◌};
 ghost use Rattle.ztree.specs.declared.limits.TheConstants.{MAX_CLIENTS};
 ghost use Rattle.zprotocol.specs.declared.limits.TheConstants.{MAX_SERVERS, MAX_LOG_NUMBER, MAX_EPOCH, PROCESSES};
 ghost use Rattle.zprotocol.specs.server.Laws.{is_answer};
@@ -9,20 +9,24 @@ ghost use Rattle.zprotocol.specs.declared.message.Message.TheVariants as message
 ghost use Rattle.zprotocol.specs.declared.process.Process.TheVariants.{Master, Server, Client};
 ghost use Rattle.zprotocol.specs.server.Machine.{replay};
 ghost use Rattle.zprotocol.specs.Places.{is_server, place_of, process_at};
-ghost use Rattle.zprotocol.specs.server.View.{spare, member, opening_server, is_initialised, is_head};
-ghost use Rattle.zprotocol.specs.server.View.{is_tail};
-ghost use Rattle.zprotocol.specs.server.Table.{server_step, is_retirement};
-ghost use Rattle.zprotocol.specs.server.support.Rows.{number_reply, counting_machine, update, query};
-ghost use Rattle.zprotocol.specs.server.support.Rows.{call, submit, ask, answer, update_of, update_to};
-ghost use Rattle.zprotocol.specs.server.support.Rows.{ack_to, have, with_pred, before_4, as_tail};
-ghost use Rattle.zprotocol.specs.server.support.Rows.{with_sent, middle, head, tail, single, at_start};
-ghost use Rattle.zprotocol.specs.server.support.Rows.{with_last, with_entry_kept, with_entry};
-ghost use Rattle.zprotocol.specs.server.support.Rows.{joining_server, nine, has_joined, joined_posts};
-ghost use Rattle.zprotocol.specs.server.support.Rows.{old_tail, tail_that_hands_over, snapshot_post};
-ghost use Rattle.zprotocol.specs.server.support.Rows.{on_log, after, Ignores, after_submit, after_ask};
-ghost use Rattle.zprotocol.specs.server.support.Rows.{after_update, after_ack, after_snapshot};
-ghost use Rattle.zprotocol.specs.server.support.Rows.{after_pred, after_succ, after_head, after_tail};
-ghost use Rattle.zprotocol.specs.server.support.Rows.{stops, is_unheard, one, two, counted_log};
+ghost use Rattle.zprotocol.specs.server.View.{spare, is_initialised, is_head, is_tail};
+ghost use Rattle.zprotocol.specs.server.Table.{is_retirement};
+ghost use Rattle.zprotocol.specs.server.support.Rows.{number_reply, counting_machine, query};
+ghost use Rattle.zprotocol.specs.server.support.Rows.{call, logged, submit, ask, silent_submit, answer};
+ghost use Rattle.zprotocol.specs.server.support.Rows.{update_of, update_to, to_4, ack_to, have};
+ghost use Rattle.zprotocol.specs.server.support.Rows.{with_pred, behind_2, before_4, as_tail, with_sent};
+ghost use Rattle.zprotocol.specs.server.support.Rows.{middle, head, tail, single, nearly_full, full};
+ghost use Rattle.zprotocol.specs.server.support.Rows.{at_start, opening, opening_member};
+ghost use Rattle.zprotocol.specs.server.support.Rows.{with_entry_kept, with_entry};
+ghost use Rattle.zprotocol.specs.server.support.Rows.{joining, joining_with_sent, nine};
+ghost use Rattle.zprotocol.specs.server.support.Rows.{has_joined, joined_posts};
+ghost use Rattle.zprotocol.specs.server.support.Rows.{old_tail, handed_over, snapshot_post};
+ghost use Rattle.zprotocol.specs.server.support.Rows.{after, Ignores, after_submit, after_ask};
+ghost use Rattle.zprotocol.specs.server.support.Rows.{after_update, after_silent_update, after_ack};
+ghost use Rattle.zprotocol.specs.server.support.Rows.{after_snapshot, after_pred, after_succ};
+ghost use Rattle.zprotocol.specs.server.support.Rows.{after_head, after_tail, after_call_12};
+ghost use Rattle.zprotocol.specs.server.support.Rows.{stops, is_unheard};
+ghost use Rattle.zprotocol.specs.server.support.Rows.{one, two, counted_log, on_one, on_two};
 
 /// What an initialised server between two others ignores: it changes nothing, and nothing is put.
 pub fn middle_ignores()
@@ -47,19 +51,16 @@ pub fn middle_ignores()
 pub fn updates_go_down()
     ensures head_forwards { after_submit head ≡ (with_entry_kept head, update_to 3 5 8 ∷ []) }
     ensures alone_answers { after_submit single ≡ (with_entry single, answer 8 ∷ []) }
-    ensures alone_has_no_reply { after single (Client 5) (message.Submit 0 update)
-        ≡ (with_entry single, []) }
-    ensures last_number { after_submit (with_last (MAX_LOG_NUMBER - 1))
-        ≡ (record single { machine = Some 8; last = MAX_LOG_NUMBER }, answer 8 ∷ []) }
-    ensures no_number_left { after_submit (with_last MAX_LOG_NUMBER)
-        ≡ (with_last MAX_LOG_NUMBER, []) }
+    ensures alone_has_no_reply { after single (Client 5) silent_submit ≡ (with_entry single, []) }
+    ensures last_number { after_submit nearly_full
+        ≡ (record full { machine = Some 8 }, answer 8 ∷ []) }
+    ensures no_number_left { after_submit full ≡ (full, []) }
     ensures middle_forwards { after_update middle 8
         ≡ (with_entry_kept middle, update_to 3 5 8 ∷ []) }
     ensures tail_acknowledges { after_update tail 8
         ≡ (with_entry tail, answer 8 ∷ ack_to 1 4 8 ∷ []) }
-    ensures tail_without_reply { after tail (Server 1) (message.Update 4 8 (call 0))
-        ≡ (with_entry tail, ack_to 1 4 8 ∷ []) }
-    ensures joining_has_no_state { Ignores joining_server (Server 1) (update_of 4 1) }
+    ensures tail_without_reply { after_silent_update tail ≡ (with_entry tail, ack_to 1 4 8 ∷ []) }
+    ensures joining_has_no_state { Ignores joining (Server 1) (update_of 4 1) }
     ensures spare_has_no_state { Ignores spare (Client 5) submit }
 {}
 
@@ -68,9 +69,9 @@ pub fn tail_answers()
     ensures tail_answers { after_ask tail ≡ (tail, answer 7 ∷ []) }
     ensures alone_answers { after_ask single ≡ (single, answer 7 ∷ []) }
     ensures head_is_silent { Ignores head (Client 5) ask }
-    ensures joining_is_silent { Ignores joining_server (Client 5) ask }
+    ensures joining_is_silent { Ignores joining (Client 5) ask }
     ensures ack_goes_up { after_ack middle 6
-        ≡ (with_sent ((7, call 17) ∷ []) middle, ack_to 1 4 6 ∷ []) }
+        ≡ (with_sent (logged 7 ∷ []) middle, ack_to 1 4 6 ∷ []) }
     ensures ack_of_all { after_ack middle 7 ≡ (with_sent [] middle, ack_to 1 4 7 ∷ []) }
     ensures ack_ends_at_the_head { after_ack head 7 ≡ (with_sent [] head, []) }
     ensures tail_has_no_successor { Ignores tail (Server 3) (message.Ack 5 7) }
@@ -78,62 +79,56 @@ pub fn tail_answers()
 
 /// What a server does when the master tells it a new neighbour, or that it has none.
 pub fn neighbours_change()
-    ensures new_pred { after_pred middle ≡ (with_pred (Some (2, 8)) middle, have 8 (Some 7) ∷ []) }
-    ensures new_pred_without_state { after_pred joining_server
-        ≡ (with_pred (Some (2, 8)) joining_server, have 8 None ∷ []) }
+    ensures new_pred { after_pred middle ≡ (behind_2 middle, have 8 (Some 7) ∷ []) }
+    ensures new_pred_without_state { after_pred joining ≡ (behind_2 joining, have 8 None ∷ []) }
     ensures new_succ_lacks_nothing { after_succ middle (Some 7) ≡ (before_4 middle, []) }
-    ensures new_succ_lacks_one { after_succ middle (Some 6)
-        ≡ (before_4 middle, update_to 4 8 7 ∷ []) }
+    ensures new_succ_lacks_one { after_succ middle (Some 6) ≡ (before_4 middle, to_4 7 ∷ []) }
     ensures new_succ_lacks_two { after_succ middle (Some 5)
-        ≡ (before_4 middle, update_to 4 8 6 ∷ update_to 4 8 7 ∷ []) }
+        ≡ (before_4 middle, to_4 6 ∷ to_4 7 ∷ []) }
     ensures new_succ_has_no_state { after_succ middle None ≡ (before_4 middle, snapshot_post ∷ []) }
-    ensures joining_has_no_successor { Ignores joining_server Master (message.NewSucc 8 4 None) }
+    ensures joining_has_no_successor { Ignores joining Master (message.NewSucc 8 4 None) }
     ensures middle_becomes_head { after_head middle ≡ (with_pred None middle, []) }
-    ensures joining_becomes_head { after_head joining_server ≡ (with_pred None joining_server, []) }
+    ensures joining_becomes_head { after_head joining ≡ (with_pred None joining, []) }
     ensures middle_becomes_tail { after_tail middle ≡ (as_tail middle, ack_to 1 4 7 ∷ []) }
     ensures head_becomes_tail { after_tail head ≡ (as_tail head, []) }
-    ensures joining_becomes_tail { Ignores joining_server Master (message.BecomeTail 8) }
+    ensures joining_becomes_tail { Ignores joining Master (message.BecomeTail 8) }
 {}
 
 /// What a server without state takes, and that the old tail answers nobody from the moment on that it
 /// handed over its state.
 pub fn state_is_handed_over()
-    ensures snapshot_is_taken { after_snapshot joining_server ≡ (has_joined, joined_posts) }
-    ensures nothing_stays_in_sent { after_snapshot (with_sent ((6, call 16) ∷ []) joining_server)
-        ≡ (has_joined, joined_posts) }
-    ensures snapshot_of_old_epoch { Ignores joining_server (Server 1) (message.Snapshot 3 nine) }
-    ensures snapshot_of_a_stranger { Ignores joining_server (Server 2) (message.Snapshot 4 nine) }
+    ensures snapshot_is_taken { after_snapshot joining ≡ (has_joined, joined_posts) }
+    ensures nothing_stays_in_sent { after_snapshot joining_with_sent ≡ (has_joined, joined_posts) }
+    ensures snapshot_of_old_epoch { Ignores joining (Server 1) (message.Snapshot 3 nine) }
+    ensures snapshot_of_a_stranger { Ignores joining (Server 2) (message.Snapshot 4 nine) }
     ensures snapshot_at_a_spare { Ignores spare (Server 1) (message.Snapshot 4 nine) }
-    ensures old_tail_is_silent { after_ask tail_that_hands_over ≡ (old_tail, []) }
-    ensures old_tail_forwards { after_update tail_that_hands_over 8
-        ≡ (with_entry_kept old_tail, update_to 4 8 8 ∷ []) }
+    ensures old_tail_is_silent { after_ask handed_over ≡ (old_tail, []) }
+    ensures old_tail_forwards { after_update handed_over 8
+        ≡ (with_entry_kept old_tail, to_4 8 ∷ []) }
 {}
 
 /// Which servers have the state, which is a head and which a tail.
 pub fn roles_of_servers()
     ensures middle_has_the_state { is_initialised middle ≡ true }
-    ensures joining_has_no_state { is_initialised joining_server ≡ false }
+    ensures joining_has_no_state { is_initialised joining ≡ false }
     ensures head_is_head { is_head head ≡ true }
     ensures middle_is_no_head { is_head middle ≡ false }
     ensures spare_is_no_head { is_head (spare {M = ℕ}) ≡ false }
     ensures tail_is_tail { is_tail tail ≡ true }
     ensures middle_is_no_tail { is_tail middle ≡ false }
-    ensures joining_is_no_tail { is_tail joining_server ≡ false }
+    ensures joining_is_no_tail { is_tail joining ≡ false }
     ensures alone_is_head { is_head single ≡ true }
     ensures alone_is_tail { is_tail single ≡ true }
 {}
 
 /// The servers at the opening of a chain of three, and of a chain of one.
 pub fn opening_views()
-    ensures first { opening_server counting_machine 3 1
-        ≡ member counting_machine None (Some (2, 0)) }
-    ensures second { opening_server counting_machine 3 2
-        ≡ member counting_machine (Some (1, 0)) (Some (3, 0)) }
-    ensures third { opening_server counting_machine 3 3
-        ≡ member counting_machine (Some (2, 0)) None }
-    ensures fourth { opening_server counting_machine 3 4 ≡ spare }
-    ensures only { opening_server counting_machine 1 1 ≡ member counting_machine None None }
-    ensures empty_log { opening_server counting_machine 1 1 ≡ at_start }
+    ensures first { opening 3 1 ≡ opening_member None (Some (2, 0)) }
+    ensures second { opening 3 2 ≡ opening_member (Some (1, 0)) (Some (3, 0)) }
+    ensures third { opening 3 3 ≡ opening_member (Some (2, 0)) None }
+    ensures fourth { opening 3 4 ≡ spare }
+    ensures only { opening 1 1 ≡ opening_member None None }
+    ensures empty_log { opening 1 1 ≡ at_start }
 {}
 
 /// The log of entries as a machine: it keeps the entries, and replies as the counting machine does
@@ -143,29 +138,21 @@ pub fn log_replies_as_its_machine()
     ensures starts_empty { counted_log.start ≡ [] }
     ensures keeps_an_entry { counted_log.apply one (call 12) ≡ (two, Some (number_reply 2)) }
     ensures keeps_an_entry_without_reply { counted_log.apply one (call 0)
-        ≡ (call 11 ∷ call 0 ∷ [], None) }
+        ≡ (one ++ call 0 ∷ [], None) }
     ensures asks_the_machine { counted_log.ask two query ≡ number_reply 2 }
-    ensures goes_by_the_table { server_step counted_log (on_log one) (Client 5) (message.Submit 12
-        update) ≡ (
-          record (on_log two) {
-            sent = (2, call 12)
-                ∷ [];
-          },
-          (Server 3, message.Update 5 2 (call 12)) ∷ [],
-        ) }
+    ensures goes_by_the_table { after_call_12 on_one ≡ (on_two, update_to 3 5 2 ∷ []) }
 {}
 
 /// At which messages a server may want memory, and stop: those that make its log longer, or at which it puts
 /// something.
 pub fn servers_stop_where_they_grow()
     ensures next_entry { stops middle (Server 1) (update_of 4 8) ≡ true }
-    ensures entry_without_reply { stops single (Client 5) (message.Submit 0 update) ≡ true }
+    ensures entry_without_reply { stops single (Client 5) silent_submit ≡ true }
     ensures entry_beyond_the_next { stops middle (Server 1) (update_of 4 9) ≡ false }
     ensures ack_goes_up { stops middle (Server 3) (message.Ack 5 6) ≡ true }
     ensures ack_ends_at_the_head { stops head (Server 3) (message.Ack 5 7) ≡ false }
-    ensures snapshot { stops joining_server (Server 1) (message.Snapshot 4 nine) ≡ true }
-    ensures snapshot_of_old_epoch { stops joining_server (Server 1) (message.Snapshot 3 nine)
-        ≡ false }
+    ensures snapshot { stops joining (Server 1) (message.Snapshot 4 nine) ≡ true }
+    ensures snapshot_of_old_epoch { stops joining (Server 1) (message.Snapshot 3 nine) ≡ false }
     ensures new_pred { stops spare Master (message.NewPred 8 2) ≡ true }
     ensures new_succ_lacks_one { stops middle Master (message.NewSucc 8 4 (Some 6)) ≡ true }
     ensures new_succ_lacks_nothing { stops middle Master (message.NewSucc 8 4 (Some 7)) ≡ false }

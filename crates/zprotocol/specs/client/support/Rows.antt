@@ -22,32 +22,56 @@ update = Delete (record { path = []; version = Any })
 abbrev pub query : Query
 query = Exists []
 
+-- the same, as calls
+abbrev pub update_call : Call
+update_call = call.Update update
+
+abbrev pub query_call : Call
+query_call = call.Query query
+
 -- a client with so many calls that waits for this one, and was told of server 1 as the head and server 3 as the tail in
 -- epoch 4
 abbrev pub client : ℕ → Option (ℕ × Call) → ClientView
 client number outstanding = record { number = number; outstanding = outstanding; epoch = 4; head = Some 1; tail = Some 3 }
 
--- a client of two servers that waits for its first call
+-- a client of two servers at the opening, and when it waits for its first call; and who is none of the clients
+abbrev pub newcomer : ClientView
+newcomer = record { number = 0; outstanding = None; epoch = 0; head = Some 1; tail = Some 2 }
+
 abbrev pub beginner : ClientView
-beginner = record { number = 1; outstanding = Some (1, call.Update update); epoch = 0; head = Some 1; tail = Some 2 }
+beginner = record newcomer { number = 1; outstanding = Some (1, update_call) }
+
+abbrev pub outsider : ClientView
+outsider = record { number = 0; outstanding = None; epoch = 0; head = None; tail = None }
 
 -- a client that waits for nothing, one that waits for an update, and one that waits for a query
 abbrev pub idle : ClientView
 idle = client 7 None
 
 abbrev pub updating : ClientView
-updating = client 7 (Some (7, call.Update update))
+updating = client 7 (Some (7, update_call))
 
 abbrev pub asking : ClientView
-asking = client 7 (Some (7, call.Query query))
+asking = client 7 (Some (7, query_call))
 
 -- the same, with its eighth call
 abbrev pub eighth : Call → ClientView
 eighth c = client 8 (Some (8, c))
 
--- a client that was told of other ends of the chain, in epoch 5
-abbrev pub told : Option ℕ → Option ℕ → ClientView → ClientView
-told head tail v = record v { epoch = 5; head = head; tail = tail }
+-- a client that has begun so many calls
+abbrev pub with_calls : ℕ → ClientView → ClientView
+with_calls number v = record v { number = number }
+
+-- a client that knows of no head
+abbrev pub headless : ClientView → ClientView
+headless v = record v { head = None }
+
+-- a client that was told of this head and this tail in epoch 5, and one that was told that there is no chain
+abbrev pub told : ℕ → ℕ → ClientView → ClientView
+told head tail v = record v { epoch = 5; head = Some head; tail = Some tail }
+
+abbrev pub told_of_none : ClientView → ClientView
+told_of_none v = record v { epoch = 5; head = None; tail = None }
 
 -- a client's update and its query, on their way to a server
 abbrev pub submit_to : ℕ → ℕ → Post ℕ
@@ -71,9 +95,13 @@ after_call v c = begin_step v c
 abbrev pub after_retry : ClientView → List (Post ℕ)
 after_retry v = retry_posts v
 
--- what it does with the answer to call 7, and when the master tells it other ends of the chain in epoch 5
+-- what it does with the answer to call 7, and when it hears from the master of this head and this tail in epoch 5, or that
+-- there is no chain
 abbrev pub after_answer : ClientView → ℕ → ClientResult (Transfer ℕ)
 after_answer v s = after v (Server s) (message.Answer 7 Deleted)
 
-abbrev pub after_config : ClientView → Option ℕ → Option ℕ → ClientResult (Transfer ℕ)
-after_config v head tail = after v Master (message.Config 5 head tail)
+abbrev pub hears : ClientView → ℕ → ℕ → ClientResult (Transfer ℕ)
+hears v head tail = after v Master (message.Config 5 (Some head) (Some tail))
+
+abbrev pub hears_of_none : ClientView → ClientResult (Transfer ℕ)
+hears_of_none v = after v Master (message.Config 5 None None)

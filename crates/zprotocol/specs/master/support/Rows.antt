@@ -37,9 +37,9 @@ opening_of_two =
 abbrev pub growing : MasterView
 growing = master ((1, 0) ∷ (2, 3) ∷ (4, 5) ∷ []) (Some 4)
 
--- three members, of which this one was ordered to leave
-abbrev pub retiring : ℕ → MasterView
-retiring s = record three { retiring = Some s }
+-- a master that ordered this member to leave
+abbrev pub retiring : ℕ → MasterView → MasterView
+retiring s v = record v { retiring = Some s }
 
 -- one member; one that has no state; and none
 abbrev pub one : MasterView
@@ -51,9 +51,12 @@ lost = master ((4, 5) ∷ []) (Some 4)
 abbrev pub empty : MasterView
 empty = master [] None
 
--- both clients hear of epoch 7
-abbrev pub tells : Option ℕ → Option ℕ → List (Post ℕ)
-tells head tail = (Client 0, message.Config 7 head tail) ∷ (Client 1, message.Config 7 head tail) ∷ []
+-- both clients hear in epoch 7 of this head and this tail, or that there is no chain
+abbrev pub tells : ℕ → ℕ → List (Post ℕ)
+tells head tail = (Client 0, message.Config 7 (Some head) (Some tail)) ∷ (Client 1, message.Config 7 (Some head) (Some tail)) ∷ []
+
+abbrev pub tells_of_none : List (Post ℕ)
+tells_of_none = (Client 0, message.Config 7 None None) ∷ (Client 1, message.Config 7 None None) ∷ []
 
 -- what the master does with a message, between servers whose machine is a number
 abbrev pub after : MasterView → Process → MessageOf ℕ → MasterResult (Transfer ℕ)
@@ -71,7 +74,13 @@ after_join v s = join_step v s
 abbrev pub after_retire : MasterView → ℕ → MasterResult (Transfer ℕ)
 after_retire v s = retire_step v s
 
--- when a server is gone
+-- what it does with the report of server 4, of a pair of epoch 5, when that server has the state, and when a server is gone
+abbrev pub after_have : MasterView → Option ℕ → MasterResult (Transfer ℕ)
+after_have v last = after v (Server 4) (message.Have 5 last)
+
+abbrev pub after_joined : MasterView → MasterResult (Transfer ℕ)
+after_joined v = after v (Server 4) (message.Joined 5)
+
 abbrev pub after_gone : MasterView → ℕ → MasterResult (Transfer ℕ)
 after_gone v s = after v (Server s) message.Gone
 
@@ -79,10 +88,40 @@ after_gone v s = after v (Server s) message.Gone
 abbrev pub with_chain : List Neighbour → MasterView → MasterView
 with_chain chain v = record v { chain = chain; epoch = 7 }
 
+-- the three without one of them, the four without one of them, and the three whose last has no state without their second
+abbrev pub three_without_1 : MasterView
+three_without_1 = with_chain ((2, 3) ∷ (4, 5) ∷ []) three
+
+abbrev pub three_without_2 : MasterView
+three_without_2 = with_chain ((1, 0) ∷ (4, 7) ∷ []) three
+
+abbrev pub three_without_4 : MasterView
+three_without_4 = with_chain ((1, 0) ∷ (2, 3) ∷ []) three
+
+abbrev pub four_without_2 : MasterView
+four_without_2 = with_chain ((1, 0) ∷ (3, 7) ∷ (4, 5) ∷ []) four
+
+abbrev pub four_without_3 : MasterView
+four_without_3 = with_chain ((1, 0) ∷ (2, 3) ∷ (4, 7) ∷ []) four
+
+abbrev pub growing_without_2 : MasterView
+growing_without_2 = with_chain ((1, 0) ∷ (4, 7) ∷ []) growing
+
 -- and one whose joining server is done with
 abbrev pub without_joining : MasterView → MasterView
 without_joining v = record v { joining = None; epoch = 7 }
 
--- a server hears of a new neighbour in epoch 7, and so do the clients, of the head and the tail
-abbrev pub hears_pred : ℕ → ℕ → ℕ → ℕ → List (Post ℕ)
-hears_pred s pred head tail = (Server s, message.NewPred 7 pred) ∷ tells (Some head) (Some tail)
+-- server 2 hears what server 4, its next in a pair of epoch 5, reported
+abbrev pub passed_on : Option ℕ → Post ℕ
+passed_on last = (Server 2, message.NewSucc 5 4 last)
+
+-- what is put when the chain is mended: a server hears in epoch 7 that it is the head, or the tail, or that another one is
+-- before it; and the clients hear of the head and the tail
+abbrev pub new_head : ℕ → ℕ → List (Post ℕ)
+new_head head tail = (Server head, message.BecomeHead 7) ∷ tells head tail
+
+abbrev pub new_tail : ℕ → ℕ → List (Post ℕ)
+new_tail head tail = (Server tail, message.BecomeTail 7) ∷ tells head tail
+
+abbrev pub new_pred : ℕ → ℕ → ℕ → ℕ → List (Post ℕ)
+new_pred s pred head tail = (Server s, message.NewPred 7 pred) ∷ tells head tail

@@ -1,5 +1,5 @@
 -- What the worked rows of the server table speak of: a machine that counts, entries, and some servers.
-use Rattle.std.specs.Prelude.{ℕ, ◌+◌, ◌≡◌, Bool, Option, None, Some, List, [], ◌∷◌, length, if◌then◌else◌, ◌==◌}
+use Rattle.std.specs.Prelude.{ℕ, ◌+◌, ◌-◌, ◌≡◌, Bool, Option, None, Some, List, [], ◌∷◌, length, if◌then◌else◌, ◌==◌}
 use Rattle.zcalls.specs.declared.call.Entry.{Entry}
 use Rattle.zcalls.specs.declared.call.Expected.TheVariants.{Any}
 use Rattle.zcalls.specs.declared.call.Update.{Update}
@@ -9,12 +9,13 @@ use Rattle.zcalls.specs.declared.call.Query.TheVariants.{Exists}
 use Rattle.zcalls.specs.declared.refusal.Refusal.TheVariants.{NoNode}
 use Rattle.zcalls.specs.declared.reply.Reply.{Reply}
 use Rattle.zcalls.specs.declared.reply.Reply.TheVariants.{MultiRefused}
+use Rattle.zprotocol.specs.declared.limits.TheConstants.{MAX_LOG_NUMBER}
 use Rattle.zprotocol.specs.server.Machine.{Does, log_of}
 use Rattle.zprotocol.specs.server.Memory.{may_be_unheard, may_stop}
 use Rattle.zprotocol.specs.declared.message.Message.TheVariants as message
 use Rattle.zprotocol.specs.declared.process.Process.{Process}
 use Rattle.zprotocol.specs.declared.process.Process.TheVariants.{Master, Server, Client}
-use Rattle.zprotocol.specs.server.View.{ServerView, Transfer, Neighbour, MessageOf, Post}
+use Rattle.zprotocol.specs.server.View.{ServerView, Transfer, Neighbour, MessageOf, Post, member, opening_server}
 use Rattle.zprotocol.specs.server.Table.{ServerResult, server_step}
 
 -- a reply that tells a number
@@ -42,10 +43,6 @@ query = Exists []
 abbrev pub call : ℕ → Entry
 call number = record { client = 5; number = number; update = update }
 
--- a client's first call as an entry
-abbrev pub first_entry : ℕ → Update → Entry
-first_entry client update = record { client = client; number = 1; update = update }
-
 -- its requests of number 18, and the answer to them that tells a number
 abbrev pub submit : MessageOf ℕ
 submit = message.Submit 18 update
@@ -56,12 +53,22 @@ ask = message.Query 18 query
 abbrev pub answer : ℕ → Post ℕ
 answer n = (Client 5, message.Answer 18 (number_reply n))
 
--- the entry of this number in the log, which is its call of ten more, on its way in an epoch
-abbrev pub update_of : ℕ → ℕ → MessageOf ℕ
+-- the entry of this number in the log, which is its call of ten more: as Sent holds it, and on its way in an epoch
+abbrev pub logged : ℕ → ℕ × Entry
+logged n = (n, call (n + 10))
+
+abbrev pub update_of : {M : Type 0} → ℕ → ℕ → MessageOf M
 update_of epoch n = message.Update epoch n (call (n + 10))
 
+-- its call of number 0, to which the machine has no reply: as it asks for it, and on its way as the eighth entry
+abbrev pub silent_submit : MessageOf ℕ
+silent_submit = message.Submit 0 update
+
+abbrev pub silent_update : MessageOf ℕ
+silent_update = message.Update 4 8 (call 0)
+
 -- what a server puts to another: an entry, an acknowledgement, and to the master what it has
-abbrev pub update_to : ℕ → ℕ → ℕ → Post ℕ
+abbrev pub update_to : {M : Type 0} → ℕ → ℕ → ℕ → Post M
 update_to s epoch n = (Server s, update_of epoch n)
 
 abbrev pub ack_to : ℕ → ℕ → ℕ → Post ℕ
@@ -70,16 +77,23 @@ ack_to s epoch n = (Server s, message.Ack epoch n)
 abbrev pub have : ℕ → Option ℕ → Post ℕ
 have epoch last = (Master, message.Have epoch last)
 
--- a server with other neighbours: behind server 2, and behind nobody
+-- a server with other neighbours
 abbrev pub with_pred : Option Neighbour → ServerView ℕ → ServerView ℕ
 with_pred pred v = record v { pred = pred }
 
 abbrev pub with_succ : Option Neighbour → ServerView ℕ → ServerView ℕ
 with_succ succ v = record v { succ = succ }
 
--- before server 4 in a pair of epoch 8, and with nobody behind it
+-- behind server 2 and before server 4 in a pair of epoch 8, the entry of a number on its way to that server 4, and a server
+-- with nobody behind it
+abbrev pub behind_2 : ServerView ℕ → ServerView ℕ
+behind_2 v = with_pred (Some (2, 8)) v
+
 abbrev pub before_4 : ServerView ℕ → ServerView ℕ
 before_4 v = with_succ (Some (4, 8)) v
+
+abbrev pub to_4 : ℕ → Post ℕ
+to_4 n = update_to 4 8 n
 
 abbrev pub as_tail : ServerView ℕ → ServerView ℕ
 as_tail v = record v { sent = []; succ = None }
@@ -90,7 +104,7 @@ with_sent sent v = record v { sent = sent }
 
 -- a server with the state after seven entries, of which the tail may not have processed the last two
 abbrev pub initialised_server : Option Neighbour → Option Neighbour → ServerView ℕ
-initialised_server pred succ = record { machine = Some 7; last = 7; sent = (6, call 16) ∷ (7, call 17) ∷ []; pred = pred; succ = succ }
+initialised_server pred succ = record { machine = Some 7; last = 7; sent = logged 6 ∷ logged 7 ∷ []; pred = pred; succ = succ }
 
 -- between server 1, as a pair of epoch 4, and server 3, as a pair of epoch 5
 abbrev pub middle : ServerView ℕ
@@ -108,49 +122,57 @@ tail = initialised_server (Some (1, 4)) None
 abbrev pub single : ServerView ℕ
 single = initialised_server None None
 
--- the same, at the opening
+-- the same, at the opening; the server of this number at the opening of a chain of so many; and one with such neighbours
 abbrev pub at_start : ServerView ℕ
 at_start = record { machine = Some 0; last = 0; sent = []; pred = None; succ = None }
 
--- a single one, with this last number
-abbrev pub with_last : ℕ → ServerView ℕ
-with_last n = record single { last = n }
+abbrev pub opening : ℕ → ℕ → ServerView ℕ
+opening servers s = opening_server counting_machine servers s
+
+abbrev pub opening_member : Option Neighbour → Option Neighbour → ServerView ℕ
+opening_member pred succ = member counting_machine pred succ
+
+-- a single one whose log takes one more entry, and one whose log is full
+abbrev pub nearly_full : ServerView ℕ
+nearly_full = record single { last = MAX_LOG_NUMBER - 1 }
+
+abbrev pub full : ServerView ℕ
+full = record single { last = MAX_LOG_NUMBER }
 
 -- a server after the entry of call 18, which it keeps in Sent
 abbrev pub with_entry_kept : ServerView ℕ → ServerView ℕ
-with_entry_kept v = record v { machine = Some 8; last = 8; sent = (6, call 16) ∷ (7, call 17) ∷ (8, call 18) ∷ [] }
+with_entry_kept v = record v { machine = Some 8; last = 8; sent = logged 6 ∷ logged 7 ∷ logged 8 ∷ [] }
 
 -- a server after one more entry, which it doesn't keep
 abbrev pub with_entry : ServerView ℕ → ServerView ℕ
 with_entry v = record v { machine = Some 8; last = 8 }
 
--- a server without state, behind server 1 as a pair of epoch 4
-abbrev pub joining_server : ServerView ℕ
-joining_server = record { machine = None; last = 0; sent = []; pred = Some (1, 4); succ = None }
+-- a server without state, behind server 1 as a pair of epoch 4; and the same with an entry in Sent
+abbrev pub joining : ServerView ℕ
+joining = record { machine = None; last = 0; sent = []; pred = Some (1, 4); succ = None }
+
+abbrev pub joining_with_sent : ServerView ℕ
+joining_with_sent = with_sent (logged 6 ∷ []) joining
 
 -- the state after nine entries, a server that took it over, and what it puts then
 abbrev pub nine : Transfer ℕ
 nine = record { last = 9; machine = 9 }
 
 abbrev pub has_joined : ServerView ℕ
-has_joined = record joining_server { machine = Some 9; last = 9 }
+has_joined = record joining { machine = Some 9; last = 9 }
 
 abbrev pub joined_posts : List (Post ℕ)
 joined_posts = ack_to 1 4 9 ∷ (Master, message.Joined 4) ∷ []
 
--- a tail after it handed its state to server 4, the next in a pair of epoch 8
+-- a tail that handed its state to server 4, the next in a pair of epoch 8: as it is to be, and as the table leaves it
 abbrev pub old_tail : ServerView ℕ
 old_tail = before_4 tail
 
-abbrev pub tail_that_hands_over : ServerView ℕ
-tail_that_hands_over = (server_step counting_machine tail Master (message.NewSucc 8 4 None)).0
+abbrev pub handed_over : ServerView ℕ
+handed_over = (server_step counting_machine tail Master (message.NewSucc 8 4 None)).0
 
 abbrev pub snapshot_post : Post ℕ
 snapshot_post = (Server 4, message.Snapshot 8 (record { last = 7; machine = 7 }))
-
--- a head before server 3 that has this log, of which all was processed
-abbrev pub on_log : List Entry → ServerView (List Entry)
-on_log log = record { machine = Some log; last = length log; sent = []; pred = None; succ = Some (3, 5) }
 
 -- what a server does with a message
 abbrev pub after : ServerView ℕ → Process → MessageOf ℕ → ServerResult ℕ
@@ -170,6 +192,9 @@ after_ask v = after v (Client 5) ask
 
 abbrev pub after_update : ServerView ℕ → ℕ → ServerResult ℕ
 after_update v n = after v (Server 1) (update_of 4 n)
+
+abbrev pub after_silent_update : ServerView ℕ → ServerResult ℕ
+after_silent_update v = after v (Server 1) silent_update
 
 abbrev pub after_ack : ServerView ℕ → ℕ → ServerResult ℕ
 after_ack v n = after v (Server 3) (message.Ack 5 n)
@@ -205,3 +230,18 @@ two = call 11 ∷ call 12 ∷ []
 
 abbrev pub counted_log : Does (List Entry)
 counted_log = log_of counting_machine
+
+-- a head before server 3 that has this log, of which this is left in Sent: the log of one entry, all of it processed, and
+-- that of two, the second of which it forwarded
+abbrev pub on_log : List Entry → List (ℕ × Entry) → ServerView (List Entry)
+on_log log sent = record { machine = Some log; last = length log; sent = sent; pred = None; succ = Some (3, 5) }
+
+abbrev pub on_one : ServerView (List Entry)
+on_one = on_log one []
+
+abbrev pub on_two : ServerView (List Entry)
+on_two = on_log two (logged 2 ∷ [])
+
+-- what a server that keeps its log does with client 5's call 12
+abbrev pub after_call_12 : ServerView (List Entry) → ServerResult (List Entry)
+after_call_12 v = server_step counted_log v (Client 5) (message.Submit 12 update)

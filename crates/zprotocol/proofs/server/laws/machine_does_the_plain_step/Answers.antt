@@ -5,7 +5,7 @@ use Rattle.ztree.specs.Tree.{Tree}
 use Rattle.zcalls.specs.declared.call.Update.{Update}
 use Rattle.zcalls.specs.Kept.{nothing_kept, entry_by, act_result, entry_step}
 use Rattle.zcalls.specs.Step.{step}
-use Rattle.zprotocol.specs.server.support.Rows.{first_entry}
+use Rattle.zprotocol.specs.server.Laws.{first_entry}
 use Rattle.zprotocol.proofs.server.laws.machine_does_the_plain_step.Goals as goal
 
 -- a client's first entry acts, since nothing is kept
