@@ -5,30 +5,30 @@ ghost use Rattle.ztree.specs.declared.limits.TheConstants.{MAX_DATA, MAX_NODES, 
 ghost use Rattle.ztree.specs.declared.limits.TheConstants.{ZXID_BOUND, TICK_BOUND, COUNTER_BOUND, DEADLINE_BOUND};
 ghost use Rattle.std.specs.FinMap as finite;
 ghost use Rattle.ztree.specs.Tree.{parent_of, child_name, stat_with};
-ghost use Rattle.ztree.specs.Tree.{with_child, without_child, with_data, new_node, with_node, without_node};
+ghost use Rattle.ztree.specs.Tree.{with_child, without_child, with_data, new_node, without_node};
 ghost use Rattle.ztree.specs.Sessions.{new_session, renewed_session};
 ghost use Rattle.ztree.specs.Stale.{is_due, stale_nodes};
 ghost use Rattle.ztree.specs.Lawful.{HasPaths};
-ghost use Rattle.ztree.specs.support.Samples.{a, b, some_node, some_stat, some_session, two_nodes};
+ghost use Rattle.ztree.specs.support.Samples.{b, at_a, at_a_b, some_node, some_stat, after_change};
+ghost use Rattle.ztree.specs.support.Samples.{after_numbered_child, written_node, made_node};
+ghost use Rattle.ztree.specs.support.Samples.{some_session, two_nodes, three_nodes};
 
 /// Who is whose parent and child.
 pub fn families()
     ensures root { parent_of [] ≡ [] }
-    ensures parent { parent_of (a ∷ (b ∷ [])) ≡ a ∷ [] }
-    ensures child { child_name (a ∷ []) (a ∷ (b ∷ [])) ≡ Some b }
-    ensures grandchild { child_name [] (a ∷ (b ∷ [])) ≡ None }
-    ensures stranger { child_name (a ∷ []) (b ∷ (b ∷ [])) ≡ None }
+    ensures parent { parent_of at_a_b ≡ at_a }
+    ensures child { child_name at_a at_a_b ≡ Some b }
+    ensures grandchild { child_name [] at_a_b ≡ None }
+    ensures stranger { child_name at_a (b ∷ (b ∷ [])) ≡ None }
 {}
 
 /// What is told of a node, and what a change leaves of it.
 pub fn changes_of_a_node()
     ensures stat { stat_with some_node 11 ≡ some_stat }
-    ensures child { with_child 20 false some_node ≡ record some_node { pzxid = 20; cversion = 9 } }
-    ensures sequential { with_child 20 true some_node
-        ≡ record some_node { pzxid = 20; cversion = 9; seq = 11 } }
-    ensures loss { without_child 20 some_node ≡ record some_node { pzxid = 20; cversion = 9 } }
-    ensures data { with_data b 20 21 some_node
-        ≡ record some_node { bytes = b; mzxid = 20; mtime = 21; version = 7 } }
+    ensures child { with_child 20 false some_node ≡ after_change 20 }
+    ensures sequential { with_child 20 true some_node ≡ after_numbered_child 20 }
+    ensures loss { without_child 20 some_node ≡ after_change 20 }
+    ensures data { with_data b 20 21 some_node ≡ written_node }
 {}
 
 /// When a node is due, and which of two due nodes a tick removes: the one that has no child.
@@ -38,7 +38,7 @@ pub fn times_to_live()
     ensures late { is_due 18 some_node ≡ true }
     ensures for_good { is_due 17 (record some_node { ttl = 0 }) ≡ false }
     ensures none_yet { stale_nodes two_nodes.nodes 16 ≡ [] }
-    ensures leaves_alone { stale_nodes two_nodes.nodes 17 ≡ (a ∷ []) ∷ [] }
+    ensures leaves_alone { stale_nodes two_nodes.nodes 17 ≡ at_a ∷ [] }
 {}
 
 /// The deadlines of a session.
@@ -54,36 +54,19 @@ pub fn keys_are_paths()
 
 /// A new node has the number and the tick of the change that makes it, wherever it tells one.
 pub fn new_nodes()
-    ensures { new_node b 9 12 20 21 ≡ record {
-      bytes = b;
-      czxid = 20;
-      mzxid = 20;
-      pzxid = 20;
-      ctime = 21;
-      mtime = 21;
-      version = 0;
-      cversion = 0;
-      owner = 9;
-      seq = 0;
-      ttl = 12;
-    } }
+    ensures { new_node b 9 12 20 21 ≡ made_node }
 {}
 
 /// What change 41, at tick 30, leaves of a tree of two nodes where it makes a node beneath the second one, or takes that
 /// one away.
 pub fn changes_of_a_tree()
-    ensures made { finite.get (with_node two_nodes (a ∷ (b ∷ [])) b 9 12 false).nodes (a ∷ (b ∷ []))
-        ≡ Some (new_node b 9 12 41 30) }
-    ensures parent { finite.get (with_node two_nodes (a ∷ (b ∷ [])) b 9 12 false).nodes (a ∷ [])
-        ≡ Some (record some_node { pzxid = 41; cversion = 9 }) }
-    ensures sequential { finite.get (with_node two_nodes (a ∷ (b ∷ [])) b 9 12 true).nodes (a ∷ [])
-        ≡ Some (record some_node { pzxid = 41; cversion = 9; seq = 11 }) }
-    ensures grandparent { finite.get (with_node two_nodes (a ∷ (b ∷ [])) b 9 12 true).nodes []
-        ≡ Some some_node }
-    ensures gone { finite.get (without_node two_nodes (a ∷ [])).nodes (a ∷ []) ≡ None }
-    ensures left { finite.get (without_node two_nodes (a ∷ [])).nodes []
-        ≡ Some (record some_node { pzxid = 41; cversion = 9 }) }
-    ensures number_is_taken_later { (with_node two_nodes (a ∷ (b ∷ [])) b 9 12 true).zxid ≡ 40 }
+    ensures made { finite.get (three_nodes false).nodes at_a_b ≡ Some (new_node b 9 12 41 30) }
+    ensures parent { finite.get (three_nodes false).nodes at_a ≡ Some (after_change 41) }
+    ensures sequential { finite.get (three_nodes true).nodes at_a ≡ Some (after_numbered_child 41) }
+    ensures grandparent { finite.get (three_nodes true).nodes [] ≡ Some some_node }
+    ensures gone { finite.get (without_node two_nodes at_a).nodes at_a ≡ None }
+    ensures left { finite.get (without_node two_nodes at_a).nodes [] ≡ Some (after_change 41) }
+    ensures number_is_taken_later { (three_nodes true).zxid ≡ 40 }
 {}
 
 /// The limits, as numbers.
