@@ -1,12 +1,12 @@
 -- What is found among kept replies, and what an entry does by it.
-use Rattle.std.proofs.Common.{◌≡◌, ℕ, Option, Some, None, cond, nat_cmp, true, false, List, ◌∷◌, ap, ◌∙◌}
+use Rattle.std.proofs.Common.{◌≡◌, ℕ, Option, Some, None, cond, nat_cmp, true, false, ap, ◌∙◌}
 use Rattle.std.specs.Ordering.{eq_by_cmp}
 use Rattle.std.specs.Cmp.{nat_cmp_total}
 use Rattle.std.specs.FinMap.{FinMap, get, insert, get-insert, get-empty}
 use Rattle.zcalls.specs.declared.call.Entry.{Entry}
 use Rattle.zcalls.specs.declared.reply.Reply.{Reply}
 use Rattle.zcalls.specs.Kept.{Kept, KeptState, PlainStep, nothing_kept, entry_by, entry_step}
-use Rattle.zcalls.specs.support.Rows.{counting, keeping, answers}
+use Rattle.zcalls.specs.support.Counting.{counting, keeping}
 
 -- a reply that is kept for a client is that client's, and no other's
 pub kept_insert : (kept : FinMap nat_cmp Kept) (client : ℕ) (reply : Kept) (other : ℕ)
@@ -40,8 +40,3 @@ entered_other n m client number reply e other =
     let kept : Kept = record { number = number; reply = reply } in
     entered counting (keeping (nothing_kept n) m client number reply) e None
     (kept_insert (nothing_kept n).kept client kept e.client ∙ ap (λ b. cond b (Some kept) (get (nothing_kept n).kept e.client)) other ∙ get-empty nat_cmp e.client)
-
--- what entries are answered, when it is known what the first does
-pub answers_on : (s : KeptState ℕ) (e : Entry) (es : List Entry) (did : KeptState ℕ × Option Reply)
-    → entry_step counting s e ≡ did → answers s (e ∷ es) ≡ did.1 ∷ answers did.0 es
-answers_on s e es did known = ap (λ r. r.1 ∷ answers r.0 es) known

@@ -17,10 +17,9 @@ impl Model for Multi {
 
     ghost Value = { List Part };
 
-    ghost view = { λ multi. multi.parts.items };
+    ghost view = { λ m. m.parts.items };
 
-    ghost invariant = { λ multi. (0 < length multi.parts.items)
-        × (length multi.parts.items ≤ MAX_PARTS) };
+    ghost invariant = { λ m. (0 < length m.parts.items) × (length m.parts.items ≤ MAX_PARTS) };
 }
 
 impl Multi {

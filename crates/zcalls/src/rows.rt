@@ -1,59 +1,54 @@
 //! Worked rows of the definitions: each function's contract has some, and its body does nothing.
 
-ghost use Rattle.std.specs.Prelude.{◌≡◌, ◌+◌, ℕ, List, [], ◌∷◌, true, false, Some, None, Ok, Err};
+ghost use Rattle.std.specs.Prelude.{◌≡◌, ℕ, [], ◌∷◌, true, false, None, Ok, Err};
 ghost use Rattle.std.specs.FinMap.{get};
-ghost use Rattle.ztree.specs.support.Samples.{a, some_node};
-ghost use Rattle.ztree.specs.Tree.{children, stat_with, without_node, with_next_zxid};
-ghost use Rattle.ztree.specs.Sessions.{without_session, with_next_tick};
+ghost use Rattle.ztree.specs.support.Samples.{at_a, some_node};
+ghost use Rattle.ztree.specs.Tree.{Tree, opening_tree};
+ghost use Rattle.ztree.specs.Sessions.{with_next_tick};
 ghost use Rattle.zcalls.specs.declared.call.Kind.TheVariants.{Persistent, Ephemeral};
 ghost use Rattle.zcalls.specs.declared.call.Kind.TheVariants.{PersistentWithTtl, PersistentSequentialWithTtl};
 ghost use Rattle.zcalls.specs.declared.limits.TheConstants.{MAX_PARTS, MAX_COUNTER, MIN_TIMEOUT, MAX_TIMEOUT};
 ghost use Rattle.zcalls.specs.declared.limits.TheConstants.{MAX_CALL_NUMBER, MAX_RAISES};
 ghost use Rattle.zcalls.specs.declared.call.Expected.TheVariants.{Any, Exactly};
-ghost use Rattle.zcalls.specs.declared.call.Query.TheVariants.{GetData};
-ghost use Rattle.zcalls.specs.declared.change.ChangeReply.TheVariants as change;
-ghost use Rattle.zcalls.specs.declared.call.Create.{Create};
-ghost use Rattle.zcalls.specs.declared.call.Delete.{Delete};
-ghost use Rattle.zcalls.specs.declared.call.Part.{Part};
-ghost use Rattle.zcalls.specs.declared.refusal.Refusal.TheVariants.{NoNode, NodeExists, NotEmpty};
-ghost use Rattle.zcalls.specs.declared.refusal.Refusal.TheVariants.{BadVersion, SessionGone, RootFixed};
-ghost use Rattle.zcalls.specs.declared.refusal.Refusal.TheVariants.{NoChildrenForEphemerals, Full};
-ghost use Rattle.zcalls.specs.declared.refusal.Refusal.TheVariants.{SequenceFull, PathLimit, Exhausted};
+ghost use Rattle.zcalls.specs.declared.call.Query.{Query};
+ghost use Rattle.zcalls.specs.declared.call.Update.{Update};
+ghost use Rattle.zcalls.specs.declared.refusal.Refusal.TheVariants.{NoNode, BadVersion, Exhausted};
+ghost use Rattle.zcalls.specs.declared.refusal.Refusal.TheVariants.{RootFixed, NotEmpty};
 ghost use Rattle.zcalls.specs.declared.reply.PartReply.TheVariants.{Checked, Deleted};
 ghost use Rattle.zcalls.specs.declared.reply.Reply.TheVariants as reply;
 ghost use Rattle.zcalls.specs.declared.reply.Reply.TheVariants.{Refused, MultiRefused};
 ghost use Rattle.zcalls.specs.CallRuns.{is_success, is_change};
-ghost use Rattle.ztree.specs.Tree.{Tree, opening_tree};
-ghost use Rattle.zcalls.specs.declared.call.Query.{Query};
-ghost use Rattle.zcalls.specs.declared.call.Update.{Update};
-ghost use Rattle.zcalls.specs.Kept.{nothing_kept};
 ghost use Rattle.zcalls.specs.PlainTree.{plain_tree};
-ghost use Rattle.zcalls.specs.Part.{create_refusals, delete_refusals, part_step};
-ghost use Rattle.zcalls.specs.Part.{has_other_version, is_spent, delete_step, set_step};
+ghost use Rattle.zcalls.specs.Part.{has_other_version, is_spent};
 ghost use Rattle.zcalls.specs.Part.{is_sequential, owner_of, ttl_of};
 ghost use Rattle.zcalls.specs.Multi.{run};
 ghost use Rattle.zcalls.specs.Step.{step, query_reply, is_exhausted, multi_result, tick_result};
-ghost use Rattle.zcalls.specs.support.Rows.{refusals};
-ghost use Rattle.zcalls.specs.support.Rows.{number_reply, counting_entry, creates, deletes, keeping, third_kept, answers};
+ghost use Rattle.zcalls.specs.support.Counting.{after, creates, deletes, told, told_no, seven, third_kept};
+ghost use Rattle.zcalls.specs.support.Counting.{with_eighth, one, created, refused};
+ghost use Rattle.zcalls.specs.support.Rows.{CreatesAreTested, order_of_creates, DeletesAreTested};
+ghost use Rattle.zcalls.specs.support.Rows.{IsRefusedWhere, FirstIsRefused, FirstIsChecked};
+ghost use Rattle.zcalls.specs.support.Rows.{HasNode, IsChildless, get_a};
+ghost use Rattle.zcalls.specs.support.Rows.{delete_a, set_a, sevens, childless_stat, without_a, deleted_a};
+ghost use Rattle.zcalls.specs.support.Rows.{without_7, only_7, only_a, ticked, leaves};
 
 /// What one entry does: where nothing is kept; and where a client's call 3 acted last, as the seventh
 /// create.
 pub fn updates_act_once()
-    ensures number_0 { counting_entry (nothing_kept 7) (creates 1 0) ≡ (nothing_kept 7, None) }
-    ensures first { counting_entry (nothing_kept 7) (creates 1 1)
-        ≡ (keeping (nothing_kept 7) 8 1 1 (number_reply 8), Some (number_reply 8)) }
-    ensures retry { counting_entry third_kept (creates 1 3) ≡ (third_kept, Some (number_reply 7)) }
-    ensures late { counting_entry third_kept (creates 1 2) ≡ (third_kept, None) }
-    ensures other_client { counting_entry third_kept (creates 2 3)
-        ≡ (keeping third_kept 8 2 3 (number_reply 8), Some (number_reply 8)) }
+    ensures number_0 { after seven (creates 1 0) ≡ (seven, None) }
+    ensures first { after seven (creates 1 1) ≡ (with_eighth seven 1 1, told 8) }
+    ensures retry { after third_kept (creates 1 3) ≡ (third_kept, told 7) }
+    ensures late { after third_kept (creates 1 2) ≡ (third_kept, None) }
+    ensures other_client { after third_kept (creates 2 3) ≡ (with_eighth third_kept 2 3, told 8) }
 {}
 
 /// What six entries of a client are answered, one after the other: call 1 acts, and call 2 is refused.
 pub fn refusals_are_kept()
-    ensures { answers (nothing_kept 1)
-        (creates 1 0 ∷ creates 1 1 ∷ creates 1 1 ∷ deletes 1 2 ∷ creates 1 1 ∷ deletes 1 2 ∷ [])
-        ≡ None ∷ Some (number_reply 2) ∷ Some (number_reply 2) ∷ Some (Refused NoNode) ∷ None
-        ∷ Some (Refused NoNode) ∷ [] }
+    ensures number_0 { after one (creates 1 0) ≡ (one, None) }
+    ensures acts { after one (creates 1 1) ≡ (created, told 2) }
+    ensures again { after created (creates 1 1) ≡ (created, told 2) }
+    ensures refused { after created (deletes 1 2) ≡ (refused, told_no) }
+    ensures late { after refused (creates 1 1) ≡ (refused, None) }
+    ensures refused_again { after refused (deletes 1 2) ≡ (refused, told_no) }
 {}
 
 /// The plain tree as a service: where it starts, what an update does to it, and what a query is answered.
@@ -66,27 +61,19 @@ pub fn plain_tree_steps()
 /// The order in which refusals are tested, whatever the tests say: of two that hold, the earlier is the
 /// answer.
 pub fn refusals_have_an_order()
-    ensures create { (t : Tree) (client : ℕ) (create : Create)
-        → refusals (create_refusals t client create) ≡ SessionGone ∷ NodeExists ∷ NoNode
-        ∷ NoChildrenForEphemerals ∷ SequenceFull ∷ PathLimit ∷ NodeExists ∷ Full ∷ [] }
-    ensures delete { (t : Tree) (delete : Delete) → refusals (delete_refusals t.nodes delete)
-        ≡ RootFixed ∷ NoNode ∷ BadVersion ∷ NotEmpty ∷ [] }
-    ensures exhausted { (t : Tree) (client : ℕ) (u : Update) → is_exhausted t u ≡ true
-        → step t client u ≡ (t, Refused Exhausted) }
+    ensures create { CreatesAreTested order_of_creates }
+    ensures delete { DeletesAreTested (RootFixed ∷ NoNode ∷ BadVersion ∷ NotEmpty ∷ []) }
+    ensures exhausted { IsRefusedWhere is_exhausted Exhausted }
 {}
 
-/// The parts of a multi, by what each does: none are done; one that is refused ends them, and is counting_entry
+/// The parts of a multi, by what each does: none are done; one that is refused ends them, and is counted
 /// from 1; the reply of one that is done stands in front.
 pub fn parts_are_done_in_turn()
     ensures none { (t : Tree) (client : ℕ) → run t client [] ≡ Ok (t, []) }
-    ensures refused { (t : Tree) (client : ℕ) (part : Part) (parts : List Part)
-        → part_step t client part ≡ Err NoNode → run t client (part ∷ parts) ≡ Err (1, NoNode) }
-    ensures refused_later { (t u : Tree) (client : ℕ) (part : Part) (parts : List Part)
-        → part_step t client part ≡ Ok (u, Checked) → run u client parts ≡ Err (2, NoNode)
-        → run t client (part ∷ parts) ≡ Err (3, NoNode) }
-    ensures done { (t u v : Tree) (client : ℕ) (part : Part) (parts : List Part)
-        → part_step t client part ≡ Ok (u, Checked) → run u client parts ≡ Ok (v, Deleted ∷ [])
-        → run t client (part ∷ parts) ≡ Ok (v, Checked ∷ Deleted ∷ []) }
+    ensures refused { FirstIsRefused NoNode (Err (1, NoNode)) }
+    ensures refused_later { FirstIsChecked (Err (2, NoNode)) (Err (3, NoNode)) }
+    ensures done { (v : Tree)
+        → FirstIsChecked (Ok (v, Deleted ∷ [])) (Ok (v, Checked ∷ Deleted ∷ [])) }
 {}
 
 /// A change that names a version is done where the node has that version, and only there. The node that is spoken of has
@@ -95,24 +82,17 @@ pub fn versions_are_tested()
     ensures any { has_other_version Any some_node ≡ false }
     ensures same { has_other_version (Exactly 6) some_node ≡ false }
     ensures other { has_other_version (Exactly 8) some_node ≡ true }
-    ensures delete { (t : Tree) → get t.nodes (a ∷ []) ≡ Some some_node
-        → children t.nodes (a ∷ []) ≡ []
-        → delete_step t (record { path = a ∷ []; version = Exactly 6 })
-        ≡ Ok (without_node t (a ∷ []), change.Deleted) }
-    ensures delete_of_another { (t : Tree) → get t.nodes (a ∷ []) ≡ Some some_node
-        → delete_step t (record { path = a ∷ []; version = Exactly 8 }) ≡ Err BadVersion }
-    ensures set_of_another { (t : Tree) → get t.nodes (a ∷ []) ≡ Some some_node
-        → set_step t (record { path = a ∷ []; bytes = a; version = Exactly 8 }) ≡ Err BadVersion }
+    ensures delete { (t : Tree) → HasNode t → IsChildless t → delete_a t 6 ≡ Ok (deleted_a t) }
+    ensures delete_of_another { (t : Tree) → HasNode t → delete_a t 8 ≡ Err BadVersion }
+    ensures set_of_another { (t : Tree) → HasNode t → set_a t 8 ≡ Err BadVersion }
 {}
 
 /// What is told: the bytes and the stat of a node, the part of a multi that was refused, and whether a node's counter has
 /// given its last number.
 pub fn what_is_told()
-    ensures data { (t : Tree) → get t.nodes (a ∷ []) ≡ Some some_node
-        → children t.nodes (a ∷ []) ≡ []
-        → query_reply t (GetData (a ∷ [])) ≡ reply.Data (7 ∷ (7 ∷ [])) (stat_with some_node 0) }
-    ensures no_data { (t : Tree) → get t.nodes (a ∷ []) ≡ None
-        → query_reply t (GetData (a ∷ [])) ≡ Refused NoNode }
+    ensures data { (t : Tree) → HasNode t → IsChildless t
+        → get_a t ≡ reply.Data sevens childless_stat }
+    ensures no_data { (t : Tree) → get t.nodes at_a ≡ None → get_a t ≡ Refused NoNode }
     ensures refused_part { (t : Tree)
         → multi_result t (Err (1, NoNode)) ≡ (t, MultiRefused 1 NoNode) }
     ensures last_number { is_spent (record some_node { seq = 2147483647 }) ≡ false }
@@ -123,14 +103,14 @@ pub fn what_is_told()
 pub fn successes()
     ensures created { is_success (reply.Created []) ≡ true }
     ensures deleted { is_success reply.Deleted ≡ true }
-    ensures set { is_success (reply.Set (stat_with some_node 0)) ≡ true }
+    ensures set { is_success (reply.Set childless_stat) ≡ true }
     ensures multi { is_success (reply.Multi []) ≡ true }
     ensures opened { is_success (reply.Opened 1 2) ≡ true }
     ensures pinged { is_success reply.Pinged ≡ true }
     ensures closed { is_success reply.Closed ≡ true }
     ensures ticked { is_success (reply.Ticked 1 0 0) ≡ true }
-    ensures data { is_success (reply.Data [] (stat_with some_node 0)) ≡ true }
-    ensures exists { is_success (reply.Exists (stat_with some_node 0)) ≡ true }
+    ensures data { is_success (reply.Data [] childless_stat) ≡ true }
+    ensures exists { is_success (reply.Exists childless_stat) ≡ true }
     ensures children { is_success (reply.Children []) ≡ true }
     ensures refused { is_success (Refused NoNode) ≡ false }
     ensures multi_refused { is_success (MultiRefused 1 NoNode) ≡ false }
@@ -147,20 +127,11 @@ pub fn changes_of_ticks()
 /// What a tick leaves and tells, by the sessions that end and the nodes that go: first the sessions, then the nodes, and one
 /// number for all of them.
 pub fn ticks_are_one_change()
-    ensures idle { (t : Tree) → tick_result t [] []
-        ≡ (with_next_tick t, reply.Ticked (t.time + 1) 0 0) }
-    ensures ends { (t : Tree) → tick_result t (7 ∷ []) []
-        ≡ (with_next_zxid (with_next_tick (without_session t 7)), reply.Ticked (t.time + 1) 1 0) }
-    ensures removes { (t : Tree) → tick_result t [] ((a ∷ []) ∷ [])
-        ≡ (
-          with_next_zxid (with_next_tick (without_node t (a ∷ []))),
-          reply.Ticked (t.time + 1) 0 1,
-        ) }
-    ensures both { (t : Tree) → tick_result t (7 ∷ []) ((a ∷ []) ∷ [])
-        ≡ (
-          with_next_zxid (with_next_tick (without_node (without_session t 7) (a ∷ []))),
-          reply.Ticked (t.time + 1) 1 1,
-        ) }
+    ensures idle { (t : Tree) → tick_result t [] [] ≡ (with_next_tick t, ticked t 0 0) }
+    ensures ends { (t : Tree) → tick_result t only_7 [] ≡ leaves t (without_7 t) 1 0 }
+    ensures removes { (t : Tree) → tick_result t [] only_a ≡ leaves t (without_a t) 0 1 }
+    ensures both { (t : Tree) → tick_result t only_7 only_a
+        ≡ leaves t (without_a (without_7 t)) 1 1 }
 {}
 
 /// What kinds with a time to live are made of.

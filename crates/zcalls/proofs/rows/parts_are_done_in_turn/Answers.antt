@@ -9,5 +9,5 @@ returns c = record {
   none = λ t client. refl;
   refused = λ t client part parts did. ap (λ did. and_then did (λ u. run u client parts)) did;
   refused_later = λ t u client part parts did later. ap (λ did. and_then did (λ u. run u client parts)) did ∙ ap (behind Checked) later;
-  done = λ t u v client part parts did later. ap (λ did. and_then did (λ u. run u client parts)) did ∙ ap (behind Checked) later;
+  done = λ v t u client part parts did later. ap (λ did. and_then did (λ u. run u client parts)) did ∙ ap (behind Checked) later;
 }

@@ -1,6 +1,6 @@
 use Rattle.std.proofs.Common.{refl}
 use Rattle.zcalls.specs.Kept.{nothing_kept}
-use Rattle.zcalls.specs.support.Rows.{number_reply, creates}
+use Rattle.zcalls.specs.support.Counting.{number_reply, creates}
 use Rattle.zcalls.proofs.KeptReplies.{entered_first, entered_again, entered_other}
 use Rattle.zcalls.proofs.rows.updates_act_once.Goals as goal
 
