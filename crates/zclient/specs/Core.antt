@@ -1,6 +1,7 @@
 -- What the client table leaves open: when there is no memory, and how a reply is handed out.
-use Rattle.std.specs.Prelude.{◌≡◌, ◌<◌, Option, None, Some, List, [], ◌∷◌}
-use Rattle.std.specs.Option.{IsSome}
+use Rattle.std.specs.Prelude.{◌≡◌, ◌<◌, ℕ, Option, None, Some, List, [], ◌∷◌}
+use Rattle.std.specs.Option.{IsSome, option_map}
+use Rattle.zcalls.specs.declared.reply.Reply.{Reply}
 use Rattle.zprotocol.specs.declared.message.Message.{Message}
 use Rattle.zprotocol.specs.declared.message.Message.TheVariants as message
 use Rattle.zprotocol.specs.declared.process.Process.{Process}
@@ -9,7 +10,7 @@ use Rattle.zprotocol.specs.server.View.{PostOf}
 use Rattle.zprotocol.specs.declared.client.begin_fault.BeginFault.{BeginFault}
 use Rattle.zprotocol.specs.declared.client.begin_fault.BeginFault.TheVariants.{Memory}
 use Rattle.zprotocol.specs.client.View.{ClientView}
-use Rattle.zprotocol.specs.client.Table.{begin_fault}
+use Rattle.zprotocol.specs.client.Table.{begin_fault, outstanding_posts}
 
 -- a call is refused with this: by the table, or for memory where the table allows it
 abbrev pub IsBeginFault : ClientView → BeginFault → Type 0
@@ -20,6 +21,14 @@ IsBeginFault v fault = begin_fault v ≡ Some fault
 abbrev pub IsResend : {T : Type 0} → ClientView → Process → Message T → Type 0
 IsResend v Master (message.Config epoch head tail) = (v.epoch < epoch) × IsSome v.outstanding
 IsResend v from other = ⊥
+
+-- the reply that is handed out, without its call's number
+abbrev pub reply_of : Option (ℕ × Reply) → Option Reply
+reply_of given = option_map (λ answer. answer.1) given
+
+-- the call that a client waits for, sent to these ends of the chain
+abbrev pub sent_to : {T : Type 0} → ClientView → Option ℕ → Option ℕ → List (PostOf T)
+sent_to v head tail = outstanding_posts (record v { head = head; tail = tail })
 
 -- the one post or none, as a list
 abbrev pub posts_of : {T : Type 0} → Option (PostOf T) → List (PostOf T)

@@ -3,9 +3,9 @@
 ghost use Rattle.std.specs.Prelude.{◌≡◌, ◌+◌, ◌<◌, ◌≤◌, ℕ, None, Some, [], IfErr, IfOk, IsSome, OnErr, OnOk, is_some};
 ghost use Rattle.std.specs.Option.{option_map};
 ghost use Rattle.zprotocol.specs.client.View.{opening_client};
-ghost use Rattle.zprotocol.specs.client.Table.{begin_fault, begin_step, client_step, answer_row, config_row, outstanding_posts, retry_posts};
+ghost use Rattle.zprotocol.specs.client.Table.{begin_fault, begin_step, client_step, answer_row, config_row, retry_posts};
 ghost use Rattle.zprotocol.specs.Posts.{Puts};
-ghost use Rattle.zclient.specs.Core.{IsBeginFault, IsResend};
+ghost use Rattle.zclient.specs.Core.{IsBeginFault, IsResend, reply_of, sent_to};
 
 use crate::post::send_call;
 use std::alloc::Global;
@@ -42,8 +42,7 @@ impl Model for ClientCore {
 impl ClientCore {
     /// A client of the opening chain, whose last server is this. It takes no memory.
     pub fn new(alloc: Global, last: ServerId) -> ClientCore
-        ensures { (clients client : ℕ) → client < clients
-            → result ≡ opening_client last clients client }
+        ensures { (clients c : ℕ) → c < clients → result ≡ opening_client last clients c }
     {
         ClientCore {
             alloc,
@@ -57,8 +56,8 @@ impl ClientCore {
 
     /// A client that there isn't: it knows no chain. It takes no memory.
     pub fn outside(alloc: Global) -> ClientCore
-        ensures { (servers clients client : ℕ) → clients ≤ client
-            → result ≡ opening_client servers clients client }
+        ensures { (servers clients c : ℕ) → clients ≤ c
+            → result ≡ opening_client servers clients c }
     {
         ClientCore {
             alloc,
@@ -127,12 +126,10 @@ impl ClientCore {
         message: Message<T>,
         out: &mut Out<T>,
     ) -> Result<Option<Reply>, Message<T>>
-        ensures next { OnOk result
-            (self.new ≡ (client_step self.old from message).0) }
-        ensures puts { OnOk result
-            (Puts out.old out.new (client_step self.old from message).1) }
-        ensures reply { IfOk result (λ reply. reply
-            ≡ option_map (λ given. given.1) (client_step self.old from message).2) }
+        ensures next { OnOk result (self.new ≡ (client_step self.old from message).0) }
+        ensures puts { OnOk result (Puts out.old out.new (client_step self.old from message).1) }
+        ensures reply { IfOk result
+            (λ reply. reply ≡ reply_of (client_step self.old from message).2) }
         ensures back { IfErr result (λ back. back ≡ message) }
         ensures resends { OnErr result (IsResend self.old from message) }
         ensures same { OnErr result (self.new ≡ self.old) }
@@ -201,8 +198,7 @@ impl ClientCore {
         tail: &Option<ServerId>,
         out: &mut Out<T>,
     ) -> Result<(), Memory>
-        ensures puts { OnOk result (Puts out.old out.new
-            (outstanding_posts (record self.now { head = head.now; tail = tail.now }))) }
+        ensures puts { OnOk result (Puts out.old out.new (sent_to self.now head.now tail.now)) }
         ensures waited { OnErr result (IsSome self.now.outstanding) }
         ensures silent { OnErr result (out.new.posts ≡ out.old.posts) }
     {
@@ -217,8 +213,7 @@ impl ClientCore {
     fn answer<T: Drop>(&mut self, number: CallNumber, reply: Reply) -> Option<Reply>
         ensures next { self.new ≡ (answer_row {T = T} self.old number reply).0 }
         ensures silent { (answer_row {T = T} self.old number reply).1 ≡ [] }
-        ensures reply { result
-            ≡ option_map (λ given. given.1) (answer_row {T = T} self.old number reply).2 }
+        ensures reply { result ≡ reply_of (answer_row {T = T} self.old number reply).2 }
     {
         if let Some((waited, _)) = &self.outstanding
             && waited.number() == number.number()
