@@ -1,6 +1,7 @@
 -- The plain tree as a service of one call after the other: the sequential specification of the legal order.
 -- ZooKeeper Programmer's Guide, "The ZooKeeper Data Model".
 use Rattle.std.specs.Prelude.{ℕ, List}
+use Rattle.ztree.specs.Tree.{Tree}
 use Rattle.ztree.specs.Lawful.{IsLawful}
 use Rattle.zcalls.specs.declared.call.Call.{Call}
 use Rattle.zcalls.specs.declared.call.Call.TheVariants.{Update, Query}
@@ -19,6 +20,10 @@ call_step plain p client (Query query) = (p, plain.ask p query)
 -- a plain service, as one that does one call after the other
 abbrev pub service_of : {P : Type 0} → Plain P → Service P
 service_of plain = record { opening = plain.opening; step = call_step plain }
+
+-- what the plain tree does, as a service, with a client's call
+abbrev pub serve : Tree → ℕ → Call → Tree × Reply
+serve t client call = (service_of plain_tree).step t client call
 
 -- the plain tree explains a history: it has a legal order, and every tree on the way is lawful
 abbrev pub IsExplained : History → Type 0

@@ -7,7 +7,7 @@ ghost use Rattle.zcalls.specs.declared.call.Update.{Update};
 ghost use Rattle.zcalls.specs.declared.call.Call.TheVariants as call;
 ghost use Rattle.zcalls.specs.PlainTree.{plain_tree};
 ghost use Rattle.zcalls.specs.Step.{step, query_reply};
-ghost use Rattle.zworld_model.specs.PlainTree.{service_of};
+ghost use Rattle.zworld_model.specs.PlainTree.{service_of, serve};
 ghost use Rattle.zworld_model.specs.Alike.{HaveTheSameEnabled, StayAlike, ReadAlike};
 ghost use Rattle.zworld_model.specs.Alike.{HaveTheSameOutcomes, AreAlikeThemselves, AlikeIsTransitive};
 ghost use Rattle.zworld_model.specs.Alike.{RetiredHaveFailed};
@@ -81,8 +81,7 @@ pub fn fitting_outcomes_are_read()
 /// query, which leaves the tree.
 pub fn calls_do_the_plain_step()
     ensures opening { (service_of plain_tree).opening ≡ opening_tree }
-    ensures update { (t : Tree) (client : ℕ) (update : Update)
-        → (service_of plain_tree).step t client (call.Update update) ≡ step t client update }
-    ensures query { (t : Tree) (client : ℕ) (query : Query)
-        → (service_of plain_tree).step t client (call.Query query) ≡ (t, query_reply t query) }
+    ensures update { (t : Tree) (c : ℕ) (u : Update) → serve t c (call.Update u) ≡ step t c u }
+    ensures query { (t : Tree) (c : ℕ) (q : Query)
+        → serve t c (call.Query q) ≡ (t, query_reply t q) }
 {}

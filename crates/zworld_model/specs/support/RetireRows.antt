@@ -6,6 +6,10 @@ use Rattle.zworld_model.specs.support.Counter.{create, exists}
 use Rattle.zworld_model.specs.support.RunRows.{m, s1, s2, s3, c1}
 use Rattle.zworld_model.specs.support.ScenarioRows.{Scene, Happen, Settles, Calls}
 
+-- the head is ordered to leave, and takes the order
+abbrev pub order_taken : List Event
+order_taken = Retire 1 ∷ Take m s1 ∷ []
+
 -- the head of three is ordered to leave. It serves until it takes the order; then s2 is the head
 abbrev pub head_retires : List Event
 head_retires =
@@ -58,8 +62,8 @@ abbrev pub two_retire : List Scene
 two_retire = Calls create ∷ Happen (Retire 1 ∷ []) ∷ Settles ∷ Happen (Retire 2 ∷ []) ∷ Settles ∷ Calls exists ∷ []
 
 -- a third server joins, and then the first leaves
-abbrev pub one_joins_and_one_retires : List Scene
-one_joins_and_one_retires = Happen (Join 3 ∷ []) ∷ Settles ∷ Happen (Retire 1 ∷ []) ∷ Settles ∷ []
+abbrev pub one_is_replaced : List Scene
+one_is_replaced = Happen (Join 3 ∷ []) ∷ Settles ∷ Happen (Retire 1 ∷ []) ∷ Settles ∷ []
 
 -- both servers of a chain are replaced by others
 abbrev pub both_are_replaced : List Scene

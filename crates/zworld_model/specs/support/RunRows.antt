@@ -1,5 +1,5 @@
 -- Worked runs of a chain in which nobody fails, over a machine that counts, with two clients (0 and 1).
-use Rattle.std.specs.Prelude.{ℕ, List, [], ◌∷◌}
+use Rattle.std.specs.Prelude.{ℕ, ◌≡◌, true, false, Some, List, [], ◌∷◌, ◌++◌, take}
 use Rattle.zcalls.specs.declared.call.Entry.{Entry}
 use Rattle.zprotocol.specs.declared.message.Message.TheVariants as message
 use Rattle.zprotocol.specs.declared.process.Process.{Process}
@@ -8,9 +8,10 @@ use Rattle.zprotocol.specs.server.View.{ServerView, MessageOf}
 use Rattle.zworld_model.specs.declared.event.Event.{Event}
 use Rattle.zworld_model.specs.declared.event.Event.TheVariants.{Begin, Retry, Take}
 use Rattle.zworld_model.specs.declared.history.CallEvent.TheVariants as saw
+use Rattle.zworld_model.specs.declared.history.CallEvent.{CallEvent}
 use Rattle.zworld_model.specs.History.{History}
 use Rattle.zworld_model.specs.World.{World, opening_world}
-use Rattle.zworld_model.specs.Events.{run}
+use Rattle.zworld_model.specs.Events.{is_enabled, run}
 use Rattle.zworld_model.specs.support.Counter.{Counting, counting_machine, create_update, create, exists, name_reply, count_reply}
 
 -- the processes: the master, servers and clients
@@ -51,6 +52,13 @@ link servers events from to = (after servers events).links from to
 abbrev pub view : ℕ → List Event → ℕ → ServerView Counting
 view servers events s = (after servers events).servers s
 
+-- an event can happen after them, or it can't
+abbrev pub CanHappen : ℕ → List Event → Event → Type 0
+CanHappen servers events event = is_enabled (after servers events) event ≡ true
+
+abbrev pub CannotHappen : ℕ → List Event → Event → Type 0
+CannotHappen servers events event = is_enabled (after servers events) event ≡ false
+
 -- the entry of client 1's first call, and that of client 0's
 abbrev pub first_entry : Entry
 first_entry = record { client = 1; number = 1; update = create_update }
@@ -58,15 +66,22 @@ first_entry = record { client = 1; number = 1; update = create_update }
 abbrev pub other_entry : Entry
 other_entry = record { client = 0; number = 1; update = create_update }
 
+-- a client begins an update, its call of this number; and is told the name that this one made
+abbrev pub began : ℕ → ℕ → CallEvent
+began client number = saw.Begin client number create
+
+abbrev pub told : ℕ → ℕ → ℕ → CallEvent
+told client number name = saw.Answer client number (name_reply name)
+
 -- what callers see of client 1's calls: one update, two of them, and an update and then a query
 abbrev pub one_create : History
-one_create = saw.Begin 1 1 create ∷ saw.Answer 1 1 (name_reply 0) ∷ []
+one_create = began 1 1 ∷ told 1 1 0 ∷ []
 
 abbrev pub two_creates : History
-two_creates = saw.Begin 1 1 create ∷ saw.Answer 1 1 (name_reply 0) ∷ saw.Begin 1 2 create ∷ saw.Answer 1 2 (name_reply 1) ∷ []
+two_creates = began 1 1 ∷ told 1 1 0 ∷ began 1 2 ∷ told 1 2 1 ∷ []
 
 abbrev pub create_and_exists : History
-create_and_exists = saw.Begin 1 1 create ∷ saw.Answer 1 1 (name_reply 0) ∷ saw.Begin 1 2 exists ∷ saw.Answer 1 2 (count_reply 1) ∷ []
+create_and_exists = began 1 1 ∷ told 1 1 0 ∷ saw.Begin 1 2 exists ∷ saw.Answer 1 2 (count_reply 1) ∷ []
 
 -- its request of that update on a link, and two answers to it
 abbrev pub request : List (MessageOf Counting)
@@ -75,9 +90,22 @@ request = message.Submit 1 create_update ∷ []
 abbrev pub two_answers : List (MessageOf Counting)
 two_answers = message.Answer 1 (name_reply 0) ∷ message.Answer 1 (name_reply 0) ∷ []
 
--- it begins the update, and the request is taken
+-- what the master tells a client of the chain's ends
+abbrev pub config : ℕ → ℕ → ℕ → List (MessageOf Counting)
+config epoch head tail = message.Config epoch (Some head) (Some tail) ∷ []
+
+-- client 1 begins an update, the request is taken, and the answer of an only server too; or it begins a query
+abbrev pub create_begun : List Event
+create_begun = Begin 1 create ∷ []
+
 abbrev pub create_taken : List Event
 create_taken = Begin 1 create ∷ Take c1 s1 ∷ []
+
+abbrev pub create_answered : List Event
+create_answered = Begin 1 create ∷ Take c1 s1 ∷ Take s1 c1 ∷ []
+
+abbrev pub exists_begun : List Event
+exists_begun = Begin 1 exists ∷ []
 
 abbrev pub exists_taken : List Event
 exists_taken = Begin 1 exists ∷ Take c1 s1 ∷ []
@@ -109,6 +137,10 @@ two_updates =
     ∷ Take s3 c0
     ∷ []
 
+-- both on the link from the head, client 0's first
+abbrev pub other_then_first : List (MessageOf Counting)
+other_then_first = message.Update 0 1 other_entry ∷ message.Update 0 2 first_entry ∷ []
+
 -- an update arrives twice, since its client asks again; then the client makes another
 abbrev pub retried_update : List Event
 retried_update =
@@ -125,3 +157,7 @@ retried_update =
     ∷ Take s1 s2
     ∷ Take s2 c1
     ∷ []
+
+-- the same, where the second answer is taken when the client has begun the other
+abbrev pub late_answer : List Event
+late_answer = take 7 retried_update ++ Begin 1 create ∷ Take s2 c1 ∷ []

@@ -4,6 +4,7 @@ use Rattle.std.specs.Prelude.{ℕ, List, [], ◌∷◌}
 use Rattle.zcalls.specs.declared.call.Call.{Call}
 use Rattle.zworld_model.specs.declared.event.Event.{Event}
 use Rattle.zworld_model.specs.declared.event.Event.TheVariants.{Begin, Take, Fail, Join}
+use Rattle.zprotocol.specs.master.View.{MasterView}
 use Rattle.zprotocol.specs.server.View.{Neighbour}
 use Rattle.zworld_model.specs.History.{History}
 use Rattle.zworld_model.specs.World.{World, opening_world}
@@ -33,12 +34,15 @@ after_scenes w (scene ∷ scenes) = after_scenes (after_scene w scene) scenes
 abbrev pub scenes_end : ℕ → List Scene → World Counting
 scenes_end servers scenes = after_scenes (opening_world counting_machine servers 2) scenes
 
--- what callers saw of it, and the chain that it leaves
+-- the master's view that it leaves, what callers saw of it, and the chain
+abbrev pub scenes_master : ℕ → List Scene → MasterView
+scenes_master servers scenes = (scenes_end servers scenes).master
+
 abbrev pub scenes_history : ℕ → List Scene → History
 scenes_history servers scenes = (scenes_end servers scenes).history
 
 abbrev pub scenes_chain : ℕ → List Scene → List Neighbour
-scenes_chain servers scenes = (scenes_end servers scenes).master.chain
+scenes_chain servers scenes = (scenes_master servers scenes).chain
 
 -- two of three servers fail at once, between two calls
 abbrev pub two_fail : List Scene

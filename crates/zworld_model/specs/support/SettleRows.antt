@@ -1,7 +1,7 @@
 -- Worked runs of settling, and of readings, over a machine that counts, with two clients (0 and 1).
-use Rattle.std.specs.Prelude.{ℕ, Bool, List, [], ◌∷◌}
+use Rattle.std.specs.Prelude.{ℕ, ◌≡◌, Bool, List, [], ◌∷◌, ◌++◌}
 use Rattle.zworld_model.specs.declared.event.Event.{Event}
-use Rattle.zworld_model.specs.declared.event.Event.TheVariants.{Begin, Take, Ignore, Fail, Join}
+use Rattle.zworld_model.specs.declared.event.Event.TheVariants.{Begin, Retry, Take, Ignore, Fail, Join}
 use Rattle.zworld_model.specs.World.{opening_world}
 use Rattle.zworld_model.specs.declared.outcome.Outcome.{Outcome}
 use Rattle.zworld_model.specs.History.{History}
@@ -29,6 +29,10 @@ fits_after servers events event outcome = is_fitting counting_machine (after ser
 abbrev pub read_after : ℕ → List Event → List Outcome → List Event
 read_after servers events outcomes = read_all counting_machine (opening_world counting_machine servers 2) events outcomes
 
+-- events that stay themselves, whatever is said to have become of them
+abbrev pub StayThemselves : ℕ → List Event → List Outcome → Type 0
+StayThemselves servers events outcomes = read_after servers events outcomes ≡ events
+
 -- two clients begin an update each
 abbrev pub two_begin : List Event
 two_begin = Begin 0 create ∷ Begin 1 create ∷ []
@@ -54,13 +58,27 @@ two_settle =
 abbrev pub lost_request : List Event
 lost_request = Begin 1 create ∷ Ignore c1 s1 ∷ []
 
+abbrev pub asked_again : List Event
+asked_again = Retry 1 ∷ Take c1 s1 ∷ Take s1 c1 ∷ []
+
+-- a query is lost
+abbrev pub lost_query : List Event
+lost_query = Begin 1 exists ∷ Ignore c1 s1 ∷ []
+
+-- the only server has failed: the master hears of it and tells both clients, and client 1 has nobody to ask again
+abbrev pub news_and_retry : List Event
+news_and_retry = Take s1 m ∷ Take m c0 ∷ Take m c1 ∷ Retry 1 ∷ []
+
 -- the state is lost with its only server, while another one joins; then a client asks
 abbrev pub lost_state : List Event
 lost_state = Join 2 ∷ Fail 1 ∷ Begin 1 exists ∷ []
 
--- the head of two servers fails, and the master tells the other one
+-- the head of two servers fails, and the master tells the other one, which takes that
 abbrev pub new_head : List Event
 new_head = Fail 1 ∷ Take s1 m ∷ []
+
+abbrev pub new_head_told : List Event
+new_head_told = new_head ++ Take m s2 ∷ []
 
 -- a server joins behind the only one, which is no tail any more when a client's query reaches it
 abbrev pub query_at_old_tail : List Event

@@ -1,6 +1,6 @@
 //! Worked rows of the legal order, and the first histories that the plain tree explains.
 
-ghost use Rattle.std.specs.Prelude.{[], ◌∷◌};
+ghost use Rattle.std.specs.Prelude.{[], ◌∷◌, ◌++◌, take};
 ghost use Rattle.zcalls.specs.declared.call.Query.{Query};
 ghost use Rattle.zcalls.specs.declared.call.Update.{Update};
 ghost use Rattle.zworld_model.specs.PlainTree.{IsExplained};
@@ -18,11 +18,9 @@ pub fn legal_order_is_taken()
 /// Orders that explain no history: each breaks one clause of the legal order, and no other.
 pub fn other_orders_are_refused()
     ensures answered_left_out { Explains 2 2 (first_create ∷ lost_create ∷ []) → ⊥ }
-    ensures call_twice { Explains 2 2 (first_create ∷ lost_create ∷ last_exists ∷ last_exists ∷ [])
-        → ⊥ }
+    ensures call_twice { Explains 2 2 (true_order ++ last_exists ∷ []) → ⊥ }
     ensures unanswered_query { Explains 2 2
-        (first_create ∷ lost_create ∷ lost_exists ∷ last_exists ∷ [])
-        → ⊥ }
+        (take 2 true_order ++ lost_exists ∷ last_exists ∷ []) → ⊥ }
     ensures never_begun { Explains 2 2 (first_create ∷ strange_create ∷ last_exists ∷ []) → ⊥ }
     ensures wrong_reply { Explains 2 1 true_order → ⊥ }
     ensures against_time { Explains 2 0 (last_exists ∷ first_create ∷ []) → ⊥ }
@@ -40,7 +38,6 @@ pub fn run_has_one_order()
 /// answered; and one in which an update is answered, and then a query from the tree after it.
 pub fn plain_tree_explains()
     ensures silence { IsExplained [] }
-    ensures first_query { (query : Query) → IsExplained (query_is_first query) }
-    ensures first_update { (update : Update) (query : Query)
-        → IsExplained (update_is_first update query) }
+    ensures first_query { (q : Query) → IsExplained (query_is_first q) }
+    ensures first_update { (u : Update) (q : Query) → IsExplained (update_is_first u q) }
 {}

@@ -6,7 +6,7 @@ ghost use Rattle.zworld_model.specs.declared.event.Event.TheVariants.{Take, Fail
 ghost use Rattle.zworld_model.specs.support.RunRows.{seen, link, view, m, s1, s2, s3, c1, first_entry};
 ghost use Rattle.zworld_model.specs.support.RepairRows.{head_fails, head_fails_and_is_asked_again};
 ghost use Rattle.zworld_model.specs.support.RepairRows.{head_fails_first, tail_fails, middle_fails};
-ghost use Rattle.zworld_model.specs.support.RunRows.{one_create, request, two_answers};
+ghost use Rattle.zworld_model.specs.support.RunRows.{one_create, request, two_answers, config};
 
 /// The head fails after it forwarded an update: its successor becomes the head, and the update is answered.
 pub fn head_fails_after_it_forwarded()
@@ -18,8 +18,7 @@ pub fn head_fails_after_it_forwarded()
 
 /// The same, where the client asks the new head again: the update counts once, and is answered once.
 pub fn new_head_is_asked_again()
-    ensures told { link 3 (take 6 head_fails_and_is_asked_again) m c1
-        ≡ message.Config 1 (Some 2) (Some 3) ∷ [] }
+    ensures told { link 3 (take 6 head_fails_and_is_asked_again) m c1 ≡ config 1 2 3 }
     ensures asked { link 3 (take 7 head_fails_and_is_asked_again) c1 s2 ≡ request }
     ensures two_answers { link 3 (take 10 head_fails_and_is_asked_again) s3 c1 ≡ two_answers }
     ensures seen { seen 3 head_fails_and_is_asked_again ≡ one_create }

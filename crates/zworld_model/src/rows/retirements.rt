@@ -8,16 +8,16 @@ ghost use Rattle.zprotocol.specs.declared.master.retire_fault.RetireFault.TheVar
 ghost use Rattle.zprotocol.specs.declared.master.retire_fault.RetireFault.TheVariants.{Retiring};
 ghost use Rattle.zprotocol.specs.master.Table.{join_fault, retire_fault};
 ghost use Rattle.zworld_model.specs.declared.event.Event.TheVariants.{Retry, Take, Fail, Retire};
-ghost use Rattle.zworld_model.specs.declared.history.CallEvent.TheVariants as saw;
 ghost use Rattle.zworld_model.specs.declared.outcome.Outcome.TheVariants.{Acted, Stopped};
 ghost use Rattle.zworld_model.specs.Events.{is_enabled};
-ghost use Rattle.zworld_model.specs.support.Counter.{create, exists, name_reply, count_reply};
 ghost use Rattle.zworld_model.specs.support.RunRows.{after, seen, link, view, m, s1, s2, s3, c1};
-ghost use Rattle.zworld_model.specs.support.RunRows.{first_entry};
-ghost use Rattle.zworld_model.specs.support.ScenarioRows.{scenes_end};
-ghost use Rattle.zworld_model.specs.support.SettleRows.{read_after};
+ghost use Rattle.zworld_model.specs.support.RunRows.{CanHappen, CannotHappen, first_entry};
+ghost use Rattle.zworld_model.specs.support.RunRows.{one_create, two_creates, create_and_exists};
+ghost use Rattle.zworld_model.specs.support.ScenarioRows.{scenes_end, scenes_master};
+ghost use Rattle.zworld_model.specs.support.ScenarioRows.{scenes_history, scenes_chain};
+ghost use Rattle.zworld_model.specs.support.SettleRows.{StayThemselves};
 ghost use Rattle.zworld_model.specs.support.RetireRows.{head_retires, middle_retires, tail_retires};
-ghost use Rattle.zworld_model.specs.support.RetireRows.{two_retire, one_joins_and_one_retires};
+ghost use Rattle.zworld_model.specs.support.RetireRows.{order_taken, two_retire, one_is_replaced};
 ghost use Rattle.zworld_model.specs.support.RetireRows.{both_are_replaced, another_fails};
 ghost use Rattle.zworld_model.specs.support.RetireRows.{retiring_server_fails};
 
@@ -28,13 +28,11 @@ pub fn head_retires_after_it_forwarded()
     ensures serves { link 3 (take 3 head_retires) s1 s2 ≡ message.Update 0 1 first_entry ∷ [] }
     ensures gone { link 3 (take 5 head_retires) s1 m ≡ message.Gone ∷ [] }
     ensures failed { (after 3 (take 5 head_retires)).failed 1 ≡ true }
-    ensures takes_nothing_more { is_enabled (after 3 (take 5 head_retires ++ Retry 1 ∷ []))
-        (Take c1 s1) ≡ false }
-    ensures fails_no_more { is_enabled (after 3 (take 5 head_retires)) (Fail 1) ≡ false }
+    ensures takes_nothing_more { CannotHappen 3 (take 5 head_retires ++ Retry 1 ∷ []) (Take c1 s1) }
+    ensures fails_no_more { CannotHappen 3 (take 5 head_retires) (Fail 1) }
     ensures told { link 3 (take 6 head_retires) m s2 ≡ message.BecomeHead 1 ∷ [] }
     ensures head { (view 3 (take 7 head_retires) 2).pred ≡ None }
-    ensures seen { seen 3 head_retires
-        ≡ saw.Begin 1 1 create ∷ saw.Answer 1 1 (name_reply 0) ∷ [] }
+    ensures seen { seen 3 head_retires ≡ one_create }
 {}
 
 /// The middle is: what it hadn't forwarded, the head sends to the tail.
@@ -43,8 +41,7 @@ pub fn middle_retires_before_it_forwarded()
     ensures new_pred { link 3 (take 5 middle_retires) m s3 ≡ message.NewPred 1 1 ∷ [] }
     ensures sent_again { link 3 (take 8 middle_retires) s1 s3
         ≡ message.Update 1 1 first_entry ∷ [] }
-    ensures seen { seen 3 middle_retires
-        ≡ saw.Begin 1 1 create ∷ saw.Answer 1 1 (name_reply 0) ∷ [] }
+    ensures seen { seen 3 middle_retires ≡ one_create }
 {}
 
 /// The tail is: its predecessor becomes the tail, and the call is answered once.
@@ -52,67 +49,55 @@ pub fn tail_retires_before_it_answered()
     ensures told { link 3 (take 6 tail_retires) m s2 ≡ message.BecomeTail 1 ∷ [] }
     ensures tail { (view 3 (take 7 tail_retires) 2).succ ≡ None }
     ensures acted_once { (view 3 (take 10 tail_retires) 2).last ≡ 2 }
-    ensures seen { seen 3 tail_retires
-        ≡ saw.Begin 1 1 create ∷ saw.Answer 1 1 (name_reply 0) ∷ [] }
+    ensures seen { seen 3 tail_retires ≡ one_create }
 {}
 
 /// Who can be ordered to leave; and that no server can stop at the order for want of memory.
 pub fn members_are_ordered_to_leave()
-    ensures member { is_enabled (after 3 []) (Retire 3) ≡ true }
-    ensures spare { is_enabled (after 3 []) (Retire 4) ≡ false }
-    ensures only_one { is_enabled (after 1 []) (Retire 1) ≡ false }
-    ensures second { is_enabled (after 3 (Retire 1 ∷ [])) (Retire 2) ≡ false }
-    ensures failed_one { is_enabled (after 3 (Fail 1 ∷ [])) (Retire 1) ≡ true }
-    ensures wants_no_memory { read_after 3 (Retire 1 ∷ Take m s1 ∷ []) (Acted ∷ Stopped ∷ [])
-        ≡ Retire 1 ∷ Take m s1 ∷ [] }
+    ensures member { CanHappen 3 [] (Retire 3) }
+    ensures spare { CannotHappen 3 [] (Retire 4) }
+    ensures only_one { CannotHappen 1 [] (Retire 1) }
+    ensures second { CannotHappen 3 (Retire 1 ∷ []) (Retire 2) }
+    ensures failed_one { CanHappen 3 (Fail 1 ∷ []) (Retire 1) }
+    ensures wants_no_memory { StayThemselves 3 order_taken (Acted ∷ Stopped ∷ []) }
 {}
 
 /// Members leave one at a time, and the last one stays.
 pub fn members_leave_in_turn()
-    ensures second { retire_fault (scenes_end 3 (take 2 two_retire)).master 2 ≡ Some Retiring }
-    ensures first_left { (scenes_end 3 (take 3 two_retire)).master.chain ≡ (2, 0) ∷ (3, 0) ∷ [] }
-    ensures last { retire_fault (scenes_end 3 two_retire).master 3 ≡ Some Last }
-    ensures not_member { retire_fault (scenes_end 3 two_retire).master 1 ≡ Some NotMember }
-    ensures seen { (scenes_end 3 two_retire).history
-        ≡ saw.Begin 1 1 create ∷ saw.Answer 1 1 (name_reply 0) ∷ saw.Begin 1 2 exists
-        ∷ saw.Answer 1 2 (count_reply 1) ∷ [] }
+    ensures second { retire_fault (scenes_master 3 (take 2 two_retire)) 2 ≡ Some Retiring }
+    ensures first_left { scenes_chain 3 (take 3 two_retire) ≡ (2, 0) ∷ (3, 0) ∷ [] }
+    ensures last { retire_fault (scenes_master 3 two_retire) 3 ≡ Some Last }
+    ensures not_member { retire_fault (scenes_master 3 two_retire) 1 ≡ Some NotMember }
+    ensures seen { scenes_history 3 two_retire ≡ create_and_exists }
 {}
 
 /// Nobody is ordered to leave while a server joins, and nobody joins while a member leaves; so servers can be replaced
 /// one by one.
 pub fn servers_are_replaced()
-    ensures joining { retire_fault (scenes_end 2 (take 1 one_joins_and_one_retires)).master 1
-        ≡ Some Joining }
-    ensures retiring { join_fault (scenes_end 2 (take 3 one_joins_and_one_retires)).master 4
+    ensures joining { retire_fault (scenes_master 2 (take 1 one_is_replaced)) 1 ≡ Some Joining }
+    ensures retiring { join_fault (scenes_master 2 (take 3 one_is_replaced)) 4
         ≡ Some join.Retiring }
-    ensures free { join_fault (scenes_end 2 one_joins_and_one_retires).master 4 ≡ None }
-    ensures gone_one { join_fault (scenes_end 2 one_joins_and_one_retires).master 1
-        ≡ Some join.Used }
-    ensures chain { (scenes_end 2 both_are_replaced).master.chain ≡ (3, 1) ∷ (4, 4) ∷ [] }
-    ensures seen { (scenes_end 2 both_are_replaced).history
-        ≡ saw.Begin 1 1 create ∷ saw.Answer 1 1 (name_reply 0) ∷ saw.Begin 1 2 exists
-        ∷ saw.Answer 1 2 (count_reply 1) ∷ [] }
+    ensures free { join_fault (scenes_master 2 one_is_replaced) 4 ≡ None }
+    ensures gone_one { join_fault (scenes_master 2 one_is_replaced) 1 ≡ Some join.Used }
+    ensures chain { scenes_chain 2 both_are_replaced ≡ (3, 1) ∷ (4, 4) ∷ [] }
+    ensures seen { scenes_history 2 both_are_replaced ≡ create_and_exists }
 {}
 
 /// An order to leave stands while another server fails.
 pub fn another_fails_meanwhile()
-    ensures stands { (scenes_end 3 (take 2 another_fails)).master.retiring ≡ Some 1 }
-    ensures chain { (scenes_end 3 another_fails).master.chain ≡ (3, 1) ∷ [] }
-    ensures done { (scenes_end 3 another_fails).master.retiring ≡ None }
-    ensures seen { (scenes_end 3 another_fails).history
-        ≡ saw.Begin 1 1 create ∷ saw.Answer 1 1 (name_reply 0) ∷ saw.Begin 1 2 create
-        ∷ saw.Answer 1 2 (name_reply 1) ∷ [] }
+    ensures stands { (scenes_master 3 (take 2 another_fails)).retiring ≡ Some 1 }
+    ensures chain { scenes_chain 3 another_fails ≡ (3, 1) ∷ [] }
+    ensures done { (scenes_master 3 another_fails).retiring ≡ None }
+    ensures seen { scenes_history 3 another_fails ≡ two_creates }
 {}
 
 /// A server that fails before it takes the order never takes it: it is gone once, and with that the order is done.
 pub fn retiring_server_fails_first()
     ensures not_taken { is_enabled (scenes_end 3 (take 2 retiring_server_fails)) (Take m s1)
         ≡ false }
-    ensures stands { (scenes_end 3 (take 2 retiring_server_fails)).master.retiring ≡ Some 1 }
+    ensures stands { (scenes_master 3 (take 2 retiring_server_fails)).retiring ≡ Some 1 }
     ensures gone { (scenes_end 3 (take 2 retiring_server_fails)).links s1 m ≡ message.Gone ∷ [] }
-    ensures done { (scenes_end 3 retiring_server_fails).master.retiring ≡ None }
-    ensures next { retire_fault (scenes_end 3 retiring_server_fails).master 2 ≡ None }
-    ensures seen { (scenes_end 3 retiring_server_fails).history
-        ≡ saw.Begin 1 1 create ∷ saw.Answer 1 1 (name_reply 0) ∷ saw.Begin 1 2 create
-        ∷ saw.Answer 1 2 (name_reply 1) ∷ [] }
+    ensures done { (scenes_master 3 retiring_server_fails).retiring ≡ None }
+    ensures next { retire_fault (scenes_master 3 retiring_server_fails) 2 ≡ None }
+    ensures seen { scenes_history 3 retiring_server_fails ≡ two_creates }
 {}

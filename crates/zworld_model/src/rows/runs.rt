@@ -1,22 +1,19 @@
 //! Worked runs of a chain in which nobody fails.
 
-ghost use Rattle.std.specs.Prelude.{◌≡◌, [], ◌∷◌, ◌++◌, true, false, take};
-ghost use Rattle.zprotocol.specs.declared.message.Message.TheVariants as message;
+ghost use Rattle.std.specs.Prelude.{◌≡◌, [], ◌∷◌, take};
 ghost use Rattle.zworld_model.specs.declared.event.Event.TheVariants.{Begin, Retry, Take, Ignore, Fail};
 ghost use Rattle.zworld_model.specs.declared.event.Event.TheVariants.{Join};
-ghost use Rattle.zworld_model.specs.declared.history.CallEvent.TheVariants as saw;
-ghost use Rattle.zworld_model.specs.support.Counter.{create, exists, name_reply};
-ghost use Rattle.zworld_model.specs.Events.{is_enabled};
-ghost use Rattle.zworld_model.specs.support.RunRows.{after, seen, link, view, s1, s2, c1};
-ghost use Rattle.zworld_model.specs.support.RunRows.{first_entry, other_entry, update_in_turn};
-ghost use Rattle.zworld_model.specs.support.RunRows.{two_updates, retried_update};
+ghost use Rattle.zworld_model.specs.support.Counter.{create, exists};
+ghost use Rattle.zworld_model.specs.support.RunRows.{seen, link, view, CanHappen, CannotHappen, s1, s2, c1};
+ghost use Rattle.zworld_model.specs.support.RunRows.{began, told, create_begun, first_entry, update_in_turn};
+ghost use Rattle.zworld_model.specs.support.RunRows.{two_updates, other_then_first, retried_update, late_answer};
 ghost use Rattle.zworld_model.specs.support.RunRows.{one_create, two_creates, request, two_answers};
 
 /// An update goes down the chain; nobody but the tail answers it; the acknowledgement empties every Sent.
 pub fn update_is_answered_by_the_tail()
     ensures head_is_silent { link 3 (take 2 update_in_turn) s1 c1 ≡ [] }
     ensures kept { (view 3 (take 5 update_in_turn) 1).sent ≡ (1, first_entry) ∷ [] }
-    ensures unseen { seen 3 (take 4 update_in_turn) ≡ saw.Begin 1 1 create ∷ [] }
+    ensures unseen { seen 3 (take 4 update_in_turn) ≡ began 1 1 ∷ [] }
     ensures answered { seen 3 (take 5 update_in_turn) ≡ one_create }
     ensures acknowledged { (view 3 update_in_turn 1).sent ≡ [] }
     ensures all_have_it { (view 3 update_in_turn 1).last ≡ 1 }
@@ -25,11 +22,8 @@ pub fn update_is_answered_by_the_tail()
 
 /// Links keep order: the update that the head took first is done first, whichever answer is taken first.
 pub fn links_keep_order()
-    ensures under_way { link 3 (take 4 two_updates) s1 s2
-        ≡ message.Update 0 1 other_entry ∷ message.Update 0 2 first_entry ∷ [] }
-    ensures seen { seen 3 two_updates
-        ≡ saw.Begin 0 1 create ∷ saw.Begin 1 1 create ∷ saw.Answer 1 1 (name_reply 1)
-        ∷ saw.Answer 0 1 (name_reply 0) ∷ [] }
+    ensures under_way { link 3 (take 4 two_updates) s1 s2 ≡ other_then_first }
+    ensures seen { seen 3 two_updates ≡ began 0 1 ∷ began 1 1 ∷ told 1 1 1 ∷ told 0 1 0 ∷ [] }
 {}
 
 /// An update that arrives twice counts once: its kept reply is given again, and the client takes one of the two; the
@@ -37,32 +31,27 @@ pub fn links_keep_order()
 pub fn retried_update_counts_once()
     ensures two_answers { link 2 (take 6 retried_update) s2 c1 ≡ two_answers }
     ensures one_is_taken { seen 2 (take 8 retried_update) ≡ one_create }
-    ensures stale_answer { seen 2 (take 7 retried_update ++ Begin 1 create ∷ Take s2 c1 ∷ [])
-        ≡ saw.Begin 1 1 create ∷ saw.Answer 1 1 (name_reply 0) ∷ saw.Begin 1 2 create ∷ [] }
+    ensures stale_answer { seen 2 late_answer ≡ began 1 1 ∷ told 1 1 0 ∷ began 1 2 ∷ [] }
     ensures next_count { seen 2 retried_update ≡ two_creates }
 {}
 
 /// Which events can happen; one that can't changes nothing.
 pub fn only_enabled_events_happen()
-    ensures busy_client { is_enabled (after 3 (Begin 1 create ∷ [])) (Begin 1 exists) ≡ false }
-    ensures strange_client { is_enabled (after 3 []) (Begin 2 create) ≡ false }
-    ensures nothing_to_retry { is_enabled (after 3 []) (Retry 1) ≡ false }
-    ensures empty_link { is_enabled (after 3 []) (Take c1 s1) ≡ false }
-    ensures server_messages_are_not_ignored { is_enabled (after 3 (take 2 update_in_turn))
-        (Ignore s1 s2)
-        ≡ false }
-    ensures failed_taker { is_enabled (after 3 (Begin 1 create ∷ Fail 1 ∷ [])) (Take c1 s1)
-        ≡ false }
-    ensures failed_ignorer { is_enabled (after 3 (Begin 1 create ∷ Fail 1 ∷ [])) (Ignore c1 s1)
-        ≡ false }
-    ensures failed_twice { is_enabled (after 3 (Fail 1 ∷ [])) (Fail 1) ≡ false }
-    ensures spare_can_fail { is_enabled (after 3 []) (Fail 4) ≡ true }
-    ensures server_0_does_not_fail { is_enabled (after 3 []) (Fail 0) ≡ false }
-    ensures server_17_does_not_fail { is_enabled (after 3 []) (Fail 17) ≡ false }
-    ensures server_17_does_not_join { is_enabled (after 3 []) (Join 17) ≡ false }
-    ensures server_16_joins { is_enabled (after 3 []) (Join 16) ≡ true }
-    ensures member_joins { is_enabled (after 3 []) (Join 3) ≡ false }
-    ensures spare_joins { is_enabled (after 3 []) (Join 4) ≡ true }
+    ensures busy_client { CannotHappen 3 create_begun (Begin 1 exists) }
+    ensures strange_client { CannotHappen 3 [] (Begin 2 create) }
+    ensures nothing_to_retry { CannotHappen 3 [] (Retry 1) }
+    ensures empty_link { CannotHappen 3 [] (Take c1 s1) }
+    ensures server_messages_are_not_ignored { CannotHappen 3 (take 2 update_in_turn) (Ignore s1 s2) }
+    ensures failed_taker { CannotHappen 3 (Begin 1 create ∷ Fail 1 ∷ []) (Take c1 s1) }
+    ensures failed_ignorer { CannotHappen 3 (Begin 1 create ∷ Fail 1 ∷ []) (Ignore c1 s1) }
+    ensures failed_twice { CannotHappen 3 (Fail 1 ∷ []) (Fail 1) }
+    ensures spare_can_fail { CanHappen 3 [] (Fail 4) }
+    ensures server_0_does_not_fail { CannotHappen 3 [] (Fail 0) }
+    ensures server_17_does_not_fail { CannotHappen 3 [] (Fail 17) }
+    ensures server_17_does_not_join { CannotHappen 3 [] (Join 17) }
+    ensures server_16_joins { CanHappen 3 [] (Join 16) }
+    ensures member_joins { CannotHappen 3 [] (Join 3) }
+    ensures spare_joins { CanHappen 3 [] (Join 4) }
     ensures unchanged { link 3 (Begin 1 create ∷ Fail 1 ∷ Take c1 s1 ∷ []) c1 s1 ≡ request }
 {}
 

@@ -3,12 +3,12 @@
 ghost use Rattle.std.specs.Prelude.{◌≡◌, [], ◌∷◌, Some};
 ghost use Rattle.zprotocol.specs.declared.master.join_fault.JoinFault.TheVariants.{Used, NoChain};
 ghost use Rattle.zprotocol.specs.master.Table.{join_fault};
-ghost use Rattle.zworld_model.specs.support.ScenarioRows.{scenes_end, two_fail, both_middle_servers_fail};
+ghost use Rattle.zworld_model.specs.support.ScenarioRows.{two_fail, both_middle_servers_fail};
 ghost use Rattle.zworld_model.specs.support.ScenarioRows.{head_fails_in_a_repair, state_moves_on};
 ghost use Rattle.zworld_model.specs.support.ScenarioRows.{tail_fails_in_a_join, joining_server_fails};
 ghost use Rattle.zworld_model.specs.support.ScenarioRows.{failed_spare_joins, chain_is_empty};
 ghost use Rattle.zworld_model.specs.support.RunRows.{one_create, two_creates, create_and_exists};
-ghost use Rattle.zworld_model.specs.support.ScenarioRows.{scenes_history, scenes_chain};
+ghost use Rattle.zworld_model.specs.support.ScenarioRows.{scenes_master, scenes_history, scenes_chain};
 
 /// Servers fail, one after the other and in the middle of a repair, and the call that was under way is answered once.
 pub fn answers_survive_failures()
@@ -35,11 +35,11 @@ pub fn joins_survive_failures()
 /// A spare server that failed leaves the chain again when the master hears of it, and its number is used.
 pub fn failed_spare_leaves_again()
     ensures seen { scenes_history 1 failed_spare_joins ≡ one_create }
-    ensures used { join_fault (scenes_end 1 failed_spare_joins).master 2 ≡ Some Used }
+    ensures used { join_fault (scenes_master 1 failed_spare_joins) 2 ≡ Some Used }
 {}
 
 /// Without a chain nobody can join.
 pub fn empty_chain_takes_nobody()
-    ensures no_chain { join_fault (scenes_end 1 chain_is_empty).master 2 ≡ Some NoChain }
-    ensures used { join_fault (scenes_end 1 chain_is_empty).master 1 ≡ Some Used }
+    ensures no_chain { join_fault (scenes_master 1 chain_is_empty) 2 ≡ Some NoChain }
+    ensures used { join_fault (scenes_master 1 chain_is_empty) 1 ≡ Some Used }
 {}

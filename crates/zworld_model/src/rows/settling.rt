@@ -1,28 +1,29 @@
 //! Worked runs of settling and of readings.
 
-ghost use Rattle.std.specs.Prelude.{◌≡◌, true, false, [], ◌∷◌, ◌++◌, Some, take};
+ghost use Rattle.std.specs.Prelude.{◌≡◌, true, false, [], ◌∷◌, Some, take};
 ghost use Rattle.zprotocol.specs.declared.master.join_fault.JoinFault.TheVariants.{Lost};
 ghost use Rattle.zprotocol.specs.master.Table.{join_fault};
 ghost use Rattle.zworld_model.specs.declared.event.Event.TheVariants.{Begin, Retry, Take, Ignore, Fail};
 ghost use Rattle.zworld_model.specs.declared.history.CallEvent.TheVariants as saw;
 ghost use Rattle.zworld_model.specs.declared.settled.Settled.TheVariants.{Quiet, Limit};
-ghost use Rattle.zworld_model.specs.support.Counter.{counting_machine, create, exists, name_reply};
+ghost use Rattle.zworld_model.specs.support.Counter.{counting_machine, create, exists};
 ghost use Rattle.zworld_model.specs.declared.outcome.Outcome.TheVariants.{Acted, Stopped, Unheard};
 ghost use Rattle.zworld_model.specs.Reading.{is_fitting};
 ghost use Rattle.zworld_model.specs.Settle.{settling_end};
-ghost use Rattle.zworld_model.specs.support.RunRows.{after, m, s1, s2, c0, c1};
+ghost use Rattle.zworld_model.specs.support.RunRows.{after, m, s1, s2, c1, began, told};
 ghost use Rattle.zworld_model.specs.support.SettleRows.{settled_after, read_after, two_begin, two_settle};
+ghost use Rattle.zworld_model.specs.support.SettleRows.{StayThemselves, asked_again, lost_query};
+ghost use Rattle.zworld_model.specs.support.SettleRows.{news_and_retry, new_head_told};
 ghost use Rattle.zworld_model.specs.support.SettleRows.{lost_request, lost_state, new_head, query_at_old_tail};
-ghost use Rattle.zworld_model.specs.support.RunRows.{one_create, create_taken, exists_taken};
+ghost use Rattle.zworld_model.specs.support.RunRows.{one_create, create_begun, create_taken, create_answered};
+ghost use Rattle.zworld_model.specs.support.RunRows.{exists_begun, exists_taken};
 ghost use Rattle.zworld_model.specs.support.SettleRows.{settled_history, settled_events, fits_after};
 
 /// The order of the deliveries: link by link, one message from each that has one when its turn comes, pass after pass.
 pub fn settling_goes_link_by_link()
     ensures events { settled_events 3 two_begin [] ≡ two_settle }
     ensures quiet { settling_end (settled_after 3 two_begin 100 []) ≡ Quiet }
-    ensures seen { settled_history 3 two_begin
-        ≡ saw.Begin 0 1 create ∷ saw.Begin 1 1 create ∷ saw.Answer 0 1 (name_reply 0)
-        ∷ saw.Answer 1 1 (name_reply 1) ∷ [] }
+    ensures seen { settled_history 3 two_begin ≡ began 0 1 ∷ began 1 1 ∷ told 0 1 0 ∷ told 1 1 1 ∷ [] }
 {}
 
 /// The limit: it ends settling as soon as so many events were done, also where nothing would have been left.
@@ -36,7 +37,7 @@ pub fn settling_has_a_limit()
 
 /// When no message is left, each outstanding call is sent once more, and that is an event too.
 pub fn settling_retries_once()
-    ensures retried { settled_events 1 lost_request [] ≡ Retry 1 ∷ Take c1 s1 ∷ Take s1 c1 ∷ [] }
+    ensures retried { settled_events 1 lost_request [] ≡ asked_again }
     ensures counted { settling_end (settled_after 1 lost_request 3 []) ≡ Limit }
     ensures answered { settled_history 1 lost_request ≡ one_create }
 {}
@@ -53,37 +54,32 @@ pub fn settling_ends_where_the_state_is_lost()
 pub fn events_are_read()
     ensures stopped { read_after 1 create_taken (Acted ∷ Stopped ∷ [])
         ≡ Begin 1 create ∷ Fail 1 ∷ [] }
-    ensures unheard { read_after 1 exists_taken (Acted ∷ Unheard ∷ [])
-        ≡ Begin 1 exists ∷ Ignore c1 s1 ∷ [] }
-    ensures update_is_heard { read_after 1 create_taken (Acted ∷ Unheard ∷ []) ≡ create_taken }
-    ensures query_stops_nobody { read_after 1 exists_taken (Acted ∷ Stopped ∷ []) ≡ exists_taken }
-    ensures nothing_to_stop_at { read_after 1 (Take c1 s1 ∷ []) (Stopped ∷ []) ≡ Take c1 s1 ∷ [] }
-    ensures client_does_not_stop { read_after 1 (Begin 1 create ∷ Take c1 s1 ∷ Take s1 c1 ∷ [])
-        (Stopped ∷ Acted ∷ Stopped ∷ [])
-        ≡ Begin 1 create ∷ Take c1 s1 ∷ Take s1 c1 ∷ [] }
-    ensures new_head_goes_on { read_after 2 (new_head ++ Take m s2 ∷ [])
-        (Acted ∷ Acted ∷ Stopped ∷ []) ≡ new_head ++ Take m s2 ∷ [] }
+    ensures unheard { read_after 1 exists_taken (Acted ∷ Unheard ∷ []) ≡ lost_query }
+    ensures update_is_heard { StayThemselves 1 create_taken (Acted ∷ Unheard ∷ []) }
+    ensures query_stops_nobody { StayThemselves 1 exists_taken (Acted ∷ Stopped ∷ []) }
+    ensures nothing_to_stop_at { StayThemselves 1 (Take c1 s1 ∷ []) (Stopped ∷ []) }
+    ensures client_does_not_stop { StayThemselves 1 create_answered
+        (Stopped ∷ Acted ∷ Stopped ∷ []) }
+    ensures new_head_goes_on { StayThemselves 2 new_head_told (Acted ∷ Acted ∷ Stopped ∷ []) }
 {}
 
 /// Which outcomes fit: a server can stop at a message that makes it grow, but for a query, and a query alone is unheard, at
 /// a tail, where they can be taken.
 pub fn outcomes_fit()
     ensures all_act { is_fitting counting_machine (after 1 []) (Take c1 s1) Acted ≡ true }
-    ensures update_stops { fits_after 1 (Begin 1 create ∷ []) (Take c1 s1) Stopped ≡ true }
-    ensures update_is_heard { fits_after 1 (Begin 1 create ∷ []) (Take c1 s1) Unheard ≡ false }
-    ensures query_stops_nobody { fits_after 1 (Begin 1 exists ∷ []) (Take c1 s1) Stopped ≡ false }
-    ensures query_is_unheard { fits_after 1 (Begin 1 exists ∷ []) (Take c1 s1) Unheard ≡ true }
+    ensures update_stops { fits_after 1 create_begun (Take c1 s1) Stopped ≡ true }
+    ensures update_is_heard { fits_after 1 create_begun (Take c1 s1) Unheard ≡ false }
+    ensures query_stops_nobody { fits_after 1 exists_begun (Take c1 s1) Stopped ≡ false }
+    ensures query_is_unheard { fits_after 1 exists_begun (Take c1 s1) Unheard ≡ true }
     ensures nothing_to_stop_at { is_fitting counting_machine (after 1 []) (Take c1 s1) Stopped
         ≡ false }
-    ensures retry_does_not_stop { fits_after 1 (Begin 1 create ∷ []) (Retry 1) Stopped ≡ false }
+    ensures retry_does_not_stop { fits_after 1 create_begun (Retry 1) Stopped ≡ false }
     ensures new_head_goes_on { fits_after 2 new_head (Take m s2) Stopped ≡ false }
     ensures query_elsewhere_is_heard { fits_after 1 query_at_old_tail (Take c1 s1) Unheard ≡ false }
 {}
 
 /// Settling where memory is refused: a server that stops doesn't take its message, and an unheard query is asked again.
 pub fn settling_is_read()
-    ensures stopped { settled_events 1 (Begin 1 create ∷ []) (Stopped ∷ [])
-        ≡ Fail 1 ∷ Take s1 m ∷ Take m c0 ∷ Take m c1 ∷ Retry 1 ∷ [] }
-    ensures unheard { settled_events 1 (Begin 1 exists ∷ []) (Unheard ∷ [])
-        ≡ Ignore c1 s1 ∷ Retry 1 ∷ Take c1 s1 ∷ Take s1 c1 ∷ [] }
+    ensures stopped { settled_events 1 create_begun (Stopped ∷ []) ≡ Fail 1 ∷ news_and_retry }
+    ensures unheard { settled_events 1 exists_begun (Unheard ∷ []) ≡ Ignore c1 s1 ∷ asked_again }
 {}
