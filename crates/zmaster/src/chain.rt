@@ -1,10 +1,11 @@
 //! The chain of servers: where a member stands, and how the chain is mended.
 
-ghost use Rattle.std.specs.Prelude.{◌≡◌, ◌<◌, ◌≤◌, ◌==◌, not, length, map, filter};
+ghost use Rattle.std.specs.Prelude.{◌≡◌, ◌<◌, ◌≤◌, ◌==◌, length, map};
 ghost use Rattle.std.specs.List.{last_or, position};
 ghost use Rattle.zprotocol.specs.master.Table.{before};
 ghost use Rattle.zprotocol.specs.Posts.{PutsInRoom};
-ghost use Rattle.zmaster.specs.support.Mending.{joins, who_stays, mended_at, chain_fault};
+ghost use Rattle.zmaster.specs.support.Mending.{joins, with_state, who_stays, mended_at};
+ghost use Rattle.zmaster.specs.support.Mending.{chain_fault};
 
 use crate::limits::SERVERS;
 use crate::member::Member;
@@ -74,8 +75,7 @@ pub(crate) fn last_with_state(
     joining: &Option<ServerId>,
     found: Option<ServerId>,
 ) -> Option<ServerId>
-    ensures { result ≡ last_or found
-        (filter (λ s. not (joins joining.now s)) (map (λ member. member.0) members.now)) }
+    ensures { result ≡ last_or found (with_state joining.now members.now) }
 {
     let Some((first, rest)) = members.split_first() else {
         return found;

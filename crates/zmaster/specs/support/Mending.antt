@@ -1,5 +1,5 @@
 -- How a chain is mended once the member at a place has gone: the same as the table's, which looks for the member itself.
-use Rattle.std.specs.Prelude.{◌≡◌, ℕ, zero, suc, Bool, true, false, Option, None, Some, List, [], ◌∷◌, ◌==◌, is_some, if◌then◌else◌}
+use Rattle.std.specs.Prelude.{◌≡◌, ℕ, zero, suc, Bool, true, false, Option, None, Some, List, [], ◌∷◌, ◌==◌, not, map, filter, is_some, if◌then◌else◌}
 use Rattle.zprotocol.specs.server.View.{Neighbour}
 use Rattle.zprotocol.specs.declared.master.join_fault.JoinFault.{JoinFault}
 use Rattle.zprotocol.specs.declared.master.join_fault.JoinFault.TheVariants.{Joining, NoChain, Lost}
@@ -9,6 +9,10 @@ use Rattle.zprotocol.specs.master.Table.{MendedChain, without_first, without_nex
 abbrev pub joins : Option ℕ → ℕ → Bool
 joins None s = false
 joins (Some joining) s = joining == s
+
+-- the members that have the state, from the head down, where this one, if any, is joining
+abbrev pub with_state : Option ℕ → List Neighbour → List ℕ
+with_state joining members = filter (λ s. not (joins joining s)) (map (λ member. member.0) members)
 
 -- who is left of one that may be the one that is gone
 abbrev pub who_stays : Option ℕ → ℕ → Option ℕ
