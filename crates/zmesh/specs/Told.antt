@@ -24,6 +24,10 @@ IsToldAt {M} outs ins i j =
     → get_elem? ins j ≡ some column → get_elem? column i ≡ some taken
     → (rest : List M) × (put ≡ taken ++ rest)
 
+-- the ends of the link from the one to the other tell that of it
+abbrev pub TellIt : {M : Type 0} → List (Vec (Tx M) Global) → List (Vec (Rx M) Global) → ℕ → ℕ → Type 0
+TellIt outs ins from to = IsToldAt (out_lists outs) (in_lists ins) from to
+
 -- each took from each the beginning of what the other put to it
 abbrev pub AreTold : {M : Type 0} → List (List (List M)) → List (List (List M)) → Type 0
 AreTold outs ins = (i j : ℕ) → IsToldAt outs ins i j

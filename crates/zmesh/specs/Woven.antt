@@ -38,8 +38,16 @@ pub record IsWoven (n : ℕ) (outs ins : List (List Ring)) : Type 0 where
       → get_elem? outs i ≡ some row → get_elem? row j ≡ some a
       → get_elem? ins j ≡ some column → get_elem? column i ≡ some b → a ≡ b
 
+-- the ends are those of such rings
+abbrev pub AreWoven : {M : Type 0} → ℕ → List (Vec (Tx M) Global) → List (Vec (Rx M) Global) → Type 0
+AreWoven n outs ins = IsWoven n (out_rings outs) (in_rings ins)
+
 -- the columns with one ring more at the end of each
 abbrev pub with_row : List (List Ring) → List Ring → List (List Ring)
 with_row [] row = []
 with_row (column ∷ columns) [] = column ∷ columns
 with_row (column ∷ columns) (ring ∷ row) = (column ++ ring ∷ []) ∷ with_row columns row
+
+-- each column has one end more, that of the ring at its place in the row
+abbrev pub HasRowMore : {M : Type 0} → List (Vec (Rx M) Global) → List (Vec (Rx M) Global) → List (Tx M) → Type 0
+HasRowMore old new row = in_rings new ≡ with_row (in_rings old) (map ring_of_tx row)

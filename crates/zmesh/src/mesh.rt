@@ -1,8 +1,8 @@
 //! The links between all processes.
 
-ghost use Rattle.std.specs.Prelude.{◌≡◌, IfOk, OnOk, length, map, replicate, All, []};
-ghost use Rattle.zrings.specs.Ends.{put_of, ring_of_tx, taken_of};
-ghost use Rattle.zmesh.specs.Woven.{AreBlankIns, AreBlankOuts, AreWide, in_rings, IsWoven, out_rings, with_row};
+ghost use Rattle.std.specs.Prelude.{◌≡◌, IfOk, OnOk, length, replicate, All, []};
+ghost use Rattle.zrings.specs.Ends.{put_of};
+ghost use Rattle.zmesh.specs.Woven.{AreBlankIns, AreBlankOuts, AreWide, AreWoven, HasRowMore, in_rings};
 
 use std::alloc::Global;
 use zpath::Memory;
@@ -19,8 +19,7 @@ pub struct Mesh<M: Drop> {
 
 /// A link from each of so many processes to each, on which nothing was put. Err where there is no memory.
 pub fn weave<M: Drop>(alloc: Global, count: usize) -> Result<Mesh<M>, Memory>
-    ensures woven { IfOk result (λ mesh.
-        IsWoven count (out_rings mesh.outs.items) (in_rings mesh.ins.items)) }
+    ensures woven { IfOk result (λ mesh. AreWoven count mesh.outs.items mesh.ins.items) }
     ensures blank { IfOk result (λ mesh. AreBlankOuts mesh.outs.items
         × AreBlankIns mesh.ins.items) }
     ensures wide { IfOk result (λ mesh. AreWide count mesh.outs.items
@@ -49,8 +48,7 @@ fn columns<M: Drop>(alloc: Global, count: usize) -> Result<Vec<Vec<Rx<M>>>, Memo
 
 // One process more that puts to all: the ends on which it puts.
 fn add_row<M: Drop>(alloc: Global, ins: &mut Vec<Vec<Rx<M>>>) -> Result<Vec<Tx<M>>, Memory>
-    ensures rings { IfOk result (λ row.
-        in_rings ins.new.items ≡ with_row (in_rings ins.old.items) (map ring_of_tx row.items)) }
+    ensures rings { IfOk result (λ row. HasRowMore ins.old.items ins.new.items row.items) }
     ensures length { IfOk result (λ row. length row.items ≡ length ins.old.items) }
     ensures outs { IfOk result (λ row. All (λ tx. put_of tx ≡ []) row.items) }
     ensures ins { AreBlankIns ins.old.items → OnOk result (AreBlankIns ins.new.items) }

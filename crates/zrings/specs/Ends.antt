@@ -40,6 +40,10 @@ module _ {M : Type 0} where
   abbrev pub AreEnds : Tx M → Rx M → Type 0
   AreEnds t r = ring_of_tx t ≡ ring_of_rx r
 
+  -- what was put is what was taken, then what is in the ring, then what waits before it
+  abbrev pub IsAllThere : Tx M → Rx M → Type 0
+  IsAllThere t r = put_of t ≡ (taken_of r ++ in_ring r) ++ waiting t
+
   -- the place for a last message is free
   abbrev pub HasLastPlace : Tx M → Type 0
   HasLastPlace t = t.last ≡ None

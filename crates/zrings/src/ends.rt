@@ -1,8 +1,8 @@
 //! The two ends of a link.
 ghost use Rattle.std.specs.Prelude.{◌≡◌, ◌≢◌, ◌++◌, [], ◌∷◌, length, option_to_list};
 ghost use Rattle.std.specs.Prelude.{IfErr, IfOk, IfSome, IsFalse, IsOk, IsTrue, OnOk};
-ghost use Rattle.zrings.specs.Ends.{AreEnds, HasLastPlace, in_ring, put_of, ring_of_rx, ring_of_tx};
-ghost use Rattle.zrings.specs.Ends.{taken_of, waiting};
+ghost use Rattle.zrings.specs.Ends.{AreEnds, HasLastPlace, in_ring, IsAllThere, put_of, ring_of_rx};
+ghost use Rattle.zrings.specs.Ends.{ring_of_tx, taken_of, waiting};
 
 use rtrb::{Consumer, Producer, PushError, RingBuffer};
 use std::alloc::{AllocFailed, Global};
@@ -134,8 +134,7 @@ pub fn told<M: Drop>(tx: &mut Tx<M>, rx: &mut Rx<M>) -> Option<u64>
     ensures tx { ring_of_tx tx.new ≡ ring_of_tx tx.old }
     ensures rx { ring_of_rx rx.new ≡ ring_of_rx rx.old }
     ensures number { IfSome result (λ n. n ≡ length (in_ring rx.new)) }
-    ensures law { IfSome result (λ _.
-        put_of tx.new ≡ (taken_of rx.new ++ in_ring rx.new) ++ waiting tx.new) }
+    ensures law { IfSome result (λ _. IsAllThere tx.new rx.new) }
 {
     let inside = rx.ring.slots_beside(&mut tx.ring);
     Some(inside as u64)

@@ -1,29 +1,27 @@
 //! Worked rows of the definitions: each function's contract has some, and its body does nothing.
 
 ghost use Rattle.std.specs.Prelude.{◌≡◌, ℕ, true, false, None, Some, [], ◌∷◌, ◌++◌, take, drop};
-ghost use Rattle.std.specs.List.{list_any};
 ghost use Rattle.zprotocol.specs.declared.message.Message.TheVariants as message;
 ghost use Rattle.zprotocol.specs.declared.process.Process.TheVariants.{Master, Server, Client};
-ghost use Rattle.zprotocol.specs.server.support.Rows.{counting_machine};
 ghost use Rattle.zworld_model.specs.declared.event.Event.TheVariants as event;
 ghost use Rattle.zworld_model.specs.declared.outcome.Outcome.TheVariants.{Acted, Stopped, Unheard};
 ghost use Rattle.zworld_model.specs.World.{at};
 ghost use Rattle.ztraces.specs.declared.trace.Act.TheVariants.{Took, Began, Retried, Joined, Halted};
 ghost use Rattle.ztraces.specs.declared.trace.Act.TheVariants.{Retired, Left};
-ghost use Rattle.ztraces.specs.declared.trace.Trace.{Trace};
-ghost use Rattle.ztraces.specs.declared.trace.ClientTrace.{ClientTrace};
 ghost use Rattle.ztraces.specs.declared.trace.Traces.{Traces};
 ghost use Rattle.ztraces.specs.Traces.{event_of, comes_before, stamps_rise, is_in_place};
 ghost use Rattle.ztraces.specs.Traces.{is_step_in_place, told_of, Merges};
-ghost use Rattle.ztraces.specs.Deeds.{Deed, GoesBy, AtServer, Out, IsStamped};
-ghost use Rattle.ztraces.specs.Deeds.{standing_in, last_post, takes, puts, told_by};
+ghost use Rattle.ztraces.specs.Deeds.{Deed, AtServer, Out, IsStamped};
+ghost use Rattle.ztraces.specs.Deeds.{standing_in, takes, puts, told_by};
 ghost use Rattle.ztraces.specs.Audit.{is_any_cut};
 ghost use Rattle.ztraces.specs.support.TraceRows.{s1, c0, write, read, opening, step_of, tick};
 ghost use Rattle.ztraces.specs.support.TraceRows.{tick_of, both_at_1, written_and_read, seen};
-ghost use Rattle.ztraces.specs.support.TraceRows.{after_steps, mended, retirement};
-ghost use Rattle.ztraces.specs.support.TraceRows.{old_tail, request, asked, answer};
+ghost use Rattle.ztraces.specs.support.TraceRows.{after_steps, mended, retirement, begun, s1_takes};
+ghost use Rattle.ztraces.specs.support.TraceRows.{old_tail, order, request, asked, answer};
 ghost use Rattle.ztraces.specs.support.TraceRows.{client_deeds, server_deeds};
-ghost use Rattle.ztraces.specs.support.TraceRows.{runs, runs_over_three, at_opening, Goes};
+ghost use Rattle.ztraces.specs.support.TraceRows.{runs, runs_over_three, goes_on, at_opening};
+ghost use Rattle.ztraces.specs.support.TraceRows.{Stays, Ends, GoesThrough};
+ghost use Rattle.ztraces.specs.support.TraceRows.{is_server_cut, is_client_cut, AreWhole};
 
 /// The event that an act stands for; an act of another kind of process stands for none.
 pub fn acts_are_events()
@@ -67,42 +65,39 @@ pub fn stamps_rise_by_events()
     ensures falls_at_the_end { stamps_rise (tick 1 ∷ tick 3 ∷ tick 2 ∷ []) ≡ false }
 {}
 
-/// A write and a read of one client at one server: each event is in its place, and the history is what the caller sees.
+/// A write and a read of one client at one server: each event is in its place, and the history is what the caller sees. A run may
+/// lose any request: that a server hears each update is told by its rows.
 pub fn written_and_read_is_a_run()
     ensures in_place { runs written_and_read ≡ true }
     ensures told { told_of 0 (after_steps written_and_read).history ≡ seen }
     ensures of_nobody_else { told_of 1 (after_steps written_and_read).history ≡ [] }
     ensures without_its_beginning { runs (drop 1 written_and_read) ≡ false }
-    ensures answer_before_the_deed { runs (step_of c0 1 (Began write)
-        ∷ step_of c0 3 (Took s1 Acted) ∷ []) ≡ false }
-    ensures begun_twice { runs (step_of c0 1 (Began write) ∷ step_of c0 2 (Began read) ∷ [])
+    ensures answer_before_the_deed { runs (begun write ∷ step_of c0 3 (Took s1 Acted) ∷ [])
         ≡ false }
-    ensures retried { runs (step_of c0 1 (Began write) ∷ step_of c0 2 Retried ∷ []) ≡ true }
-    ensures update_is_not_unheard { runs (step_of c0 1 (Began write)
-        ∷ step_of s1 2 (Took (Client 1) Unheard) ∷ []) ≡ false }
-    ensures ignored_query { runs (step_of c0 1 (Began read) ∷ step_of s1 2 (Took c0 Unheard)
-        ∷ []) ≡ true }
-    ensures ignored_twice { runs (step_of c0 1 (Began read) ∷ step_of s1 2 (Took c0 Unheard)
-        ∷ step_of s1 3 (Took c0 Unheard) ∷ []) ≡ false }
-    ensures stopped { runs (step_of c0 1 (Began write) ∷ step_of s1 2 (Took c0 Stopped)
-        ∷ step_of s1 3 (Took c0 Acted) ∷ []) ≡ false }
+    ensures begun_twice { runs (begun write ∷ step_of c0 2 (Began read) ∷ []) ≡ false }
+    ensures retried { runs (begun write ∷ step_of c0 2 Retried ∷ []) ≡ true }
+    ensures empty_link { runs (begun write ∷ step_of s1 2 (Took (Client 1) Unheard) ∷ [])
+        ≡ false }
+    ensures ignored_update { runs (begun write ∷ s1_takes 2 Unheard ∷ []) ≡ true }
+    ensures ignored_query { runs (begun read ∷ s1_takes 2 Unheard ∷ []) ≡ true }
+    ensures ignored_twice { runs (begun read ∷ s1_takes 2 Unheard ∷ s1_takes 3 Unheard ∷ [])
+        ≡ false }
+    ensures stopped { runs (begun write ∷ s1_takes 2 Stopped ∷ s1_takes 3 Acted ∷ []) ≡ false }
 {}
 
 /// A chain of three in which two servers are halted, the second of them while the chain is mended, is a run; it is none where
 /// a server that was halted takes once more.
 pub fn mended_chain_is_a_run()
     ensures in_place { runs_over_three mended ≡ true }
-    ensures nothing_after_the_halt { runs_over_three (take 6 mended ++ step_of s1 7 (Took c0 Acted)
-        ∷ []) ≡ false }
-    ensures gone_is_last { runs_over_three (take 4 mended ++ step_of Master 5 (Took (Server 2)
-        Acted) ∷ []) ≡ false }
+    ensures nothing_after_the_halt { goes_on (take 6 mended) (s1_takes 7 Acted) ≡ false }
+    ensures gone_is_last { goes_on (take 4 mended) (step_of Master 5 (Took (Server 2) Acted))
+        ≡ false }
 {}
 
 /// So is one in which a member is ordered to leave, and leaves; it is none where that server takes once more.
 pub fn retirement_is_a_run()
     ensures in_place { runs_over_three retirement ≡ true }
-    ensures nothing_after_it_left { runs_over_three (take 3 retirement ++ step_of s1 4 (Took c0
-        Acted) ∷ []) ≡ false }
+    ensures nothing_after_it_left { goes_on (take 3 retirement) (s1_takes 4 Acted) ≡ false }
     ensures not_without_the_order { runs_over_three (take 1 retirement ++ drop 2 retirement)
         ≡ false }
 {}
@@ -130,8 +125,8 @@ pub fn one_stamp_is_by_process()
 /// A write by what each process does at it: client and server go by their tables from the opening, and each takes what the
 /// other put.
 pub fn write_goes_by_the_tables()
-    ensures client { GoesBy counting_machine c0 (standing_in opening c0) 0 client_deeds }
-    ensures server { GoesBy counting_machine s1 (standing_in opening s1) 0 server_deeds }
+    ensures client { GoesThrough c0 (standing_in opening c0) 0 client_deeds }
+    ensures server { GoesThrough s1 (standing_in opening s1) 0 server_deeds }
     ensures request { takes c0 server_deeds ≡ puts s1 client_deeds }
     ensures request_is_stamped { puts s1 client_deeds ≡ (1, request) ∷ [] }
     ensures answer { takes s1 client_deeds ≡ puts c0 server_deeds }
@@ -143,20 +138,16 @@ pub fn write_goes_by_the_tables()
 /// How a server ends: it stops, leaves or is halted, its last words are all that it puts, and nothing follows. A number that isn't a
 /// server's or a client's of this world takes no part, nor does a server that has failed.
 pub fn servers_end_by_their_rows()
-    ensures stops { Goes at_opening (Took c0 Stopped) (Some (1, request)) Out last_post }
-    ensures leaves { Goes at_opening Left (Some (1, message.Retire)) Out last_post }
-    ensures acts_on_no_such_order { Goes at_opening (Took Master Acted) (Some (1, message.Retire))
-        at_opening [] → ⊥ }
-    ensures leaves_at_no_other_order { Goes at_opening Left (Some (1, message.BecomeHead 1)) Out
-        last_post → ⊥ }
-    ensures halts { Goes at_opening Halted None Out last_post }
-    ensures hears_an_update { Goes at_opening (Took c0 Unheard) (Some (1, request)) at_opening []
+    ensures stops { Ends at_opening (Took c0 Stopped) (Some (1, request)) }
+    ensures leaves { Ends at_opening Left (Some (1, order)) }
+    ensures acts_on_no_such_order { Stays at_opening (Took Master Acted) (Some (1, order)) → ⊥ }
+    ensures leaves_at_no_other_order { Ends at_opening Left (Some (1, message.BecomeHead 1)) → ⊥ }
+    ensures halts { Ends at_opening Halted None }
+    ensures hears_an_update { Stays at_opening (Took c0 Unheard) (Some (1, request)) → ⊥ }
+    ensures ignores { Stays at_opening (Took c0 Unheard) (Some (1, asked)) }
+    ensures ignores_at_no_tail { Stays (AtServer old_tail) (Took c0 Unheard) (Some (1, asked))
         → ⊥ }
-    ensures ignores { Goes at_opening (Took c0 Unheard) (Some (1, asked)) at_opening [] }
-    ensures ignores_at_no_tail { Goes (AtServer old_tail) (Took c0 Unheard) (Some (1, asked))
-        (AtServer old_tail) [] → ⊥ }
-    ensures nothing_follows { (last : ℕ) (d : Deed ℕ)
-        → GoesBy counting_machine s1 Out last (d ∷ []) → ⊥ }
+    ensures nothing_follows { (last : ℕ) (d : Deed ℕ) → GoesThrough s1 Out last (d ∷ []) → ⊥ }
     ensures server_17 { standing_in opening (Server 17) ≡ Out }
     ensures client_1 { standing_in opening (Client 1) ≡ Out }
     ensures spare_server { standing_in opening (Server 2) ≡ AtServer (opening.servers 2) }
@@ -177,13 +168,7 @@ pub fn stamps_go_by_their_rule()
 /// Traces are cut where one of them is: the master's, a server's or a client's.
 pub fn one_cut_is_enough()
     ensures master { (t : Traces) → t.master.is_cut ≡ true → is_any_cut t ≡ true }
-    ensures server { (t : Traces)
-        → list_any (λ (trace : Trace). trace.is_cut) t.servers.items ≡ true → is_any_cut t ≡ true }
-    ensures client { (t : Traces)
-        → list_any (λ (client : ClientTrace). client.trace.is_cut) t.clients.items ≡ true
-        → is_any_cut t ≡ true }
-    ensures none { (t : Traces) → t.master.is_cut ≡ false
-        → list_any (λ (trace : Trace). trace.is_cut) t.servers.items ≡ false
-        → list_any (λ (client : ClientTrace). client.trace.is_cut) t.clients.items ≡ false
-        → is_any_cut t ≡ false }
+    ensures server { (t : Traces) → is_server_cut t ≡ true → is_any_cut t ≡ true }
+    ensures client { (t : Traces) → is_client_cut t ≡ true → is_any_cut t ≡ true }
+    ensures none { (t : Traces) → AreWhole t → is_any_cut t ≡ false }
 {}

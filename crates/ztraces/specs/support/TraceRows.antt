@@ -1,14 +1,16 @@
 -- Worked traces: one server and one client, over a machine that counts its entries.
-use Rattle.std.specs.Prelude.{ℕ, Bool, Option, None, Some, List, [], ◌∷◌}
+use Rattle.std.specs.Prelude.{◌≡◌, ℕ, Bool, false, Option, None, Some, List, [], ◌∷◌, ◌++◌}
+use Rattle.std.specs.List.{list_any}
 use Rattle.zcalls.specs.declared.call.Call.{Call}
 use Rattle.zcalls.specs.declared.call.Call.TheVariants as call
 use Rattle.zprotocol.specs.declared.message.Message.TheVariants as message
 use Rattle.zprotocol.specs.declared.process.Process.{Process}
 use Rattle.zprotocol.specs.declared.process.Process.TheVariants.{Master, Server, Client}
-use Rattle.zprotocol.specs.server.View.{ServerView, MessageOf, Post}
+use Rattle.zprotocol.specs.server.View.{ServerView, MessageOf}
 use Rattle.zprotocol.specs.server.support.Rows.{counting_machine, number_reply, update, query}
 use Rattle.zprotocol.specs.client.View.{ClientView}
 use Rattle.zworld_model.specs.declared.history.CallEvent.TheVariants as call_event
+use Rattle.zworld_model.specs.declared.outcome.Outcome.{Outcome}
 use Rattle.zworld_model.specs.declared.outcome.Outcome.TheVariants.{Acted}
 use Rattle.zworld_model.specs.History.{History}
 use Rattle.zworld_model.specs.World.{World, opening_world}
@@ -16,8 +18,11 @@ use Rattle.zworld_model.specs.Events.{run}
 use Rattle.ztraces.specs.declared.trace.Act.{Act}
 use Rattle.ztraces.specs.declared.trace.Act.TheVariants.{Took, Began, Retried, Joined, Retired, Left, Halted}
 use Rattle.ztraces.specs.declared.trace.TraceEvent.{TraceEvent}
+use Rattle.ztraces.specs.declared.trace.Trace.{Trace}
+use Rattle.ztraces.specs.declared.trace.ClientTrace.{ClientTrace}
+use Rattle.ztraces.specs.declared.trace.Traces.{Traces}
 use Rattle.ztraces.specs.Traces.{Step, events_of, at_process, are_in_place}
-use Rattle.ztraces.specs.Deeds.{Deed, Row, Standing, Stamped, AtServer, AtClient}
+use Rattle.ztraces.specs.Deeds.{Deed, GoesBy, Row, Standing, Stamped, AtServer, AtClient, Out, last_post}
 
 -- the processes, the two calls, and the opening
 abbrev pub s1 : Process
@@ -41,6 +46,13 @@ event_at stamp act = record { stamp = stamp; act = act }
 
 abbrev pub step_of : Process → ℕ → Act → Step
 step_of process stamp act = record { process = process; event = event_at stamp act }
+
+-- the client begins a call, with the first stamp, and the server takes what the client put, with this outcome
+abbrev pub begun : Call → Step
+begun call = step_of c0 1 (Began call)
+
+abbrev pub s1_takes : ℕ → Outcome → Step
+s1_takes stamp outcome = step_of s1 stamp (Took c0 outcome)
 
 -- two events whose act is of no account
 abbrev pub tick : ℕ → TraceEvent
@@ -114,6 +126,10 @@ runs steps = are_in_place counting_machine opening steps
 abbrev pub runs_over_three : List Step → Bool
 runs_over_three steps = are_in_place counting_machine opening_of_three steps
 
+-- so are these of three servers, and one step more
+abbrev pub goes_on : List Step → Step → Bool
+goes_on steps step = runs_over_three (steps ++ step ∷ [])
+
 -- the world after steps
 abbrev pub after_steps : List Step → World ℕ
 after_steps steps = run counting_machine opening (events_of steps)
@@ -132,14 +148,25 @@ server_with entries = record { machine = Some entries; last = entries; sent = []
 abbrev pub old_tail : ServerView ℕ
 old_tail = record (server_with 0) { succ = Some (2, 0) }
 
--- where the server stands at the opening, and a row of its table
+-- where the server stands at the opening
 abbrev pub at_opening : Standing ℕ
 at_opening = AtServer (server_with 0)
 
-abbrev pub Goes : Standing ℕ → Act → Option (Stamped ℕ) → Standing ℕ → List (Post ℕ) → Type 0
-Goes before act took after posts = Row counting_machine s1 before act took after posts []
+-- rows of its table: it stays where it stands and puts nothing, or it ends with its last words
+abbrev pub Stays : Standing ℕ → Act → Option (Stamped ℕ) → Type 0
+Stays standing act took = Row counting_machine s1 standing act took standing [] []
 
--- the request and the answer, and a query
+abbrev pub Ends : Standing ℕ → Act → Option (Stamped ℕ) → Type 0
+Ends standing act took = Row counting_machine s1 standing act took Out last_post []
+
+-- a process goes by its table through deeds
+abbrev pub GoesThrough : Process → Standing ℕ → ℕ → List (Deed ℕ) → Type 0
+GoesThrough process standing last deeds = GoesBy counting_machine process standing last deeds
+
+-- the order to leave, the request and the answer, and a query
+abbrev pub order : MessageOf ℕ
+order = message.Retire
+
 abbrev pub request : MessageOf ℕ
 request = message.Submit 1 update
 
@@ -148,6 +175,16 @@ answer = message.Answer 1 (number_reply 1)
 
 abbrev pub asked : MessageOf ℕ
 asked = message.Query 1 query
+
+-- the trace of one of the servers is cut, or of one of the clients; or none of all
+abbrev pub is_server_cut : Traces → Bool
+is_server_cut t = list_any (λ (trace : Trace). trace.is_cut) t.servers.items
+
+abbrev pub is_client_cut : Traces → Bool
+is_client_cut t = list_any (λ (client : ClientTrace). client.trace.is_cut) t.clients.items
+
+abbrev pub AreWhole : Traces → Type 0
+AreWhole t = (t.master.is_cut ≡ false) × (is_server_cut t ≡ false) × (is_client_cut t ≡ false)
 
 -- what the client and the server do at the write
 abbrev pub client_deeds : List (Deed ℕ)

@@ -18,6 +18,10 @@ pub returns-clause-retried : goal.returns-clause-retried
 unfolding all_tables
 returns-clause-retried c = refl
 
+pub returns-clause-ignored_update : goal.returns-clause-ignored_update
+unfolding all_tables
+returns-clause-ignored_update c = refl
+
 pub returns-clause-ignored_query : goal.returns-clause-ignored_query
 unfolding all_tables
 returns-clause-ignored_query c = refl
