@@ -1,5 +1,5 @@
 -- One more deed.
-use Rattle.std.proofs.Common.{◌≡◌, List, [], ◌∷◌, ◌++◌, Option, None, sym, refl, ap, ◌∙◌, subst, append-nil}
+use Rattle.std.proofs.Common.{◌≡◌, List, [], ◌∷◌, ◌++◌, None, sym, refl, ap, ◌∙◌, subst, append-nil}
 use Rattle.std.specs.Option.{option_map}
 use Rattle.zprotocol.specs.server.Machine.{kept_tree}
 use Rattle.zprotocol.specs.declared.process.Process.{Process}
@@ -10,10 +10,10 @@ use Rattle.ztraces.specs.Deeds.{Row, IsStamped, stamp_of, taken_from, takes, sta
 use Rattle.ztraces.proofs.Deeds.{goes_more, left_more, last_more, trace_more, takes_more, puts_more, told_more}
 use Rattle.zrings.specs.Ends.{put_of}
 use Rattle.zprotocol.specs.Places.{process_at}
-use Rattle.zdesks.specs.Desks.{TreeDeed, TreeStanding, TreeStamped, TreePost, Self, Books, Accounts, IsEvent, took_from}
+use Rattle.zdesks.specs.Desks.{TreeDeed, TreeStanding, TreeTaken, TreePost, Self, Books, Accounts, IsEvent, took_from}
 
 -- an event more
-pub accounts_more : (who : Self) (b : Books) (s s' : TreeStanding) (t : Option (Process × TreeStamped)) (posts : List TreePost) (deeds : List TreeDeed) (e : TraceEvent) (told : History)
+pub accounts_more : (who : Self) (b : Books) (s s' : TreeStanding) (t : TreeTaken) (posts : List TreePost) (deeds : List TreeDeed) (e : TraceEvent) (told : History)
     → Accounts who b s t [] deeds → IsEvent who.me b.stamp s t e.act e.stamp s' posts told
     → (deeds' : List TreeDeed) × Accounts who (record { ins = b.ins; outs = b.outs; trace = b.trace ++ e ∷ []; told = b.told ++ told; stamp = e.stamp }) s' None posts deeds'
 accounts_more who b s s' t posts deeds e told a event =
@@ -35,7 +35,7 @@ accounts_more who b s s' t posts deeds e told a event =
     )
 
 -- an event more that took no message, while one is kept
-pub accounts_beside : (who : Self) (b : Books) (s s' : TreeStanding) (t : Option (Process × TreeStamped)) (posts : List TreePost) (deeds : List TreeDeed) (e : TraceEvent) (told : History)
+pub accounts_beside : (who : Self) (b : Books) (s s' : TreeStanding) (t : TreeTaken) (posts : List TreePost) (deeds : List TreeDeed) (e : TraceEvent) (told : History)
     → Accounts who b s t [] deeds → IsEvent who.me b.stamp s None e.act e.stamp s' posts told
     → (deeds' : List TreeDeed) × Accounts who (record { ins = b.ins; outs = b.outs; trace = b.trace ++ e ∷ []; told = b.told ++ told; stamp = e.stamp }) s' t posts deeds'
 accounts_beside who b s s' t posts deeds e told a event =

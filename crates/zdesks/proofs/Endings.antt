@@ -1,13 +1,12 @@
 -- What a desk leaves, where nothing waits on it.
 use Rattle.std.proofs.Common.{◌≡◌, Bool, true, false, ◌||◌, List, [], ◌++◌, Option, Some, None, IfNone, is_some, refl, sym, ap, ◌∙◌, append-nil, true≢false}
-use Rattle.zprotocol.specs.declared.process.Process.{Process}
 use Rattle.zworld_model.specs.Links.{messages_to}
 use Rattle.ztraces.specs.Deeds.{stamped}
 use Rattle.zprotocol.specs.Places.{process_at}
 use Rattle.zrings.specs.Ends.{put_of}
 use Rattle.zdesks.specs.declared.desk.Desk.{Desk}
 use Rattle.zdesks.specs.declared.desk.Ending.{Ending}
-use Rattle.zdesks.specs.Desks.{TreeDeed, TreeStanding, TreeStamped, TreePost, Accounts, Self, self_of, books_of, took_from, SameDesk}
+use Rattle.zdesks.specs.Desks.{TreeDeed, TreeStanding, TreeTaken, TreePost, Accounts, Self, self_of, books_of, took_from, SameDesk}
 use Rattle.zdesks.specs.Endings.{AccountsAtEnd}
 
 pub neither : (a b : Bool) → (a || b) ≡ false → (a ≡ false) × (b ≡ false)
@@ -22,7 +21,7 @@ pub same_self_of : (a b : Desk) → SameDesk a b → self_of b ≡ self_of a
 same_self_of a b same = rw (same.me, same.last, same.clients) refl
 
 -- deeds that account for a desk on which nothing waits account for what it leaves
-pub ended : (who : Self) (d : Desk) (e : Ending) (s : TreeStanding) (t : Option (Process × TreeStamped)) (waits : List TreePost) (deeds : List TreeDeed)
+pub ended : (who : Self) (d : Desk) (e : Ending) (s : TreeStanding) (t : TreeTaken) (waits : List TreePost) (deeds : List TreeDeed)
     → (e.ins ≡ d.ins) × (e.outs ≡ d.outs) × (e.trace.events ≡ d.trace) × (e.seen ≡ d.seen) → waits ≡ []
     → Accounts who (books_of d) s t waits deeds → AccountsAtEnd who e deeds
 ended who d e s t waits deeds same none a =

@@ -1,5 +1,5 @@
 -- One link of many changes.
-use Rattle.std.proofs.Common.{◌+◌, ◌≡◌, ◌≢◌, ◌==◌, ◌<◌, ◌≤◌, ◌-◌, ℕ, zero, suc, Bool, true, false, if◌then◌else◌, List, [], ◌∷◌, ◌++◌, Option, Some, None, map, length, set, get_or, sym, refl, ap, ◌∙◌, subst, ⊎_elim, eq-eqb, ne_eqb, nat_le, append-nil, append_assoc, length-set, arith}
+use Rattle.std.proofs.Common.{◌+◌, ◌≡◌, ◌≢◌, ◌==◌, ◌<◌, ◌≤◌, ◌-◌, ℕ, zero, suc, Bool, true, false, if◌then◌else◌, List, [], ◌∷◌, ◌++◌, Some, None, map, length, set, get_or, sym, refl, ap, ◌∙◌, subst, ⊎_elim, eq-eqb, ne_eqb, nat_le, append-nil, append_assoc, length-set, arith}
 use Rattle.std.proofs.lemmas.Bool.Decides.{nat_tests}
 use Rattle.zprotocol.specs.declared.limits.TheConstants.{MAX_SERVERS}
 use mathlib.Core.Option.{some, some-ne-none}
@@ -14,7 +14,7 @@ use Rattle.zrings.specs.declared.ends.Rx.{Rx}
 use Rattle.zrings.specs.Ends.{put_of, taken_of}
 use Rattle.ztraces.specs.Deeds.{takes, puts, stamped}
 use Rattle.zprotocol.specs.Places.{process_at}
-use Rattle.zdesks.specs.Desks.{TreeDeed, TreeStanding, TreeStamped, TreePost, Each, Self, Books, Accounts, took_from, IsOutside, SameBooks, SameDesk}
+use Rattle.zdesks.specs.Desks.{TreeDeed, TreeStanding, TreeStamped, TreeTaken, TreePost, Each, Self, Books, Accounts, took_from, IsOutside, SameBooks, SameDesk}
 use Rattle.zdesks.specs.declared.desk.Desk.{Desk}
 
 module _ {A B : Type 0} (f : A → B) where
@@ -70,7 +70,7 @@ msg_else p to m w e = rw e refl
 
 module _ (who : Self) (b : Books) (s : TreeStanding) (deeds : List TreeDeed) where
   -- one link holds what it held, but for what waits
-  pub out_set : (t : Option (Process × TreeStamped)) (w w' : List TreePost) (k : ℕ) (x : Tx TreeStamped) → Accounts who b s t w deeds
+  pub out_set : (t : TreeTaken) (w w' : List TreePost) (k : ℕ) (x : Tx TreeStamped) → Accounts who b s t w deeds
       → put_of x ++ stamped b.stamp (messages_to (process_at k) w') ≡ puts (process_at k) deeds
       → ((j : ℕ) → j ≢ k → messages_to (process_at j) w' ≡ messages_to (process_at j) w)
       → Accounts who (record b { outs = set b.outs k x }) s t w' deeds
@@ -89,12 +89,12 @@ module _ (who : Self) (b : Books) (s : TreeStanding) (deeds : List TreeDeed) whe
       }
 
   -- a link says what it said
-  pub out_same : (t : Option (Process × TreeStamped)) (w : List TreePost) (k : ℕ) (x x' : Tx TreeStamped) → Accounts who b s t w deeds
+  pub out_same : (t : TreeTaken) (w : List TreePost) (k : ℕ) (x x' : Tx TreeStamped) → Accounts who b s t w deeds
       → get_elem? b.outs k ≡ some x → put_of x' ≡ put_of x → Accounts who (record b { outs = set b.outs k x' }) s t w deeds
   out_same t w k x x' a at e = out_set t w w k x' a (ap (λ l. l ++ stamped b.stamp (messages_to (process_at k) w)) e ∙ a.put k x at) (λ j ne. refl)
 
   -- the first of what waits goes onto its link
-  pub out_more : (t : Option (Process × TreeStamped)) (to : Process) (m : TreeMessage) (w : List TreePost) (k : ℕ) (x x' : Tx TreeStamped) → Accounts who b s t ((to, m) ∷ w) deeds
+  pub out_more : (t : TreeTaken) (to : Process) (m : TreeMessage) (w : List TreePost) (k : ℕ) (x x' : Tx TreeStamped) → Accounts who b s t ((to, m) ∷ w) deeds
       → get_elem? b.outs k ≡ some x → process_at k ≡ to → put_of x' ≡ put_of x ++ (b.stamp, m) ∷ [] → Accounts who (record b { outs = set b.outs k x' }) s t w deeds
   out_more t to m w k x x' a at is e =
       let p = process_at k in
@@ -110,7 +110,7 @@ module _ (who : Self) (b : Books) (s : TreeStanding) (deeds : List TreeDeed) whe
       (λ j ne. sym (msg_else (process_at j) to m w (ap (λ q. is_same (process_at j) q) (sym is) ∙ apart j k ne)))
 
   -- what has no link is let go
-  pub out_lost : (t : Option (Process × TreeStamped)) (to : Process) (m : TreeMessage) (w : List TreePost) (k : ℕ) → Accounts who b s t ((to, m) ∷ w) deeds
+  pub out_lost : (t : TreeTaken) (to : Process) (m : TreeMessage) (w : List TreePost) (k : ℕ) → Accounts who b s t ((to, m) ∷ w) deeds
       → process_at k ≡ to → length b.outs ≤ k → Accounts who b s t w deeds
   out_lost t to m w k a is beyond =
       record {

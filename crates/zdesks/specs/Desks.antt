@@ -23,6 +23,7 @@ use Rattle.zrings.specs.declared.ends.Tx.{Tx}
 use Rattle.zrings.specs.declared.ends.Rx.{Rx}
 use Rattle.zrings.specs.Ends.{ring_of_tx, ring_of_rx, put_of, taken_of}
 use Rattle.zdesks.specs.declared.desk.Desk.{Desk}
+use Rattle.zdesks.specs.declared.limits.TheConstants.{MAX_EVENTS}
 
 -- deeds, standings, messages and posts over the machine of the service
 abbrev pub TreeDeed : Type 0
@@ -36,6 +37,10 @@ TreeStamped = Stamped (KeptState Tree)
 
 abbrev pub TreePost : Type 0
 TreePost = Post (KeptState Tree)
+
+-- what was taken from a link and isn't in the trace yet, with its sender
+abbrev pub TreeTaken : Type 0
+TreeTaken = Option (Process × TreeStamped)
 
 -- each element of a list, with its place
 abbrev pub Each : {X : Type 0} → (ℕ → X → Type 0) → List X → Type 0
@@ -56,8 +61,8 @@ pending d = option_to_list d.held ++ d.out.posts
 abbrev pub IsSettled : Desk → Type 0
 IsSettled d = (d.held ≡ None) × (d.out.posts ≡ [])
 
--- what was taken from the link of a process and isn't in the trace yet
-abbrev pub took_from : Process → Option (Process × TreeStamped) → List TreeStamped
+-- what of that is from the link of a process
+abbrev pub took_from : Process → TreeTaken → List TreeStamped
 took_from p None = []
 took_from p (Some t) = if is_same p t.0 then t.1 ∷ [] else []
 
@@ -126,7 +131,7 @@ IsOutside p n = (i : ℕ) → i < n → is_same p (process_at i) ≡ false
 
 -- the deeds of a process account for its books: it stands there now, this message was taken beside them, and this was put and
 -- is on no link yet
-pub record Accounts (who : Self) (b : Books) (s : TreeStanding) (t : Option (Process × TreeStamped)) (waits : List TreePost) (deeds : List TreeDeed) : Type 0 where
+pub record Accounts (who : Self) (b : Books) (s : TreeStanding) (t : TreeTaken) (waits : List TreePost) (deeds : List TreeDeed) : Type 0 where
   pub goes : GoesBy kept_tree who.me who.opening 0 deeds
   pub left : left_by who.opening deeds ≡ s
   pub last : last_by 0 deeds ≡ b.stamp
@@ -137,12 +142,12 @@ pub record Accounts (who : Self) (b : Books) (s : TreeStanding) (t : Option (Pro
   pub put : Each (λ i x. put_of x ++ stamped b.stamp (messages_to (process_at i) waits) ≡ puts (process_at i) deeds) b.outs
 
 -- where its trace isn't cut, the process went by its table to where it stands
-abbrev pub Stands : Desk → TreeStanding → Option (Process × TreeStamped) → List TreePost → Type 0
+abbrev pub Stands : Desk → TreeStanding → TreeTaken → List TreePost → Type 0
 Stands d s t waits =
     d.is_cut ≡ false → ∥ ((deeds : List TreeDeed) × Accounts (self_of d) (books_of d) s t waits deeds) ∥₁
 
 -- the same, once the caller has been told this
-abbrev pub StandsToTell : Desk → History → TreeStanding → Option (Process × TreeStamped) → List TreePost → Type 0
+abbrev pub StandsToTell : Desk → History → TreeStanding → TreeTaken → List TreePost → Type 0
 StandsToTell d told s t waits =
     d.is_cut ≡ false
     → ∥ ((deeds : List TreeDeed)
@@ -154,9 +159,20 @@ IsAt d s = Stands d s None (pending d)
 
 -- whatever it accounted for is accounted for still
 abbrev pub Keeps : Desk → Desk → Type 0
-Keeps a b =
-    (s : TreeStanding) (t : Option (Process × TreeStamped)) (waits : List TreePost)
-    → Stands a s t waits → Stands b s t waits
+Keeps a b = (s : TreeStanding) (t : TreeTaken) (waits : List TreePost) → Stands a s t waits → Stands b s t waits
+
+-- the same, with this message taken in place of that
+abbrev pub HasTaken : Desk → Desk → TreeTaken → TreeTaken → Type 0
+HasTaken a b t u = (s : TreeStanding) (waits : List TreePost) → Stands a s t waits → Stands b s u waits
+
+-- the same, with these left of those that were to be put
+abbrev pub HasPut : Desk → Desk → List TreePost → List TreePost → Type 0
+HasPut a b posts rest = (s : TreeStanding) (t : TreeTaken) → Stands a s t posts → Stands b s t rest
+
+-- the same, once the caller is told what it was to be told
+abbrev pub HasTold : Desk → Desk → History → Type 0
+HasTold a b told =
+    (s : TreeStanding) (t : TreeTaken) (posts : List TreePost) → StandsToTell a told s t posts → Stands b s t posts
 
 -- the same process, with the same ends of the same rings
 pub record SameDesk (a b : Desk) : Type 0 where
@@ -182,19 +198,45 @@ pub record SameBooks (a b : Desk) : Type 0 where
   pub is_cut : b.is_cut ≡ a.is_cut
   pub room : HasRoom a → HasRoom b
 
+-- the caller saw this more
+abbrev pub HasSeen : Desk → Desk → History → Type 0
+HasSeen a b told = b.seen.items ≡ a.seen.items ++ told
+
 -- an event was entered, with its stamp, and what the caller saw of it
 pub record HasEntered (a b : Desk) (event : TraceEvent) (told : History) : Type 0 where
   pub trace : b.trace.items ≡ a.trace.items ++ event ∷ []
-  pub seen : b.seen.items ≡ a.seen.items ++ told
+  pub seen : HasSeen a b told
   pub stamp : b.stamp ≡ event.stamp
   pub early : event.stamp < MAX_STAMP
 
+-- so it was, unless the trace is cut
+abbrev pub IsEntered : Desk → Desk → ℕ → Act → History → Type 0
+IsEntered a b stamp act told = is_cut_of b ≡ false → HasEntered a b (record { stamp = stamp; act = act }) told
+
+-- the trace is cut only where it was cut before, or has as many events as there may be, or came to the last stamp
+abbrev pub IsCutForNeed : Desk → Desk → ℕ → Type 0
+IsCutForNeed a b stamp = length (trace_of a) < MAX_EVENTS → stamp < MAX_STAMP → is_cut_of b ≡ is_cut_of a
+
 -- an event: the process stood there with its last stamp, had taken that message, and did this; then it stands there, and has put
 -- and told this
-pub record IsEvent (me : Process) (last : ℕ) (s : TreeStanding) (t : Option (Process × TreeStamped)) (act : Act) (stamp : ℕ) (s' : TreeStanding) (posts : List TreePost) (told : History) : Type 0 where
+pub record IsEvent (me : Process) (last : ℕ) (s : TreeStanding) (t : TreeTaken) (act : Act) (stamp : ℕ) (s' : TreeStanding) (posts : List TreePost) (told : History) : Type 0 where
   pub row : Row kept_tree me s act (option_map (λ x. x.1) t) s' posts told
   pub from : (p : Process) → taken_from p act (option_map (λ x. x.1) t) ≡ took_from p t
   pub at : IsStamped me last (stamp_of (option_map (λ x. x.1) t)) stamp
+
+-- by an event that took what was taken, and put these, the process came from where it stood to where it stands
+abbrev pub StandsAfter : Desk → Desk → Act → ℕ → History → Type 0
+StandsAfter a b act stamp told =
+    (s s' : TreeStanding) (t : TreeTaken) (posts : List TreePost) → Stands a s t []
+    → (stamp < MAX_STAMP → IsEvent a.me a.stamp s t act stamp s' posts told)
+    → Stands b s' None posts
+
+-- the same by an event that took nothing: what was taken is kept beside it
+abbrev pub StandsBeside : Desk → Desk → Act → ℕ → History → Type 0
+StandsBeside a b act stamp told =
+    (s s' : TreeStanding) (t : TreeTaken) (posts : List TreePost) → Stands a s t []
+    → (stamp < MAX_STAMP → IsEvent a.me a.stamp s None act stamp s' posts told)
+    → Stands b s' t posts
 
 -- of what a desk has beside its links, nothing is changed
 pub record SameRest (a b : Desk) : Type 0 where

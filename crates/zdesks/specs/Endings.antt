@@ -8,7 +8,7 @@ use Rattle.zprotocol.specs.Places.{process_at}
 use Rattle.zrings.specs.Ends.{put_of, ring_of_rx, ring_of_tx, taken_of}
 use Rattle.zdesks.specs.declared.desk.Desk.{Desk}
 use Rattle.zdesks.specs.declared.desk.Ending.{Ending}
-use Rattle.zdesks.specs.Desks.{TreeDeed, Each, Self, IsOutside}
+use Rattle.zdesks.specs.Desks.{TreeDeed, TreeStanding, TreeTaken, Each, IsOutside, IsSettled, Self, Stands, is_cut_of, pending, self_of}
 
 -- the deeds of a process account for what its desk left: what they took of each link begins what was taken there, and what was
 -- put is what they put
@@ -23,6 +23,14 @@ pub record AccountsAtEnd (who : Self) (e : Ending) (deeds : List TreeDeed) : Typ
 -- where its trace isn't cut, there are such deeds
 abbrev pub HasEnded : Self → Ending → Type 0
 HasEnded who e = e.trace.is_cut ≡ false → ∥ ((deeds : List TreeDeed) × AccountsAtEnd who e deeds) ∥₁
+
+-- whatever the desk accounted for is accounted for at the end
+abbrev pub KeepsAtEnd : Desk → Ending → Type 0
+KeepsAtEnd d e = (s : TreeStanding) (t : TreeTaken) → Stands d s t (pending d) → HasEnded (self_of d) e
+
+-- where all that was put is on links, its trace is cut only if it was
+abbrev pub IsCutAsBefore : Desk → Ending → Type 0
+IsCutAsBefore d e = IsSettled d → e.trace.is_cut ≡ is_cut_of d
 
 -- what a desk leaves has the ends of the same rings
 abbrev pub SameWires : Desk → Ending → Type 0

@@ -1,7 +1,6 @@
 //! The desk of a process.
 
-ghost use Rattle.std.specs.Prelude.{◌≡◌, [], Option, true, false, length};
-ghost use Rattle.zprotocol.specs.declared.process.Process.{Process};
+ghost use Rattle.std.specs.Prelude.{◌≡◌, [], true, false, length};
 
 use std::alloc::Global;
 use zprotocol::{Message, Out, Process, ServerId};
@@ -50,11 +49,9 @@ pub struct Ending {
 }
 
 impl Desk {
-    ghost use Rattle.zdesks.specs.Desks.{AreFreshIns, AreFreshOuts, IsAt, IsDeskOf, IsSettled, Stands};
-    ghost use Rattle.zdesks.specs.Desks.{is_cut_of, opening_of, pending, seen_of, self_of};
-    ghost use Rattle.zdesks.specs.Desks.{stamp_of_desk, trace_of};
-    ghost use Rattle.zdesks.specs.Desks.{wires_of, TreeStamped, TreeStanding};
-    ghost use Rattle.zdesks.specs.Endings.{HasEnded, SameWires};
+    ghost use Rattle.zdesks.specs.Desks.{AreFreshIns, AreFreshOuts, IsAt, IsDeskOf, IsSettled};
+    ghost use Rattle.zdesks.specs.Desks.{is_cut_of, opening_of, seen_of, stamp_of_desk, trace_of, wires_of};
+    ghost use Rattle.zdesks.specs.Endings.{IsCutAsBefore, KeepsAtEnd, SameWires};
 
     /// The desk of a process that did nothing yet, with links on which nothing was put.
     pub fn new(
@@ -94,13 +91,12 @@ impl Desk {
 
     /// What it leaves, once all is put that the last event put. Its trace is cut also where there is no memory for that.
     pub fn into_ending(mut self) -> Ending
-        ensures ended { (s : TreeStanding) (t : Option (Process × TreeStamped))
-            → Stands self s t (pending self) → HasEnded (self_of self) result }
+        ensures ended { KeepsAtEnd self result }
         ensures wires { SameWires self result }
         ensures trace { result.trace.events.items ≡ trace_of self }
         ensures seen { result.seen.items ≡ seen_of self }
         ensures cut { is_cut_of self ≡ true → result.trace.is_cut ≡ true }
-        ensures whole { IsSettled self → result.trace.is_cut ≡ is_cut_of self }
+        ensures whole { IsCutAsBefore self result }
     {
         // What finds no memory is no longer put: the trace tells that it is cut.
         let _ = self.settle();
@@ -109,13 +105,12 @@ impl Desk {
 
     // What it leaves. Its trace is cut also where something that an event put is on no link.
     fn leave(mut self) -> Ending
-        ensures ended { (s : TreeStanding) (t : Option (Process × TreeStamped))
-            → Stands self s t (pending self) → HasEnded (self_of self) result }
+        ensures ended { KeepsAtEnd self result }
         ensures wires { SameWires self result }
         ensures trace { result.trace.events.items ≡ trace_of self }
         ensures seen { result.seen.items ≡ seen_of self }
         ensures cut { is_cut_of self ≡ true → result.trace.is_cut ≡ true }
-        ensures whole { IsSettled self → result.trace.is_cut ≡ is_cut_of self }
+        ensures whole { IsCutAsBefore self result }
     {
         let post = self.next_post();
         let waits = post.is_some();

@@ -1,13 +1,10 @@
 //! The trace of a desk.
 
-ghost use Rattle.std.specs.Prelude.{◌≡◌, ◌<◌, Option, None, IsFalse, IsTrue};
-ghost use Rattle.std.specs.Prelude.{List, [], ◌++◌, false, length, max, option_to_list};
-ghost use Rattle.zprotocol.specs.declared.process.Process.{Process};
-ghost use Rattle.ztraces.specs.declared.stamp.TheConstants.{MAX_STAMP};
+ghost use Rattle.std.specs.Prelude.{◌≡◌, false, IsFalse, IsTrue, max, option_to_list};
 ghost use Rattle.ztraces.specs.Stamps.{next_stamp};
-ghost use Rattle.zdesks.specs.declared.limits.TheConstants.{MAX_EVENTS};
-ghost use Rattle.zdesks.specs.Desks.{HasEntered, HasSeenRoom, HasRoom, IsEvent, Keeps, SameDesk, SameRest, Stands};
-ghost use Rattle.zdesks.specs.Desks.{StandsToTell, stamp_of_desk, trace_of, TreePost, TreeStamped, TreeStanding};
+ghost use Rattle.zdesks.specs.Desks.{HasRoom, HasSeen, HasSeenRoom, HasTold, IsCutForNeed};
+ghost use Rattle.zdesks.specs.Desks.{IsEntered, Keeps, SameDesk, SameRest, stamp_of_desk};
+ghost use Rattle.zdesks.specs.Desks.{StandsAfter, StandsBeside};
 
 use crate::desk::Desk;
 use crate::limits::MAX_EVENTS;
@@ -46,21 +43,10 @@ impl Desk {
     /// Enters an event into the trace, and what the caller saw of it into the record. Where its stamp is the last one, or there
     /// is no room for it, the trace is cut.
     pub fn enter(&mut self, act: Act, stamp: Stamp, told: Option<CallEvent>)
-        ensures stands { (s s' : TreeStanding) (t : Option (Process × TreeStamped))
-            (posts : List TreePost) → Stands self.old s t []
-            → (stamp < MAX_STAMP
-            → IsEvent self.old.me self.old.stamp s t act stamp s' posts (option_to_list told))
-            → Stands self.new s' None posts }
-        ensures beside { (s s' : TreeStanding) (t : Option (Process × TreeStamped))
-            (posts : List TreePost) → Stands self.old s t []
-            → (stamp < MAX_STAMP
-            → IsEvent self.old.me self.old.stamp s None act stamp s' posts (option_to_list told))
-            → Stands self.new s' t posts }
-        ensures entered { self.new.is_cut ≡ false
-            → HasEntered self.old self.new
-            (record { stamp = stamp; act = act }) (option_to_list told) }
-        ensures whole { HasRoom self.old → length (trace_of self.old) < MAX_EVENTS
-            → stamp < MAX_STAMP → self.new.is_cut ≡ self.old.is_cut }
+        ensures stands { StandsAfter self.old self.new act stamp (option_to_list told) }
+        ensures beside { StandsBeside self.old self.new act stamp (option_to_list told) }
+        ensures entered { IsEntered self.old self.new stamp act (option_to_list told) }
+        ensures whole { HasRoom self.old → IsCutForNeed self.old self.new stamp }
         ensures stamp { self.new.stamp ≡ stamp }
         ensures rest { (self.new.held ≡ self.old.held) × (self.new.out ≡ self.old.out) }
         ensures same { SameDesk self.old self.new }
@@ -90,13 +76,10 @@ impl Desk {
 
     // Enters what the caller saw into the record.
     fn tell(&mut self, told: Option<CallEvent>)
-        ensures stands { (s : TreeStanding) (t : Option (Process × TreeStamped))
-            (posts : List TreePost) → StandsToTell self.old (option_to_list told) s t posts
-            → Stands self.new s t posts }
+        ensures stands { HasTold self.old self.new (option_to_list told) }
         ensures rest { (self.new.held ≡ self.old.held) × (self.new.out ≡ self.old.out) }
         ensures same { SameDesk self.old self.new }
-        ensures told { self.new.is_cut ≡ false
-            → self.new.seen.items ≡ self.old.seen.items ++ option_to_list told }
+        ensures told { self.new.is_cut ≡ false → HasSeen self.old self.new (option_to_list told) }
         ensures trace { (self.new.trace ≡ self.old.trace) × (self.new.stamp ≡ self.old.stamp) }
         ensures whole { HasSeenRoom self.old → self.new.is_cut ≡ self.old.is_cut }
     {

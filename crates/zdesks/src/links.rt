@@ -1,7 +1,7 @@
 //! The links of a desk.
 
-ghost use Rattle.std.specs.Prelude.{◌≡◌, ◌<◌, List};
-ghost use Rattle.zdesks.specs.Desks.{Keeps, SameRest, Stands, TreePost, TreeStanding, link_count};
+ghost use Rattle.std.specs.Prelude.{◌≡◌, ◌<◌, None};
+ghost use Rattle.zdesks.specs.Desks.{HasTaken, Keeps, SameRest, link_count};
 
 use crate::desk::{Desk, Stamped};
 use zprotocol::Process;
@@ -17,8 +17,7 @@ impl Desk {
     /// The next message of a link, with its sender. None where its ring has none.
     pub fn take(&mut self, link: usize) -> Option<(Process, Stamped)>
         requires { link < link_count self.old }
-        ensures taken { (s : TreeStanding) (waits : List TreePost) → Stands self.old s None waits
-            → Stands self.new s result waits }
+        ensures taken { HasTaken self.old self.new None result }
         ensures same { SameRest self.old self.new }
     {
         let Some(from) = Process::at(link) else {

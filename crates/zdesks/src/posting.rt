@@ -1,10 +1,8 @@
 //! What the last event put goes onto the links.
 
-ghost use Rattle.std.specs.Prelude.{◌≡◌, ◌∷◌, [], List, None, Option, IfNone, IfSome, IsTrue};
-ghost use Rattle.zprotocol.specs.declared.process.Process.{Process};
+ghost use Rattle.std.specs.Prelude.{◌≡◌, ◌∷◌, [], None, IfNone, IfSome, IsTrue};
 ghost use Rattle.ztraces.specs.Deeds.{last_post};
-ghost use Rattle.zdesks.specs.Desks.{IsSettled, Keeps, pending, SameBooks, SameDesk, Stands};
-ghost use Rattle.zdesks.specs.Desks.{TreePost, TreeStamped, TreeStanding};
+ghost use Rattle.zdesks.specs.Desks.{HasPut, IsSettled, Keeps, pending, SameBooks, SameDesk};
 
 use crate::desk::Desk;
 use zprotocol::{Message, Process};
@@ -13,8 +11,7 @@ use zserver::Snapshot;
 impl Desk {
     /// Puts what the last event put on its links. False where there was no memory for all of it: the rest is kept for later.
     pub fn settle(&mut self) -> bool
-        ensures stands { (s : TreeStanding) (t : Option (Process × TreeStamped))
-            → Stands self.old s t (pending self.old) → Stands self.new s t (pending self.new) }
+        ensures stands { HasPut self.old self.new (pending self.old) (pending self.new) }
         ensures all { IsTrue result → IsSettled self.new }
         ensures settled { IsSettled self.old → IsSettled self.new }
         ensures same { SameDesk self.old self.new }
@@ -46,9 +43,8 @@ impl Desk {
     // Puts one message on its link, or keeps it. A process that has no place is none of this run: its message is let go.
     fn put_on_link(&mut self, to: Process, message: Message<Snapshot>) -> bool
         requires { self.old.held ≡ None }
-        ensures stands { (s : TreeStanding) (t : Option (Process × TreeStamped))
-            → Stands self.old s t ((to, message) ∷ self.old.out.posts)
-            → Stands self.new s t (pending self.new) }
+        ensures stands { HasPut self.old self.new
+            ((to, message) ∷ self.old.out.posts) (pending self.new) }
         ensures held { IsTrue result → self.new.held ≡ None }
         ensures out { self.new.out ≡ self.old.out }
         ensures same { SameDesk self.old self.new }
@@ -73,8 +69,7 @@ impl Desk {
 
     /// Puts the last words of a server, for which its link to the master keeps a place. It takes no memory.
     pub fn put_gone(&mut self)
-        ensures stands { (s : TreeStanding) (t : Option (Process × TreeStamped))
-            → Stands self.old s t last_post → Stands self.new s t [] }
+        ensures stands { HasPut self.old self.new last_post [] }
         ensures rest { (self.new.held ≡ self.old.held) × (self.new.out ≡ self.old.out) }
         ensures same { SameDesk self.old self.new }
     {
