@@ -12,10 +12,10 @@ use Rattle.ztraces.specs.declared.trace.TraceEvent.{TraceEvent}
 use Rattle.ztraces.specs.Stamps.{next_stamp}
 use Rattle.zdesks.specs.declared.desk.Desk.{Desk}
 use Rattle.zdesks.specs.declared.limits.TheConstants.{MAX_EVENTS}
-use Rattle.zdesks.specs.Desks.{HasEntered, SameBooks, SameRest, TreeStamped}
+use Rattle.zdesks.specs.Desks.{HasEntered, IsCutForNeed, IsEntered, SameBooks, SameRest, TreeStamped}
 use Rattle.zdesks.proofs.Pending.{is_next}
 use Rattle.zdesks.proofs.Wires.{same_books, same_desk}
-use Rattle.zcaller.specs.Steps.{Begins, Heard, HeardNothing, IsCutForNeed, IsEntered, SendsAgain}
+use Rattle.zcaller.specs.Steps.{Begins, Heard, HeardNothing, SendsAgain}
 
 pub same_rest : (a b c : Desk) → SameRest a b → SameRest b c → SameRest a c
 same_rest a b c x y =
@@ -50,14 +50,14 @@ module _ (a z b : Desk) (same : SameBooks a z) where
         early = e.early;
       }
 
-  entered_too : (act : Act) (told : History) → IsEntered z b act told → IsEntered a b act told
+  entered_too : (act : Act) (told : History) → IsEntered z b b.stamp act told → IsEntered a b b.stamp act told
   entered_too act told e whole = entered_before (record { stamp = b.stamp; act = act }) told (e whole)
 
   pub nothing_before : (v w : ClientView) (reply : Option Reply) → HeardNothing z v b w reply → HeardNothing a v b w reply
   nothing_before v w reply h = (same_books a z b same h.0, h.1, h.2)
 
-  pub heard_before : (c : ℕ) (v w : ClientView) (reply : Option Reply) (from : Process) (m : TreeStamped) → Heard c z v b w reply from m → Heard c a v b w reply from m
-  heard_before c v w reply from m h =
+  pub heard_before : (c : ℕ) (v w : ClientView) (from : Process) (m : TreeStamped) (reply : Option Reply) → Heard c z v b w from m reply → Heard c a v b w from m reply
+  heard_before c v w from m reply h =
       record { view = h.view; given = h.given; posts = h.posts; entered = entered_too _ _ h.entered }
 
   pub begins_before : (c : ℕ) (v w : ClientView) (call : Call) (number : ℕ) → Begins c z v b w call number → Begins c a v b w call number
@@ -67,7 +67,7 @@ module _ (a z b : Desk) (same : SameBooks a z) where
   pub sends_before : (v w : ClientView) → SendsAgain z v b w → SendsAgain a v b w
   sends_before v w e = record { waits = e.waits; view = e.view; posts = e.posts; entered = entered_too _ _ e.entered }
 
-  pub need_before : IsCutForNeed z b → IsCutForNeed a b
+  pub need_before : IsCutForNeed z b b.stamp → IsCutForNeed a b b.stamp
   need_before need few early = need (subst (λ (l : List TraceEvent). length l < MAX_EVENTS) (sym same.trace) few) early ∙ same.is_cut
 
 -- a stamp behind all that was known is later than each of that

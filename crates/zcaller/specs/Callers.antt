@@ -9,8 +9,8 @@ use Rattle.zprotocol.specs.client.View.{ClientView}
 use Rattle.zprotocol.specs.declared.process.Process.{Process}
 use Rattle.ztraces.specs.Stamps.{next_stamp}
 use Rattle.zdesks.specs.declared.desk.Desk.{Desk}
-use Rattle.zdesks.specs.Desks.{SameBooks, TreeStamped, is_cut_of, stamp_of_desk}
-use Rattle.zcaller.specs.Steps.{Begins, Heard, HeardNothing, IsCutForNeed, SendsAgain}
+use Rattle.zdesks.specs.Desks.{IsCutForNeed, SameBooks, TreeStamped, is_cut_of, stamp_of_desk}
+use Rattle.zcaller.specs.Steps.{Begins, Heard, HeardNothing, SendsAgain}
 use Rattle.zcaller.specs.declared.caller.Caller.{Caller}
 
 -- its number, desk and view, and the last stamp that it knows
@@ -56,9 +56,9 @@ Retried a b false = (is_some a.core.outstanding ≡ false) × SameCaller a b
 abbrev pub Turned : Caller → Caller → Option Reply → Type 0
 Turned a b reply =
     HeardNothing a.desk a.core b.desk b.core reply
-    ⊎ ((from : Process) × (m : TreeStamped) × Heard a.id a.desk a.core b.desk b.core reply from m
+    ⊎ ((from : Process) × (m : TreeStamped) × Heard a.id a.desk a.core b.desk b.core from m reply
     × (stamp_of_desk b.desk ≡ next_stamp (max (stamp_of_desk a.desk) (max a.learnt m.0))))
 
 -- its trace isn't cut without need
 abbrev pub IsUncut : Caller → Caller → Type 0
-IsUncut a b = IsCutForNeed a.desk b.desk
+IsUncut a b = IsCutForNeed a.desk b.desk (stamp_of_desk b.desk)

@@ -1,17 +1,15 @@
 //! A client begins a call, and sends it again.
 
-ghost use Rattle.std.specs.Prelude.{◌≡◌, ◌<◌, true, [], Option, ℕ, IfErr, IfOk, OnErr, OnOk};
+ghost use Rattle.std.specs.Prelude.{◌≡◌, ◌<◌, true, ℕ, IfErr, IfOk, OnErr, OnOk};
 ghost use Rattle.std.specs.Prelude.{false, is_some, max};
-ghost use Rattle.zprotocol.specs.declared.process.Process.{Process};
 ghost use Rattle.zprotocol.specs.declared.process.Process.TheVariants.{Client};
 ghost use Rattle.zworld_model.specs.declared.history.CallEvent.TheVariants as call_event;
 ghost use Rattle.ztraces.specs.declared.stamp.TheConstants.{MAX_STAMP};
 ghost use Rattle.ztraces.specs.declared.trace.Act.TheVariants as act;
-ghost use Rattle.ztraces.specs.Deeds.{AtClient};
-ghost use Rattle.zdesks.specs.Desks.{HasRoom, IsSettled, pending, process_of, SameBooks, SameDesk};
-ghost use Rattle.zdesks.specs.Desks.{stamp_of_desk, Stands, TreeStamped};
+ghost use Rattle.zdesks.specs.Desks.{HasRoom, IsCutForNeed, IsSettled, process_of, SameBooks};
+ghost use Rattle.zdesks.specs.Desks.{SameDesk, stamp_of_desk, TreeTaken};
 ghost use Rattle.zcaller.specs.Callers.{MayRefuse};
-ghost use Rattle.zcaller.specs.Steps.{Begins, IsCutForNeed, SendsAgain};
+ghost use Rattle.zcaller.specs.Steps.{Begins, Moves, SendsAgain};
 
 use std::alloc::Global;
 use zcalls::{Call, CallNumber, ClientId};
@@ -35,12 +33,11 @@ pub(crate) fn begin_at(
     requires room { HasRoom desk.old }
     requires next { next < MAX_STAMP → max (stamp_of_desk desk.old) 0 < next }
     requires free { is_some core.old.outstanding ≡ false }
-    ensures at { (t : Option (Process × TreeStamped)) → Stands desk.old (AtClient core.old) t []
-        → Stands desk.new (AtClient core.new) t (pending desk.new) }
+    ensures at { (t : TreeTaken) → Moves desk.old core.old desk.new core.new t t }
     ensures begun { IfOk result (Begins id desk.old core.old desk.new core.new call) }
     ensures fault { IfErr result (MayRefuse core.old) }
     ensures stamp { OnOk result (stamp_of_desk desk.new ≡ next) }
-    ensures whole { OnOk result (IsCutForNeed desk.old desk.new) }
+    ensures whole { OnOk result (IsCutForNeed desk.old desk.new (stamp_of_desk desk.new)) }
     ensures kept { OnErr result (core.new ≡ core.old) }
     ensures books { OnErr result (SameBooks desk.old desk.new) }
     ensures same { SameDesk desk.old desk.new }
@@ -86,12 +83,11 @@ pub(crate) fn retry_at(desk: &mut Desk, core: &ClientCore, next: Stamp) -> Resul
     requires room { HasRoom desk.old }
     requires waits { is_some core.now.outstanding ≡ true }
     requires next { next < MAX_STAMP → max (stamp_of_desk desk.old) 0 < next }
-    ensures at { (t : Option (Process × TreeStamped)) → Stands desk.old (AtClient core.now) t []
-        → Stands desk.new (AtClient core.now) t (pending desk.new) }
+    ensures at { (t : TreeTaken) → Moves desk.old core.now desk.new core.now t t }
     ensures done { IfOk result (λ done. done ≡ true) }
     ensures sent { OnOk result (SendsAgain desk.old core.now desk.new core.now) }
     ensures stamp { OnOk result (stamp_of_desk desk.new ≡ next) }
-    ensures whole { OnOk result (IsCutForNeed desk.old desk.new) }
+    ensures whole { OnOk result (IsCutForNeed desk.old desk.new (stamp_of_desk desk.new)) }
     ensures books { OnErr result (SameBooks desk.old desk.new) }
     ensures same { SameDesk desk.old desk.new }
 {

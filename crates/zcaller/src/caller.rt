@@ -3,9 +3,9 @@
 ghost use Rattle.std.specs.Prelude.{◌≡◌, IfErr, IfOk, OnErr, OnOk, max, true};
 ghost use Rattle.zprotocol.specs.declared.process.Process.TheVariants.{Client};
 ghost use Rattle.ztraces.specs.Deeds.{AtClient};
-ghost use Rattle.zdesks.specs.Desks.{is_cut_of, IsAt, IsSettled, pending, process_of, SameDesk};
+ghost use Rattle.zdesks.specs.Desks.{is_cut_of, IsAt, pending, process_of, SameDesk};
 ghost use Rattle.zdesks.specs.Desks.{seen_of, self_of, stamp_of_desk, Stands, trace_of};
-ghost use Rattle.zdesks.specs.Endings.{HasEnded, SameWires};
+ghost use Rattle.zdesks.specs.Endings.{HasEnded, IsCutAsBefore, SameWires};
 
 use crate::asking::{begin_at, retry_at};
 use crate::hearing::{front_of, hear_or_keep};
@@ -176,8 +176,7 @@ impl Caller {
         ensures trace { result.1.trace.events.items ≡ trace_of (caller_desk self) }
         ensures seen { result.1.seen.items ≡ seen_of (caller_desk self) }
         ensures cut { is_cut_of (caller_desk self) ≡ true → result.1.trace.is_cut ≡ true }
-        ensures whole { IsSettled (caller_desk self)
-            → result.1.trace.is_cut ≡ is_cut_of (caller_desk self) }
+        ensures whole { IsCutAsBefore (caller_desk self) result.1 }
     {
         let Caller {
             id,

@@ -1,14 +1,13 @@
 //! A client hears a message.
 
-ghost use Rattle.std.specs.Prelude.{◌≡◌, ◌<◌, List, [], None, Some, IfErr, IfOk, OnErr, OnOk, max, if◌then◌else◌};
+ghost use Rattle.std.specs.Prelude.{◌≡◌, ◌<◌, [], None, Some, IfErr, IfOk, OnErr, OnOk, max, if◌then◌else◌};
 ghost use Rattle.zprotocol.specs.declared.process.Process.TheVariants.{Client};
 ghost use Rattle.zworld_model.specs.declared.outcome.Outcome.TheVariants.{Acted};
 ghost use Rattle.ztraces.specs.declared.stamp.TheConstants.{MAX_STAMP};
 ghost use Rattle.ztraces.specs.declared.trace.Act.TheVariants.{Took};
-ghost use Rattle.ztraces.specs.Deeds.{AtClient};
-ghost use Rattle.zdesks.specs.Desks.{HasRoom, IsAt, IsSettled, Keeps, pending, process_of, SameBooks};
-ghost use Rattle.zdesks.specs.Desks.{SameDesk, SameRest, stamp_of_desk, Stands, TreePost, TreeStanding};
-ghost use Rattle.zcaller.specs.Steps.{answer_event, Heard, HeardOrNothing, IsCutForNeed};
+ghost use Rattle.zdesks.specs.Desks.{HasRoom, HasTaken, IsCutForNeed, IsSettled, Keeps, pending};
+ghost use Rattle.zdesks.specs.Desks.{process_of, SameBooks, SameDesk, SameRest, stamp_of_desk};
+ghost use Rattle.zcaller.specs.Steps.{answer_event, Heard, MayHear, Moves, MovesAt};
 
 use std::alloc::Global;
 use zcalls::{ClientId, Reply};
@@ -26,8 +25,7 @@ pub(crate) fn front_of(
     last: &mut usize,
     front: Option<(Process, Stamped)>,
 ) -> Option<(Process, Stamped)>
-    ensures taken { (s : TreeStanding) (waits : List TreePost) → Stands desk.old s front waits
-        → Stands desk.new s result waits }
+    ensures taken { HasTaken desk.old desk.new front result }
     ensures same { SameRest desk.old desk.new }
 {
     match front {
@@ -38,8 +36,7 @@ pub(crate) fn front_of(
 
 // The next message of its links, each in turn, from the one behind the last one.
 fn look(desk: &mut Desk, last: &mut usize) -> Option<(Process, Stamped)>
-    ensures taken { (s : TreeStanding) (waits : List TreePost) → Stands desk.old s None waits
-        → Stands desk.new s result waits }
+    ensures taken { HasTaken desk.old desk.new None result }
     ensures same { SameRest desk.old desk.new }
 {
     for _ in 0..desk.links() {
@@ -60,8 +57,7 @@ fn behind(link: usize, links: usize) -> usize {
 
 // The next message of that link, where there is one.
 fn take_at(desk: &mut Desk, link: usize) -> Option<(Process, Stamped)>
-    ensures taken { (s : TreeStanding) (waits : List TreePost) → Stands desk.old s None waits
-        → Stands desk.new s result waits }
+    ensures taken { HasTaken desk.old desk.new None result }
     ensures same { SameRest desk.old desk.new }
 {
     if link >= desk.links() {
@@ -87,11 +83,11 @@ pub(crate) fn hear_or_keep(
     requires room { HasRoom desk.old }
     requires next { next < MAX_STAMP → max (stamp_of_desk desk.old) stamp < next }
     requires front { front.old ≡ None }
-    ensures at { Stands desk.old (AtClient core.old) (Some (from, (stamp, message))) []
-        → Stands desk.new (AtClient core.new) front.new (pending desk.new) }
-    ensures heard { HeardOrNothing id desk.old core.old desk.new core.new
-        result from (stamp, message) next }
-    ensures whole { IsCutForNeed desk.old desk.new }
+    ensures at { Moves desk.old core.old desk.new core.new
+        (Some (from, (stamp, message))) front.new }
+    ensures heard { MayHear id desk.old core.old desk.new core.new
+        from (stamp, message) next result }
+    ensures whole { IsCutForNeed desk.old desk.new (stamp_of_desk desk.new) }
     ensures same { SameDesk desk.old desk.new }
 {
     let sender = from;
@@ -126,12 +122,12 @@ fn hear(
     requires settled { IsSettled desk.old }
     requires room { HasRoom desk.old }
     requires next { next < MAX_STAMP → max (stamp_of_desk desk.old) stamp < next }
-    ensures at { OnOk result (Stands desk.old (AtClient core.old) (Some (from, (stamp, message))) []
-        → IsAt desk.new (AtClient core.new)) }
-    ensures heard { IfOk result (λ reply.
-        Heard id desk.old core.old desk.new core.new reply from (stamp, message)) }
+    ensures at { OnOk result
+        (MovesAt desk.old core.old desk.new core.new from (stamp, message)) }
+    ensures heard { IfOk result
+        (Heard id desk.old core.old desk.new core.new from (stamp, message)) }
     ensures stamp { OnOk result (stamp_of_desk desk.new ≡ next) }
-    ensures whole { IsCutForNeed desk.old desk.new }
+    ensures whole { IsCutForNeed desk.old desk.new (stamp_of_desk desk.new) }
     ensures back { IfErr result (λ back. back ≡ (stamp, message)) }
     ensures kept { OnErr result (core.new ≡ core.old) }
     ensures keeps { OnErr result (Keeps desk.old desk.new) }

@@ -1,13 +1,12 @@
-use Rattle.std.proofs.Common.{[], List, Option, Some, sym, ◌∙◌, subst, ap, refl, inl, inr}
-use Rattle.zprotocol.specs.declared.process.Process.{Process}
+use Rattle.std.proofs.Common.{[], List, Some, sym, ◌∙◌, subst, ap, refl, inl, inr}
 use Rattle.zprotocol.specs.client.View.{ClientView}
 use Rattle.ztraces.specs.Deeds.{AtClient}
-use Rattle.zdesks.specs.Desks.{Stands, pending, TreePost, TreeStamped}
+use Rattle.zdesks.specs.Desks.{Stands, pending, TreePost, TreeTaken}
 use Rattle.zcaller.proofs.hearing.hear_or_keep.Goals as goal
 
 pub returns-in-Ok-clause-at : goal.returns-in-Ok-clause-at
 returns-in-Ok-clause-at c h =
-    subst (λ (x : Option (Process × TreeStamped)). Stands c.hear.new.desk (AtClient c.hear.new.core) x (pending c.hear.new.desk)) (sym c.requires.front) (c.in-Ok.ensures.at h)
+    subst (λ (x : TreeTaken). Stands c.hear.new.desk (AtClient c.hear.new.core) x (pending c.hear.new.desk)) (sym c.requires.front) (c.in-Ok.ensures.at h)
 
 pub returns-in-Err-clause-at : goal.returns-in-Err-clause-at
 returns-in-Err-clause-at c h =
@@ -16,7 +15,7 @@ returns-in-Err-clause-at c h =
     let kept = c.in-Err.ensures.keeps (AtClient c.args.core.now) t [] h in
     let cored = subst (λ (x : ClientView). Stands d (AtClient x) t []) (sym c.in-Err.ensures.kept) kept in
     let front = c.handed_back.ensures ∙ ap (λ m. Some (c.args.from, m)) c.in-Err.ensures.back in
-    let fronted = subst (λ (x : Option (Process × TreeStamped)). Stands d (AtClient c.hear.new.core) x []) (sym front) cored in
+    let fronted = subst (λ (x : TreeTaken). Stands d (AtClient c.hear.new.core) x []) (sym front) cored in
     subst (λ (w : List TreePost). Stands d (AtClient c.hear.new.core) c.handed_back.result w) (sym c.in-Err.ensures.pending) fronted
 
 pub returns-in-Ok-clause-heard : goal.returns-in-Ok-clause-heard

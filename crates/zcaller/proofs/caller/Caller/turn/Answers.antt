@@ -1,7 +1,6 @@
-use Rattle.std.proofs.Common.{[], List, Option, None, sym, ◌∙◌, subst}
-use Rattle.zprotocol.specs.declared.process.Process.{Process}
+use Rattle.std.proofs.Common.{[], List, None, sym, ◌∙◌, subst}
 use Rattle.ztraces.specs.Deeds.{AtClient}
-use Rattle.zdesks.specs.Desks.{Stands, IsSettled, pending, TreePost, TreeStamped}
+use Rattle.zdesks.specs.Desks.{Stands, IsSettled, pending, TreePost, TreeTaken}
 use Rattle.zdesks.proofs.Pending.{nothing_waits, pending_same}
 use Rattle.zcaller.proofs.caller.Caller.turn.Goals as goal
 
@@ -34,8 +33,8 @@ invariant_of-self-in_default-clause-at c =
     let same = c.reserve.ensures.same in
     let fsame = c.flush.ensures.same in
     let esame = c.front_of.ensures.same in
-    subst (λ (x : Option (Process × TreeStamped)). Stands e s x (pending e)) (sym c.take-front.ensures.after) (subst (λ (w : List TreePost). Stands e s None w) (sym (pending_same b e esame.held esame.out ∙ pending_same f b same.held same.out ∙ pending_same a f fsame.held fsame.out))
-    (c.in_default.ensures.taken s (pending a) (subst (λ (x : Option (Process × TreeStamped)). Stands b s x (pending a)) (sym c.take-front.ensures.value)
+    subst (λ (x : TreeTaken). Stands e s x (pending e)) (sym c.take-front.ensures.after) (subst (λ (w : List TreePost). Stands e s None w) (sym (pending_same b e esame.held esame.out ∙ pending_same f b same.held same.out ∙ pending_same a f fsame.held fsame.out))
+    (c.in_default.ensures.taken s (pending a) (subst (λ (x : TreeTaken). Stands b s x (pending a)) (sym c.take-front.ensures.value)
     (c.reserve.ensures.keeps s t.front (pending a) (c.flush.ensures.keeps s t.front (pending a) (c.settle.ensures.stands s t.front t.at))))))
 
 pub invariant_of-self-2-clause-is_client : goal.invariant_of-self-2-clause-is_client
@@ -49,5 +48,5 @@ invariant_of-self-2-clause-at c =
     let b = c.reserve.new.self in
     let all : IsSettled a = c.settle.ensures.all c.if-not-settle.false in
     let settled : Stands a s t.front [] = subst (λ (w : List TreePost). Stands a s t.front w) (nothing_waits a all) (c.settle.ensures.stands s t.front t.at) in
-    let fronted : Stands b s c.take-front.result [] = subst (λ (x : Option (Process × TreeStamped)). Stands b s x []) (sym c.take-front.ensures.value) (c.reserve.ensures.keeps s t.front [] (c.flush.ensures.keeps s t.front [] settled)) in
+    let fronted : Stands b s c.take-front.result [] = subst (λ (x : TreeTaken). Stands b s x []) (sym c.take-front.ensures.value) (c.reserve.ensures.keeps s t.front [] (c.flush.ensures.keeps s t.front [] settled)) in
     c.hear_or_keep.ensures.at (c.in-Some.ensures.taken s [] fronted)
