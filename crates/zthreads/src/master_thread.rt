@@ -1,12 +1,13 @@
 //! What the master's thread owns.
 
-ghost use Rattle.std.specs.Prelude.{◌≡◌, ◌<◌, ◌≤◌, None, Some, [], true};
+ghost use Rattle.std.specs.Prelude.{◌≡◌, ◌<◌, ◌≤◌, None, [], true};
 ghost use Rattle.zprotocol.specs.declared.process.Process.TheVariants as process;
 ghost use Rattle.zmaster.specs.declared.limits.TheConstants.{MAX_POSTS};
 ghost use Rattle.ztraces.specs.Deeds.{AtMaster};
 ghost use Rattle.zdesks.specs.Desks.{is_cut_of, IsAt, IsSettled, link_count, process_of, room_of};
 ghost use Rattle.zdesks.specs.Desks.{SameDesk, self_of, Stands, trace_of};
-ghost use Rattle.zdesks.specs.Endings.{HasEnded, SameWires};
+ghost use Rattle.zdesks.specs.Endings.{HasEnded, IsCutAsBefore, SameWires};
+ghost use Rattle.zthreads.specs.Threads.{MasterMoves};
 
 use crate::took::took;
 use zconsole::order::Order;
@@ -116,8 +117,7 @@ impl MasterThread {
         ensures wires { SameWires (master_desk self) result }
         ensures trace { result.trace.events.items ≡ trace_of (master_desk self) }
         ensures cut { is_cut_of (master_desk self) ≡ true → result.trace.is_cut ≡ true }
-        ensures whole { IsSettled (master_desk self)
-            → result.trace.is_cut ≡ is_cut_of (master_desk self) }
+        ensures whole { IsCutAsBefore (master_desk self) result }
     {
         let MasterThread { desk, master } = self;
         drop(master);
@@ -136,8 +136,7 @@ fn hear(
     requires me { process_of desk.old ≡ process.Master }
     requires settled { IsSettled desk.old }
     requires room { MAX_POSTS ≤ room_of desk.old }
-    ensures at { Stands desk.old (AtMaster master.old) (Some (from, (stamp, message))) []
-        → IsAt desk.new (AtMaster master.new) }
+    ensures at { MasterMoves desk.old master.old desk.new master.new from (stamp, message) }
     ensures same { SameDesk desk.old desk.new }
 {
     let next = desk.next_stamp(stamp);

@@ -1,11 +1,12 @@
 //! What a server's thread owns.
 
-ghost use Rattle.std.specs.Prelude.{◌≡◌, ◌<◌, None, Some, [], true, false};
+ghost use Rattle.std.specs.Prelude.{◌≡◌, ◌<◌, None, true, false};
 ghost use Rattle.ztraces.specs.Deeds.{AtServer};
 ghost use Rattle.zdesks.specs.Desks.{is_cut_of, IsAt, IsSettled, link_count, process_of, SameDesk};
-ghost use Rattle.zdesks.specs.Desks.{self_of, Stands, trace_of};
-ghost use Rattle.zdesks.specs.Endings.{HasEnded, SameWires};
-ghost use Rattle.zthreads.specs.Threads.{IsServer, end_of, outcome_of, server_standing, ServerProcess};
+ghost use Rattle.zdesks.specs.Desks.{self_of, trace_of};
+ghost use Rattle.zdesks.specs.Endings.{HasEnded, IsCutAsBefore, SameWires};
+ghost use Rattle.zthreads.specs.Threads.{IsServer, end_of, outcome_of, ServerMoves, server_standing};
+ghost use Rattle.zthreads.specs.Threads.{ServerProcess};
 
 use crate::gate::Gate;
 use crate::took::took;
@@ -104,8 +105,7 @@ impl ServerThread {
         ensures wires { SameWires (server_desk self) result }
         ensures trace { result.trace.events.items ≡ trace_of (server_desk self) }
         ensures cut { is_cut_of (server_desk self) ≡ true → result.trace.is_cut ≡ true }
-        ensures whole { IsSettled (server_desk self)
-            → result.trace.is_cut ≡ is_cut_of (server_desk self) }
+        ensures whole { IsCutAsBefore (server_desk self) result }
     {
         let ServerThread { desk, server, .. } = self;
         drop(server);
@@ -125,8 +125,8 @@ fn give(
     requires settled { IsSettled desk.old }
     requires runs { server.old.stopped ≡ None }
     ensures runs { result ≡ false → server.new.stopped ≡ None }
-    ensures at { Stands desk.old (AtServer server.old.view) (Some (from, (stamp, message))) []
-        → IsAt desk.new (server_standing result server.new) }
+    ensures at { ServerMoves desk.old server.old desk.new result server.new
+        from (stamp, message) }
     ensures same { SameDesk desk.old desk.new }
 {
     let next = desk.next_stamp(stamp);
