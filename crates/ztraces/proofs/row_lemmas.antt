@@ -1,0 +1,4 @@
+pub mod Happens
+pub mod MasterRows
+pub mod ServerRows
+pub mod ClientRows
