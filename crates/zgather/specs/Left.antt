@@ -1,12 +1,18 @@
 -- What the processes of a run left: the master, the servers by number, and the clients by number.
-use Rattle.std.specs.Prelude.{ℕ, Bool, ◌||◌, List, ◌∷◌, ◌++◌, length, map}
+use Rattle.std.specs.Prelude.{◌≡◌, ℕ, Bool, true, false, ◌||◌, List, ◌∷◌, ◌++◌, length, map}
 use Rattle.std.specs.List.{list_any}
+use Rattle.std.specs.declared.alloc.Global.{Global}
+use Rattle.std.specs.declared.vec.Vec.{Vec}
+use Rattle.ztraces.specs.declared.trace.Trace.{Trace}
 use Rattle.ztraces.specs.declared.trace.ClientTrace.{ClientTrace}
+use Rattle.ztraces.specs.declared.trace.Traces.{Traces}
 use Rattle.zprotocol.specs.Places.{process_at}
+use Rattle.zrings.specs.declared.ends.Tx.{Tx}
+use Rattle.zrings.specs.declared.ends.Rx.{Rx}
 use Rattle.zrings.specs.Ends.{ring_of_rx, ring_of_tx}
 use Rattle.zmesh.specs.Woven.{IsWoven}
 use Rattle.zdesks.specs.declared.desk.Ending.{Ending}
-use Rattle.zdesks.specs.Desks.{Each, opening_of, Self}
+use Rattle.zdesks.specs.Desks.{Each, opening_of, Self, TreeStamped}
 use Rattle.zdesks.specs.Endings.{HasEnded}
 
 -- all of them, by place
@@ -32,6 +38,26 @@ abbrev pub is_left_cut : Ending → List Ending → List Ending → Bool
 is_left_cut master servers clients =
     master.trace.is_cut
     || (list_any (λ (e : Ending). e.trace.is_cut) servers || list_any (λ (e : Ending). e.trace.is_cut) clients)
+
+-- so they have, unless one is cut
+abbrev pub AreWiredUnlessCut : Ending → List Ending → List Ending → Type 0
+AreWiredUnlessCut master servers clients =
+    is_left_cut master servers clients ≡ false → AreWired (by_place master servers clients)
+
+-- where one is cut, the master's trace is cut only if it was
+abbrev pub CutsNoMore : Ending → List Ending → List Ending → Traces → Type 0
+CutsNoMore master servers clients traces =
+    is_left_cut master servers clients ≡ true → traces.master.is_cut ≡ master.trace.is_cut
+
+-- the links that they put on, those that they took from, and their traces
+abbrev pub outs_of : List Ending → List (Vec (Tx TreeStamped) Global)
+outs_of endings = map (λ (e : Ending). e.outs) endings
+
+abbrev pub ins_of : List Ending → List (Vec (Rx TreeStamped) Global)
+ins_of endings = map (λ (e : Ending). e.ins) endings
+
+abbrev pub traces_of : List Ending → List Trace
+traces_of endings = map (λ (e : Ending). e.trace) endings
 
 -- a client's trace and record
 abbrev pub client_trace_of : Ending → ClientTrace

@@ -1,12 +1,12 @@
 //! The traces of a run.
 
-ghost use Rattle.std.specs.Prelude.{◌≡◌, ◌≤◌, false, IfOk, length, map, true};
+ghost use Rattle.std.specs.Prelude.{◌≡◌, ◌≤◌, false, IfOk, length, map};
 ghost use Rattle.ztree.specs.declared.limits.TheConstants.{MAX_CLIENTS};
 ghost use Rattle.zprotocol.specs.declared.limits.TheConstants.{MAX_SERVERS};
 ghost use Rattle.ztraces.specs.Audit.{is_any_cut};
 ghost use Rattle.ztraces.specs.Lawful.{AreLawful};
-ghost use Rattle.zdesks.specs.declared.desk.Ending.{Ending};
-ghost use Rattle.zgather.specs.Left.{AreLeft, AreWired, by_place, client_trace_of, is_left_cut};
+ghost use Rattle.zgather.specs.Left.{AreLeft, AreWiredUnlessCut, by_place, client_trace_of};
+ghost use Rattle.zgather.specs.Left.{CutsNoMore, traces_of};
 
 use crate::keeping::{is_any_cut, keep, keep_clients, keep_servers};
 use std::alloc::Global;
@@ -30,18 +30,15 @@ pub fn gather(
     requires clients { length clients.items ≤ MAX_CLIENTS }
     requires left { AreLeft last (length clients.items)
         (by_place master servers.items clients.items) }
-    requires wired { is_left_cut master servers.items clients.items ≡ false
-        → AreWired (by_place master servers.items clients.items) }
+    requires wired { AreWiredUnlessCut master servers.items clients.items }
     ensures last { IfOk result (λ traces. traces.last ≡ last) }
     ensures master { IfOk result (λ traces. traces.master.events ≡ master.trace.events) }
-    ensures servers { IfOk result (λ traces. traces.servers.items
-        ≡ map (λ (e : Ending). e.trace) servers.items) }
+    ensures servers { IfOk result (λ traces. traces.servers.items ≡ traces_of servers.items) }
     ensures clients { IfOk result (λ traces. traces.clients.items
         ≡ map client_trace_of clients.items) }
     ensures lawful { IfOk result (λ traces.
         is_any_cut traces ≡ false → ∥ AreLawful traces ∥₁) }
-    ensures whole { is_left_cut master servers.items clients.items ≡ true
-        → IfOk result (λ traces. traces.master.is_cut ≡ master.trace.is_cut) }
+    ensures whole { IfOk result (CutsNoMore master servers.items clients.items) }
 {
     let is_cut = master.trace.is_cut | (is_any_cut(&servers) | is_any_cut(&clients));
     let count = 1 + servers.len() + clients.len();

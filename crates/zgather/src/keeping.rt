@@ -3,7 +3,7 @@
 ghost use Rattle.std.specs.Prelude.{◌≡◌, ◌∷◌, ◌++◌, [], IfOk, OnOk, map};
 ghost use Rattle.std.specs.List.{list_any};
 ghost use Rattle.zdesks.specs.declared.desk.Ending.{Ending};
-ghost use Rattle.zgather.specs.Left.{client_trace_of};
+ghost use Rattle.zgather.specs.Left.{client_trace_of, ins_of, outs_of, traces_of};
 
 use std::alloc::Global;
 use zdesks::{Ending, Stamped};
@@ -44,12 +44,10 @@ pub(crate) fn keep_servers(
     mesh: &mut Mesh<Stamped>,
     endings: Vec<Ending>,
 ) -> Result<Vec<Trace>, Memory>
-    ensures outs { OnOk result (mesh.new.outs.items
-        ≡ mesh.old.outs.items ++ map (λ (e : Ending). e.outs) endings.items) }
-    ensures ins { OnOk result (mesh.new.ins.items
-        ≡ mesh.old.ins.items ++ map (λ (e : Ending). e.ins) endings.items) }
-    ensures traces { IfOk result (λ traces. traces.items
-        ≡ map (λ (e : Ending). e.trace) endings.items) }
+    ensures outs { OnOk result (mesh.new.outs.items ≡ mesh.old.outs.items
+        ++ outs_of endings.items) }
+    ensures ins { OnOk result (mesh.new.ins.items ≡ mesh.old.ins.items ++ ins_of endings.items) }
+    ensures traces { IfOk result (λ traces. traces.items ≡ traces_of endings.items) }
 {
     let mut traces = Vec::with_capacity(alloc, endings.len())?;
     for ending in endings {
@@ -64,10 +62,9 @@ pub(crate) fn keep_clients(
     mesh: &mut Mesh<Stamped>,
     endings: Vec<Ending>,
 ) -> Result<Vec<ClientTrace>, Memory>
-    ensures outs { OnOk result (mesh.new.outs.items
-        ≡ mesh.old.outs.items ++ map (λ (e : Ending). e.outs) endings.items) }
-    ensures ins { OnOk result (mesh.new.ins.items
-        ≡ mesh.old.ins.items ++ map (λ (e : Ending). e.ins) endings.items) }
+    ensures outs { OnOk result (mesh.new.outs.items ≡ mesh.old.outs.items
+        ++ outs_of endings.items) }
+    ensures ins { OnOk result (mesh.new.ins.items ≡ mesh.old.ins.items ++ ins_of endings.items) }
     ensures traces { IfOk result (λ traces. traces.items ≡ map client_trace_of endings.items) }
 {
     let mut traces = Vec::with_capacity(alloc, endings.len())?;

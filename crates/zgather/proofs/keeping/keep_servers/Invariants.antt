@@ -1,10 +1,10 @@
-use Rattle.std.proofs.Common.{◌≡◌, ◌++◌, map}
-use Rattle.zdesks.specs.declared.desk.Ending.{Ending}
+use Rattle.std.proofs.Common.{◌≡◌, ◌++◌}
+use Rattle.zgather.specs.Left.{ins_of, outs_of, traces_of}
 use Rattle.zgather.proofs.keeping.keep_servers.Given as goal
 
 abbrev pub invariant-loop-ending : goal.invariant-loop-ending
 invariant-loop-ending l =
     (l.fn.endings.items ≡ l.yielded ++ l.ending-iterator.rest.items)
-    × (l.mesh.outs.items ≡ l.fn.mesh.outs.items ++ map (λ (e : Ending). e.outs) l.yielded)
-    × (l.mesh.ins.items ≡ l.fn.mesh.ins.items ++ map (λ (e : Ending). e.ins) l.yielded)
-    × (l.traces.items ≡ map (λ (e : Ending). e.trace) l.yielded)
+    × (l.mesh.outs.items ≡ l.fn.mesh.outs.items ++ outs_of l.yielded)
+    × (l.mesh.ins.items ≡ l.fn.mesh.ins.items ++ ins_of l.yielded)
+    × (l.traces.items ≡ traces_of l.yielded)
