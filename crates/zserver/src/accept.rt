@@ -2,12 +2,10 @@
 
 ghost use Rattle.std.specs.Prelude.{◌≡◌, ◌+◌, ◌<◌, ◌≤◌, ◌==◌, None, Some, ◌++◌, ◌∷◌, [], true, is_some, is_none, if◌then◌else◌, IfOk, OnErr, OnOk};
 ghost use Rattle.zprotocol.specs.declared.limits.TheConstants.{MAX_LOG_NUMBER};
-ghost use Rattle.zprotocol.specs.server.Machine.{kept_tree};
-ghost use Rattle.zprotocol.specs.server.Memory.{grows_by};
-ghost use Rattle.zprotocol.specs.server.View.{Neighbour};
-ghost use Rattle.zprotocol.specs.server.Table.{answer_posts, forward_post, is_neighbour, submit_row, update_row};
+ghost use Rattle.zprotocol.specs.server.Table.{is_neighbour};
 ghost use Rattle.zprotocol.specs.Posts.{Puts};
-ghost use Rattle.zserver.specs.support.Replicas.{accept_row, applied_result, next_number};
+ghost use Rattle.zserver.specs.support.Replicas.{submit_at, update_at, accept_row, GrowsBy};
+ghost use Rattle.zserver.specs.support.Replicas.{applied_result, next_number, PutsAnswer, PutsUpdate};
 
 use crate::neighbour::{Neighbour, is_neighbour};
 use crate::replica::{Replica, put_ack};
@@ -21,13 +19,10 @@ impl Replica {
     /// Submit: a head accepts the update as its next entry.
     #[tactic(auto, unfolding(zprotocol::specs::server::Table::submit_row, crate::specs::support::Replicas::accept_row, crate::specs::support::Replicas::next_number))]
     pub(crate) fn submit(&mut self, entry: Entry, out: &mut Out<Snapshot>) -> Result<(), Memory>
-        ensures next { OnOk result (self.new
-            ≡ (submit_row kept_tree self.old entry.client entry.number entry.update).0) }
-        ensures puts { OnOk result (Puts out.old out.new
-            (submit_row kept_tree self.old entry.client entry.number entry.update).1) }
+        ensures next { OnOk result (self.new ≡ (submit_at self.old entry).0) }
+        ensures puts { OnOk result (Puts out.old out.new (submit_at self.old entry).1) }
         ensures silent { OnErr result (out.new.posts ≡ out.old.posts) }
-        ensures grows { OnErr result (grows_by self.old
-            (submit_row kept_tree self.old entry.client entry.number entry.update) ≡ true) }
+        ensures grows { OnErr result (GrowsBy self.old (submit_at self.old entry)) }
     {
         match self.number_at_head() {
             Some(n) => self.accept(n, entry, out),
@@ -48,13 +43,12 @@ impl Replica {
         entry: Entry,
         out: &mut Out<Snapshot>,
     ) -> Result<(), Memory>
-        ensures next { OnOk result
-            (self.new ≡ (update_row kept_tree self.old from epoch n entry).0) }
+        ensures next { OnOk result (self.new ≡ (update_at self.old from epoch n entry).0) }
         ensures puts { OnOk result
-            (Puts out.old out.new (update_row kept_tree self.old from epoch n entry).1) }
+            (Puts out.old out.new (update_at self.old from epoch n entry).1) }
         ensures silent { OnErr result (out.new.posts ≡ out.old.posts) }
         ensures grows { OnErr result
-            (grows_by self.old (update_row kept_tree self.old from epoch n entry) ≡ true) }
+            (GrowsBy self.old (update_at self.old from epoch n entry)) }
     {
         match self.number_below(from, epoch) {
             Some(next) if next.number() == n.number() => self.accept(n, entry, out),
@@ -102,7 +96,7 @@ impl Replica {
         ensures next { OnOk result (self.new ≡ (accept_row self.old n entry).0) }
         ensures puts { OnOk result (Puts out.old out.new (accept_row self.old n entry).1) }
         ensures silent { OnErr result (out.new.posts ≡ out.old.posts) }
-        ensures grows { grows_by self.old (accept_row self.old n entry) ≡ true }
+        ensures grows { GrowsBy self.old (accept_row self.old n entry) }
     {
         if self.succ.is_some() {
             self.forward(n, entry, out)
@@ -205,8 +199,7 @@ fn lose(machine: &mut Option<Machine>)
 // Answers the client, where there is a reply.
 fn put_answer(client: ClientId, number: CallNumber, reply: Option<Reply>, out: &mut Out<Snapshot>)
     requires { 0 < out.old.room }
-    ensures puts { (update : _) → Puts out.old out.new
-        (answer_posts (record { client = client; number = number; update = update }) reply) }
+    ensures puts { PutsAnswer out.old out.new client number reply }
     ensures room { out.old.room ≤ out.new.room + 1 }
 {
     if let Some(reply) = reply {
@@ -218,8 +211,7 @@ fn put_answer(client: ClientId, number: CallNumber, reply: Option<Reply>, out: &
 #[inline(always)]
 fn put_update(succ: &Option<Neighbour>, n: LogNumber, entry: Entry, out: &mut Out<Snapshot>)
     requires { 0 < out.old.room }
-    ensures { (neighbour : Neighbour) → succ.now ≡ Some neighbour
-        → Puts out.old out.new (forward_post neighbour (n, entry) ∷ []) }
+    ensures { PutsUpdate out.old out.new succ.now (n, entry) }
 {
     let Some(succ) = succ else {
         drop(entry);

@@ -1,11 +1,9 @@
 //! The state of a server handed to one that has none.
 
-ghost use Rattle.std.specs.Prelude.{◌≡◌, ◌∷◌, true, [], OnErr, OnOk};
-ghost use Rattle.zprotocol.specs.declared.message.Message.TheVariants as message;
-ghost use Rattle.zprotocol.specs.declared.process.Process.TheVariants as process;
+ghost use Rattle.std.specs.Prelude.{◌≡◌, ◌∷◌, [], OnErr, OnOk};
 ghost use Rattle.zprotocol.specs.Posts.{Puts};
-ghost use Rattle.zprotocol.specs.server.Memory.{grows_by};
 ghost use Rattle.zprotocol.specs.server.Table.{snapshot_row};
+ghost use Rattle.zserver.specs.support.Replicas.{snapshot_post, GrowsBy};
 
 use crate::neighbour::{Neighbour, is_neighbour};
 use crate::replica::Replica;
@@ -30,7 +28,7 @@ impl Replica {
             (Puts out.old out.new (snapshot_row self.old from epoch snapshot).1) }
         ensures silent { OnErr result (out.new.posts ≡ out.old.posts) }
         ensures grows { OnErr result
-            (grows_by self.old (snapshot_row self.old from epoch snapshot) ≡ true) }
+            (GrowsBy self.old (snapshot_row self.old from epoch snapshot)) }
     {
         if self.machine.is_some() || !is_neighbour(&self.pred, from, epoch) {
             drop(snapshot);
@@ -55,13 +53,8 @@ pub(crate) fn hand_over(
     succ: &Neighbour,
     out: &mut Out<Snapshot>,
 ) -> Result<(), Memory>
-    ensures puts { OnOk result (Puts out.old out.new ((
-      process.Server succ.now.0,
-      message.Snapshot succ.now.1 (record {
-        last = machine.now.state.applied;
-        machine = machine.now.state.service;
-      }),
-    ) ∷ [])) }
+    ensures puts { OnOk result
+        (Puts out.old out.new (snapshot_post succ.now machine.now ∷ [])) }
     ensures silent { OnErr result (out.new.posts ≡ out.old.posts) }
 {
     let snapshot = Snapshot::of(alloc, machine)?;

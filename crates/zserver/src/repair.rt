@@ -1,9 +1,9 @@
 //! The rows in which acknowledgements go up the chain, and in which a server hears of its neighbours.
 
-ghost use Rattle.std.specs.Prelude.{◌≡◌, true, [], OnErr, OnOk};
+ghost use Rattle.std.specs.Prelude.{◌≡◌, [], OnErr, OnOk};
 ghost use Rattle.zprotocol.specs.Posts.{Puts};
-ghost use Rattle.zprotocol.specs.server.Memory.{grows_by};
 ghost use Rattle.zprotocol.specs.server.Table.{ack_row, new_pred_row, new_succ_row, become_head_row, become_tail_row};
+ghost use Rattle.zserver.specs.support.Replicas.{GrowsBy};
 
 use crate::join::hand_over;
 use crate::neighbour::{Neighbour, is_neighbour};
@@ -27,8 +27,7 @@ impl Replica {
         ensures puts { OnOk result
             (Puts out.old out.new (ack_row self.old from epoch n).1) }
         ensures silent { OnErr result (out.new.posts ≡ out.old.posts) }
-        ensures grows { OnErr result
-            (grows_by self.old (ack_row self.old from epoch n) ≡ true) }
+        ensures grows { OnErr result (GrowsBy self.old (ack_row self.old from epoch n)) }
     {
         if !is_neighbour(&self.succ, from, epoch) {
             return Ok(());
@@ -50,7 +49,7 @@ impl Replica {
         ensures puts { OnOk result
             (Puts out.old out.new (new_pred_row self.old epoch pred).1) }
         ensures silent { OnErr result (out.new.posts ≡ out.old.posts) }
-        ensures grows { OnErr result (grows_by self.old (new_pred_row self.old epoch pred) ≡ true) }
+        ensures grows { OnErr result (GrowsBy self.old (new_pred_row self.old epoch pred)) }
     {
         out.reserve(1)?;
         out.put_reserved(Process::Master, Message::Have(epoch, self.last()));
@@ -71,8 +70,7 @@ impl Replica {
         ensures puts { OnOk result
             (Puts out.old out.new (new_succ_row self.old epoch succ last).1) }
         ensures silent { OnErr result (out.new.posts ≡ out.old.posts) }
-        ensures grows { OnErr result
-            (grows_by self.old (new_succ_row self.old epoch succ last) ≡ true) }
+        ensures grows { OnErr result (GrowsBy self.old (new_succ_row self.old epoch succ last)) }
     {
         let Some(machine) = &self.machine else {
             return Ok(());
@@ -101,7 +99,7 @@ impl Replica {
         ensures next { OnOk result (self.new ≡ (become_tail_row self.old).0) }
         ensures puts { OnOk result (Puts out.old out.new (become_tail_row self.old).1) }
         ensures silent { OnErr result (out.new.posts ≡ out.old.posts) }
-        ensures grows { OnErr result (grows_by self.old (become_tail_row self.old) ≡ true) }
+        ensures grows { OnErr result (GrowsBy self.old (become_tail_row self.old)) }
     {
         if let Some(last) = self.last() {
             acknowledge(&self.pred, last, out)?;

@@ -1,11 +1,10 @@
 //! What a server knows.
 
 ghost use Rattle.std.specs.Prelude.{◌≡◌, ◌<◌, true, is_some, IfOk, OnErr, OnOk};
-ghost use Rattle.zprotocol.specs.server.Machine.{kept_tree};
-ghost use Rattle.zprotocol.specs.server.View.{member, spare};
+ghost use Rattle.zprotocol.specs.server.View.{spare};
 ghost use Rattle.zprotocol.specs.Posts.{Puts};
 ghost use Rattle.zprotocol.specs.server.Table.{ack_posts, last_number};
-ghost use Rattle.zserver.specs.Server.{first_neighbour};
+ghost use Rattle.zserver.specs.Server.{first_neighbour, first_view};
 
 use crate::neighbour::Neighbour;
 use crate::sent::Sent;
@@ -54,8 +53,7 @@ impl Replica {
         pred: Option<ServerId>,
         succ: Option<ServerId>,
     ) -> Result<Replica, Memory>
-        ensures { IfOk result (λ r. r
-            ≡ member kept_tree (first_neighbour pred) (first_neighbour succ)) }
+        ensures { IfOk result (λ replica. replica ≡ first_view pred succ) }
     {
         Ok(Replica {
             alloc,

@@ -1,11 +1,9 @@
 //! The row in which a client asks: `Query`.
 
-ghost use Rattle.std.specs.Prelude.{◌≡◌, true};
-ghost use Rattle.zprotocol.specs.server.Machine.{kept_tree};
-ghost use Rattle.zprotocol.specs.server.Memory.{grows_by};
+ghost use Rattle.std.specs.Prelude.{◌≡◌};
 ghost use Rattle.zprotocol.specs.Posts.{Puts};
-ghost use Rattle.zprotocol.specs.server.Table.{query_row};
 ghost use Rattle.zserver.specs.declared.taken.Taken.TheVariants.{Acted, Unheard};
+ghost use Rattle.zserver.specs.support.Replicas.{query_at, GrowsBy};
 
 use crate::replica::Replica;
 use crate::snapshot::Snapshot;
@@ -23,12 +21,12 @@ impl Replica {
         query: &Query,
         out: &mut Out<Snapshot>,
     ) -> Taken
-        ensures same { (query_row kept_tree self.now client number query.now).0 ≡ self.now }
-        ensures puts { result ≡ Acted → Puts out.old out.new
-            (query_row kept_tree self.now client number query.now).1 }
+        ensures same { (query_at self.now client number query.now).0 ≡ self.now }
+        ensures puts { result ≡ Acted
+            → Puts out.old out.new (query_at self.now client number query.now).1 }
         ensures silent { result ≡ Unheard → out.new.posts ≡ out.old.posts }
         ensures grows { result ≡ Unheard
-            → grows_by self.now (query_row kept_tree self.now client number query.now) ≡ true }
+            → GrowsBy self.now (query_at self.now client number query.now) }
     {
         if self.succ.is_some() {
             return Taken::Acted;

@@ -3,6 +3,7 @@
 ghost use Rattle.std.specs.Prelude.{◌≡◌, ◌<◌, ◌≤◌, length, map, IfOk, OnErr, OnOk};
 ghost use Rattle.zprotocol.specs.Posts.{Puts};
 ghost use Rattle.zprotocol.specs.server.Table.{entries_above, forward_post};
+ghost use Rattle.zserver.specs.support.Replicas.{posts_above};
 
 use crate::neighbour::Neighbour;
 use crate::snapshot::Snapshot;
@@ -62,8 +63,7 @@ pub(crate) fn send_above(
     succ: &Neighbour,
     out: &mut Out<Snapshot>,
 ) -> Result<(), Memory>
-    ensures puts { OnOk result
-        (Puts out.old out.new (map (forward_post succ.now) (entries_above n sent.now))) }
+    ensures puts { OnOk result (Puts out.old out.new (posts_above n sent.now succ.now)) }
     ensures silent { OnErr result (out.new.posts ≡ out.old.posts) }
     ensures some { OnErr result (0 < length (entries_above n sent.now)) }
 {

@@ -1,14 +1,11 @@
 //! The server.
 
-ghost use Rattle.std.specs.Prelude.{◌≡◌, ◌⊎◌, true, false, None, Some, Err, IfOk, IfErr, OnErr, OnOk};
-ghost use Rattle.zprotocol.specs.server.Machine.{kept_tree};
-ghost use Rattle.zprotocol.specs.server.Memory.{may_be_unheard};
+ghost use Rattle.std.specs.Prelude.{◌≡◌, false, None, Some, Err, IfOk, IfErr, OnErr, OnOk};
 ghost use Rattle.zprotocol.specs.server.Table.{is_retirement};
-ghost use Rattle.zprotocol.specs.server.View.{member, spare};
-ghost use Rattle.zprotocol.specs.Posts.{Puts};
+ghost use Rattle.zprotocol.specs.server.View.{spare};
 ghost use Rattle.zserver.specs.declared.stopped.Stopped.{Stopped};
 ghost use Rattle.zserver.specs.declared.taken.Taken.TheVariants.{Unheard};
-ghost use Rattle.zserver.specs.Server.{first_neighbour, running, taken_result, StopsAt};
+ghost use Rattle.zserver.specs.Server.{first_view, running, BecomesAt, PutsAt, MayBeUnheard, IsStoppedAt};
 
 use crate::replica::Replica;
 use crate::snapshot::Snapshot;
@@ -45,8 +42,7 @@ impl Server {
         pred: Option<ServerId>,
         succ: Option<ServerId>,
     ) -> Result<Server, Memory>
-        ensures { IfOk result (λ server. server
-            ≡ running (member kept_tree (first_neighbour pred) (first_neighbour succ))) }
+        ensures { IfOk result (λ server. server ≡ running (first_view pred succ)) }
     {
         let replica = Replica::member(alloc, pred, succ)?;
         Ok(Server {
@@ -74,18 +70,15 @@ impl Server {
     ) -> Result<Taken, Stopped>
         ensures running { OnOk result
             ((self.old.stopped ≡ None) × (self.new.stopped ≡ None)) }
-        ensures next { IfOk result
-            (λ taken. self.new.view ≡ (taken_result taken self.old.view from message).0) }
-        ensures puts { IfOk result
-            (λ taken. Puts out.old out.new (taken_result taken self.old.view from message).1) }
-        ensures unheard { IfOk result (λ taken. taken ≡ Unheard
-            → may_be_unheard kept_tree self.old.view from message ≡ true) }
+        ensures next { IfOk result (BecomesAt self.old.view self.new.view from message) }
+        ensures puts { IfOk result (PutsAt out.old out.new self.old.view from message) }
+        ensures unheard { IfOk result
+            (λ taken. taken ≡ Unheard → MayBeUnheard self.old.view from message) }
         ensures serves { OnOk result (is_retirement from message ≡ false) }
         ensures stopped { IfErr result (λ why. self.new.stopped ≡ Some why) }
         ensures silent { OnErr result (out.new.posts ≡ out.old.posts) }
         ensures stays { (why : Stopped) → self.old.stopped ≡ Some why → result ≡ Err why }
-        ensures caused { IfErr result (λ why. (self.old.stopped ≡ Some why)
-            ⊎ StopsAt why self.old.view from message) }
+        ensures caused { IfErr result (IsStoppedAt self.old from message) }
     {
         let replica = match &mut self.replica {
             Ok(replica) => replica,

@@ -1,6 +1,7 @@
 //! What a `Snapshot` hands over.
 
 ghost use Rattle.std.specs.Prelude.{◌≡◌, false, IfOk};
+ghost use Rattle.zserver.specs.support.Replicas.{transfer_of};
 
 use std::alloc::Global;
 use std::marker::Model;
@@ -22,15 +23,13 @@ impl Model for Snapshot {
     ghost use Rattle.zcalls.specs.Kept.{KeptState};
     ghost use Rattle.zprotocol.specs.server.View.{Transfer};
     ghost use Rattle.zserver.specs.support.Codes.{coded_transfer};
+    ghost use Rattle.zserver.specs.support.Replicas.{transfer_of};
 
     ghost Value = { Transfer (KeptState Tree) };
 
     ghost coded = { coded_transfer };
 
-    ghost view = { λ s. record {
-      last = s.machine.value.state.applied;
-      machine = s.machine.value.state.service;
-    } };
+    ghost view = { λ s. transfer_of s.machine.value };
 
     ghost invariant = { λ s. s.machine.value.is_broken ≡ false };
 }
@@ -38,10 +37,7 @@ impl Model for Snapshot {
 impl Snapshot {
     /// The state of a machine.
     pub(crate) fn of(alloc: Global, machine: &Machine) -> Result<Snapshot, Memory>
-        ensures { IfOk result (λ s. s ≡ record {
-          last = machine.now.state.applied;
-          machine = machine.now.state.service;
-        }) }
+        ensures { IfOk result (λ snapshot. snapshot ≡ transfer_of machine.now) }
     {
         Ok(Snapshot {
             machine: Box::new(alloc, machine.copy()?)?,

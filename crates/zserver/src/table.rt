@@ -1,13 +1,13 @@
 //! The server table.
 
 ghost use Rattle.std.specs.Prelude.{◌≡◌, true, IfOk, OnErr, OnOk};
-ghost use Rattle.zprotocol.specs.declared.process.Process.TheVariants as process;
+ghost use Rattle.zprotocol.specs.declared.process.Process.TheVariants.{Client, Server, Master};
 ghost use Rattle.zprotocol.specs.server.Machine.{kept_tree};
-ghost use Rattle.zprotocol.specs.server.Memory.{may_be_unheard, may_stop};
-ghost use Rattle.zprotocol.specs.server.Table.{server_step};
+ghost use Rattle.zprotocol.specs.server.Memory.{may_stop};
 ghost use Rattle.zprotocol.specs.Posts.{Puts};
 ghost use Rattle.zserver.specs.declared.taken.Taken.TheVariants.{Unheard};
-ghost use Rattle.zserver.specs.Server.{taken_result};
+ghost use Rattle.zserver.specs.Server.{BecomesAt, PutsAt, MayBeUnheard};
+ghost use Rattle.zserver.specs.support.Replicas.{step_at};
 
 use crate::replica::Replica;
 use crate::snapshot::Snapshot;
@@ -25,12 +25,10 @@ impl Replica {
         message: Message<Snapshot>,
         out: &mut Out<Snapshot>,
     ) -> Result<Taken, Memory>
-        ensures next { IfOk result
-            (λ taken. self.new ≡ (taken_result taken self.old from message).0) }
-        ensures puts { IfOk result
-            (λ taken. Puts out.old out.new (taken_result taken self.old from message).1) }
+        ensures next { IfOk result (BecomesAt self.old self.new from message) }
+        ensures puts { IfOk result (PutsAt out.old out.new self.old from message) }
         ensures unheard { IfOk result
-            (λ taken. taken ≡ Unheard → may_be_unheard kept_tree self.old from message ≡ true) }
+            (λ taken. taken ≡ Unheard → MayBeUnheard self.old from message) }
         ensures silent { OnErr result (out.new.posts ≡ out.old.posts) }
         ensures grows { OnErr result (may_stop kept_tree self.old from message ≡ true) }
     {
@@ -55,15 +53,12 @@ impl Replica {
         message: Message<Snapshot>,
         out: &mut Out<Snapshot>,
     ) -> Result<Taken, Memory>
-        ensures next { IfOk result (λ taken. self.new
-            ≡ (taken_result taken self.old (process.Client client) message).0) }
-        ensures puts { IfOk result (λ taken. Puts out.old out.new
-            (taken_result taken self.old (process.Client client) message).1) }
-        ensures unheard { IfOk result (λ taken. taken ≡ Unheard
-            → may_be_unheard kept_tree self.old (process.Client client) message ≡ true) }
+        ensures next { IfOk result (BecomesAt self.old self.new (Client client) message) }
+        ensures puts { IfOk result (PutsAt out.old out.new self.old (Client client) message) }
+        ensures unheard { IfOk result
+            (λ taken. taken ≡ Unheard → MayBeUnheard self.old (Client client) message) }
         ensures silent { OnErr result (out.new.posts ≡ out.old.posts) }
-        ensures grows { OnErr result
-            (may_stop kept_tree self.old (process.Client client) message ≡ true) }
+        ensures grows { OnErr result (may_stop kept_tree self.old (Client client) message ≡ true) }
     {
         match message {
             Message::Submit(number, update) => {
@@ -97,13 +92,11 @@ impl Replica {
         message: Message<Snapshot>,
         out: &mut Out<Snapshot>,
     ) -> Result<(), Memory>
-        ensures next { OnOk result
-            (self.new ≡ (server_step kept_tree self.old (process.Server server) message).0) }
-        ensures puts { OnOk result (Puts out.old out.new
-            (server_step kept_tree self.old (process.Server server) message).1) }
+        ensures next { OnOk result (self.new ≡ (step_at self.old (Server server) message).0) }
+        ensures puts { OnOk result
+            (Puts out.old out.new (step_at self.old (Server server) message).1) }
         ensures silent { OnErr result (out.new.posts ≡ out.old.posts) }
-        ensures grows { OnErr result
-            (may_stop kept_tree self.old (process.Server server) message ≡ true) }
+        ensures grows { OnErr result (may_stop kept_tree self.old (Server server) message ≡ true) }
     {
         match message {
             Message::Update(epoch, n, entry) => self.update(server, epoch, n, entry, out),
@@ -123,12 +116,10 @@ impl Replica {
         message: Message<Snapshot>,
         out: &mut Out<Snapshot>,
     ) -> Result<(), Memory>
-        ensures next { OnOk result
-            (self.new ≡ (server_step kept_tree self.old process.Master message).0) }
-        ensures puts { OnOk result
-            (Puts out.old out.new (server_step kept_tree self.old process.Master message).1) }
+        ensures next { OnOk result (self.new ≡ (step_at self.old Master message).0) }
+        ensures puts { OnOk result (Puts out.old out.new (step_at self.old Master message).1) }
         ensures silent { OnErr result (out.new.posts ≡ out.old.posts) }
-        ensures grows { OnErr result (may_stop kept_tree self.old process.Master message ≡ true) }
+        ensures grows { OnErr result (may_stop kept_tree self.old Master message ≡ true) }
     {
         match message {
             Message::NewPred(epoch, pred) => self.new_pred(epoch, pred, out),

@@ -1,15 +1,24 @@
--- How a server's replica makes its state, and how the fields of the replica make its view.
-use Rattle.std.specs.Prelude.{◌≡◌, ℕ, ◌+◌, false, Option, None, Some, Result, Ok, Err, if◌then◌else◌}
+-- How a server's replica makes its state, and how the fields of the replica make its view; and the rows of its table, over
+-- the plain tree.
+use Rattle.std.specs.Prelude.{◌≡◌, ℕ, ◌+◌, true, false, Option, None, Some, List, [], ◌∷◌, map, Result, Ok, Err, if◌then◌else◌}
 use Rattle.ztree.specs.Tree.{Tree}
 use Rattle.zcalls.specs.declared.call.Entry.{Entry}
+use Rattle.zcalls.specs.declared.call.Query.{Query}
+use Rattle.zcalls.specs.declared.call.Update.{Update}
 use Rattle.zcalls.specs.declared.reply.Reply.{Reply}
 use Rattle.zcalls.specs.Kept.{KeptState}
 use Rattle.zops.specs.Machine.{MachineView}
+use Rattle.zprotocol.specs.declared.message.Message.TheVariants as message
+use Rattle.zprotocol.specs.declared.process.Process.{Process}
+use Rattle.zprotocol.specs.declared.process.Process.TheVariants.{Server}
+use Rattle.zprotocol.specs.Posts.{Puts}
 use Rattle.zprotocol.specs.server.Machine.{kept_tree}
-use Rattle.zprotocol.specs.server.Table.{ServerResult, accept_result, has_room, if_initialised}
-use Rattle.zprotocol.specs.server.View.{spare}
+use Rattle.zprotocol.specs.server.Memory.{grows_by}
+use Rattle.zprotocol.specs.server.Table.{accept_result, answer_posts, entries_above, forward_post, has_room, if_initialised}
+use Rattle.zprotocol.specs.server.Table.{submit_row, query_row, update_row, server_step}
+use Rattle.zprotocol.specs.server.View.{Neighbour, Post, Transfer, spare}
 use Rattle.zserver.specs.declared.stopped.Stopped.{Stopped}
-use Rattle.zserver.specs.Server.{ServerState, TreeView, running}
+use Rattle.zserver.specs.Server.{ServerState, TreeView, TreeMessage, TreeResult, TreeOut, running}
 
 -- a server that has stopped has no replica
 abbrev pub server_of : Result TreeView Stopped → ServerState
@@ -25,6 +34,10 @@ state_of (Some m) = Some m.state.service
 abbrev pub last_of : Option MachineView → ℕ
 last_of None = 0
 last_of (Some m) = m.state.applied
+
+-- what a machine hands over
+abbrev pub transfer_of : MachineView → Transfer (KeptState Tree)
+transfer_of m = record { last = m.state.applied; machine = m.state.service }
 
 -- a machine that is held still answers
 abbrev pub IsWhole : Option MachineView → Type 0
@@ -43,5 +56,42 @@ unfoldable pub next_number : TreeView → Option ℕ
 next_number v = elim v.machine [ None ↦ None | Some m ↦ if has_room v then Some (v.last + 1) else None ]
 
 -- accept, where the server has the state
-unfoldable pub accept_row : TreeView → ℕ → Entry → ServerResult (KeptState Tree)
+unfoldable pub accept_row : TreeView → ℕ → Entry → TreeResult
 accept_row v n entry = if_initialised v (λ m. accept_result kept_tree v m n entry)
+
+-- Submit, of the entry's update
+abbrev pub submit_at : TreeView → Entry → TreeResult
+submit_at v entry = submit_row kept_tree v entry.client entry.number entry.update
+
+-- Query
+abbrev pub query_at : TreeView → ℕ → ℕ → Query → TreeResult
+query_at v client number query = query_row kept_tree v client number query
+
+-- Update
+abbrev pub update_at : TreeView → ℕ → ℕ → ℕ → Entry → TreeResult
+update_at v p epoch n entry = update_row kept_tree v p epoch n entry
+
+-- the row of a message
+abbrev pub step_at : TreeView → Process → TreeMessage → TreeResult
+step_at v from m = server_step kept_tree v from m
+
+-- by this row a server grows
+abbrev pub GrowsBy : TreeView → TreeResult → Type 0
+GrowsBy v did = grows_by v did ≡ true
+
+-- the reply was put, where there is one, to the client of an entry with this number
+abbrev pub PutsAnswer : TreeOut → TreeOut → ℕ → ℕ → Option Reply → Type 0
+PutsAnswer old new client number reply =
+    (update : Update) → Puts old new (answer_posts (record { client = client; number = number; update = update }) reply)
+
+-- the entry was put to the successor, where there is one
+abbrev pub PutsUpdate : TreeOut → TreeOut → Option Neighbour → ℕ × Entry → Type 0
+PutsUpdate old new succ e = (neighbour : Neighbour) → succ ≡ Some neighbour → Puts old new (forward_post neighbour e ∷ [])
+
+-- the entries above a number, on their way to the successor
+abbrev pub posts_above : ℕ → List (ℕ × Entry) → Neighbour → List (Post (KeptState Tree))
+posts_above n sent succ = map (forward_post succ) (entries_above n sent)
+
+-- the state of a machine on its way to the successor
+abbrev pub snapshot_post : Neighbour → MachineView → Post (KeptState Tree)
+snapshot_post succ m = (Server succ.0, message.Snapshot succ.1 (transfer_of m))
