@@ -62,6 +62,10 @@ BecomesAt old new from m taken = new ≡ (taken_result taken old from m).0
 abbrev pub PutsAt : TreeOut → TreeOut → TreeView → Process → TreeMessage → Taken → Type 0
 PutsAt old new v from m taken = Puts old new (taken_result taken v from m).1
 
+-- a message was heard, or else this holds
+abbrev pub IsHeardOr : Type 0 → Taken → Type 0
+IsHeardOr fact taken = taken ≡ Unheard → fact
+
 -- a message may be unheard: it is a query that the server would answer
 abbrev pub MayBeUnheard : TreeView → Process → TreeMessage → Type 0
 MayBeUnheard v from m = may_be_unheard kept_tree v from m ≡ true

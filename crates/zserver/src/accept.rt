@@ -47,8 +47,7 @@ impl Replica {
         ensures puts { OnOk result
             (Puts out.old out.new (update_at self.old from epoch n entry).1) }
         ensures silent { OnErr result (out.new.posts ≡ out.old.posts) }
-        ensures grows { OnErr result
-            (GrowsBy self.old (update_at self.old from epoch n entry)) }
+        ensures grows { OnErr result (GrowsBy self.old (update_at self.old from epoch n entry)) }
     {
         match self.number_below(from, epoch) {
             Some(next) if next.number() == n.number() => self.accept(n, entry, out),

@@ -53,8 +53,7 @@ pub(crate) fn hand_over(
     succ: &Neighbour,
     out: &mut Out<Snapshot>,
 ) -> Result<(), Memory>
-    ensures puts { OnOk result
-        (Puts out.old out.new (snapshot_post succ.now machine.now ∷ [])) }
+    ensures puts { OnOk result (Puts out.old out.new (snapshot_post succ.now machine.now ∷ [])) }
     ensures silent { OnErr result (out.new.posts ≡ out.old.posts) }
 {
     let snapshot = Snapshot::of(alloc, machine)?;

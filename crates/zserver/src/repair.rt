@@ -24,8 +24,7 @@ impl Replica {
         out: &mut Out<Snapshot>,
     ) -> Result<(), Memory>
         ensures next { OnOk result (self.new ≡ (ack_row self.old from epoch n).0) }
-        ensures puts { OnOk result
-            (Puts out.old out.new (ack_row self.old from epoch n).1) }
+        ensures puts { OnOk result (Puts out.old out.new (ack_row self.old from epoch n).1) }
         ensures silent { OnErr result (out.new.posts ≡ out.old.posts) }
         ensures grows { OnErr result (GrowsBy self.old (ack_row self.old from epoch n)) }
     {
@@ -46,8 +45,7 @@ impl Replica {
         out: &mut Out<Snapshot>,
     ) -> Result<(), Memory>
         ensures next { OnOk result (self.new ≡ (new_pred_row self.old epoch pred).0) }
-        ensures puts { OnOk result
-            (Puts out.old out.new (new_pred_row self.old epoch pred).1) }
+        ensures puts { OnOk result (Puts out.old out.new (new_pred_row self.old epoch pred).1) }
         ensures silent { OnErr result (out.new.posts ≡ out.old.posts) }
         ensures grows { OnErr result (GrowsBy self.old (new_pred_row self.old epoch pred)) }
     {

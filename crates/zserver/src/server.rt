@@ -4,8 +4,8 @@ ghost use Rattle.std.specs.Prelude.{◌≡◌, false, None, Some, Err, IfOk, IfE
 ghost use Rattle.zprotocol.specs.server.Table.{is_retirement};
 ghost use Rattle.zprotocol.specs.server.View.{spare};
 ghost use Rattle.zserver.specs.declared.stopped.Stopped.{Stopped};
-ghost use Rattle.zserver.specs.declared.taken.Taken.TheVariants.{Unheard};
-ghost use Rattle.zserver.specs.Server.{first_view, running, BecomesAt, PutsAt, MayBeUnheard, IsStoppedAt};
+ghost use Rattle.zserver.specs.Server.{first_view, running, BecomesAt, PutsAt};
+ghost use Rattle.zserver.specs.Server.{IsHeardOr, MayBeUnheard, IsStoppedAt};
 
 use crate::replica::Replica;
 use crate::snapshot::Snapshot;
@@ -68,12 +68,10 @@ impl Server {
         message: Message<Snapshot>,
         out: &mut Out<Snapshot>,
     ) -> Result<Taken, Stopped>
-        ensures running { OnOk result
-            ((self.old.stopped ≡ None) × (self.new.stopped ≡ None)) }
+        ensures running { OnOk result ((self.old.stopped ≡ None) × (self.new.stopped ≡ None)) }
         ensures next { IfOk result (BecomesAt self.old.view self.new.view from message) }
         ensures puts { IfOk result (PutsAt out.old out.new self.old.view from message) }
-        ensures unheard { IfOk result
-            (λ taken. taken ≡ Unheard → MayBeUnheard self.old.view from message) }
+        ensures unheard { IfOk result (IsHeardOr (MayBeUnheard self.old.view from message)) }
         ensures serves { OnOk result (is_retirement from message ≡ false) }
         ensures stopped { IfErr result (λ why. self.new.stopped ≡ Some why) }
         ensures silent { OnErr result (out.new.posts ≡ out.old.posts) }

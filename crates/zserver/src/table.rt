@@ -5,8 +5,7 @@ ghost use Rattle.zprotocol.specs.declared.process.Process.TheVariants.{Client, S
 ghost use Rattle.zprotocol.specs.server.Machine.{kept_tree};
 ghost use Rattle.zprotocol.specs.server.Memory.{may_stop};
 ghost use Rattle.zprotocol.specs.Posts.{Puts};
-ghost use Rattle.zserver.specs.declared.taken.Taken.TheVariants.{Unheard};
-ghost use Rattle.zserver.specs.Server.{BecomesAt, PutsAt, MayBeUnheard};
+ghost use Rattle.zserver.specs.Server.{BecomesAt, PutsAt, IsHeardOr, MayBeUnheard};
 ghost use Rattle.zserver.specs.support.Replicas.{step_at};
 
 use crate::replica::Replica;
@@ -27,8 +26,7 @@ impl Replica {
     ) -> Result<Taken, Memory>
         ensures next { IfOk result (BecomesAt self.old self.new from message) }
         ensures puts { IfOk result (PutsAt out.old out.new self.old from message) }
-        ensures unheard { IfOk result
-            (λ taken. taken ≡ Unheard → MayBeUnheard self.old from message) }
+        ensures unheard { IfOk result (IsHeardOr (MayBeUnheard self.old from message)) }
         ensures silent { OnErr result (out.new.posts ≡ out.old.posts) }
         ensures grows { OnErr result (may_stop kept_tree self.old from message ≡ true) }
     {
@@ -55,8 +53,7 @@ impl Replica {
     ) -> Result<Taken, Memory>
         ensures next { IfOk result (BecomesAt self.old self.new (Client client) message) }
         ensures puts { IfOk result (PutsAt out.old out.new self.old (Client client) message) }
-        ensures unheard { IfOk result
-            (λ taken. taken ≡ Unheard → MayBeUnheard self.old (Client client) message) }
+        ensures unheard { IfOk result (IsHeardOr (MayBeUnheard self.old (Client client) message)) }
         ensures silent { OnErr result (out.new.posts ≡ out.old.posts) }
         ensures grows { OnErr result (may_stop kept_tree self.old (Client client) message ≡ true) }
     {
