@@ -1,8 +1,7 @@
 //! One link.
 
-ghost use Rattle.std.specs.Prelude.{◌≡◌, [], ◌∷◌, ◌++◌, List, MatchOption, OnErr, OnOk, not};
-ghost use Rattle.zlinks.specs.Places.{holds};
-ghost use Rattle.zprotocol.specs.declared.message.Message.{Message};
+ghost use Rattle.std.specs.Prelude.{◌≡◌, [], ◌∷◌, ◌++◌, IfNone, IfSome, OnErr, OnOk, not};
+ghost use Rattle.zlinks.specs.Places.{holds, ShowsFront};
 
 use std::alloc::Global;
 use std::collections::VecDeque;
@@ -58,16 +57,15 @@ impl<T: Drop> Link<T> {
 
     /// The front, which stays.
     pub(crate) fn front(&self) -> Option<&Message<T>>
-        ensures { MatchOption result (self.now ≡ []) (λ front. (rest : List (Message T))
-            × (self.now ≡ front.now ∷ rest)) }
+        ensures { ShowsFront self.now result }
     {
         self.queue.front()
     }
 
     /// Takes the front out.
     pub(crate) fn next(&mut self) -> Option<Message<T>>
-        ensures { MatchOption result ((self.old ≡ []) × (self.new ≡ []))
-            (λ front. self.old ≡ front ∷ self.new) }
+        ensures some { IfSome result (λ front. self.old ≡ front ∷ self.new) }
+        ensures none { IfNone result ((self.old ≡ []) × (self.new ≡ [])) }
     {
         self.queue.pop_front()
     }

@@ -1,11 +1,10 @@
 //! The links.
 
-ghost use Rattle.std.specs.Prelude.{◌≡◌, ◌<◌, ◌≤◌, true, false, [], ◌∷◌, ◌++◌, List, MatchOption, IfNone, IfOk, OnErr, OnOk, drop};
-ghost use Rattle.zprotocol.specs.declared.message.Message.{Message};
+ghost use Rattle.std.specs.Prelude.{◌≡◌, ◌≤◌, true, false, [], IfNone, IfOk, OnErr, OnOk};
 ghost use Rattle.zprotocol.specs.declared.process.Process.{Process};
 ghost use Rattle.zprotocol.specs.declared.limits.TheConstants.{PROCESSES};
-ghost use Rattle.zprotocol.specs.Places.{place_of};
-ghost use Rattle.zlinks.specs.Places.{links_of, with_link, without_receiver, is_silent, holds};
+ghost use Rattle.zlinks.specs.Places.{links_of, with_last, without_first, without_receiver, Keeps};
+ghost use Rattle.zlinks.specs.Places.{is_silent, holds, IsFrontOf, ShowsFront, Between, At};
 
 use crate::held::Held;
 use crate::row::Row;
@@ -56,10 +55,8 @@ impl<T: Drop> Links<T> {
     pub fn next_sender(&self, at: usize) -> usize
         ensures few { result ≤ PROCESSES }
         ensures ahead { at ≤ PROCESSES → at ≤ result }
-        ensures silent { (from : Process) → at ≤ place_of from → place_of from < result
-            → is_silent self.now from ≡ true }
-        ensures sends { (from : Process) → place_of from ≡ result → result < PROCESSES
-            → is_silent self.now from ≡ false }
+        ensures silent { Between at result (λ from. is_silent self.now from ≡ true) }
+        ensures sends { At result (λ from. is_silent self.now from ≡ false) }
     {
         for place in self.held.start(at)..self.held.end() {
             if !self.rows[place].is_silent() {
@@ -73,21 +70,17 @@ impl<T: Drop> Links<T> {
     pub fn next_receiver(&self, from: &Process, at: usize) -> usize
         ensures few { result ≤ PROCESSES }
         ensures ahead { at ≤ PROCESSES → at ≤ result }
-        ensures empty { (to : Process) → at ≤ place_of to → place_of to < result
-            → links_of self.now from.now to ≡ [] }
-        ensures held { (to : Process) → place_of to ≡ result → result < PROCESSES
-            → holds (links_of self.now from.now to) ≡ true }
+        ensures empty { Between at result (λ to. links_of self.now from.now to ≡ []) }
+        ensures held { At result (λ to. holds (links_of self.now from.now to) ≡ true) }
     {
         self.rows[from.place()].next_held(at)
     }
 
     /// Puts a message last on a link.
     pub fn put(&mut self, from: &Process, to: &Process, message: Message<T>) -> Result<(), Memory>
-        ensures put { OnOk result ((p q : Process) → links_of self.new p q
-            ≡ with_link (links_of self.old) from.now to.now
-            (links_of self.old from.now to.now ++ message ∷ []) p q) }
-        ensures same { OnErr result ((p q : Process) → links_of self.new p q
-            ≡ links_of self.old p q) }
+        ensures put { OnOk result
+            (Keeps self.new (with_last (links_of self.old) from.now to.now message)) }
+        ensures same { OnErr result (Keeps self.new (links_of self.old)) }
     {
         let sender = from.place();
         let row = &mut self.rows[sender];
@@ -101,21 +94,15 @@ impl<T: Drop> Links<T> {
 
     /// The front of a link, which stays.
     pub fn front(&self, from: &Process, to: &Process) -> Option<&Message<T>>
-        ensures { MatchOption result (links_of self.now from.now to.now ≡ [])
-            (λ front. (rest : List (Message T))
-            × (links_of self.now from.now to.now ≡ front.now ∷ rest)) }
+        ensures { ShowsFront (links_of self.now from.now to.now) result }
     {
         self.rows[from.place()].front(to.place())
     }
 
     /// Takes out the front of a link.
     pub fn next(&mut self, from: &Process, to: &Process) -> Option<Message<T>>
-        ensures rest { (p q : Process) → links_of self.new p q
-            ≡ with_link (links_of self.old) from.now to.now
-            (drop 1 (links_of self.old from.now to.now)) p q }
-        ensures front { MatchOption result (links_of self.old from.now to.now ≡ [])
-            (λ front. links_of self.old from.now to.now
-            ≡ front ∷ drop 1 (links_of self.old from.now to.now)) }
+        ensures rest { Keeps self.new (without_first (links_of self.old) from.now to.now) }
+        ensures front { IsFrontOf (links_of self.old from.now to.now) result }
         ensures same { IfNone result (self.new ≡ self.old) }
     {
         let row = &mut self.rows[from.place()];
@@ -128,8 +115,7 @@ impl<T: Drop> Links<T> {
 
     /// Drops all that is on links to a process.
     pub fn clear(&mut self, to: &Process)
-        ensures { (p q : Process) → links_of self.new p q
-            ≡ without_receiver (links_of self.old) to.now p q }
+        ensures { Keeps self.new (without_receiver (links_of self.old) to.now) }
     {
         let at = to.place();
         for from in 0..PROCESSES {

@@ -1,10 +1,8 @@
 //! The links from one process.
 
-ghost use Rattle.std.specs.Prelude.{◌≡◌, ◌+◌, ◌<◌, ◌≤◌, ℕ, true, [], ◌∷◌, ◌++◌, List, MatchOption, IfNone, IfOk, OnErr, OnOk, length, get_or, set, drop, not};
-ghost use Rattle.std.specs.List.{list_any};
-ghost use Rattle.zprotocol.specs.declared.message.Message.{Message};
+ghost use Rattle.std.specs.Prelude.{◌≡◌, ◌+◌, ◌<◌, ◌≤◌, ℕ, true, [], ◌∷◌, ◌++◌, IfNone, IfOk, OnErr, OnOk, length, get_or, set, drop, not};
 ghost use Rattle.zprotocol.specs.declared.limits.TheConstants.{PROCESSES};
-ghost use Rattle.zlinks.specs.Places.{holds};
+ghost use Rattle.zlinks.specs.Places.{holds, sends, IsFrontOf, ShowsFront};
 ghost use Rattle.zlinks.specs.support.Rows.{IsBlank, share};
 
 use crate::held::Held;
@@ -51,7 +49,7 @@ impl<T: Drop> Row<T> {
 
     /// Whether nothing is in it.
     pub(crate) fn is_silent(&self) -> bool
-        ensures { result ≡ not (list_any holds self.now) }
+        ensures { result ≡ not (sends self.now) }
     {
         self.held.is_none()
     }
@@ -91,8 +89,7 @@ impl<T: Drop> Row<T> {
     /// The front of the link to this place, which stays.
     pub(crate) fn front(&self, at: usize) -> Option<&Message<T>>
         requires { at < PROCESSES }
-        ensures { MatchOption result (get_or self.now at [] ≡ [])
-            (λ front. (rest : List (Message T)) × (get_or self.now at [] ≡ front.now ∷ rest)) }
+        ensures { ShowsFront (get_or self.now at []) result }
     {
         self.links[at].front()
     }
@@ -102,8 +99,7 @@ impl<T: Drop> Row<T> {
         requires { at < PROCESSES }
         ensures wide { length self.old ≡ PROCESSES }
         ensures rest { self.new ≡ set self.old at (drop 1 (get_or self.old at [])) }
-        ensures front { MatchOption result (get_or self.old at [] ≡ [])
-            (λ front. get_or self.old at [] ≡ front ∷ drop 1 (get_or self.old at [])) }
+        ensures front { IsFrontOf (get_or self.old at []) result }
         ensures same { IfNone result (self.new ≡ self.old) }
     {
         let link = &mut self.links[at];
@@ -119,8 +115,7 @@ impl<T: Drop> Row<T> {
         requires { at < PROCESSES }
         ensures wide { length self.old ≡ PROCESSES }
         ensures cleared { self.new ≡ set self.old at [] }
-        ensures silenced { share (list_any holds self.old)
-            ≡ share (list_any holds self.new) + share result }
+        ensures silenced { share (sends self.old) ≡ share (sends self.new) + share result }
     {
         let link = &mut self.links[at];
         if link.is_empty() {
