@@ -2,3 +2,4 @@ pub mod Results
 pub mod Rows
 pub mod Bounds
 pub mod Places
+pub mod Fronted

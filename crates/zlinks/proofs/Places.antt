@@ -4,6 +4,7 @@ use mathlib.Core.Bool.{true≢false}
 use Rattle.std.proofs.lemmas.List.{get_or_default, get_or_past, set-get_or}
 use Rattle.std.proofs.lemmas.Bool.Decides.{nat_tests}
 use Rattle.std.specs.Prelude.{not, nat_lt, ◌==◌}
+use Rattle.std.specs.List.{list_any}
 use Rattle.std.proofs.Math.Nat.{eq-or-lt_of_le}
 use Rattle.zworld_model.proofs.Visited.{at_least_one, at_most}
 use Rattle.zcalls.proofs.Among.{test}
@@ -14,21 +15,25 @@ use Rattle.zprotocol.specs.declared.process.Process.{Process}
 use Rattle.zprotocol.specs.declared.process.Process.TheVariants.{Master, Server, Client}
 use Rattle.zprotocol.specs.Places.{is_server, place_of}
 use Rattle.zworld_model.specs.Links.{is_same}
-use Rattle.zlinks.specs.Places.{links_of, with_link, without_receiver, is_silent}
-use Rattle.zlinks.specs.support.Rows.{ClearedTo}
-use Rattle.zlinks.proofs.Rows.{silent_at, not_true}
+use Rattle.zlinks.specs.Places.{links_of, with_link, without_receiver, is_silent, holds, IsEmpty}
+use Rattle.zlinks.specs.support.Rows.{ClearedTo, passing}
+use Rattle.zlinks.proofs.Rows.{fails_at, silent_at, not_true}
 
--- processes that are the same have one place
+-- processes that are the same, by their kinds and numbers
+pub same_process : (p q : Process) → is_same p q ≡ true → p ≡ q
+same_process Master Master same = refl
+same_process (Server s) (Server t) same = ap (λ n. Server n) (eqb-true s t same)
+same_process (Client c) (Client d) same = ap (λ n. Client n) (eqb-true c d same)
+same_process Master (Server t) same = absurd (true≢false (sym same))
+same_process Master (Client t) same = absurd (true≢false (sym same))
+same_process (Server s) Master same = absurd (true≢false (sym same))
+same_process (Server s) (Client t) same = absurd (true≢false (sym same))
+same_process (Client s) Master same = absurd (true≢false (sym same))
+same_process (Client s) (Server t) same = absurd (true≢false (sym same))
+
+-- so they have one place
 same_place : (p q : Process) → is_same p q ≡ true → place_of p ≡ place_of q
-same_place Master Master same = refl
-same_place (Server s) (Server t) same = ap (λ n. place_of (Server n)) (eqb-true s t same)
-same_place (Client c) (Client d) same = ap (λ n. place_of (Client n)) (eqb-true c d same)
-same_place Master (Server t) same = absurd (true≢false (sym same))
-same_place Master (Client t) same = absurd (true≢false (sym same))
-same_place (Server s) Master same = absurd (true≢false (sym same))
-same_place (Server s) (Client t) same = absurd (true≢false (sym same))
-same_place (Client s) Master same = absurd (true≢false (sym same))
-same_place (Client s) (Server t) same = absurd (true≢false (sym same))
+same_place p q same = ap place_of (same_process p q same)
 
 -- a server's place, and a client's
 pub server_place : (s : ℕ) → place_of (Server s) < PROCESSES → (place_of (Server s) ≡ s) × (s ≤ MAX_SERVERS) × (0 < s)
@@ -66,6 +71,16 @@ one_place (Client c) (Client d) few same =
 two_places : (p q : Process) → place_of q < PROCESSES → is_same p q ≡ false → place_of p ≡ place_of q → ⊥
 two_places p q few differ same = true≢false (sym (one_place p q few same) ∙ differ)
 
+-- whether a process is another is told by its place
+pub by_place : (p q : Process) (place : ℕ) → place ≡ place_of q → place < PROCESSES → (place_of p == place) ≡ is_same p q
+by_place p q place is small = elim (test (is_same p q)) [
+  | inl same ↦ eq-eqb (place_of p) place (same_place p q same ∙ sym is) ∙ sym same
+  | inr other ↦ elim (test (place_of p == place)) [
+    | inl here ↦ absurd (two_places p q (rw (← is) small) other (eqb-true (place_of p) place here ∙ is))
+    | inr not_here ↦ not_here ∙ sym other
+  ]
+]
+
 module _ {T : Type 0} where
   -- one queue is written
   pub links_of-set : (rows : List (List (List (Message T)))) (from to : Process) (i j : ℕ) (queue : List (Message T))
@@ -94,6 +109,12 @@ module _ {T : Type 0} where
       → links_of rows from to ≡ get_or (get_or rows i []) j []
   unfolding links_of
   links_at rows from to i j is js = rw (is, js) refl
+
+  -- rows of which none holds something
+  pub blank_rows : (rows : List (List (List (Message T)))) → passing (list_any holds) rows ≡ 0 → IsEmpty rows
+  unfolding links_of
+  blank_rows rows none from to =
+      silent_at (get_or rows (place_of from) []) (place_of to) (fails_at (list_any holds) rows (place_of from) [] refl none)
 
   -- nothing is on the links from a process that is silent
   pub silent_links : (rows : List (List (List (Message T)))) (from to : Process) → is_silent rows from ≡ true → links_of rows from to ≡ []

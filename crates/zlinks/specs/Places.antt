@@ -21,6 +21,10 @@ links_of rows from to = get_or (get_or rows (place_of from) []) (place_of to) []
 abbrev pub with_link : {T : Type 0} → Queues T → Process → Process → List (Message T) → Queues T
 with_link links from to queue p q = if is_same p from && is_same q to then queue else links p q
 
+-- nothing is on any link of the rows
+abbrev pub IsEmpty : {T : Type 0} → List (List (List (Message T))) → Type 0
+IsEmpty rows = (from to : Process) → links_of rows from to ≡ []
+
 -- links on one of which a message was put last
 abbrev pub with_last : {T : Type 0} → Queues T → Process → Process → Message T → Queues T
 with_last links from to message = with_link links from to (links from to ++ message ∷ [])

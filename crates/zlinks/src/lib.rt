@@ -5,9 +5,12 @@
 //! messages passes by the others. What a `Snapshot` hands over is a type parameter.
 #![tactic(auto)]
 
+mod grid;
 mod held;
 mod link;
 mod links;
+mod lone;
 mod row;
+mod slot;
 
 pub use links::Links;

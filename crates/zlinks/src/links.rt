@@ -6,32 +6,30 @@ ghost use Rattle.zprotocol.specs.declared.limits.TheConstants.{PROCESSES};
 ghost use Rattle.zlinks.specs.Places.{links_of, with_last, without_first, without_receiver, Keeps};
 ghost use Rattle.zlinks.specs.Places.{is_silent, holds, IsFrontOf, ShowsFront, Between, At};
 
-use crate::held::Held;
-use crate::row::Row;
+use crate::grid::Grid;
+use crate::lone::Lone;
+use crate::slot::{clear_to, front_on, lay, sooner_receiver, sooner_sender, take_on};
 use std::alloc::Global;
 use std::marker::Model;
 use zpath::Memory;
-use zprotocol::{Message, PROCESSES, Process};
+use zprotocol::{Message, Process};
 
-/// The links between all processes, and which processes have put something that is still on one.
+/// The links between all processes. Mostly one message is under way: what is put where nothing else is lies by itself, in
+/// front of its queue, and takes no queue.
 #[derive(Drop)]
 pub struct Links<T> {
-    rows: Vec<Row<T>>,
-    held: Held,
+    lone: Option<Lone<T>>,
+    grid: Grid<T>,
 }
 
 impl<T> Model for Links<T> {
-    ghost use Rattle.std.specs.Prelude.{List, []};
-    ghost use Rattle.std.specs.List.{list_any};
+    ghost use Rattle.std.specs.Prelude.{List};
     ghost use Rattle.zprotocol.specs.declared.message.Message.{Message};
-    ghost use Rattle.zlinks.specs.Places.{holds};
-    ghost use Rattle.zlinks.specs.support.Bounds.{Tells};
+    ghost use Rattle.zlinks.specs.support.Lone.{with_lone};
 
     ghost Value = { List (List (List (Message T))) };
 
-    ghost view = { λ links. links.rows.items };
-
-    ghost invariant = { λ links. Tells (list_any holds) [] links.rows.items links.held };
+    ghost view = { λ links. with_lone links.lone links.grid };
 }
 
 impl<T: Drop> Links<T> {
@@ -39,31 +37,21 @@ impl<T: Drop> Links<T> {
     pub fn new(alloc: Global) -> Result<Links<T>, Memory>
         ensures { IfOk result (λ links. (from to : Process) → links_of links from to ≡ []) }
     {
-        let mut rows = Vec::new(alloc);
-        for place in 0..PROCESSES {
-            rows.push(Row::new(alloc)?)?;
-        }
         Ok(Links {
-            rows,
-            held: Held::none(),
+            lone: None,
+            grid: Grid::new(alloc)?,
         })
     }
 
     /// The first place, from this one on, of a process of which something is under way; or `PROCESSES`, at once where
     /// nothing is. The master has place 0, then come the servers and the clients, each by number.
-    #[tactic(auto, unfolding(crate::specs::Places::is_silent))]
     pub fn next_sender(&self, at: usize) -> usize
         ensures few { result ≤ PROCESSES }
         ensures ahead { at ≤ PROCESSES → at ≤ result }
         ensures silent { Between at result (λ from. is_silent self.now from ≡ true) }
         ensures sends { At result (λ from. is_silent self.now from ≡ false) }
     {
-        for place in self.held.start(at)..self.held.end() {
-            if !self.rows[place].is_silent() {
-                return place;
-            }
-        }
-        PROCESSES
+        sooner_sender(&self.lone, at, self.grid.next_sender(at))
     }
 
     /// The first place, from this one on, of a process to which the first one has something under way; or `PROCESSES`.
@@ -73,7 +61,8 @@ impl<T: Drop> Links<T> {
         ensures empty { Between at result (λ to. links_of self.now from.now to ≡ []) }
         ensures held { At result (λ to. holds (links_of self.now from.now to) ≡ true) }
     {
-        self.rows[from.place()].next_held(at)
+        let next = self.grid.next_receiver(from, at);
+        sooner_receiver(&self.lone, from.place(), at, next)
     }
 
     /// Puts a message last on a link.
@@ -82,21 +71,26 @@ impl<T: Drop> Links<T> {
             (Keeps self.new (with_last (links_of self.old) from.now to.now message)) }
         ensures same { OnErr result (Keeps self.new (links_of self.old)) }
     {
-        let sender = from.place();
-        let row = &mut self.rows[sender];
-        let was_silent = row.is_silent();
-        row.put(to.place(), message)?;
-        if was_silent {
-            self.held.add(sender);
+        if self.lone.is_none() && self.grid.is_blank() {
+            let lone = Lone {
+                from: from.place(),
+                to: to.place(),
+                message,
+            };
+            lay(&mut self.lone, lone);
+            return Ok(());
         }
-        Ok(())
+        self.grid.put(from, to, message)
     }
 
     /// The front of a link, which stays.
     pub fn front(&self, from: &Process, to: &Process) -> Option<&Message<T>>
         ensures { ShowsFront (links_of self.now from.now to.now) result }
     {
-        self.rows[from.place()].front(to.place())
+        if let Some(front) = front_on(&self.lone, from.place(), to.place()) {
+            return Some(front);
+        }
+        self.grid.front(from, to)
     }
 
     /// Takes out the front of a link.
@@ -105,24 +99,17 @@ impl<T: Drop> Links<T> {
         ensures front { IsFrontOf (links_of self.old from.now to.now) result }
         ensures same { IfNone result (self.new ≡ self.old) }
     {
-        let row = &mut self.rows[from.place()];
-        let front = row.next(to.place())?;
-        if row.is_silent() {
-            self.held.remove();
+        if let Some(front) = take_on(&mut self.lone, from.place(), to.place()) {
+            return Some(front);
         }
-        Some(front)
+        self.grid.next(from, to)
     }
 
     /// Drops all that is on links to a process.
     pub fn clear(&mut self, to: &Process)
         ensures { Keeps self.new (without_receiver (links_of self.old) to.now) }
     {
-        let at = to.place();
-        for from in 0..PROCESSES {
-            let row = &mut self.rows[from];
-            if row.clear(at) {
-                self.held.remove();
-            }
-        }
+        clear_to(&mut self.lone, to.place());
+        self.grid.clear(to);
     }
 }

@@ -1,22 +1,27 @@
-use Rattle.std.proofs.Common.{◌≡◌, [], ap, sym, subst, ◌∙◌, arith, get_or, true}
-use Rattle.std.proofs.lemmas.List.{get_or_default}
-use Rattle.zprotocol.specs.Places.{place_of}
-use Rattle.zlinks.specs.Places.{holds, links_of}
+use Rattle.std.proofs.Common.{◌≤◌, ◌≡◌, true, [], sym, subst}
+use Rattle.zprotocol.specs.declared.limits.TheConstants.{PROCESSES}
+use Rattle.zlinks.specs.Places.{links_of, holds, Between, At}
+use Rattle.zlinks.proofs.Fronted.{receivers_few, receivers_ahead, empty_before, receiver_there}
 use Rattle.zlinks.proofs.links.Links.next_receiver.Goals as goal
 
+pub returns-clause-few : goal.returns-clause-few
+returns-clause-few g c =
+    subst (λ n. n ≤ PROCESSES) (sym c.sooner_receiver.ensures)
+    (receivers_few c.self.inside.grid c.args.self.now c.self.inside.lone c.place.result c.args.at c.next_receiver-next.result c.next_receiver-next.ensures.few)
+
+pub returns-clause-ahead : goal.returns-clause-ahead
+returns-clause-ahead g c few =
+    subst (λ n. c.args.at ≤ n) (sym c.sooner_receiver.ensures)
+    (receivers_ahead c.self.inside.grid c.args.self.now c.self.inside.lone c.place.result c.args.at c.next_receiver-next.result (c.next_receiver-next.ensures.ahead few))
+
 pub returns-clause-empty : goal.returns-clause-empty
-unfolding links_of
-returns-clause-empty g c to behind before =
-    let rows = c.self.inside.rows.items in
-    let row_is = c.index.ensures ∙ get_or_default rows c.place.result c.index.result.now [] (omega (arith, c.place.ensures.small, c.self.invariant.wide))
-    ∙ ap (λ i. get_or rows i []) c.place.ensures.place ∙ ap (λ rs. get_or rs (place_of c.args.from.now) []) c.self.view_is in
-    subst (λ row. get_or row (place_of to) [] ≡ []) row_is (c.next_held.ensures.empty (place_of to) behind before)
+returns-clause-empty g c =
+    subst (λ n. Between c.args.at n (λ to. links_of c.args.self.now c.args.from.now to ≡ [])) (sym c.sooner_receiver.ensures)
+    (empty_before c.self.inside.grid c.args.self.now c.self.inside.lone c.args.from.now c.place.result c.args.at c.next_receiver-next.result c.self.view_is
+    c.place.ensures.place c.next_receiver-next.ensures.empty)
 
 pub returns-clause-held : goal.returns-clause-held
-unfolding links_of
-returns-clause-held g c to here few =
-    let rows = c.self.inside.rows.items in
-    let row_is = c.index.ensures ∙ get_or_default rows c.place.result c.index.result.now [] (omega (arith, c.place.ensures.small, c.self.invariant.wide))
-    ∙ ap (λ i. get_or rows i []) c.place.ensures.place ∙ ap (λ rs. get_or rs (place_of c.args.from.now) []) c.self.view_is in
-    subst (λ row. holds (get_or row (place_of to) []) ≡ true) row_is
-    (subst (λ i. holds (get_or c.index.result.now i []) ≡ true) (sym here) (c.next_held.ensures.held few))
+returns-clause-held g c =
+    subst (λ n. At n (λ to. holds (links_of c.args.self.now c.args.from.now to) ≡ true)) (sym c.sooner_receiver.ensures)
+    (receiver_there c.self.inside.grid c.args.self.now c.self.inside.lone c.args.from.now c.place.result c.args.at c.next_receiver-next.result c.self.view_is
+    c.place.ensures.place c.next_receiver-next.ensures.held)

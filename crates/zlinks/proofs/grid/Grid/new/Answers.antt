@@ -5,7 +5,7 @@ use Rattle.zlinks.specs.Places.{holds, links_of}
 use Rattle.zlinks.specs.support.Bounds.{Tells}
 use Rattle.zlinks.proofs.Bounds.{tells_nothing}
 use Rattle.zlinks.proofs.Rows.{are_blank_more, are_blank_at, blank_rows_hold_nothing}
-use Rattle.zlinks.proofs.links.Links.new.Goals as goal
+use Rattle.zlinks.proofs.grid.Grid.new.Goals as goal
 
 pub loop-place-preserved : goal.loop-place-preserved
 loop-place-preserved g c =

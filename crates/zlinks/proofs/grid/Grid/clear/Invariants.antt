@@ -3,7 +3,7 @@ use Rattle.std.specs.List.{list_any}
 use Rattle.zlinks.specs.Places.{holds}
 use Rattle.zlinks.specs.support.Bounds.{Tells}
 use Rattle.zlinks.specs.support.Rows.{ClearedTo}
-use Rattle.zlinks.proofs.links.Links.clear.Given as goal
+use Rattle.zlinks.proofs.grid.Grid.clear.Given as goal
 
 abbrev pub invariant-loop-from : goal.invariant-loop-from
 invariant-loop-from g l =
