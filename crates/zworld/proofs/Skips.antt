@@ -11,9 +11,9 @@ use Rattle.zprotocol.specs.declared.process.Process.TheVariants.{Master, Server,
 use Rattle.zprotocol.specs.Places.{place_of, process_at}
 use Rattle.zprotocol.proofs.Places.{place_of-process_at}
 use Rattle.zworld_model.specs.Settle.{processes}
-use Rattle.zlinks.specs.Places.{links_of, is_silent}
+use Rattle.zlinks.specs.Places.{links_of, is_silent, Between}
 use Rattle.zlinks.proofs.Places.{silent_links, server_place}
-use Rattle.zworld.specs.Held.{MemberView, Held, member_at, owes, last_words, world_of}
+use Rattle.zworld.specs.Held.{MemberView, Held, SendsNothing, member_at, owes, last_words, world_of}
 use Rattle.zworld.specs.support.Settling.{Point, Tries, takes, takes_from}
 use Rattle.zworld.proofs.Tries.{silent_tries, empty_try, one_more_receiver, one_more_sender}
 
@@ -73,7 +73,7 @@ past xs n all = take_all (n + 1) xs (omega (arith, all)) ∙ sym (take_all n xs 
 module _ (clients : ℕ) (p : Point) where
   -- receivers to which nothing is under way
   pub skipped_receivers : (from : Process) (a : Point) (place k : ℕ) → place + k ≤ PROCESSES
-      → ((to : Process) → place ≤ place_of to → place_of to < place + k → (world_of p.held []).links from to ≡ [])
+      → Between place (place + k) (λ to. (world_of p.held []).links from to ≡ [])
       → Tries (takes_from (take place (processes clients)) from) a p → Tries (takes_from (take (place + k) (processes clients)) from) a p
   skipped_receivers from a place zero few none tries = subst (λ n. Tries (takes_from (take n (processes clients)) from) a p) (let same : place ≡ place + 0 = omega arith in same) tries
   skipped_receivers from a place (suc k) few none tries =
@@ -93,7 +93,7 @@ module _ (clients : ℕ) (p : Point) where
       ])
 
   pub receivers_to : (from : Process) (a : Point) (place next : ℕ) → place ≤ next → next ≤ PROCESSES
-      → ((to : Process) → place ≤ place_of to → place_of to < next → (world_of p.held []).links from to ≡ [])
+      → Between place next (λ to. (world_of p.held []).links from to ≡ [])
       → Tries (takes_from (take place (processes clients)) from) a p → Tries (takes_from (take next (processes clients)) from) a p
   receivers_to from a place next ahead few none tries =
       let far : place + (next - place) ≡ next = omega (arith, ahead) in
@@ -102,12 +102,12 @@ module _ (clients : ℕ) (p : Point) where
 
   -- and senders of which nothing is
   pub skipped_senders : (a : Point) (place k : ℕ) → place + k ≤ PROCESSES
-      → ((from to : Process) → place ≤ place_of from → place_of from < place + k → (world_of p.held []).links from to ≡ [])
+      → Between place (place + k) (SendsNothing (world_of p.held []))
       → Tries (takes (processes clients) (take place (processes clients))) a p → Tries (takes (processes clients) (take (place + k) (processes clients))) a p
   skipped_senders a place zero few none tries = subst (λ n. Tries (takes (processes clients) (take n (processes clients))) a p) (let same : place ≡ place + 0 = omega arith in same) tries
   skipped_senders a place (suc k) few none tries =
       let next : (place + k) + 1 ≡ place + suc k = omega arith in
-      let before = skipped_senders a place k (omega (arith, few)) (λ from to behind here. none from to behind (omega (arith, here))) tries in
+      let before = skipped_senders a place k (omega (arith, few)) (λ from behind here. none from behind (omega (arith, here))) tries in
       let from = process_at (place + k) in
       let at : place_of from ≡ place + k = place_of-process_at (place + k) (omega (arith, few)) in
       subst (λ n. Tries (takes (processes clients) (take n (processes clients))) a p) next
@@ -115,16 +115,16 @@ module _ (clients : ℕ) (p : Point) where
         | inl inside ↦
             let small : place + k < MAX_SERVERS + 1 + clients = grind (arith, nat_tests, inside) in
             one_more_sender (processes clients) (processes clients) (place + k) from a p p (omega (arith, small, length-processes clients)) (listed clients (place + k) small) before
-            (silent_tries from (processes clients) p (λ to. none from to (omega (arith, at)) (omega (arith, at))))
+            (silent_tries from (processes clients) p (none from (omega (arith, at)) (omega (arith, at))))
         | inr outside ↦
             let large : MAX_SERVERS + 1 + clients ≤ place + k = grind (arith, nat_tests, outside) in
             subst (λ ps. Tries (takes (processes clients) ps) a p) (sym (past (processes clients) (place + k) (omega (arith, large, length-processes clients)))) before
       ])
 
   pub senders_to : (a : Point) (place next : ℕ) → place ≤ next → next ≤ PROCESSES
-      → ((from to : Process) → place ≤ place_of from → place_of from < next → (world_of p.held []).links from to ≡ [])
+      → Between place next (SendsNothing (world_of p.held []))
       → Tries (takes (processes clients) (take place (processes clients))) a p → Tries (takes (processes clients) (take next (processes clients))) a p
   senders_to a place next ahead few none tries =
       let far : place + (next - place) ≡ next = omega (arith, ahead) in
       subst (λ n. Tries (takes (processes clients) (take n (processes clients))) a p) far
-      (skipped_senders a place (next - place) (omega (arith, far, few)) (λ from to behind before. none from to behind (omega (arith, before, far))) tries)
+      (skipped_senders a place (next - place) (omega (arith, far, few)) (λ from behind before. none from behind (omega (arith, before, far))) tries)

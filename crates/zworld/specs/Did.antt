@@ -33,3 +33,7 @@ IsCause old (event.Join server) why = ⊥
 IsCause old (event.Retire server) (cause.Retire fault) = retire_fault old.master server ≡ Some fault
 IsCause old (event.Retire server) why = ⊥
 IsCause old event why = why ≡ cause.Nothing
+
+-- where an event didn't happen, this was why
+abbrev pub HasCause : Held → Event → Did → Type 0
+HasCause old event did = (why : IdleCause) → did ≡ became.Idle why → IsCause old event why

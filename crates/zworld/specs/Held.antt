@@ -1,10 +1,11 @@
 -- What the program holds of a world, and the world that it stands for.
 -- Van Renesse and Schneider, "Chain Replication for Supporting High Throughput and Availability" (OSDI 2004), section 3:
 -- a server that has failed is never heard of again, but for what it had put.
-use Rattle.std.specs.Prelude.{ℕ, zero, suc, Bool, true, false, Option, None, Some, is_none, List, [], ◌∷◌, ◌++◌, get_or, if◌then◌else◌}
+use Rattle.std.specs.Prelude.{◌≡◌, ℕ, zero, suc, Bool, true, false, Option, None, Some, is_none, List, [], ◌∷◌, ◌++◌, get_or, if◌then◌else◌}
 use Rattle.ztree.specs.Tree.{Tree}
 use Rattle.zcalls.specs.Kept.{KeptState}
 use Rattle.zprotocol.specs.declared.message.Message.TheVariants as message
+use Rattle.zprotocol.specs.declared.process.Process.{Process}
 use Rattle.zprotocol.specs.declared.process.Process.TheVariants.{Master, Server}
 use Rattle.zprotocol.specs.server.View.{ServerView, MessageOf, spare}
 use Rattle.zprotocol.specs.client.View.{ClientView}
@@ -27,9 +28,13 @@ pub record Held : Type 0 where
   pub master : MasterView
   pub links : List (List (List (MessageOf (KeptState Tree))))
 
+-- a server that goes on, with this view
+abbrev pub running : ServerView (KeptState Tree) → MemberView
+running view = record { view = Some view; owes_gone = false }
+
 -- a server that takes no part
 abbrev pub bystander : MemberView
-bystander = record { view = Some spare; owes_gone = false }
+bystander = running spare
 
 -- a server that has just failed
 abbrev pub gone_member : MemberView
@@ -71,3 +76,7 @@ world_of held history = record {
   links = λ from to. links_of held.links from to ++ last_words held.members from to;
   history = history;
 }
+
+-- a process put nothing that is still under way
+abbrev pub SendsNothing : World (KeptState Tree) → Process → Type 0
+SendsNothing w from = (to : Process) → w.links from to ≡ []

@@ -30,6 +30,10 @@ pub record WorldView : Type 0 where
   pub has_forgotten : Bool
   pub is_broken : Bool
 
+-- memory was never refused
+abbrev pub IsSound : WorldView → Type 0
+IsSound w = w.is_broken ≡ false
+
 -- the world of the definition that it stands for
 abbrev pub world_in : WorldView → World (KeptState Tree)
 world_in w = world_of w.held w.history
@@ -48,11 +52,19 @@ pub record HasHappened (v : World (KeptState Tree)) (event : Event) (did : Did) 
   -- it is the event of the definition, read by that outcome
   pub leads : IsAlike (happens kept_tree v (read kept_tree v event (outcome_of did))) w
 
+-- a world did an event, and this became of it
+abbrev pub HasDone : WorldView → WorldView → Event → Did → Type 0
+HasDone old new event did = HasHappened (world_in old) event did (world_in new)
+
 -- an event can want memory: it is enabled, and it is neither a failure nor the loss of a request
 abbrev pub can_want_memory : World (KeptState Tree) → Event → Bool
 can_want_memory w (Fail s) = false
 can_want_memory w (Ignore from to) = false
 can_want_memory w event = is_enabled w event
+
+-- so a world can
+abbrev pub CanWantMemory : WorldView → Event → Type 0
+CanWantMemory w event = can_want_memory (world_in w) event ≡ true
 
 -- events led from one world to another, by some reading of them
 abbrev pub HasRun : World (KeptState Tree) → List Event → World (KeptState Tree) → Type 0
@@ -73,6 +85,10 @@ Ends did settled later w = (settled ≡ settling_end did) × (did.outcomes ≡ l
 abbrev pub HasSettled : World (KeptState Tree) → ℕ → Settled → World (KeptState Tree) → Type 0
 HasSettled v limit settled w =
     (outcomes : List Outcome) × ((later : List Outcome) → Ends (settle kept_tree v limit (outcomes ++ later)) settled later w)
+
+-- a world settled, with at most so many events, and ended so
+abbrev pub IsSettled : WorldView → WorldView → ℕ → Settled → Type 0
+IsSettled old new limit settled = HasSettled (world_in old) limit settled (world_in new)
 
 -- no message can be taken from any link
 abbrev pub IsAtRest : World (KeptState Tree) → Type 0

@@ -1,14 +1,10 @@
 //! Calls that begin, and calls that are sent once more.
 
-ghost use Rattle.std.specs.Prelude.{◌≡◌, ◌<◌, true, [], ◌∷◌, IfNone, IfOk, IfSome, OnErr, OnOk};
+ghost use Rattle.std.specs.Prelude.{◌≡◌, ◌<◌, [], IfNone, IfOk, IfSome, OnErr, OnOk};
 ghost use Rattle.std.specs.Vec.{vec_len, vec_capacity};
 ghost use Rattle.zcalls.specs.declared.call.Call.{Call};
 ghost use Rattle.zworld_model.specs.declared.event.Event.TheVariants.{Begin, Retry};
-ghost use Rattle.zworld_model.specs.declared.history.CallEvent.TheVariants as call_event;
-ghost use Rattle.zworld_model.specs.Events.{is_enabled};
-ghost use Rattle.zworld.specs.declared.did.Did.TheVariants.{Done, Idle};
-ghost use Rattle.zworld.specs.Held.{world_of};
-ghost use Rattle.zworld.specs.support.Stepped.{GoesBy, HasStepped};
+ghost use Rattle.zworld.specs.support.Stepped.{CanHappen, Goes, HasBegun, HasStepped, IsIdle};
 
 use crate::did::{Did, IdleCause};
 use crate::post::post;
@@ -32,10 +28,9 @@ fn copy_to_tell(call: &Call, alloc: Global, seen: &mut Vec<CallEvent>) -> Result
 impl Processes {
     /// Why a client can't begin a call now.
     pub(crate) fn begin_cause(&self, client: ClientId) -> Option<IdleCause>
-        ensures can { IfNone result ((call : Call)
-            → is_enabled (world_of self.now []) (Begin client call) ≡ true) }
-        ensures cannot { IfSome result (λ why. (call : Call)
-            → HasStepped self.now self.now (Begin client call) (Idle why) []) }
+        ensures can { IfNone result ((call : Call) → CanHappen self.now (Begin client call)) }
+        ensures cannot { IfSome result
+            (λ why. (call : Call) → IsIdle self.now (Begin client call) why) }
     {
         if client.number() >= self.master.clients() {
             return Some(IdleCause::Nothing);
@@ -55,10 +50,9 @@ impl Processes {
         seen: &mut Vec<CallEvent>,
     ) -> Result<Did, Memory>
         ensures stepped { IfOk result
-            (GoesBy self.old self.new (Begin client call) seen.old.items seen.new.items) }
+            (Goes self.old self.new (Begin client call) seen.old seen.new) }
         ensures silent { OnErr result (seen.new.items ≡ seen.old.items) }
-        ensures needed { OnErr result
-            (is_enabled (world_of self.old []) (Begin client call) ≡ true) }
+        ensures needed { OnErr result (CanHappen self.old (Begin client call)) }
     {
         if let Some(cause) = self.begin_cause(client) {
             drop(call);
@@ -85,9 +79,8 @@ impl Processes {
 
     // A client that can begin a call begins it: the number of the call.
     fn send_first(&mut self, client: ClientId, call: Call) -> Result<CallNumber, Memory>
-        requires { is_enabled (world_of self.old []) (Begin client call) ≡ true }
-        ensures { IfOk result (λ number. HasStepped self.old self.new (Begin client call) Done
-            (call_event.Begin client number call ∷ [])) }
+        requires { CanHappen self.old (Begin client call) }
+        ensures { IfOk result (HasBegun self.old self.new client call) }
     {
         let core = &mut self.clients[client.number() as usize];
         match core.begin(call, &mut self.out) {
@@ -111,7 +104,7 @@ impl Processes {
     pub(crate) fn retry(&mut self, client: ClientId) -> Result<Did, Memory>
         ensures stepped { IfOk result
             (λ did. HasStepped self.old self.new (Retry client) did []) }
-        ensures needed { OnErr result (is_enabled (world_of self.old []) (Retry client) ≡ true) }
+        ensures needed { OnErr result (CanHappen self.old (Retry client)) }
     {
         let core = &self.clients[client.number() as usize];
         if core.outstanding().is_none() {

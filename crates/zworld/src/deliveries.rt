@@ -1,16 +1,16 @@
 //! Messages that are delivered, and requests that are lost.
 
-ghost use Rattle.std.specs.Prelude.{◌≡◌, ◌≤◌, ◌+◌, ◌++◌, [], true, false, IfOk, OnErr, OnOk, is_some};
+ghost use Rattle.std.specs.Prelude.{◌≡◌, ◌≤◌, ◌+◌, ◌++◌, [], false, IfOk, OnErr, OnOk, is_some};
 ghost use Rattle.zlinks.specs.support.Rows.{share};
 ghost use Rattle.zworld_model.specs.declared.event.Event.TheVariants.{Take, Ignore};
-ghost use Rattle.zprotocol.specs.declared.process.Process.TheVariants.{Master, Server, Client};
-ghost use Rattle.zworld_model.specs.History.{History};
-ghost use Rattle.zworld.specs.support.Stepped.{GoesBy, HasStepped};
-ghost use Rattle.zworld_model.specs.Events.{front_is, is_enabled, is_request};
+ghost use Rattle.zprotocol.specs.declared.process.Process.TheVariants.{Master, Server};
+ghost use Rattle.zworld.specs.support.Stepped.{CanHappen, Goes, HasStepped};
+ghost use Rattle.zworld_model.specs.Events.{front_is, is_request};
 ghost use Rattle.zworld.specs.declared.did.Did.TheVariants.{Done};
 ghost use Rattle.zworld.specs.Held.{world_of};
 ghost use Rattle.zworld.specs.support.Posting.{is_lost};
-ghost use Rattle.zworld.specs.support.Fronts.{HasPopped, IsGiven, IsGivenToServer, did_of, answered_number, answers_of};
+ghost use Rattle.zworld.specs.support.Fronts.{HasHeard, HasPopped, IsGiven, IsGivenToServer};
+ghost use Rattle.zworld.specs.support.Fronts.{did_of, answered_number, answers_of};
 
 use crate::did::{Did, IdleCause};
 use crate::post::{is_lost, post};
@@ -31,9 +31,9 @@ impl Processes {
         seen: &mut Vec<CallEvent>,
     ) -> Result<Did, Memory>
         ensures stepped { IfOk result
-            (GoesBy self.old self.new (Take from to) seen.old.items seen.new.items) }
+            (Goes self.old self.new (Take from to) seen.old seen.new) }
         ensures silent { OnErr result (seen.new.items ≡ seen.old.items) }
-        ensures needed { OnErr result (is_enabled (world_of self.old []) (Take from to) ≡ true) }
+        ensures needed { OnErr result (CanHappen self.old (Take from to)) }
     {
         if is_lost(&self.members, &to) {
             return Ok(Did::Idle(IdleCause::Nothing));
@@ -126,9 +126,8 @@ impl Processes {
         seen: &mut Vec<CallEvent>,
     ) -> Result<Did, Memory>
         ensures done { IfOk result (λ did. did ≡ Done) }
-        ensures given { OnOk result ((told : History)
-            × (seen.new.items ≡ seen.old.items ++ told)
-            × IsGiven self.old from (Client client) message told self.new) }
+        ensures given { OnOk result
+            (HasHeard self.old self.new from client message seen.old seen.new) }
         ensures silent { OnErr result (seen.new.items ≡ seen.old.items) }
     {
         let number = answered_number(&message);

@@ -1,10 +1,8 @@
 //! Servers that fail, and servers that join.
 
-ghost use Rattle.std.specs.Prelude.{◌≡◌, true, [], IfOk, OnErr};
+ghost use Rattle.std.specs.Prelude.{[], IfOk, OnErr};
 ghost use Rattle.zworld_model.specs.declared.event.Event.TheVariants.{Fail, Join};
-ghost use Rattle.zworld_model.specs.Events.{is_enabled};
-ghost use Rattle.zworld.specs.Held.{world_of};
-ghost use Rattle.zworld.specs.support.Stepped.{HasStepped};
+ghost use Rattle.zworld.specs.support.Stepped.{CanHappen, HasStepped};
 
 use crate::did::{Did, IdleCause};
 use crate::post::post;
@@ -32,7 +30,7 @@ impl Processes {
     pub(crate) fn join(&mut self, server: ServerId) -> Result<Did, Memory>
         ensures stepped { IfOk result
             (λ did. HasStepped self.old self.new (Join server) did []) }
-        ensures needed { OnErr result (is_enabled (world_of self.old []) (Join server) ≡ true) }
+        ensures needed { OnErr result (CanHappen self.old (Join server)) }
     {
         if let Some(fault) = self.master.join_fault(server) {
             return Ok(Did::Idle(IdleCause::Join(fault)));

@@ -1,13 +1,9 @@
 //! One of the servers.
 
-ghost use Rattle.std.specs.Prelude.{◌≡◌, true, false, None, Some, IfOk};
-ghost use Rattle.ztree.specs.Tree.{Tree};
-ghost use Rattle.zcalls.specs.Kept.{KeptState};
-ghost use Rattle.zprotocol.specs.server.Machine.{kept_tree};
-ghost use Rattle.zprotocol.specs.server.View.{ServerView, member};
-ghost use Rattle.zserver.specs.Server.{first_neighbour};
+ghost use Rattle.std.specs.Prelude.{◌≡◌, true, false, None, IfOk};
 ghost use Rattle.zworld.specs.Held.{bystander, gone_member, owes, is_gone};
-ghost use Rattle.zworld.specs.support.Members.{HasTaken};
+ghost use Rattle.zworld.specs.support.Members.{Takes};
+ghost use Rattle.zworld.specs.support.Opening.{first_member};
 
 use crate::life::Life;
 use std::alloc::Global;
@@ -43,10 +39,7 @@ impl Member {
         pred: Option<ServerId>,
         succ: Option<ServerId>,
     ) -> Result<Member, Memory>
-        ensures { IfOk result (λ m. m ≡ record {
-          view = Some (member kept_tree (first_neighbour pred) (first_neighbour succ));
-          owes_gone = false;
-        }) }
+        ensures { IfOk result (λ m. m ≡ first_member pred succ) }
     {
         let server = Server::first(alloc, pred, succ)?;
         Ok(Member {
@@ -111,8 +104,7 @@ impl Member {
         message: Message<Snapshot>,
         out: &mut Out<Snapshot>,
     ) -> Result<Taken, Stopped>
-        ensures { (view : ServerView (KeptState Tree)) → self.old.view ≡ Some view
-            → HasTaken self.old view from message result self.new out.old.posts out.new.posts }
+        ensures { Takes self.old self.new from message result out.old.posts out.new.posts }
     {
         let Life::Running(server) = &mut self.life else {
             drop(message);

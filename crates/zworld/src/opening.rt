@@ -1,14 +1,13 @@
 //! The opening.
 
-ghost use Rattle.std.specs.Prelude.{◌≡◌, ◌<◌, ◌≤◌, ◌+◌, [], IfOk, map};
-ghost use Rattle.std.specs.List.{range_with_len};
+ghost use Rattle.std.specs.Prelude.{◌≡◌, ◌<◌, ◌≤◌, ◌+◌, [], IfOk};
 ghost use Rattle.ztree.specs.declared.limits.TheConstants.{MAX_CLIENTS};
 ghost use Rattle.zprotocol.specs.client.View.{opening_client};
 ghost use Rattle.zprotocol.specs.declared.limits.TheConstants.{MAX_SERVERS};
 ghost use Rattle.zprotocol.specs.server.Machine.{kept_tree};
 ghost use Rattle.zworld_model.specs.World.{opening_world};
 ghost use Rattle.zworld.specs.Held.{world_of};
-ghost use Rattle.zworld.specs.support.Opening.{opening_member};
+ghost use Rattle.zworld.specs.support.Opening.{opening_member, opening_members, opening_clients};
 
 use crate::member::Member;
 use crate::processes::Processes;
@@ -45,8 +44,7 @@ impl Processes {
 // All servers, of which those up to this one are the chain.
 fn opening_members(alloc: Global, last: u8) -> Result<Vec<Member>, Memory>
     requires { last ≤ MAX_SERVERS }
-    ensures { IfOk result (λ members. members.items
-        ≡ map (opening_member last) (range_with_len 1 MAX_SERVERS)) }
+    ensures { IfOk result (λ members. members.items ≡ opening_members last) }
 {
     let mut members = Vec::new(alloc);
     for number in 1..MAX_SERVERS + 1 {
@@ -75,8 +73,7 @@ fn opening_server(alloc: Global, number: u8, last: u8) -> Result<Member, Memory>
 
 // All clients, of whom there are so many.
 fn opening_clients(alloc: Global, last: ServerId, count: u8) -> Result<Vec<ClientCore>, Memory>
-    ensures { IfOk result (λ clients. clients.items
-        ≡ map (opening_client last count) (range_with_len 0 MAX_CLIENTS)) }
+    ensures { IfOk result (λ clients. clients.items ≡ opening_clients last count) }
 {
     let mut clients = Vec::new(alloc);
     for number in 0..MAX_CLIENTS {

@@ -4,7 +4,7 @@ ghost use Rattle.std.specs.Prelude.{◌≡◌, ◌≤◌, [], true, IfOk, OnErr}
 ghost use Rattle.ztree.specs.declared.limits.TheConstants.{MAX_CLIENTS};
 ghost use Rattle.zworld.specs.Held.{world_of};
 ghost use Rattle.zworld.specs.Steps.{can_want_memory};
-ghost use Rattle.zworld.specs.support.Stepped.{GoesBy};
+ghost use Rattle.zworld.specs.support.Stepped.{Goes};
 
 use crate::did::Did;
 use crate::member::Member;
@@ -63,7 +63,7 @@ impl Processes {
 
     /// One event, the one dispatch of them. What callers see at it is told behind what they saw before.
     pub(crate) fn step(&mut self, event: Event, seen: &mut Vec<CallEvent>) -> Result<Did, Memory>
-        ensures goes { IfOk result (GoesBy self.old self.new event seen.old.items seen.new.items) }
+        ensures goes { IfOk result (Goes self.old self.new event seen.old seen.new) }
         ensures stays { OnErr result (seen.new.items ≡ seen.old.items) }
         ensures needed { OnErr result (can_want_memory (world_of self.old []) event ≡ true) }
     {

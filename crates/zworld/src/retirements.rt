@@ -1,10 +1,8 @@
 //! Members that are ordered to leave.
 
-ghost use Rattle.std.specs.Prelude.{◌≡◌, true, [], IfOk, OnErr};
+ghost use Rattle.std.specs.Prelude.{[], IfOk, OnErr};
 ghost use Rattle.zworld_model.specs.declared.event.Event.TheVariants.{Retire};
-ghost use Rattle.zworld_model.specs.Events.{is_enabled};
-ghost use Rattle.zworld.specs.Held.{world_of};
-ghost use Rattle.zworld.specs.support.Stepped.{HasStepped};
+ghost use Rattle.zworld.specs.support.Stepped.{CanHappen, HasStepped};
 
 use crate::did::{Did, IdleCause};
 use crate::post::post;
@@ -18,8 +16,7 @@ impl Processes {
     pub(crate) fn retire(&mut self, server: ServerId) -> Result<Did, Memory>
         ensures stepped { IfOk result
             (λ did. HasStepped self.old self.new (Retire server) did []) }
-        ensures needed { OnErr result
-            (is_enabled (world_of self.old []) (Retire server) ≡ true) }
+        ensures needed { OnErr result (CanHappen self.old (Retire server)) }
     {
         if let Some(fault) = self.master.retire_fault(server) {
             return Ok(Did::Idle(IdleCause::Retire(fault)));

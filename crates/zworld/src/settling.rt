@@ -1,20 +1,17 @@
 //! Settling: passes over all links, one retry of each client that waits, and passes again.
 
-ghost use Rattle.std.specs.Prelude.{◌≡◌, ◌==◌, ◌≤◌, ◌<◌, ◌-◌, ◌∷◌, ◌++◌, [], List, length, IfOk, OnErr, if◌then◌else◌};
+ghost use Rattle.std.specs.Prelude.{◌≡◌, ◌==◌, ◌≤◌, ◌<◌, ◌-◌, ◌∷◌, [], length, IfOk, OnErr, if◌then◌else◌};
 ghost use Rattle.ztree.specs.declared.limits.TheConstants.{MAX_CLIENTS};
-ghost use Rattle.zprotocol.specs.server.Machine.{kept_tree};
-ghost use Rattle.zprotocol.specs.declared.process.Process.{Process};
 ghost use Rattle.zprotocol.specs.declared.limits.TheConstants.{PROCESSES};
-ghost use Rattle.zprotocol.specs.Places.{place_of, process_at};
+ghost use Rattle.zprotocol.specs.Places.{process_at};
+ghost use Rattle.zlinks.specs.Places.{Between};
 ghost use Rattle.zworld_model.specs.declared.event.Event.TheVariants.{Retry, Take};
-ghost use Rattle.zworld_model.specs.declared.outcome.Outcome.{Outcome};
 ghost use Rattle.zworld_model.specs.declared.settled.Settled.TheVariants.{Limit, Quiet};
-ghost use Rattle.zworld_model.specs.Settle.{processes, deliveries, passes, retry_events};
-ghost use Rattle.zworld_model.specs.History.{History};
-ghost use Rattle.zworld.specs.Held.{world_of};
+ghost use Rattle.zworld_model.specs.Settle.{processes, deliveries, retry_events};
+ghost use Rattle.zworld.specs.Held.{SendsNothing, world_of};
 ghost use Rattle.zworld.specs.Did.{is_idle};
 ghost use Rattle.zworld.specs.support.Stepped.{Settles};
-ghost use Rattle.zworld.specs.support.Settling.{Does, GoOn, Tries, takes_from};
+ghost use Rattle.zworld.specs.support.Settling.{GoOn, PassesBy, TakesBy, TriesBy, TriesUnseen};
 
 use crate::did::Did;
 use crate::processes::Processes;
@@ -50,9 +47,8 @@ impl Processes {
         seen: &mut Vec<CallEvent>,
     ) -> Result<usize, Memory>
         requires { clients ≤ MAX_CLIENTS }
-        ensures done { IfOk result (λ after. Does (passes kept_tree (deliveries clients) limit)
-            (record { held = self.old; left = left; seen = seen.old.items })
-            (record { held = self.new; left = after; seen = seen.new.items })) }
+        ensures done { IfOk result
+            (PassesBy clients limit self.old self.new seen.old seen.new left) }
         ensures partly { OnErr result (GoOn seen.new.items seen.old.items) }
     {
         for pass in 0..limit {
@@ -74,9 +70,8 @@ impl Processes {
         seen: &mut Vec<CallEvent>,
     ) -> Result<usize, Memory>
         requires { clients ≤ MAX_CLIENTS }
-        ensures done { IfOk result (λ after. Tries (deliveries clients)
-            (record { held = self.old; left = left; seen = seen.old.items })
-            (record { held = self.new; left = after; seen = seen.new.items })) }
+        ensures done { IfOk result
+            (TriesBy (deliveries clients) self.old self.new seen.old seen.new left) }
         ensures partly { OnErr result (GoOn seen.new.items seen.old.items) }
     {
         let mut place = self.next_sender(0);
@@ -96,9 +91,8 @@ impl Processes {
         seen: &mut Vec<CallEvent>,
     ) -> Result<usize, Memory>
         requires { clients ≤ MAX_CLIENTS }
-        ensures done { IfOk result (λ after. Tries (takes_from (processes clients) from)
-            (record { held = self.old; left = left; seen = seen.old.items })
-            (record { held = self.new; left = after; seen = seen.new.items })) }
+        ensures done { IfOk result
+            (TakesBy from clients self.old self.new seen.old seen.new left) }
         ensures partly { OnErr result (GoOn seen.new.items seen.old.items) }
     {
         let mut place = self.next_receiver(&from, 0);
@@ -117,9 +111,8 @@ impl Processes {
         left: usize,
         seen: &mut Vec<CallEvent>,
     ) -> Result<usize, Memory>
-        ensures done { IfOk result (λ after. Tries (Take from to ∷ [])
-            (record { held = self.old; left = left; seen = seen.old.items })
-            (record { held = self.new; left = after; seen = seen.new.items })) }
+        ensures done { IfOk result
+            (TriesBy (Take from to ∷ []) self.old self.new seen.old seen.new left) }
         ensures partly { OnErr result (GoOn seen.new.items seen.old.items) }
     {
         if left == 0 {
@@ -132,9 +125,7 @@ impl Processes {
     // Each client that waits sends its call once more, and how many events are left.
     fn retry_all(&mut self, clients: u8, mut left: usize) -> Result<usize, Memory>
         requires { clients ≤ MAX_CLIENTS }
-        ensures { IfOk result (λ after. (seen : History) → Tries (retry_events clients)
-            (record { held = self.old; left = left; seen = seen })
-            (record { held = self.new; left = after; seen = seen })) }
+        ensures { IfOk result (TriesUnseen (retry_events clients) self.old self.new left) }
     {
         if self.waiting == 0 {
             return Ok(left);
@@ -150,9 +141,7 @@ impl Processes {
 
     // A client that waits sends its call once more, if one more event may be done, and how many are left.
     fn try_retry(&mut self, client: ClientId, left: usize) -> Result<usize, Memory>
-        ensures { IfOk result (λ after. (seen : History) → Tries (Retry client ∷ [])
-            (record { held = self.old; left = left; seen = seen })
-            (record { held = self.new; left = after; seen = seen })) }
+        ensures { IfOk result (TriesUnseen (Retry client ∷ []) self.old self.new left) }
     {
         if left == 0 {
             return Ok(0);
@@ -165,8 +154,7 @@ impl Processes {
     fn next_sender(&self, at: usize) -> usize
         ensures few { result ≤ PROCESSES }
         ensures ahead { at ≤ PROCESSES → at ≤ result }
-        ensures silent { (from to : Process) → at ≤ place_of from → place_of from < result
-            → (world_of self.now []).links from to ≡ [] }
+        ensures silent { Between at result (SendsNothing (world_of self.now [])) }
     {
         let next = self.links.next_sender(at);
         if self.owing == 0 {
@@ -185,8 +173,8 @@ impl Processes {
     fn next_receiver(&self, from: &Process, at: usize) -> usize
         ensures few { result ≤ PROCESSES }
         ensures ahead { at ≤ PROCESSES → at ≤ result }
-        ensures empty { (to : Process) → at ≤ place_of to → place_of to < result
-            → (world_of self.now []).links from.now to ≡ [] }
+        ensures empty { Between at result
+            (λ to. (world_of self.now []).links from.now to ≡ []) }
     {
         if self.owing == 0 {
             return self.links.next_receiver(from, at);

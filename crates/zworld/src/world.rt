@@ -6,11 +6,9 @@ ghost use Rattle.zprotocol.specs.server.Machine.{kept_tree};
 ghost use Rattle.zworld_model.specs.PlainTree.{IsExplained};
 ghost use Rattle.zworld_model.specs.World.{opening_world};
 ghost use Rattle.zworld_model.specs.declared.settled.Settled.TheVariants.{Quiet};
-ghost use Rattle.zworld.specs.declared.did.Did.TheVariants.{Idle};
-ghost use Rattle.zworld.specs.declared.did.IdleCause.{IdleCause};
-ghost use Rattle.zworld.specs.Did.{IsCause, is_idle};
-ghost use Rattle.zworld.specs.Steps.{HasBegunToRun, HasHappened, HasRun, HasSettled, IsAtRest};
-ghost use Rattle.zworld.specs.Steps.{IsExplainedWithPast, can_want_memory, world_in};
+ghost use Rattle.zworld.specs.Did.{HasCause, is_idle};
+ghost use Rattle.zworld.specs.Steps.{HasBegunToRun, HasDone, HasRun, IsAtRest, IsExplainedWithPast, IsSettled};
+ghost use Rattle.zworld.specs.Steps.{CanWantMemory, IsSound, world_in};
 
 use crate::did::Did;
 use crate::processes::Processes;
@@ -60,7 +58,7 @@ impl World {
         requires { clients ≤ MAX_CLIENTS }
         ensures world { IfOk result (λ w. world_in w ≡ opening_world kept_tree last clients) }
         ensures whole { IfOk result (λ w. w.has_forgotten ≡ false) }
-        ensures sound { IfOk result (λ w. w.is_broken ≡ false) }
+        ensures sound { IfOk result IsSound }
     {
         // The number of a server is one of a chain, which the invariant asks for: its clause tells that.
         let _ = last.number();
@@ -108,19 +106,16 @@ impl World {
     /// Does one event, and says what became of it. Want of memory is met, for the first time, only at an event that is
     /// enabled, and never at a failure or at the loss of a request.
     pub fn step(&mut self, event: Event) -> Result<Did, Memory>
-        ensures happened { IfOk result (λ did.
-            HasHappened (world_in self.old) event did (world_in self.new)) }
+        ensures happened { IfOk result (HasDone self.old self.new event) }
         ensures same { IfOk result (λ did. is_idle did ≡ true → self.new ≡ self.old) }
-        ensures cause { IfOk result (λ did. (why : IdleCause) → did ≡ Idle why
-            → IsCause self.old.held event why) }
+        ensures cause { IfOk result (HasCause self.old.held event) }
         ensures explained { IsExplainedWithPast self.new }
         ensures past { self.new.has_forgotten ≡ self.old.has_forgotten }
         ensures history { OnErr result (self.new.history ≡ self.old.history) }
-        ensures sound { OnOk result ((self.old.is_broken ≡ false) × (self.new.is_broken ≡ false)) }
+        ensures sound { OnOk result (IsSound self.old × IsSound self.new) }
         ensures broken { OnErr result (self.new.is_broken ≡ true) }
         ensures stays { self.old.is_broken ≡ true → IsErr result }
-        ensures needed { self.old.is_broken ≡ false
-            → OnErr result (can_want_memory (world_in self.old) event ≡ true) }
+        ensures needed { IsSound self.old → OnErr result (CanWantMemory self.old event) }
     {
         if self.is_broken {
             drop(event);
@@ -139,7 +134,7 @@ impl World {
         ensures past { self.new.has_forgotten ≡ self.old.has_forgotten }
         ensures kept { OnErr result
             (HasBegunToRun (world_in self.old) events.items self.new.history) }
-        ensures sound { OnOk result ((self.old.is_broken ≡ false) × (self.new.is_broken ≡ false)) }
+        ensures sound { OnOk result (IsSound self.old × IsSound self.new) }
         ensures broken { OnErr result (self.new.is_broken ≡ true) }
         ensures stays { self.old.is_broken ≡ true → IsErr result }
     {
@@ -156,13 +151,12 @@ impl World {
     /// more, and messages are delivered again. It ends early once so many events were done. After `Memory` the
     /// history is that of before.
     pub fn settle(&mut self, limit: usize) -> Result<Settled, Memory>
-        ensures settled { IfOk result (λ settled.
-            HasSettled (world_in self.old) limit settled (world_in self.new)) }
+        ensures settled { IfOk result (IsSettled self.old self.new limit) }
         ensures quiet { IfOk result (λ settled. settled ≡ Quiet → IsAtRest (world_in self.new)) }
         ensures explained { IsExplainedWithPast self.new }
         ensures past { self.new.has_forgotten ≡ self.old.has_forgotten }
         ensures history { OnErr result (self.new.history ≡ self.old.history) }
-        ensures sound { OnOk result ((self.old.is_broken ≡ false) × (self.new.is_broken ≡ false)) }
+        ensures sound { OnOk result (IsSound self.old × IsSound self.new) }
         ensures broken { OnErr result (self.new.is_broken ≡ true) }
         ensures stays { self.old.is_broken ≡ true → IsErr result }
     {

@@ -4,7 +4,7 @@ use Rattle.ztree.specs.Tree.{Tree}
 use Rattle.zcalls.specs.Kept.{KeptState}
 use Rattle.zprotocol.specs.declared.message.Message.TheVariants as message
 use Rattle.zprotocol.specs.declared.process.Process.{Process}
-use Rattle.zprotocol.specs.declared.process.Process.TheVariants.{Server}
+use Rattle.zprotocol.specs.declared.process.Process.TheVariants.{Server, Client}
 use Rattle.zprotocol.specs.server.Machine.{kept_tree}
 use Rattle.zprotocol.specs.server.Memory.{may_be_unheard, may_stop}
 use Rattle.zprotocol.specs.server.View.{MessageOf}
@@ -22,6 +22,7 @@ use Rattle.zserver.specs.declared.stopped.Stopped.TheVariants.{Memory, Retired}
 use Rattle.zworld.specs.declared.did.Did.{Did}
 use Rattle.zworld.specs.declared.did.Did.TheVariants as did
 use Rattle.zworld.specs.Held.{Held, world_of}
+use Rattle.zworld.specs.support.Stepped.{Seen}
 
 -- the number of the call that a message answers
 abbrev pub answered_number : MessageOf (KeptState Tree) → Option ℕ
@@ -49,6 +50,11 @@ HasPopped old from to (Some message) new =
 abbrev pub IsGiven : Held → Process → Process → MessageOf (KeptState Tree) → History → Held → Type 0
 IsGiven old from to message told new =
     (history : History) → IsAlike (process_step kept_tree (world_of old history) from to message) (world_of new (history ++ told))
+
+-- a client heard a message, acted on it, and what callers saw goes on with what it told
+abbrev pub HasHeard : Held → Held → Process → ℕ → MessageOf (KeptState Tree) → (before after : Seen) → Type 0
+HasHeard old new from client message before after =
+    (told : History) × (after.items ≡ before.items ++ told) × IsGiven old from (Client client) message told new
 
 -- what became of a delivery at which a server stopped
 abbrev pub did_of : Stopped → Did

@@ -38,6 +38,12 @@ HasTaken old view from message (Ok taken) new before after =
     × (taken ≡ Unheard → may_be_unheard kept_tree view from message ≡ true) × (is_retirement from message ≡ false)
 HasTaken old view from message (Err why) new before after = (new ≡ gone_member) × StopsAt why view from message × (after ≡ before)
 
+-- so it did whatever view it had
+abbrev pub Takes : MemberView → MemberView → Process → MessageOf (KeptState Tree) → Result Taken Stopped
+    → List (Post (KeptState Tree)) → List (Post (KeptState Tree)) → Type 0
+Takes old new from message result before after =
+    (view : ServerView (KeptState Tree)) → old.view ≡ Some view → HasTaken old view from message result new before after
+
 -- a client waits for the answer to a call
 abbrev pub waits : ClientView → Bool
 waits client = is_some client.outstanding

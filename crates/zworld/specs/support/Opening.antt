@@ -1,9 +1,26 @@
--- The members of an opening.
-use Rattle.std.specs.Prelude.{ℕ, false, Some}
+-- The members and the clients of an opening.
+use Rattle.std.specs.Prelude.{ℕ, Option, List, map}
+use Rattle.std.specs.List.{range_with_len}
+use Rattle.ztree.specs.declared.limits.TheConstants.{MAX_CLIENTS}
+use Rattle.zprotocol.specs.client.View.{ClientView, opening_client}
+use Rattle.zprotocol.specs.declared.limits.TheConstants.{MAX_SERVERS}
 use Rattle.zprotocol.specs.server.Machine.{kept_tree}
-use Rattle.zprotocol.specs.server.View.{opening_server}
-use Rattle.zworld.specs.Held.{MemberView}
+use Rattle.zprotocol.specs.server.View.{member, opening_server}
+use Rattle.zserver.specs.Server.{first_neighbour}
+use Rattle.zworld.specs.Held.{MemberView, running}
+
+-- a server of the opening chain, with these neighbours
+abbrev pub first_member : Option ℕ → Option ℕ → MemberView
+first_member pred succ = running (member kept_tree (first_neighbour pred) (first_neighbour succ))
 
 -- the server of this number, where the chain goes up to the first
 abbrev pub opening_member : ℕ → ℕ → MemberView
-opening_member last s = record { view = Some (opening_server kept_tree last s); owes_gone = false }
+opening_member last s = running (opening_server kept_tree last s)
+
+-- all servers, where the chain goes up to this one
+abbrev pub opening_members : ℕ → List MemberView
+opening_members last = map (opening_member last) (range_with_len 1 MAX_SERVERS)
+
+-- all clients, of whom there are so many
+abbrev pub opening_clients : ℕ → ℕ → List ClientView
+opening_clients last count = map (opening_client last count) (range_with_len 0 MAX_CLIENTS)

@@ -9,9 +9,10 @@ use Rattle.zworld_model.specs.declared.event.Event.{Event}
 use Rattle.zworld_model.specs.declared.event.Event.TheVariants.{Take}
 use Rattle.zworld_model.specs.declared.outcome.Outcome.{Outcome}
 use Rattle.zworld_model.specs.History.{History}
-use Rattle.zworld_model.specs.Settle.{Settling, with_tries}
+use Rattle.zworld_model.specs.Settle.{Settling, with_tries, passes, deliveries, processes}
 use Rattle.zworld_model.specs.Alike.{IsAlike}
 use Rattle.zworld.specs.Held.{Held, world_of}
+use Rattle.zworld.specs.support.Stepped.{Seen}
 
 -- a settling of the world of kept trees
 abbrev pub TreeSettling : Type 0
@@ -45,9 +46,29 @@ Does done before after = GoesOn done (λ s. s) before after
 abbrev pub Tries : List Event → Point → Point → Type 0
 Tries events before after = Does (λ s. with_tries kept_tree s events) before after
 
+-- so it was from what was held and seen to what is, with so many events left before and after
+abbrev pub TriesBy : List Event → Held → Held → (before after : Seen) → (left more : ℕ) → Type 0
+TriesBy events old new before after left more =
+    Tries events (record { held = old; left = left; seen = before.items }) (record { held = new; left = more; seen = after.items })
+
+-- and where callers see nothing, whatever they saw before
+abbrev pub TriesUnseen : List Event → Held → Held → (left more : ℕ) → Type 0
+TriesUnseen events old new left more =
+    (seen : History) → Tries events (record { held = old; left = left; seen = seen }) (record { held = new; left = more; seen = seen })
+
+-- so were passes over the links of so many clients
+abbrev pub PassesBy : (clients limit : ℕ) → Held → Held → (before after : Seen) → (left more : ℕ) → Type 0
+PassesBy clients limit old new before after left more =
+    Does (passes kept_tree (deliveries clients) limit)
+    (record { held = old; left = left; seen = before.items }) (record { held = new; left = more; seen = after.items })
+
 -- a delivery on each link from one process
 abbrev pub takes_from : List Process → Process → List Event
 takes_from receivers from = map (λ to. Take from to) receivers
+
+-- so were those from it to all processes, where there are so many clients
+abbrev pub TakesBy : (from : Process) (clients : ℕ) → Held → Held → (before after : Seen) → (left more : ℕ) → Type 0
+TakesBy from clients = TriesBy (takes_from (processes clients) from)
 
 -- and on each link from some
 abbrev pub takes : List Process → List Process → List Event

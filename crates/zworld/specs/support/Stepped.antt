@@ -1,8 +1,14 @@
 -- What the processes do, by what they held before and hold after: an event is that of the definition, by what became of it, but
 -- for what failed servers held and what was put to them (Alike.antt of the world's model).
-use Rattle.std.specs.Prelude.{◌≡◌, ℕ, true, not, List, [], ◌++◌}
+use Rattle.std.specs.Prelude.{◌≡◌, ℕ, true, not, List, [], ◌∷◌, ◌++◌}
+use Rattle.std.specs.declared.alloc.Global.{Global}
+use Rattle.std.specs.declared.vec.Vec.{Vec}
+use Rattle.zcalls.specs.declared.call.Call.{Call}
 use Rattle.zprotocol.specs.server.Machine.{kept_tree}
 use Rattle.zworld_model.specs.declared.event.Event.{Event}
+use Rattle.zworld_model.specs.declared.event.Event.TheVariants.{Begin}
+use Rattle.zworld_model.specs.declared.history.CallEvent.{CallEvent}
+use Rattle.zworld_model.specs.declared.history.CallEvent.TheVariants as call_event
 use Rattle.zworld_model.specs.declared.outcome.Outcome.{Outcome}
 use Rattle.zworld_model.specs.declared.settled.Settled.{Settled}
 use Rattle.zworld_model.specs.History.{History}
@@ -14,7 +20,15 @@ use Rattle.zworld.specs.declared.did.Did.{Did}
 use Rattle.zworld.specs.declared.did.Did.TheVariants as became
 use Rattle.zworld.specs.declared.did.IdleCause.{IdleCause}
 use Rattle.zworld.specs.Held.{Held, world_of}
-use Rattle.zworld.specs.Did.{is_idle, outcome_of, IsCause}
+use Rattle.zworld.specs.Did.{is_idle, outcome_of, HasCause}
+
+-- what callers saw, as it is handed on from one event to the next
+abbrev pub Seen : Type 0
+Seen = Vec CallEvent Global
+
+-- the event can happen
+abbrev pub CanHappen : Held → Event → Type 0
+CanHappen held event = is_enabled (world_of held []) event ≡ true
 
 -- the event leads from what was held to what is held, whatever the history before it, which goes on with this
 abbrev pub Leads : Held → Event → History → Held → Type 0
@@ -26,15 +40,27 @@ pub record HasStepped (old new : Held) (event : Event) (did : Did) (told : Histo
   -- it is idle exactly where it wasn't enabled, and then nothing changed
   pub idle : is_idle did ≡ not (is_enabled (world_of old []) event)
   pub same : is_idle did ≡ true → new ≡ old
-  pub caused : (why : IdleCause) → did ≡ became.Idle why → IsCause old event why
+  pub caused : HasCause old event did
   -- the event can have the outcome
   pub fits : is_fitting kept_tree (world_of old []) event (outcome_of did) ≡ true
   -- it is the event of the definition, read by its outcome
   pub leads : Leads old (read kept_tree (world_of old []) event (outcome_of did)) told new
 
+-- it can't be done, for this reason
+abbrev pub IsIdle : Held → Event → IdleCause → Type 0
+IsIdle held event why = HasStepped held held event (became.Idle why) []
+
+-- a client began a call, under this number
+abbrev pub HasBegun : Held → Held → ℕ → Call → ℕ → Type 0
+HasBegun old new client call number =
+    HasStepped old new (Begin client call) became.Done (call_event.Begin client number call ∷ [])
+
 -- the event was done, and what callers saw goes on with what it told
 abbrev pub GoesBy : Held → Held → Event → (before after : History) → Did → Type 0
 GoesBy old new event before after did = (told : History) × (after ≡ before ++ told) × HasStepped old new event did told
+
+abbrev pub Goes : Held → Held → Event → (before after : Seen) → Did → Type 0
+Goes old new event before after did = GoesBy old new event before.items after.items did
 
 -- settling came to this, having learnt of these outcomes, and with these answers
 pub record SettlesBy (old new : Held) (limit : ℕ) (settled : Settled) (learnt : List Outcome) (told : History) : Type 0 where
