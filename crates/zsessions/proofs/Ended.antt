@@ -28,7 +28,7 @@ module _ (ids : IdEntries) (rows : Rows) (buckets : Buckets) (id : Id) (row : Se
   unfiled = unfiled_items rows id
 
   abbrev pub left_buckets : Buckets
-  left_buckets = unfiled_buckets rows buckets old_number id
+  left_buckets = unfiled_buckets rows buckets row.session.deadline id
 
   pub end-some : 0 < (bucket buckets old_number).len
   end-some = family-some row_links rows (key_at number_of rows) (bucket buckets old_number) old_number (is.listed old_number) id (key_there rows id row has)

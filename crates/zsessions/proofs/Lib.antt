@@ -3,6 +3,7 @@ pub mod Empty
 pub mod Opened
 pub mod Ended
 pub mod Renewed
+pub mod KeptAlive
 pub mod Length
 pub mod Rising
 pub mod Due

@@ -38,7 +38,7 @@ module _ (ids : IdEntries) (rows : Rows) (buckets : Buckets) (id : Id) (row : Se
   added = insert rows id row
 
   abbrev pub opened : Rows
-  opened = filed_items added buckets k id
+  opened = filed_items added buckets row.session.deadline id
 
   other_than : (q : Id) (x : SessionRow) → get rows q ≡ Some x → q ≢ id
   other_than q x e same = none_some x (sym new ∙ ap (get rows) (sym same) ∙ e)
@@ -66,8 +66,8 @@ module _ (ids : IdEntries) (rows : Rows) (buckets : Buckets) (id : Id) (row : Se
         kept-with_front row_links with_row_links (λ _ _. refl) f leaves added (bucket buckets k).first id q
         ∙ ap (option_map f) (get-insert-elsewhere rows id row q other)
 
-  opened-listed : length buckets ≡ 32 → IsListedBy row_links opened (key_at number_of opened) (bucket (filed_buckets buckets k id))
-  opened-listed wide = families-pushed row_links with_row_links (λ _ _. refl) added opened (key_at number_of rows) (key_at number_of opened) (bucket buckets) (bucket (filed_buckets buckets k id)) k id
+  opened-listed : length buckets ≡ 32 → IsListedBy row_links opened (key_at number_of opened) (bucket (filed_buckets buckets row.session.deadline id))
+  opened-listed wide = families-pushed row_links with_row_links (λ _ _. refl) added opened (key_at number_of rows) (key_at number_of opened) (bucket buckets) (bucket (filed_buckets buckets row.session.deadline id)) k id
       (subst IsSome (sym (get-insert-here rows id row)) refl)
       (key_none rows id new)
       (key-kept added opened id (opened-here number_of (λ _ _. refl) ∙ sym (ap (option_map number_of) (get-insert-here rows id row))) ∙ key_there added id row (get-insert-here rows id row))
@@ -100,7 +100,7 @@ module _ (ids : IdEntries) (rows : Rows) (buckets : Buckets) (id : Id) (row : Se
             let away : j ≢ id = λ same. none_some q (sym (ap (option_map (λ (x : SessionRow). x.id)) new) ∙ ap (number_at rows) (sym same) ∙ old) in
             opened-other (λ x. x.id) (λ _ _. refl) j away ∙ old
 
-    pub opened-table : length buckets ≡ 32 → IsTable later opened (filed_buckets buckets k id)
+    pub opened-table : length buckets ≡ 32 → IsTable later opened (filed_buckets buckets row.session.deadline id)
     opened-table wide = record { found = opened-found; named = opened-named; listed = opened-listed wide }
 
     pub opened-sessions : sessions_of later opened ≡ insert (sessions_of ids rows) row.id row.session

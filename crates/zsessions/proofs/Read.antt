@@ -2,11 +2,11 @@
 use Rattle.std.proofs.Common.{◌≡◌, ◌≢◌, ◌⊎◌, inl, inr, ℕ, ◌<◌, false, cond, [], ◌∷◌, length, Option, Some, None, IsSome, refl, sym, ap, ◌∙◌, arith, set, get_or-set_same, get_or-set_other}
 use mathlib.Core.Path.{subst}
 use Rattle.std.specs.Option.{option_map, option_and_then}
-use Rattle.std.specs.Ordering.{nat_cmp, is_eq}
+use Rattle.std.specs.Ordering.{nat_cmp}
 use Rattle.std.specs.FinMap.{get, find, from_entries, get-from_entries, nat_cmp-IsAntisymmetric, same_map}
-use Rattle.std.specs.Cmp.{nat_cmp_total}
-use Rattle.std.specs.BTreeMap.{is_at}
-use Rattle.ztree.proofs.Maps.{same_or_other, not_tied}
+use Rattle.std.specs.Cmp.{nat_cmp_total, unsigned_tied}
+use Rattle.std.specs.Prelude.{nat_eq}
+use Rattle.ztree.proofs.Maps.{same_or_other}
 use Rattle.ztree.specs.declared.session.Session.{Session}
 use Rattle.ztree.specs.Tree.{Sessions}
 use Rattle.zslots.specs.declared.id.Id.{Id}
@@ -14,24 +14,24 @@ use Rattle.zslots.specs.declared.linked.Links.{Links}
 use Rattle.zslots.specs.declared.list.List.{List as IdList}
 use Rattle.zslots.specs.Families.{key_at, ChangesHead}
 use Rattle.zslots.specs.Lists.{empty_list}
-use Rattle.zslots.proofs.Items.{some_same}
+use Rattle.zslots.proofs.Items.{some_same, other_number}
 use Rattle.zslots.proofs.MapValues.{get-map_values}
 use Rattle.zsessions.specs.declared.row.SessionRow.{SessionRow}
-use Rattle.zsessions.specs.support.Rows.{Rows, Buckets, IdEntries, IsTable, bucket, bucket_number, number_of, session_at, id_at, sessions_of}
+use Rattle.zsessions.specs.support.Rows.{Rows, Buckets, IdEntries, IsTable, bucket, bucket_number, number_of, session_at, id_at, found_at, sessions_of}
 
 pub same_number : (p q : ℕ) → (p ≡ q) ⊎ (p ≢ q)
 same_number p q = same_or_other nat_cmp_total nat_cmp-IsAntisymmetric p q
 
 -- a query for n finds no other key
-pub other_key : (n q : ℕ) → q ≢ n → is_at (nat_cmp n) q ≡ false
-other_key n q other = not_tied nat_cmp_total nat_cmp-IsAntisymmetric n q (λ e. other (sym e))
+pub other_key : (n q : ℕ) → q ≢ n → nat_eq n q ≡ false
+other_key n q other = other_number n q (λ e. other (sym e))
 
 pub same_sessions : (m n : Sessions) → ((q : ℕ) → get m q ≡ get n q) → m ≡ n
 same_sessions m n alike = same_map nat_cmp_total nat_cmp-IsAntisymmetric m n alike
 
 find-ids : (ids : IdEntries) (n : ℕ) → find nat_cmp n ids ≡ id_at ids n
 find-ids [] n = refl
-find-ids (e ∷ ids) n = ap (cond (is_eq (nat_cmp n e.0)) (Some e.1)) (find-ids ids n)
+find-ids (e ∷ ids) n = λ i. cond (unsigned_tied n e.0 i) (Some e.1) (find-ids ids n i)
 
 pub get-ids : (ids : IdEntries) (n : ℕ) → get (from_entries {R = nat_cmp} ids) n ≡ id_at ids n
 get-ids ids n = get-from_entries nat_cmp_total ids n ∙ find-ids ids n
@@ -84,6 +84,34 @@ row_here ids rows buckets n id s is under session = by (get rows id) refl (is.na
         let number : row.id ≡ n = some_same row.id n named in
         let same : row.session ≡ s = some_same row.session s is in
         (row.links, λ i. Some (record { id = number i; session = same i; links = row.links }))
+
+-- what is found is the Id under a session's id, and the session of its row
+pub found-both : (ids : IdEntries) (rows : Rows) (n : ℕ) (id : Id) (s : Session) → found_at ids rows n ≡ Some (id, s) → (id_at ids n ≡ Some id) × (session_at rows id ≡ Some s)
+found-both ids rows n id s = by (id_at ids n) refl
+  where
+    at : (j : Id) (o : Option Session) → option_map {U = Id × Session} (λ t. (j, t)) o ≡ Some (id, s) → (j ≡ id) × (o ≡ Some s)
+    at j None e = cc
+    at j (Some t) e =
+        let pair = some_same (j, t) (id, s) e in
+        (ap (λ (p : Id × Session). p.0) pair, ap (λ (p : Id × Session). Some p.1) pair)
+
+    by : (o : Option Id) → id_at ids n ≡ o → option_and_then {U = Id × Session} (λ j. option_map (λ t. (j, t)) (session_at rows j)) o ≡ Some (id, s) → (id_at ids n ≡ Some id) × (session_at rows id ≡ Some s)
+    by None is e = cc
+    by (Some j) is e =
+        let both = at j (session_at rows j) e in
+        (is ∙ ap Some both.0, ap (session_at rows) (sym both.0) ∙ both.1)
+
+-- a session is there exactly where one is found
+pub found-session : (ids : IdEntries) (rows : Rows) (n : ℕ) → get (sessions_of ids rows) n ≡ option_map (λ (p : Id × Session). p.1) (found_at ids rows n)
+found-session ids rows n = get-sessions ids rows n ∙ by (id_at ids n)
+  where
+    at : (j : Id) (o : Option Session) → o ≡ option_map (λ (p : Id × Session). p.1) (option_map {U = Id × Session} (λ t. (j, t)) o)
+    at j None = refl
+    at j (Some t) = refl
+
+    by : (o : Option Id) → option_and_then (session_at rows) o ≡ option_map (λ (p : Id × Session). p.1) (option_and_then {U = Id × Session} (λ j. option_map (λ t. (j, t)) (session_at rows j)) o)
+    by None = refl
+    by (Some j) = at j (session_at rows j)
 
 nothing : IsSome {T = Session} None → ⊥
 nothing some = cc

@@ -17,9 +17,9 @@ use Rattle.zslots.proofs.Moves.{kept-with_front}
 use Rattle.zslots.proofs.Families.{families-kept, families-pushed, family-room}
 use Rattle.zsessions.specs.Deadlines.{with_deadline}
 use Rattle.zsessions.specs.declared.row.SessionRow.{SessionRow}
-use Rattle.zsessions.specs.support.Rows.{Rows, Buckets, IdEntries, IsTable, row_links, with_row_links, bucket, bucket_number, number_of, number_at, session_at, id_at, sessions_of, filed_items, filed_buckets, with_row_deadline, with_deadline_at}
-use Rattle.zsessions.proofs.Read.{same_number, same_sessions, get-sessions, key-kept, key_there, small, bucket-set}
-use Rattle.zsessions.proofs.Ended.{unfiled, unfiled-part, left_buckets, left_key, left-none, left-other, left-listed}
+use Rattle.zsessions.specs.support.Rows.{Rows, Buckets, IdEntries, IsTable, row_links, with_row_links, bucket, bucket_number, number_of, number_at, session_at, id_at, found_at, sessions_of, filed_items, filed_buckets, with_row_deadline, with_deadline_at, moved_items, moved_buckets, CanMove}
+use Rattle.zsessions.proofs.Read.{same_number, same_sessions, get-sessions, key-kept, key_there, small, bucket-set, row_here, found-both}
+use Rattle.zsessions.proofs.Ended.{unfiled, unfiled-part, left_buckets, left_key, left-none, left-other, left-listed, end-some}
 
 none_some : {A B : Type 0} (x : A) → None ≡ Some x → B
 none_some x e = cc
@@ -54,10 +54,10 @@ module _ (ids : IdEntries) (rows : Rows) (buckets : Buckets) (id : Id) (row : Se
   written-is = ap (λ o. option_map_or (λ row. insert out id (with_row_deadline row deadline)) o out) out_row.1
 
   abbrev pub renewed : Rows
-  renewed = filed_items added middle k id
+  renewed = filed_items added middle deadline id
 
   abbrev pub renewed_buckets : Buckets
-  renewed_buckets = filed_buckets middle k id
+  renewed_buckets = filed_buckets middle deadline id
 
   added-listed : length buckets ≡ 32 → IsListedBy row_links added (left_key ids rows buckets id row is has) (bucket middle)
   added-listed wide =
@@ -143,3 +143,31 @@ module _ (ids : IdEntries) (rows : Rows) (buckets : Buckets) (id : Id) (row : Se
           old_session q other (id_at ids q) refl
           ∙ sym (get-sessions ids rows q)
           ∙ sym (session_elsewhere nat_cmp_total nat_cmp-IsAntisymmetric (sessions_of ids rows) row.id (record row.session { deadline = deadline }) q other)
+
+-- a session that is found, given another deadline
+module _ (ids : IdEntries) (rows : Rows) (buckets : Buckets) (n : ℕ) (id : Id) (s : Session) (is : IsTable ids rows buckets) (here : found_at ids rows n ≡ Some (id, s)) (deadline : ℕ) (wide : length buckets ≡ 32) where
+  there : (l : Links) × (get rows id ≡ Some (record { id = n; session = s; links = l }))
+  there =
+      let both = found-both ids rows n id s here in
+      row_here ids rows buckets n id s is both.0 both.1
+
+  abbrev row : SessionRow
+  row = record { id = n; session = s; links = there.0 }
+
+  pub can_move : CanMove rows buckets s.deadline deadline id
+  can_move = record {
+    some = end-some ids rows buckets id row is there.1;
+    room = subst (λ (r : Rows). (bucket (middle ids rows buckets id row is there.1 deadline) (bucket_number deadline)).len < finite.len r)
+        (sym (written-is ids rows buckets id row is there.1 deadline)) (renew-room ids rows buckets id row is there.1 deadline wide);
+  }
+
+  items : moved_items rows buckets s.deadline deadline id ≡ renewed ids rows buckets id row is there.1 deadline
+  items = ap (λ (r : Rows). filed_items r (middle ids rows buckets id row is there.1 deadline) deadline id) (written-is ids rows buckets id row is there.1 deadline)
+
+  pub moved-table : IsTable ids (moved_items rows buckets s.deadline deadline id) (moved_buckets rows buckets s.deadline deadline id)
+  moved-table =
+      subst (λ (r : Rows). IsTable ids r (moved_buckets rows buckets s.deadline deadline id)) (sym items)
+      (renewed-table ids rows buckets id row is there.1 deadline wide)
+
+  pub moved-sessions : sessions_of ids (moved_items rows buckets s.deadline deadline id) ≡ with_deadline (sessions_of ids rows) n deadline
+  moved-sessions = ap (sessions_of ids) items ∙ renewed-sessions ids rows buckets id row is there.1 deadline

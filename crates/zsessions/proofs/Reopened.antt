@@ -1,24 +1,25 @@
 -- Sessions opened anew, one entry after the other.
 use Rattle.std.proofs.Common.{◌≡◌, ◌≢◌, ◌⊎◌, inl, inr, ℕ, cond, [], ◌∷◌, Option, Some, None, is_some, refl, sym, ap, ◌∙◌}
 use Rattle.std.specs.Option.{option_and_then}
-use Rattle.std.specs.Ordering.{nat_cmp, is_eq}
-use Rattle.std.specs.Cmp.{nat_cmp_total, tied_itself}
+use Rattle.std.specs.Ordering.{nat_cmp}
+use Rattle.std.specs.Prelude.{nat_eq}
+use Rattle.std.specs.Cmp.{nat_cmp_total}
 use Rattle.std.specs.FinMap as finite
 use Rattle.std.specs.FinMap.{get, insert, get-empty, nat_cmp-IsAntisymmetric}
-use Rattle.std.specs.List.Sorted.{IsStrictlySortedBy}
+use Rattle.std.specs.List.{IsDistinct}
 use Rattle.std.specs.Map.{keys_of}
-use Rattle.std.proofs.lemmas.Map.Keys.{sorted_head, sorted_tail}
 use Rattle.ztree.proofs.Maps.{get-insert-here, get-insert-elsewhere}
 use Rattle.ztree.specs.Tree.{Sessions}
 use Rattle.ztree.specs.declared.session.Session.{Session}
 use Rattle.zslots.specs.declared.id.Id.{Id}
 use Rattle.zsessions.specs.support.Rows.{Rows, IdEntries, session_at, id_at, sessions_of}
 use Rattle.zsessions.proofs.Read.{same_number, other_key, same_sessions, get-sessions}
-use Rattle.zsessions.proofs.Length.{below-none}
+use Rattle.zslots.proofs.Items.{same_number as equal}
+use Rattle.zsessions.proofs.Length.{apart-none}
 
 -- what an entry is under its key, and under another
 here : (n : ℕ) (id : Id) (left : IdEntries) → id_at ((n, id) ∷ left) n ≡ Some id
-here n id left = ap (λ r. cond (is_eq r) (Some id) (id_at left n)) (tied_itself nat_cmp_total n)
+here n id left = ap (λ b. cond b (Some id) (id_at left n)) (equal n n refl)
 
 elsewhere : (n q : ℕ) (id : Id) (left : IdEntries) → q ≢ n → id_at ((n, id) ∷ left) q ≡ id_at left q
 elsewhere n q id left other = ap (λ b. cond b (Some id) (id_at left q)) (other_key q n (λ e. other (sym e)))
@@ -27,13 +28,13 @@ module _ (ids : IdEntries) (rows : Rows) where
   -- all sessions are open but those of the entries that are left
   pub record Left (copy : Sessions) (left : IdEntries) : Type 0 where
     pub part : (n : ℕ) (id : Id) → id_at left n ≡ Some id → id_at ids n ≡ Some id
-    pub rises : IsStrictlySortedBy nat_cmp (keys_of left)
+    pub apart : IsDistinct nat_eq (keys_of left)
     pub told : (n : ℕ) → get copy n ≡ cond (is_some (id_at left n)) None (get (sessions_of ids rows) n)
 
-  pub left-all : IsStrictlySortedBy nat_cmp (keys_of ids) → (copy : Sessions) → copy ≡ finite.empty → Left copy ids
-  left-all rises copy empty = record {
+  pub left-all : IsDistinct nat_eq (keys_of ids) → (copy : Sessions) → copy ≡ finite.empty → Left copy ids
+  left-all apart copy empty = record {
     part = λ n id e. e;
-    rises = rises;
+    apart = apart;
     told = λ n. ap (λ (m : Sessions). get m n) empty ∙ get-empty nat_cmp n ∙ none n (id_at ids n) refl;
   }
     where
@@ -46,7 +47,12 @@ module _ (ids : IdEntries) (rows : Rows) where
 
   module _ (copy : Sessions) (n : ℕ) (id : Id) (left : IdEntries) (is : Left copy ((n, id) ∷ left)) where
     gone : id_at left n ≡ None
-    gone = below-none n left (sorted_head nat_cmp n (keys_of left) is.rises)
+    unfolding IsDistinct
+    gone = apart-none n left is.apart.0
+
+    apart-left : IsDistinct nat_eq (keys_of left)
+    unfolding IsDistinct
+    apart-left = is.apart.1
 
     part-left : (q : ℕ) (other : Id) → id_at left q ≡ Some other → id_at ids q ≡ Some other
     part-left q other e = by (same_number q n)
@@ -72,14 +78,14 @@ module _ (ids : IdEntries) (rows : Rows) where
 
     -- an entry without a row is left out
     pub left-skipped : session_at rows id ≡ None → Left copy left
-    left-skipped none = record { part = part-left; rises = sorted_tail nat_cmp n (keys_of left) is.rises; told = λ q. by q (same_number q n) }
+    left-skipped none = record { part = part-left; apart = apart-left; told = λ q. by q (same_number q n) }
       where
         by : (q : ℕ) → (q ≡ n) ⊎ (q ≢ n) → get copy q ≡ cond (is_some (id_at left q)) None (get (sessions_of ids rows) q)
         by q (inl same) = ap (get copy) same ∙ not_open ∙ sym (told-here q same ∙ none)
         by q (inr away) = told-away q away
 
     pub left-opened : (s : Session) (more : Sessions) → session_at rows id ≡ Some s → more ≡ insert copy n s → Left more left
-    left-opened s more has made = record { part = part-left; rises = sorted_tail nat_cmp n (keys_of left) is.rises; told = λ q. ap (λ (m : Sessions). get m q) made ∙ by q (same_number q n) }
+    left-opened s more has made = record { part = part-left; apart = apart-left; told = λ q. ap (λ (m : Sessions). get m q) made ∙ by q (same_number q n) }
       where
         by : (q : ℕ) → (q ≡ n) ⊎ (q ≢ n) → get (insert copy n s) q ≡ cond (is_some (id_at left q)) None (get (sessions_of ids rows) q)
         by q (inl same) =

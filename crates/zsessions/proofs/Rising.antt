@@ -1,13 +1,14 @@
 -- A rising list of numbers is fixed by how often each number stands in it.
-use Rattle.std.proofs.Common.{◌≡◌, ◌≢◌, ℕ, suc, ◌+◌, ◌<◌, ◌≤◌, cond, List, [], ◌∷◌, refl, sym, ap, ◌∙◌, arith, sum_by}
+use Rattle.std.proofs.Common.{◌≡◌, ◌≢◌, ℕ, suc, ◌+◌, ◌<◌, ◌≤◌, false, cond, List, [], ◌∷◌, refl, sym, ap, ◌∙◌, arith, sum_by}
 use Rattle.std.specs.declared.cmp.Ordering.{Ordering}
 use Rattle.std.specs.declared.cmp.Ordering.TheVariants.{Less, Equal, Greater}
 use Rattle.std.specs.Ordering.{nat_cmp, is_eq}
 use Rattle.std.specs.Cmp.{nat_cmp_total, tied_itself, ranked}
+use Rattle.std.specs.FinMap.{nat_cmp-IsAntisymmetric}
 use Rattle.std.specs.List.Sorted.{IsNonDecreasingBy, IsPermutation, IsSorted}
 use Rattle.std.proofs.lemmas.List.Sums.{sum_by-cons}
 use Rattle.std.proofs.lemmas.List.Sorted.{sum_by-IsPermutation, IsNonDecreasingBy-from_sort}
-use Rattle.zsessions.proofs.Read.{other_key}
+use Rattle.ztree.proofs.Maps.{not_tied}
 
 -- no number of the list is below n
 abbrev pub AtLeast : ℕ → List ℕ → Type 0
@@ -42,9 +43,12 @@ rises-sorted xs sorted = rises-by_place xs (IsNonDecreasingBy-from_sort (λ x. x
 pub count-here : (n : ℕ) (xs : List ℕ) → count n (n ∷ xs) ≡ 1 + count n xs
 count-here n xs = ap (λ r. cond (is_eq r) 1 0 + count n xs) (tied_itself nat_cmp_total n)
 
+apart : (n x : ℕ) → x ≢ n → is_eq (nat_cmp n x) ≡ false
+apart n x other = not_tied nat_cmp_total nat_cmp-IsAntisymmetric n x (λ e. other (sym e))
+
 pub count-other : (n x : ℕ) (xs : List ℕ) → x ≢ n → count n (x ∷ xs) ≡ count n xs
 count-other n x xs other =
-    let none : count n (x ∷ xs) ≡ 0 + count n xs = ap (λ b. cond b 1 0 + count n xs) (other_key n x other) in
+    let none : count n (x ∷ xs) ≡ 0 + count n xs = ap (λ b. cond b 1 0 + count n xs) (apart n x other) in
     omega (arith, none)
 
 count-below : (n m : ℕ) (xs : List ℕ) → n < m → AtLeast m xs → count n xs ≡ 0

@@ -8,7 +8,7 @@ use crate::buckets::session_of;
 use crate::row::SessionRow;
 use crate::table::Table;
 use std::alloc::Global;
-use std::collections::BTreeMap;
+use std::collections::HashMap;
 use zpath::Memory;
 use zslots::{Id, Slots};
 use ztree::SessionId;
@@ -17,11 +17,11 @@ use ztree::SessionId;
 pub(crate) fn opened_anew(
     alloc: Global,
     rows: &Slots<SessionRow>,
-    ids: &BTreeMap<u64, Id>,
+    ids: &HashMap<u64, Id>,
 ) -> Result<Table, Memory>
-    ensures sessions { IfOk result (λ copy.
-        copy.sessions ≡ sessions_of ids.now.entries rows.now.items) }
-    ensures given { IfOk result (λ copy. copy.given < GIVEN_BOUND) }
+    ensures sessions { IfOk result (λ t.
+        t.sessions ≡ sessions_of ids.now.entries rows.now.items) }
+    ensures given { IfOk result (λ t. t.given < GIVEN_BOUND) }
 {
     let mut copy = Table::new(alloc);
     // There are far fewer sessions than Ids that can be given.

@@ -4,7 +4,7 @@ ghost use Rattle.std.specs.Prelude.{◌≡◌, ◌<◌};
 ghost use Rattle.std.specs.FinMap as finite;
 ghost use Rattle.zslots.specs.SlotsView.{with_items};
 ghost use Rattle.zslots.specs.Lists.{length_of};
-ghost use Rattle.zsessions.specs.support.Rows.{bucket, bucket_number, session_at, filed_items, filed_buckets, unfiled_items, unfiled_buckets, with_deadline_at};
+ghost use Rattle.zsessions.specs.support.Rows.{bucket, bucket_number, session_at, filed_items, filed_buckets, unfiled_items, unfiled_buckets, with_deadline_at, moved_items, moved_buckets, CanMove};
 
 use crate::limits::BUCKETS;
 use crate::row::SessionRow;
@@ -12,20 +12,15 @@ use zslots::{Id, List, Slots};
 use ztree::Session;
 
 /// Puts a row, which is in no bucket, into that of a deadline.
-pub(crate) fn file(
-    rows: &mut Slots<SessionRow>,
-    buckets: &mut [List<0>; BUCKETS],
-    deadline: u64,
-    id: Id,
-)
-    requires { length_of (bucket buckets.old (bucket_number deadline)) < finite.len rows.old.items }
+pub(crate) fn file(rows: &mut Slots<SessionRow>, buckets: &mut [List<0>; BUCKETS], due: u64, id: Id)
+    requires { length_of (bucket buckets.old (bucket_number due)) < finite.len rows.old.items }
     ensures items { rows.new ≡ with_items rows.old
-        (filed_items rows.old.items buckets.old (bucket_number deadline) id) }
-    ensures buckets { buckets.new ≡ filed_buckets buckets.old (bucket_number deadline) id }
+        (filed_items rows.old.items buckets.old due id) }
+    ensures buckets { buckets.new ≡ filed_buckets buckets.old due id }
 {
     // The bucket is shorter than there are rows, and these can be counted: so its length has room.
     let _ = rows.len();
-    let at = place(deadline);
+    let at = place(due);
     let mut list = buckets[at];
     list.push_front(rows, id);
     buckets[at] = list;
@@ -35,22 +30,39 @@ pub(crate) fn file(
 pub(crate) fn unfile(
     rows: &mut Slots<SessionRow>,
     buckets: &mut [List<0>; BUCKETS],
-    deadline: u64,
+    due: u64,
     id: Id,
 )
-    requires { 0 < length_of (bucket buckets.old (bucket_number deadline)) }
+    requires { 0 < length_of (bucket buckets.old (bucket_number due)) }
     ensures items { rows.new ≡ with_items rows.old (unfiled_items rows.old.items id) }
-    ensures buckets { buckets.new ≡ unfiled_buckets rows.old.items buckets.old
-        (bucket_number deadline) id }
+    ensures buckets { buckets.new ≡ unfiled_buckets rows.old.items buckets.old due id }
 {
-    let at = place(deadline);
+    let at = place(due);
     let mut list = buckets[at];
     list.unlink(rows, id);
     buckets[at] = list;
 }
 
-/// Writes a row's deadline, and leaves it where it stands.
-pub(crate) fn set_deadline(rows: &mut Slots<SessionRow>, id: Id, deadline: u64)
+/// Gives a row another deadline, and puts it into the bucket of that one.
+pub(crate) fn refile(
+    rows: &mut Slots<SessionRow>,
+    buckets: &mut [List<0>; BUCKETS],
+    from: u64,
+    to: u64,
+    id: Id,
+)
+    requires { CanMove rows.old.items buckets.old from to id }
+    ensures items { rows.new
+        ≡ with_items rows.old (moved_items rows.old.items buckets.old from to id) }
+    ensures buckets { buckets.new ≡ moved_buckets rows.old.items buckets.old from to id }
+{
+    unfile(rows, buckets, from, id);
+    set_deadline(rows, id, to);
+    file(rows, buckets, to, id);
+}
+
+// Writes a row's deadline, and leaves it where it stands.
+fn set_deadline(rows: &mut Slots<SessionRow>, id: Id, deadline: u64)
     ensures { rows.new ≡ with_items rows.old (with_deadline_at rows.old.items id deadline) }
 {
     if let Some(row) = rows.get_mut(id) {

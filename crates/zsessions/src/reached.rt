@@ -1,10 +1,9 @@
 //! The sessions of a bucket that a tick reaches.
 
 ghost use Rattle.std.specs.Prelude.{◌≡◌, IfOk, OnOk};
-ghost use Rattle.std.specs.List.{filter_map};
 ghost use Rattle.zslots.specs.Ids.{Ids};
 ghost use Rattle.zslots.specs.Lists.{IsList};
-ghost use Rattle.zsessions.specs.support.Rows.{row_links, due_at, AppendsOption};
+ghost use Rattle.zsessions.specs.support.Rows.{row_links, due_at, AreReached, AppendsOption};
 
 use crate::row::SessionRow;
 use std::alloc::Global;
@@ -20,8 +19,7 @@ pub(crate) fn reached(
     tick: u64,
 ) -> Result<Vec<SessionId>, Memory>
     requires { (ids : Ids) × IsList row_links rows.now.items bucket.now ids }
-    ensures { IfOk result (λ found. (ids : Ids) → IsList row_links rows.now.items bucket.now ids →
-        found.items ≡ filter_map (due_at rows.now.items tick) ids) }
+    ensures { IfOk result (λ found. AreReached rows.now.items bucket.now tick found.items) }
 {
     let mut found = Vec::new(alloc);
     let mut at = bucket.first();
@@ -37,14 +35,14 @@ fn push_if_due(
     rows: &Slots<SessionRow>,
     id: Id,
     tick: u64,
-    found: &mut Vec<SessionId>,
+    ids: &mut Vec<SessionId>,
 ) -> Result<(), Memory>
     ensures { OnOk result
-        (AppendsOption found.old.items found.new.items (due_at rows.now.items tick id)) }
+        (AppendsOption ids.old.items ids.new.items (due_at rows.now.items tick id)) }
 {
     if let Some(row) = rows.get(id) {
         if row.session.deadline <= tick {
-            found.push(row.id)?;
+            ids.push(row.id)?;
         }
     }
     Ok(())

@@ -4,14 +4,14 @@ ghost use Rattle.std.specs.Prelude.{◌≡◌, None, IfOk, OnOk, OnErr, IsSome};
 ghost use Rattle.std.specs.FinMap as finite;
 ghost use Rattle.std.specs.FinMap.{get};
 ghost use Rattle.ztree.specs.Sessions.{due_sessions};
-ghost use Rattle.zsessions.specs.Deadlines.{with_deadline, NoneLate};
+ghost use Rattle.zsessions.specs.Deadlines.{with_deadline, renewed_if, is_held_by, HasTimeFor, NoneLate};
 
 use crate::table::Table;
 use std::alloc::Global;
 use std::marker::Model;
 use zpath::Memory;
 use zslots::limits::GIVEN_BOUND;
-use ztree::{Session, SessionId};
+use ztree::{ClientId, Session, SessionId};
 
 /// Sessions by their ids.
 #[derive(Drop)]
@@ -82,6 +82,16 @@ impl Sessions {
         ensures { self.new ≡ with_deadline self.old id deadline }
     {
         self.table.renew(id, deadline);
+    }
+
+    /// Keeps a client's session alive: its deadline is its timeout from this tick on. Answers whether
+    /// the client has it; else nothing changes. The session is looked up once. It takes no memory.
+    pub fn keep_alive(&mut self, client: ClientId, id: SessionId, now: u64) -> bool
+        requires deadline { HasTimeFor self.old id now }
+        ensures held { result ≡ is_held_by self.old client id }
+        ensures renewed { self.new ≡ renewed_if result self.old id now }
+    {
+        self.table.keep_alive(client, id, now)
     }
 
     /// One session fewer. It takes no memory.

@@ -6,25 +6,26 @@ ghost use Rattle.std.specs.FinMap.{get};
 ghost use Rattle.ztree.specs.Sessions.{due_sessions};
 ghost use Rattle.ztree.specs.declared.session.Session.{Session};
 ghost use Rattle.zslots.specs.declared.limits.TheConstants.{GIVEN_BOUND};
-ghost use Rattle.zsessions.specs.Deadlines.{with_deadline, NoneLate};
+ghost use Rattle.zsessions.specs.support.Rows.{found_at};
+ghost use Rattle.zsessions.specs.Deadlines.{with_deadline, renewed_if, is_held_by, HasTimeFor, NoneLate};
 
 use crate::anew::opened_anew;
-use crate::buckets::{file, place, session_of, set_deadline, unfile};
+use crate::buckets::{file, place, refile, session_of, unfile};
 use crate::limits::BUCKETS;
 use crate::reached::reached;
 use crate::row::SessionRow;
 use std::alloc::Global;
-use std::collections::BTreeMap;
+use std::collections::HashMap;
 use std::marker::Model;
 use zpath::Memory;
 use zslots::{Id, Links, List, Slots};
-use ztree::{Session, SessionId};
+use ztree::{ClientId, Session, SessionId};
 
 /// Rows of sessions, and how many Ids were given to them.
 #[derive(Drop)]
 pub(crate) struct Table {
     rows: Slots<SessionRow>,
-    ids: BTreeMap<u64, Id>,
+    ids: HashMap<u64, Id>,
     buckets: [List<0>; BUCKETS],
     alloc: Global,
 }
@@ -52,7 +53,7 @@ impl Table {
     {
         Table {
             rows: Slots::new(alloc),
-            ids: BTreeMap::new(alloc),
+            ids: HashMap::new(alloc),
             buckets: [List::new(); BUCKETS],
             alloc,
         }
@@ -76,8 +77,10 @@ impl Table {
     pub(crate) fn get(&self, id: SessionId) -> Option<Session>
         ensures { result ≡ get self.now.sessions id }
     {
-        let at = self.ids.get(&id.number()).copied()?;
-        session_of(&self.rows, at)
+        match found(&self.ids, &self.rows, id) {
+            Some((_, session)) => Some(session),
+            None => None,
+        }
     }
 
     /// The ids of the sessions whose deadline a tick reaches, in their order.
@@ -129,15 +132,42 @@ impl Table {
         ensures sessions { self.new.sessions ≡ with_deadline self.old.sessions id deadline }
         ensures given { self.new.given ≡ self.old.given }
     {
-        let Some(at) = self.ids.get(&id.number()).copied() else {
-            return;
+        if let Some((at, session)) = found(&self.ids, &self.rows, id) {
+            refile(
+                &mut self.rows,
+                &mut self.buckets,
+                session.deadline,
+                deadline,
+                at,
+            );
+        }
+    }
+
+    /// Keeps a client's session alive, and answers whether the client has it.
+    pub(crate) fn keep_alive(&mut self, client: ClientId, id: SessionId, now: u64) -> bool
+        requires { HasTimeFor self.old.sessions id now }
+        ensures held { result ≡ is_held_by self.old.sessions client id }
+        ensures sessions { self.new.sessions ≡ renewed_if result self.old.sessions id now }
+        ensures given { self.new.given ≡ self.old.given }
+    {
+        let Some((at, session)) = found(&self.ids, &self.rows, id) else {
+            return false;
         };
-        let Some(session) = session_of(&self.rows, at) else {
-            return;
-        };
-        unfile(&mut self.rows, &mut self.buckets, session.deadline, at);
-        set_deadline(&mut self.rows, at, deadline);
-        file(&mut self.rows, &mut self.buckets, deadline, at);
+        if session.client != client {
+            return false;
+        }
+        let deadline = now + session.timeout;
+        // Where it was kept alive at this tick before, there is nothing to write.
+        if deadline != session.deadline {
+            refile(
+                &mut self.rows,
+                &mut self.buckets,
+                session.deadline,
+                deadline,
+                at,
+            );
+        }
+        true
     }
 
     /// One session fewer.
@@ -154,5 +184,16 @@ impl Table {
         };
         unfile(&mut self.rows, &mut self.buckets, last.deadline, at);
         self.rows.remove(at);
+    }
+}
+
+// The Id of a session's row, and the session: the one look by which a call finds both.
+fn found(ids: &HashMap<u64, Id>, rows: &Slots<SessionRow>, id: SessionId) -> Option<(Id, Session)>
+    ensures { result ≡ found_at ids.now.entries rows.now.items id }
+{
+    let at = ids.get(&id.number()).copied()?;
+    match session_of(rows, at) {
+        Some(session) => Some((at, session)),
+        None => None,
     }
 }

@@ -14,7 +14,7 @@ loop-number-init c =
     let longer = ap (λ (es : IdEntries). length es) all in
     let given = c.new-copy.ensures.given in
     record {
-      left = subst (Left ids c.args.rows.now.items c.new-copy.result.sessions) (sym all) (left-all ids c.args.rows.now.items c.len.ensures.ordered c.new-copy.result.sessions c.new-copy.ensures.sessions);
+      left = subst (Left ids c.args.rows.now.items c.new-copy.result.sessions) (sym all) (left-all ids c.args.rows.now.items c.len.ensures.unique c.new-copy.result.sessions c.new-copy.ensures.sessions);
       few = omega (arith, longer, given);
     }
 

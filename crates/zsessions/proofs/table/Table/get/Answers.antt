@@ -1,20 +1,20 @@
-use Rattle.std.proofs.Common.{◌≡◌, None, rules, sym, ap, ◌∙◌}
-use Rattle.std.specs.Option.{option_and_then}
+use Rattle.std.proofs.Common.{sym, ap, ◌∙◌}
+use Rattle.std.specs.Option.{option_map}
 use Rattle.std.specs.FinMap.{get}
+use Rattle.ztree.specs.declared.session.Session.{Session}
+use Rattle.zslots.specs.declared.id.Id.{Id}
 use Rattle.zsessions.specs.support.TableView.{TableView}
-use Rattle.zsessions.specs.support.Rows.{id_at, session_at}
-use Rattle.zsessions.proofs.Read.{get-sessions}
+use Rattle.zsessions.proofs.Read.{found-session}
 use Rattle.zsessions.proofs.table.Table.get.Goals as goal
 
-pub returns-in_err-at : goal.returns-in_err-at
-returns-in_err-at c =
+pub returns-in-Some : goal.returns-in-Some
+returns-in-Some c =
     let t = c.self.inside in
-    let gone : c.from_residual.result ≡ None = search rules in
-    gone ∙ sym (ap (option_and_then (session_at t.rows.items)) (ap (id_at t.ids.entries) (sym c.number.ensures) ∙ sym c.get.ensures.value ∙ sym c.copied.ensures ∙ c.in_err-at.was))
-    ∙ sym (get-sessions t.ids.entries t.rows.items c.args.id) ∙ ap (λ (v : TableView). get v.sessions c.args.id) c.self.view_is
+    sym (ap (option_map (λ (p : Id × Session). p.1)) (sym c.found.ensures ∙ c.in-Some.is))
+    ∙ sym (found-session t.ids.entries t.rows.items c.args.id) ∙ ap (λ (v : TableView). get v.sessions c.args.id) c.self.view_is
 
-pub returns : goal.returns
-returns c =
+pub returns-in-None : goal.returns-in-None
+returns-in-None c =
     let t = c.self.inside in
-    c.session_of.ensures ∙ sym (ap (option_and_then (session_at t.rows.items)) (ap (id_at t.ids.entries) (sym c.number.ensures) ∙ sym c.get.ensures.value ∙ sym c.copied.ensures ∙ c.in_ok-at.was))
-    ∙ sym (get-sessions t.ids.entries t.rows.items c.args.id) ∙ ap (λ (v : TableView). get v.sessions c.args.id) c.self.view_is
+    sym (ap (option_map (λ (p : Id × Session). p.1)) (sym c.found.ensures ∙ c.in-None.is))
+    ∙ sym (found-session t.ids.entries t.rows.items c.args.id) ∙ ap (λ (v : TableView). get v.sessions c.args.id) c.self.view_is

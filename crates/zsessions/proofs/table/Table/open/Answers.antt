@@ -27,7 +27,7 @@ invariant_of-self-2 c =
     let wide : length t.buckets ≡ 32 = search rules in
     let table = opened-table t.ids.entries t.rows.items t.buckets id row c.self.invariant c.in-Ok.ensures.new.1 later free here
     (λ q other. c.in-Ok-insert.ensures.updates.2 q (other_key c.number.result q (λ e. other (e ∙ c.number.ensures)))) wide in
-    let items = ap (λ h. h.items) c.file.ensures.items ∙ ap (λ rows. filed_items rows t.buckets (bucket_number c.args.session.deadline) id) c.in-Ok.ensures.items in
+    let items = ap (λ h. h.items) c.file.ensures.items ∙ ap (λ rows. filed_items rows t.buckets c.args.session.deadline id) c.in-Ok.ensures.items in
     subst (λ rows. IsTable later rows c.file.new.buckets) (sym items)
     (subst (IsTable later (opened t.ids.entries t.rows.items t.buckets id row c.self.invariant c.in-Ok.ensures.new.1)) (sym c.file.ensures.buckets) table)
 
@@ -39,7 +39,7 @@ returns-clause-sessions c =
     let later = c.insert-2.new.self.entries in
     let free = no_id t.ids.entries t.rows.items t.buckets c.args.id c.self.invariant (ap (λ (v : TableView). get v.sessions c.args.id) c.self.view_is ∙ c.requires.free) in
     let here = ap (id_at later) (sym c.number.ensures) ∙ c.in-Ok-insert.ensures.updates.1 in
-    let items = ap (λ h. h.items) c.file.ensures.items ∙ ap (λ rows. filed_items rows t.buckets (bucket_number c.args.session.deadline) id) c.in-Ok.ensures.items in
+    let items = ap (λ h. h.items) c.file.ensures.items ∙ ap (λ rows. filed_items rows t.buckets c.args.session.deadline id) c.in-Ok.ensures.items in
     ap (sessions_of later) items
     ∙ opened-sessions t.ids.entries t.rows.items t.buckets id row c.self.invariant c.in-Ok.ensures.new.1 later free here
     (λ q other. c.in-Ok-insert.ensures.updates.2 q (other_key c.number.result q (λ e. other (e ∙ c.number.ensures))))
