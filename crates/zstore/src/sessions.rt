@@ -1,6 +1,6 @@
 //! What is read of sessions, and done with them.
 
-ghost use Rattle.std.specs.Prelude.{◌≡◌, ◌<◌, ◌+◌, [], None, Some, IfOk, IfSome, IfNone, OnOk, OnErr, IsSome};
+ghost use Rattle.std.specs.Prelude.{◌≡◌, ◌<◌, ◌+◌, [], None, Some, IsTrue, IsFalse, IfOk, IfSome, IfNone, OnOk, OnErr, IsSome};
 ghost use Rattle.std.specs.FinMap as finite;
 ghost use Rattle.std.specs.FinMap.{get};
 ghost use Rattle.ztree.specs.Tree.{ephemerals};
@@ -9,6 +9,7 @@ ghost use Rattle.ztree.specs.Lawful.{IsLawful};
 ghost use Rattle.ztree.specs.declared.limits.TheConstants.{MAX_SESSIONS, ZXID_BOUND, TICK_BOUND, DEADLINE_BOUND};
 ghost use Rattle.ztree.specs.declared.session.Session.{Session};
 ghost use Rattle.ztree.specs.Room.{HasRoomForEnd, HasRoomForDeadline};
+ghost use Rattle.zsessions.specs.Deadlines.{is_held_by};
 ghost use Rattle.zstore.specs.StoreView.{KeepsIds, ForgetsGone};
 ghost use Rattle.zstore.specs.support.Parts.{tree_without_session, IsOwned};
 
@@ -75,6 +76,24 @@ impl Store {
             self.sessions.renew(id, self.time + session.timeout);
             self.log.stop(&mut self.nodes);
         }
+    }
+
+    /// Keeps a client's session alive: its deadline is its timeout from now. Answers whether the client
+    /// has it; else nothing changes. The session is looked up once. It takes no memory.
+    pub fn keep_alive(&mut self, client: ClientId, id: SessionId) -> bool
+        requires deadline { (s : Session) → get self.old.tree.sessions id ≡ Some s
+            → HasRoomForDeadline self.old.tree.time s.timeout }
+        ensures held { result ≡ is_held_by self.old.tree.sessions client id }
+        ensures tree { IsTrue result → self.new.tree ≡ with_renewed_session self.old.tree id }
+        ensures same { KeepsIds self.old self.new }
+        ensures unmarked { IsTrue result → self.new.marked ≡ None }
+        ensures other { IsFalse result → self.new ≡ self.old }
+    {
+        if !self.sessions.keep_alive(client, id, self.time) {
+            return false;
+        }
+        self.log.stop(&mut self.nodes);
+        true
     }
 
     /// Ends a session by the next change: it goes, and with it every node that it owns; the Ids of
