@@ -1,4 +1,5 @@
 pub mod Codes
 pub mod Names
+pub mod Places
 pub mod Ready
 pub mod Stops

@@ -55,9 +55,6 @@ fn act(
         drop(reply);
         return Err(Memory);
     };
-    let Ok(()) = kept.keep(entry.client, entry.number, copy) else {
-        drop(reply);
-        return Err(Memory);
-    };
+    kept.keep(entry.client, entry.number, copy);
     Ok(reply)
 }

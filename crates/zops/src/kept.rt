@@ -1,15 +1,15 @@
 //! The kept replies: the last one to each client, with the number of its call.
 
-ghost use Rattle.std.specs.Prelude.{◌≡◌, IfOk, OnOk, option_copied};
+ghost use Rattle.std.specs.Prelude.{◌≡◌, IfOk, option_copied};
 ghost use Rattle.std.specs.FinMap.{empty, get, insert};
 ghost use Rattle.zcalls.specs.Kept.{last_of, kept_reply};
 
 use std::alloc::Global;
-use std::collections::BTreeMap;
 use std::marker::Model;
 use zcalls::{CallNumber, Reply};
 use zpath::Memory;
 use ztree::ClientId;
+use ztree::limits::MAX_CLIENTS;
 
 // A reply, and the number of its call.
 #[derive(Drop)]
@@ -41,33 +41,40 @@ impl Kept {
     }
 }
 
-/// The last reply to each client, with the number of its call.
+/// The last reply to each client, with the number of its call, in the place of the client's number.
 #[derive(Drop)]
 pub(crate) struct KeptReplies {
-    replies: BTreeMap<u8, Kept>,
+    places: Vec<Option<Kept>>,
 }
 
 impl Model for KeptReplies {
     ghost use Rattle.std.specs.Ordering.{nat_cmp};
+    ghost use Rattle.std.specs.Prelude.{◌≡◌, length};
     ghost use Rattle.std.specs.FinMap as finite;
+    ghost use Rattle.ztree.specs.declared.limits.TheConstants.{MAX_CLIENTS};
     ghost use Rattle.zcalls.specs.Kept as kept;
     ghost use Rattle.zops.specs.support.Codes.{coded_replies};
+    ghost use Rattle.zops.specs.support.Places.{replies_in};
 
     ghost Value = { finite.FinMap nat_cmp kept.Kept };
 
     ghost coded = { coded_replies };
 
-    ghost view = { λ k. finite.from_entries k.replies.entries };
+    ghost view = { λ k. replies_in k.places.items };
+
+    ghost invariant = { λ k. length k.places.items ≡ MAX_CLIENTS };
 }
 
 impl KeptReplies {
-    /// No reply.
-    pub(crate) fn new(alloc: Global) -> KeptReplies
-        ensures { result ≡ empty }
+    /// No reply. It takes the memory for every client's place, so that to keep one takes none.
+    pub(crate) fn new(alloc: Global) -> Result<KeptReplies, Memory>
+        ensures { IfOk result (λ kept. kept ≡ empty) }
     {
-        KeptReplies {
-            replies: BTreeMap::new(alloc),
+        let mut places = Vec::with_capacity(alloc, MAX_CLIENTS as usize)?;
+        for _ in 0..MAX_CLIENTS {
+            places.push(None)?;
         }
+        Ok(KeptReplies { places })
     }
 
     /// The number of the client's last call that acted; 0 where none did.
@@ -103,45 +110,42 @@ impl KeptReplies {
     fn kept_for(&self, client: ClientId) -> Option<&Kept>
         ensures { option_copied result ≡ get self.now client }
     {
-        self.replies.get(&client.number())
+        self.places[client.number() as usize].as_ref()
     }
 
     /// Keeps a reply of the client's call of this number, in the place of the one before it.
-    pub(crate) fn keep(
-        &mut self,
-        client: ClientId,
-        number: CallNumber,
-        reply: Reply,
-    ) -> Result<(), Memory>
-        ensures { OnOk result (self.new
-            ≡ insert self.old client (record { number = number; reply = reply })) }
+    pub(crate) fn keep(&mut self, client: ClientId, number: CallNumber, reply: Reply)
+        ensures { self.new ≡ insert self.old client (record { number = number; reply = reply }) }
     {
-        self.put(client.number(), Kept { number, reply })
+        self.places[client.number() as usize] = Some(Kept { number, reply });
     }
 
-    /// The same replies once more. They are put from the last client's on, each before those that are there.
+    /// The same replies once more.
     pub(crate) fn copied(&self, alloc: Global) -> Result<KeptReplies, Memory>
         ensures { IfOk result (λ copy. copy ≡ self.now) }
     {
-        let mut copy = KeptReplies::new(alloc);
-        for (client, kept) in self.replies.iter().rev() {
-            let Ok(kept) = kept.copied(alloc) else {
-                drop(copy);
-                return Err(Memory);
-            };
-            let Ok(()) = copy.put(*client, kept) else {
-                drop(copy);
-                return Err(Memory);
-            };
-        }
-        Ok(copy)
+        let places = copied_places(alloc, &self.places)?;
+        Ok(KeptReplies { places })
     }
+}
 
-    // Puts what is kept for the client of that number.
-    fn put(&mut self, client: u8, kept: Kept) -> Result<(), Memory>
-        ensures { OnOk result (self.new ≡ insert self.old client kept) }
-    {
-        self.replies.insert(client, kept)?;
-        Ok(())
+// What is kept in these places, once more.
+fn copied_places(alloc: Global, places: &[Option<Kept>]) -> Result<Vec<Option<Kept>>, Memory>
+    ensures { IfOk result (λ copy. copy.items ≡ places.now) }
+{
+    let mut copy = Vec::with_capacity(alloc, places.len())?;
+    for place in places {
+        copy.push(copied_place(alloc, place)?)?;
+    }
+    Ok(copy)
+}
+
+// What is kept in one place, once more.
+fn copied_place(alloc: Global, place: &Option<Kept>) -> Result<Option<Kept>, Memory>
+    ensures { IfOk result (λ copy. copy ≡ place.now) }
+{
+    match place {
+        Some(kept) => Ok(Some(kept.copied(alloc)?)),
+        None => Ok(None),
     }
 }

@@ -61,10 +61,14 @@ impl Machine {
         let store = Store::new(alloc)?;
         store.keeps_lawful();
         store.keeps_paths();
+        let Ok(kept) = KeptReplies::new(alloc) else {
+            drop(store);
+            return Err(Memory);
+        };
         Ok(Machine {
             alloc,
             store,
-            kept: KeptReplies::new(alloc),
+            kept,
             applied: 0,
             is_broken: false,
         })

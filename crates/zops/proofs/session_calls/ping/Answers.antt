@@ -1,10 +1,14 @@
-use Rattle.std.proofs.Common.{sym, subst, arith}
+use Rattle.std.proofs.Common.{◌≡◌, refl, sym, subst, arith}
+use Rattle.ztree.specs.Sessions.{with_renewed_session}
 use Rattle.zcalls.specs.Bounds.{IsBounded}
 use Rattle.zcalls.proofs.Timed.{touched_bounded}
 use Rattle.zops.proofs.session_calls.ping.Goals as goal
 
 pub returns-clause-left : goal.returns-clause-left
-returns-clause-left c = record {
-  bounded = subst IsBounded (sym c.touch.ensures.tree) (touched_bounded c.args.store.now.tree c.args.session c.requires.bounded);
-  given = let same = c.touch.ensures.same.1 in omega (arith, same);
-}
+returns-clause-left c =
+    let kept : c.keep_alive.new.self.tree ≡ with_renewed_session c.args.store.now.tree c.args.session =
+    c.if-not-keep_alive.ensures.tree refl in
+    record {
+      bounded = subst IsBounded (sym kept) (touched_bounded c.args.store.now.tree c.args.session c.requires.bounded);
+      given = let same = c.keep_alive.ensures.same.1 in omega (arith, same);
+    }

@@ -1,0 +1,15 @@
+-- What the places of kept replies stand for: the place of a client's number has what is kept for it.
+use Rattle.std.specs.Prelude.{ℕ, ◌+◌, List, [], ◌∷◌, Option, Some, None}
+use Rattle.std.specs.Ordering.{nat_cmp}
+use Rattle.std.specs.FinMap.{FinMap, from_entries}
+use Rattle.zcalls.specs.Kept.{Kept}
+
+-- what is kept in these places, by the clients' numbers, where the first place is that of this number
+abbrev pub entries_from : ℕ → List (Option Kept) → List (ℕ × Kept)
+entries_from number [] = []
+entries_from number (None ∷ places) = entries_from (number + 1) places
+entries_from number (Some kept ∷ places) = (number, kept) ∷ entries_from (number + 1) places
+
+-- the kept replies by the clients' numbers
+abbrev pub replies_in : List (Option Kept) → FinMap nat_cmp Kept
+replies_in places = from_entries (entries_from 0 places)
