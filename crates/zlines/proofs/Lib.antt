@@ -6,3 +6,6 @@ pub mod PartsShape
 pub mod PartsCount
 pub mod PartsRead
 pub mod Prefixes
+pub mod OddLanes
+pub mod OddPairs
+pub mod WordEnd

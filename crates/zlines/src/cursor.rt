@@ -1,7 +1,8 @@
 //! The words of a line, one after the other.
 
-ghost use Rattle.std.specs.Prelude.{◌≡◌, [], ◌∷◌, List, ℕ, IfSome, IfNone};
+ghost use Rattle.std.specs.Prelude.{◌≡◌, [], ◌∷◌, List, ℕ, IfSome, IfNone, ◌==◌};
 ghost use Rattle.std.specs.Bool.{OnTrue, OnFalse};
+ghost use Rattle.std.specs.List.{position_or_len};
 ghost use Rattle.zlines.specs.LineWords.{words_of};
 
 use std::marker::Model;
@@ -36,16 +37,13 @@ impl<'a> Cursor<'a> {
         ensures none { IfNone result ((self.old ≡ []) × (self.new ≡ [])) }
     {
         let left = self.left?;
-        match left.split_once(' ') {
-            Some((word, more)) => {
-                self.left = Some(more);
-                Some(word)
-            }
-            None => {
-                self.left = None;
-                Some(left)
-            }
+        let end = word_end(left.as_bytes());
+        if end == left.len() {
+            self.left = None;
+            return Some(left);
         }
+        self.left = Some(&left[end + 1..]);
+        Some(&left[..end])
     }
 
     /// Whether no word is left.
@@ -56,4 +54,15 @@ impl<'a> Cursor<'a> {
     {
         self.left.is_none()
     }
+}
+
+// How many bytes stand before the first space. Words are short, so they are looked at one by one.
+fn word_end(bytes: &[u8]) -> usize
+    ensures { result ≡ position_or_len (λ byte. byte == 0x20) bytes.now }
+{
+    let mut end = 0;
+    while end < bytes.len() && bytes[end] != b' ' {
+        end += 1;
+    }
+    end
 }

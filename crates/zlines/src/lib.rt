@@ -19,6 +19,7 @@ mod reply;
 mod request;
 mod rows;
 mod shape;
+mod spaced;
 
 pub use line::Line;
 pub use line_reading::read_line;

@@ -5,7 +5,6 @@ ghost use Rattle.zlines.specs.Request.{IsUnread};
 ghost use Rattle.zlines.specs.Line.{line_of, line_in, client_line_in, take_in, ignore_in, fail_in};
 ghost use Rattle.zlines.specs.Line.{join_in, retire_in, retry_in, settle_in, link_in, lone_server_in};
 ghost use Rattle.zlines.specs.LineWords.{is_malformed};
-ghost use Rattle.zlines.specs.support.Spaced.{is_spaced};
 
 use crate::cursor::Cursor;
 use crate::limits::MAX_LINE;
@@ -13,6 +12,7 @@ use crate::line::Line;
 use crate::process_words::{client_in, client_process_in, process_in, server_in};
 use crate::reading::read_request;
 use crate::request::LineFault;
+use crate::spaced::is_spaced;
 use std::alloc::Global;
 use std::str;
 use zcalls::ClientId;
@@ -41,25 +41,11 @@ fn well_formed(line: &[u8]) -> Option<&str>
     if !is_spaced(line) {
         return None;
     }
-    match str::from_utf8(line) {
-        Ok(text) => Some(text),
-        Err(_) => None,
-    }
-}
-
-// Whether a line has plain bytes alone and no empty word: no space at an end, and no two beside each other. The loop
-// always goes to the end, so the bytes can be looked at many at a time.
-fn is_spaced(line: &[u8]) -> bool
-    ensures { result ≡ is_spaced true line.now }
-{
-    let mut is_spaced = true;
-    let mut previous = b' ';
-    for &byte in line {
-        let is_double = byte == b' ' && previous == b' ';
-        is_spaced &= (0x20..=0x7e).contains(&byte) && !is_double;
-        previous = byte;
-    }
-    is_spaced && previous != b' '
+    let Ok(text) = str::from_utf8(line) else {
+        // Plain bytes are a text.
+        unreachable!();
+    };
+    Some(text)
 }
 
 // What the words of a line ask for.

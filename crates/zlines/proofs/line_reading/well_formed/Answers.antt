@@ -12,13 +12,13 @@ returns-then-not-is_spaced-clause-none c =
     let short : is_long line ≡ false = grind (arith, nat_tests) in
     is_malformed-spaced line short ∙ ap not (sym c.if-not-is_spaced.ensures)
 
-pub returns-in-Ok-clause-text : goal.returns-in-Ok-clause-text
-returns-in-Ok-clause-text c =
+pub unreachable-requires : goal.unreachable-requires
+unreachable-requires c =
+    let line = c.args.line.now in
+    c.in_default.ensures.cases.0 (IsUtf8-from_ascii line (ascii_of_plain line (spaced_is_plain line c.if-not-is_spaced.ensures)))
+
+pub returns-clause-text : goal.returns-clause-text
+returns-clause-text c =
     let line = c.args.line.now in
     let short : is_long line ≡ false = grind (arith, nat_tests) in
     (c.in-Ok.ensures.cases.0, is_malformed-spaced line short ∙ ap not (sym c.if-not-is_spaced.ensures))
-
-pub returns-in-Err-clause-none : goal.returns-in-Err-clause-none
-returns-in-Err-clause-none c =
-    let line = c.args.line.now in
-    absurd (c.in-Err.ensures.cases.0 (IsUtf8-from_ascii line (ascii_of_plain line (spaced_is_plain line c.if-not-is_spaced.ensures))))

@@ -1,0 +1,13 @@
+use Rattle.std.proofs.Common.{◌<◌, length, sym, ◌∙◌, arith}
+use Rattle.zlines.proofs.OddPairs.{space_last, spaced_line}
+use Rattle.zlines.proofs.spaced.is_spaced.Goals as goal
+
+pub returns-then-line-eq32 : goal.returns-then-line-eq32
+returns-then-line-eq32 c =
+    let some : 0 < length c.args.line.now = omega (arith, c.in-len1-up.len_at_least) in
+    space_last c.args.line.now some c.if-line-eq32.true
+
+pub returns : goal.returns
+returns c =
+    let some : 0 < length c.args.line.now = omega (arith, c.in-len1-up.len_at_least) in
+    spaced_line c.args.line.now c.has_odd.result some c.has_odd.ensures (sym c.is_plain.ensures ∙ c.if-not-is_plain.false) c.if-first-eq32.false c.if-line-eq32.false

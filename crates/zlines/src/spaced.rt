@@ -1,0 +1,92 @@
+//! Whether a line is well spaced, seen many bytes at a time. Two loads that overlap cover a short line.
+
+ghost use Rattle.std.specs.Prelude.{◌≡◌, ◌+◌, ◌-◌, ◌<◌, ◌≤◌, length, true};
+ghost use Rattle.zlines.specs.LineWords.{is_plain};
+ghost use Rattle.zlines.specs.support.Spaced.{is_spaced, IsOddAmong};
+
+use std::simd::prelude::*;
+
+/// Whether a line has plain bytes alone and no empty word: no space at an end, and no two beside each other.
+pub(crate) fn is_spaced(line: &[u8]) -> bool
+    ensures { result ≡ is_spaced true line.now }
+{
+    let [first, ..] = line else {
+        return false;
+    };
+    if !is_plain(*first) || *first == b' ' {
+        return false;
+    }
+    if line[line.len() - 1] == b' ' {
+        return false;
+    }
+    !has_odd(line)
+}
+
+// A space, or a byte that can be seen.
+fn is_plain(byte: u8) -> bool
+    ensures { result ≡ is_plain byte }
+{
+    (0x20..=0x7e).contains(&byte)
+}
+
+// Whether a byte behind the first is odd: not plain, or a space behind a space.
+fn has_odd(line: &[u8]) -> bool
+    requires { 0 < length line.now }
+    ensures { IsOddAmong line.now 0 (length line.now - 1) result }
+{
+    let pairs = line.len() - 1;
+    if pairs >= 16 {
+        has_odd_in_many(line, pairs)
+    } else if pairs >= 8 {
+        has_odd_in_lanes::<8>(line, 0) || has_odd_in_lanes::<8>(line, pairs - 8)
+    } else if pairs >= 4 {
+        has_odd_in_lanes::<4>(line, 0) || has_odd_in_lanes::<4>(line, pairs - 4)
+    } else {
+        has_odd_in_few(line, pairs)
+    }
+}
+
+// The same of 16 or more pairs of neighbours, the first and the second, and so on.
+fn has_odd_in_many(line: &[u8], pairs: usize) -> bool
+    requires many { 16 ≤ pairs }
+    requires are { pairs + 1 ≡ length line.now }
+    ensures { IsOddAmong line.now 0 pairs result }
+{
+    let mut at = 0;
+    while pairs - at > 16 {
+        if has_odd_in_lanes::<16>(line, at) {
+            return true;
+        }
+        at += 16;
+    }
+    has_odd_in_lanes::<16>(line, pairs - 16)
+}
+
+// The same of N pairs, from one on, at once.
+#[inline(always)]
+fn has_odd_in_lanes<const N: usize>(line: &[u8], at: usize) -> bool
+    requires some { (0 < N) × (N ≤ 64) }
+    requires are { at + N < length line.now }
+    ensures { IsOddAmong line.now at (at + N) result }
+{
+    let before = Simd::<u8, N>::from_slice(&line[at..]);
+    let bytes = Simd::<u8, N>::from_slice(&line[at + 1..]);
+    let space = Simd::<u8, N>::splat(b' ');
+    let is_odd = bytes.simd_lt(space) | bytes.simd_gt(Simd::<u8, N>::splat(0x7e));
+    let is_double = bytes.simd_eq(space) & before.simd_eq(space);
+    (is_odd | is_double).to_bitmask() != 0
+}
+
+// The same of a few pairs, one by one.
+fn has_odd_in_few(line: &[u8], pairs: usize) -> bool
+    requires { pairs + 1 ≡ length line.now }
+    ensures { IsOddAmong line.now 0 pairs result }
+{
+    for at in 0..pairs {
+        let byte = line[at + 1];
+        if !is_plain(byte) || byte == b' ' && line[at] == b' ' {
+            return true;
+        }
+    }
+    false
+}
