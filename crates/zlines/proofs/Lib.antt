@@ -9,3 +9,4 @@ pub mod Prefixes
 pub mod OddLanes
 pub mod OddPairs
 pub mod WordEnd
+pub mod StatText

@@ -1,6 +1,6 @@
 -- Where the first word of a text ends.
-use Rattle.std.proofs.Common.{◌≡◌, ℕ, ◌+◌, ◌<◌, ◌≤◌, eqb, Bool, true, false, not, List, [], ◌∷◌, length, get_or, take, drop, sym, ap, subst, ◌∙◌, arith}
-use Rattle.std.specs.List.{position_or_len, slice_split}
+use Rattle.std.proofs.Common.{◌≡◌, ℕ, ◌+◌, ◌<◌, eqb, Bool, true, false, not, List, [], ◌∷◌, length, get_or, take, drop, sym, subst, arith}
+use Rattle.std.specs.List.{position_or_len}
 use Rattle.std.specs.Str.{IsUtf8, IsCharBoundary}
 use Rattle.std.proofs.lemmas.Bool.{eqb-true, not-true, not-false}
 use Rattle.std.proofs.lemmas.List.Elements.{All-from_get_or}

@@ -2,3 +2,4 @@
 pub mod Left
 pub mod Spaced
 pub mod Rows
+pub mod Words

@@ -4,6 +4,7 @@ ghost use Rattle.std.specs.Prelude.{◌≡◌, [], ◌∷◌, List, ℕ, IfSome,
 ghost use Rattle.std.specs.Bool.{OnTrue, OnFalse};
 ghost use Rattle.std.specs.List.{position_or_len};
 ghost use Rattle.zlines.specs.LineWords.{words_of};
+ghost use Rattle.zlines.specs.support.Words.{HasWord};
 
 use std::marker::Model;
 
@@ -49,8 +50,7 @@ impl<'a> Cursor<'a> {
     /// Whether no word is left.
     pub(crate) fn is_done(&self) -> bool
         ensures done { OnTrue result (self.now ≡ []) }
-        ensures more { OnFalse result ((word : List ℕ) × (words : List (List ℕ)) × (self.now
-            ≡ word ∷ words)) }
+        ensures more { OnFalse result (HasWord self.now) }
     {
         self.left.is_none()
     }

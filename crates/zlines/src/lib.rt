@@ -20,6 +20,7 @@ mod request;
 mod rows;
 mod shape;
 mod spaced;
+mod stat_text;
 
 pub use line::Line;
 pub use line_reading::read_line;

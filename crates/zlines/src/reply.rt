@@ -1,15 +1,16 @@
 //! The texts of replies.
 
-ghost use Rattle.std.specs.Prelude.{◌++◌, OnOk, codes};
-ghost use Rattle.zlines.specs.Texts.{Writes};
+ghost use Rattle.std.specs.Prelude.{◌++◌, OnOk};
+ghost use Rattle.zlines.specs.Texts.{Writes, counts_text};
 ghost use Rattle.std.specs.Fmt.{decimal};
 ghost use Rattle.std.specs.List.{flat_map};
 ghost use Rattle.zcalls.specs.Step.{refusal_name};
+ghost use Rattle.zcalls.specs.declared.reply.Reply.TheVariants.{Data};
 ghost use Rattle.zpath.specs.Grammar.{text_of};
-ghost use Rattle.zlines.specs.LineWords.{data_text};
-ghost use Rattle.zlines.specs.Reply.{reply_text, removed_text, stat_text, parts_text, part_text, next_part_text, spaced_number, spaced_name};
+ghost use Rattle.zlines.specs.Reply.{reply_text, removed_text, parts_text, part_text, next_part_text, spaced_name};
 
 use crate::node_bytes::write_data;
+use crate::stat_text::write_stat_behind;
 use itoa::Buffer;
 use zcalls::{PartReply, Refusal, Reply, Stat};
 use zpath::{Memory, Name, Path};
@@ -82,7 +83,7 @@ fn write_counts(
     out: &mut String,
 ) -> Result<(), Memory>
     ensures { OnOk result (Writes out.old out.new
-        (front.now ++ decimal first ++ middle.now ++ decimal second)) }
+        (counts_text front.now first middle.now second)) }
 {
     write_count(front, first, out)?;
     write_count(middle, second, out)
@@ -100,8 +101,7 @@ fn write_removed(removed: u64, out: &mut String) -> Result<(), Memory>
 
 // The data of a node, and its stat.
 fn write_node(bytes: &[u8], stat: &Stat, out: &mut String) -> Result<(), Memory>
-    ensures { OnOk result (Writes out.old out.new
-        (codes "ok data " ++ data_text bytes.now ++ codes " stat" ++ stat_text stat.now)) }
+    ensures { OnOk result (Writes out.old out.new (reply_text (Data bytes.now stat.now))) }
 {
     write_text("ok data ", out)?;
     write_data(bytes, out)?;
@@ -161,46 +161,8 @@ fn write_names(names: &[Name], out: &mut String) -> Result<(), Memory>
     Ok(())
 }
 
-// The numbers of a stat, behind a text.
-fn write_stat_behind(front: &str, stat: &Stat, out: &mut String) -> Result<(), Memory>
-    ensures { OnOk result (Writes out.old out.new (front.now ++ stat_text stat.now)) }
-{
-    out.push_str(front)?;
-    write_stat(stat, out)
-}
-
-// The ten numbers of a stat, with a space before each.
-fn write_stat(stat: &Stat, out: &mut String) -> Result<(), Memory>
-    ensures { OnOk result (Writes out.old out.new (stat_text stat.now)) }
-{
-    let numbers = [
-        stat.czxid.number(),
-        stat.mzxid.number(),
-        stat.pzxid.number(),
-        stat.ctime,
-        stat.mtime,
-        stat.version,
-        stat.cversion,
-        stat.owner,
-        stat.length,
-        stat.children,
-    ];
-    write_numbers(&numbers, out)
-}
-
-// Each number, after a space.
-fn write_numbers(numbers: &[u64], out: &mut String) -> Result<(), Memory>
-    ensures { OnOk result (Writes out.old out.new (flat_map spaced_number numbers.now)) }
-{
-    let mut buffer = Buffer::new();
-    for number in numbers {
-        out.push(' ')?;
-        write_number(*number, &mut buffer, out)?;
-    }
-    Ok(())
-}
-
 // A number. Most have one digit, which is pushed as it is.
+#[inline(always)]
 fn write_number(number: u64, buffer: &mut Buffer, out: &mut String) -> Result<(), Memory>
     ensures { OnOk result (Writes out.old out.new (decimal number)) }
 {

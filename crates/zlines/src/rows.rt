@@ -8,7 +8,7 @@ ghost use Rattle.zcalls.specs.declared.call.Update.TheVariants.{Create, Open, Pi
 ghost use Rattle.zcalls.specs.declared.call.Query.TheVariants.{GetData};
 ghost use Rattle.zcalls.specs.declared.call.Call.TheVariants.{Update, Query};
 ghost use Rattle.zcalls.specs.declared.refusal.Refusal.TheVariants.{NoNode, NodeExists, NotEmpty, BadVersion};
-ghost use Rattle.zcalls.specs.declared.refusal.Refusal.TheVariants.{NoChildrenForEphemerals, SessionGone};
+ghost use Rattle.zcalls.specs.declared.refusal.Refusal.TheVariants.{SessionGone};
 ghost use Rattle.zcalls.specs.declared.refusal.Refusal.TheVariants.{SequenceFull, PathLimit, RootFixed, Full};
 ghost use Rattle.zcalls.specs.declared.refusal.Refusal.TheVariants.{TooManySessions, Exhausted};
 ghost use Rattle.zcalls.specs.declared.reply.Reply.TheVariants as reply;
@@ -24,7 +24,7 @@ ghost use Rattle.zlines.specs.Line.{line_of};
 ghost use Rattle.zlines.specs.Shape.{kind_of};
 ghost use Rattle.zlines.specs.Reply.{reply_text, stat_text};
 ghost use Rattle.zlines.specs.support.Rows.{asks, begins, get_a, create_root, first_stat};
-ghost use Rattle.zlines.specs.support.Rows.{three_parts, one_part, two_bytes, no_bytes};
+ghost use Rattle.zlines.specs.support.Rows.{three_parts, one_part, two_bytes, no_bytes, refused_child};
 
 /// Worked rows of the words: numbers, clients and data.
 #[tactic(auto, unfolding(crate::specs::Shape::kind_of, base64::proofs::OnLiterals::base64_on_literals))]
@@ -159,8 +159,7 @@ pub fn refused_replies()
     ensures node_exists { reply_text (Refused NodeExists) ≡ codes "no NodeExists" }
     ensures not_empty { reply_text (Refused NotEmpty) ≡ codes "no NotEmpty" }
     ensures bad_version { reply_text (Refused BadVersion) ≡ codes "no BadVersion" }
-    ensures ephemeral_parent { reply_text (Refused NoChildrenForEphemerals)
-        ≡ codes "no NoChildrenForEphemerals" }
+    ensures ephemeral_parent { reply_text refused_child ≡ codes "no NoChildrenForEphemerals" }
     ensures session_gone { reply_text (Refused SessionGone) ≡ codes "no SessionGone" }
     ensures sequence_full { reply_text (Refused SequenceFull) ≡ codes "no SequenceFull" }
     ensures path_limit { reply_text (Refused PathLimit) ≡ codes "no PathLimit" }

@@ -19,8 +19,7 @@ pub(crate) fn all_parts<'a>(
     alloc: Global,
     mut words: Cursor<'a>,
 ) -> Result<Vec<PartWords<'a>>, LineFault>
-    ensures found { IfOk result (λ parts. read_of (parts_shape MAX_PARTS words.entry)
-        ≡ Ok parts.items) }
+    ensures found { IfOk result (λ all. read_of (parts_shape MAX_PARTS words.entry) ≡ Ok all.items) }
     ensures fault { IfErr result (IsUnread (read_of (parts_shape MAX_PARTS words.entry))) }
 {
     let mut parts = Vec::new(alloc);
@@ -66,8 +65,7 @@ fn next_part<'a>(verb: &str, words: &mut Cursor<'a>) -> Option<PartWords<'a>>
 
 // The change that begins with a verb.
 fn next_change<'a>(verb: &str, words: &mut Cursor<'a>) -> Option<ChangeWords<'a>>
-    ensures part { IfSome result (λ change. change_shape verb.now words.old
-        ≡ Some (change, words.new)) }
+    ensures part { IfSome result (λ part. change_shape verb.now words.old ≡ Some (part, words.new)) }
     ensures none { IfNone result (change_shape verb.now words.old ≡ None) }
 {
     match verb {

@@ -5,6 +5,7 @@ use Rattle.zcalls.specs.declared.call.Call.TheVariants.{Update, Query}
 use Rattle.zcalls.specs.declared.call.Kind.TheVariants.{Persistent}
 use Rattle.zcalls.specs.declared.call.Query.TheVariants.{GetData}
 use Rattle.zcalls.specs.declared.call.Update.TheVariants.{Create}
+use Rattle.zcalls.specs.declared.refusal.Refusal.TheVariants.{NoChildrenForEphemerals}
 use Rattle.zcalls.specs.declared.reply.PartReply.TheVariants as part
 use Rattle.zcalls.specs.declared.reply.Reply.{Reply}
 use Rattle.zcalls.specs.declared.reply.Reply.TheVariants as reply
@@ -45,3 +46,7 @@ two_bytes = reply.Data (104 ∷ (105 ∷ [])) some_stat
 
 abbrev pub no_bytes : Reply
 no_bytes = reply.Data [] some_stat
+
+-- a create of a child of an ephemeral is refused
+abbrev pub refused_child : Reply
+refused_child = reply.Refused NoChildrenForEphemerals

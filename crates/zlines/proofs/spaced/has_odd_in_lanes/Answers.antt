@@ -1,4 +1,3 @@
-use Rattle.std.proofs.Common.{arith}
 use Rattle.zlines.proofs.OddLanes.{odd_among}
 use Rattle.zlines.proofs.spaced.has_odd_in_lanes.Goals as goal
 

@@ -1,0 +1,97 @@
+//! The text of a stat. Its numbers are put into one place, the last one first, since where each begins is then known.
+
+ghost use Rattle.std.specs.Prelude.{◌≡◌, ◌+◌, ◌*◌, ◌≤◌, ◌++◌, ◌∷◌, length, drop, OnOk, IsAscii};
+ghost use Rattle.std.specs.Fmt.{decimal};
+ghost use Rattle.std.specs.List.{flat_map};
+ghost use Rattle.zlines.specs.Texts.{Writes};
+ghost use Rattle.zlines.specs.Reply.{stat_text, spaced_number};
+
+use itoa::write_digits;
+use std::str;
+use zcalls::Stat;
+use zpath::Memory;
+
+// The most bytes of a number and the space before it.
+const NUMBER_ROOM: usize = 21;
+
+// The most bytes of the text before a stat.
+const FRONT_ROOM: usize = 8;
+
+// Room for a text and the ten numbers of a stat.
+const ROOM: usize = FRONT_ROOM + 10 * NUMBER_ROOM;
+
+/// Writes the numbers of a stat, behind a short text.
+pub(crate) fn write_stat_behind(front: &str, stat: &Stat, out: &mut String) -> Result<(), Memory>
+    requires { length front.now ≤ 8 }
+    ensures { OnOk result (Writes out.old out.new (front.now ++ stat_text stat.now)) }
+{
+    let mut text = [0u8; ROOM];
+    let numbers = put_stat(stat, &mut text);
+    let start = numbers - front.len();
+    text[start..numbers].copy_from_slice(front.as_bytes());
+    let Ok(text) = str::from_utf8(&text[start..]) else {
+        // A text, and digits and spaces.
+        unreachable!();
+    };
+    out.push_str(text)?;
+    Ok(())
+}
+
+// Puts the ten numbers of a stat, with a space before each, at the end of a place, and answers where they begin.
+fn put_stat(stat: &Stat, place: &mut [u8]) -> usize
+    requires { length place.old ≡ 218 }
+    ensures told { drop result place.new ≡ stat_text stat.now }
+    ensures ascii { IsAscii (drop result place.new) }
+    ensures len { length place.new ≡ length place.old }
+    ensures room { 8 ≤ result }
+    ensures within { result ≤ length place.new }
+{
+    let numbers = [
+        stat.czxid.number(),
+        stat.mzxid.number(),
+        stat.pzxid.number(),
+        stat.ctime,
+        stat.mtime,
+        stat.version,
+        stat.cversion,
+        stat.owner,
+        stat.length,
+        stat.children,
+    ];
+    put_numbers(&numbers, place)
+}
+
+// Puts numbers, with a space before each, at the end of a place, and answers where they begin.
+#[inline(always)]
+fn put_numbers(numbers: &[u64], place: &mut [u8]) -> usize
+    requires { 21 * length numbers.now ≤ length place.old }
+    ensures told { drop result place.new ≡ flat_map spaced_number numbers.now }
+    ensures ascii { IsAscii (drop result place.new) }
+    ensures len { length place.new ≡ length place.old }
+    ensures room { length place.old ≤ result + 21 * length numbers.now }
+    ensures within { result ≤ length place.new }
+{
+    let mut start = place.len();
+    let mut left = numbers.len();
+    while left > 0 {
+        left -= 1;
+        start = put_number(numbers[left], place, start);
+    }
+    start
+}
+
+// Puts a number, with a space before it, so that it ends at a place, and answers where it begins.
+#[inline(always)]
+fn put_number(number: u64, place: &mut [u8], end: usize) -> usize
+    requires room { 21 ≤ end }
+    requires within { end ≤ length place.old }
+    ensures told { drop result place.new ≡ spaced_number number ++ drop end place.old }
+    ensures ascii { IsAscii (spaced_number number) }
+    ensures len { length place.new ≡ length place.old }
+    ensures room { end ≤ result + 21 }
+    ensures before { result ≤ end }
+{
+    let start = write_digits(number, place, end) - 1;
+    place[start] = b' ';
+    start
+}
