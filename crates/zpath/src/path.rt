@@ -2,7 +2,9 @@
 
 ghost use Rattle.std.specs.Prelude.{◌≡◌, ◌≢◌, ◌⊎◌, ◌++◌, ℕ, true, false, List, [], ◌∷◌, Some, None, IfOk, IfErr, IfSome, IfNone, OnOk, refl, nat_eq};
 ghost use Rattle.std.specs.Cmp;
-ghost use Rattle.std.specs.Cmp.Lexicographic.{pointwise, nat_list_cmp_total, nat_list_eq_equiv, texts_ties, lists_total, lists_equiv, lists_ties};
+ghost use Rattle.std.specs.Cmp.Lexicographic.{pointwise, bytes_decides, nat_list_cmp_total, nat_list_eq_equiv, texts_ties, lists_total, lists_equiv, lists_ties};
+ghost use Rattle.std.specs.Hash as fed;
+ghost use Rattle.std.specs.Hash.{items_Alike, same_Alike};
 ghost use Rattle.zpath.specs.Grammar.{name_cmp, path_cmp};
 ghost use Rattle.zpath.specs.Faults.{fault_of, child_fault, IsMemoryOr};
 ghost use Rattle.zpath.specs.Numbered.{numbered_path, is_over, numbered_fault};
@@ -14,6 +16,7 @@ use crate::{numbered, scan};
 use std::alloc::Global;
 use std::cmp::Ordering;
 use std::fmt;
+use std::hash::{Hash, Hasher};
 use std::marker::Model;
 
 /// An absolute path, by its names from the root down.
@@ -181,6 +184,17 @@ impl PartialEq for Path {
 
 impl Eq for Path {
     ghost laws = { lists_equiv nat_list_eq_equiv };
+}
+
+// A path is hashed as its names: how many there are, and then each.
+impl Hash for Path {
+    ghost hash_input = { fed.slice fed.str };
+
+    ghost respects_eq = { (items_Alike (same_Alike fed.str bytes_decides)).fed };
+
+    fn hash<H: Hasher>(&self, state: &mut H) {
+        self.names().hash(state);
+    }
 }
 
 impl PartialOrd for Path {
