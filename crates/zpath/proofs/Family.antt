@@ -1,5 +1,5 @@
 -- The front of a path, and a path with one more name.
-use Rattle.std.proofs.Common.{◌≡◌, ℕ, ◌<◌, ◌≤◌, ◌+◌, List, [], ◌∷◌, ◌++◌, length, get_or, take, None, refl, sym, ap, ◌∙◌, arith, lit≤, length-append, append-nil, add-one}
+use Rattle.std.proofs.Common.{◌≡◌, ℕ, ◌<◌, ◌≤◌, ◌+◌, List, [], ◌∷◌, ◌++◌, length, get_or, take, drop, None, refl, sym, ap, ◌∙◌, arith, lit≤, length-append, take-append-drop, append-nil, add-one}
 use Rattle.std.proofs.lemmas.Grind.{flat_map-append}
 use Rattle.std.proofs.Math.Seq.{take-suc}
 use Rattle.std.proofs.lemmas.List.Sums.{sum_by-cons, sum_by_push}
@@ -23,17 +23,21 @@ all_last [] name are = are.0
 all_last (first ∷ front) name are = all_last front name are.1
 
 -- the front of a path is a path
-pub IsPath-front : (front : List (List ℕ)) (name : List ℕ) → IsPath (front ++ name ∷ []) → IsPath front
-IsPath-front [] name is = record { names = tt; short = lit≤ tt; shallow = lit≤ tt; unreserved = refl }
-IsPath-front (first ∷ front) name is =
-    let text = ap length (flat_map-append segment_of (first ∷ front) (name ∷ [])) in
-    let more = length-append (flat_map segment_of (first ∷ front)) (flat_map segment_of (name ∷ [])) in
+pub IsPath-front : (front back : List (List ℕ)) → IsPath (front ++ back) → IsPath front
+IsPath-front [] back is = record { names = tt; short = lit≤ tt; shallow = lit≤ tt; unreserved = refl }
+IsPath-front (first ∷ front) back is =
+    let text = ap length (flat_map-append segment_of (first ∷ front) back) in
+    let more = length-append (flat_map segment_of (first ∷ front)) (flat_map segment_of back) in
     record {
-      names = all_front (first ∷ front) (name ∷ []) is.names;
+      names = all_front (first ∷ front) back is.names;
       short = let short = is.short in omega arith;
-      shallow = let shallow = is.shallow in omega (arith, length-append (first ∷ front) (name ∷ []));
+      shallow = let shallow = is.shallow in omega (arith, length-append (first ∷ front) back);
       unreserved = is.unreserved;
     }
+
+-- so are its first names
+pub IsPath-take : (depth : ℕ) (path : List (List ℕ)) → IsPath path → IsPath (take depth path)
+IsPath-take depth path is = IsPath-front (take depth path) (drop depth path) (rw (take-append-drop depth path) is)
 
 -- a path with one more name is a path, where nothing speaks against it
 pub IsPath-child : (path : List (List ℕ)) (name : List ℕ) → IsPath path → IsName name → child_fault path name ≡ None → IsPath (path ++ name ∷ [])

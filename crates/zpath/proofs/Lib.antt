@@ -4,6 +4,7 @@ pub mod Splits
 pub mod Spelling
 pub mod Plain
 pub mod Family
+pub mod Shared
 pub mod UniqueSpelling
 pub mod Digits
 pub mod Sequence

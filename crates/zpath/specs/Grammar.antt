@@ -1,7 +1,7 @@
 -- What a path is: a list of names, each a list of bytes. The ZooKeeper Programmer's Guide, section "The ZooKeeper
 -- Data Model", has absolute paths, no control characters, no `.` or `..` alone, and the word `zookeeper` reserved.
 -- Visible ASCII alone and the limits are this project's own profile.
-use Rattle.std.specs.Prelude.{◌≡◌, ℕ, ◌<◌, ◌≤◌, Bool, false, ◌&&◌, ◌||◌, not, ◌==◌, nat_le, nat_lt, List, [], ◌∷◌, length, codes}
+use Rattle.std.specs.Prelude.{◌≡◌, ℕ, ◌<◌, ◌≤◌, Bool, false, ◌&&◌, ◌||◌, not, ◌==◌, nat_le, nat_lt, List, [], ◌∷◌, ◌++◌, length, codes}
 use Rattle.std.specs.List.{list_any, flat_map, AllByRecursion}
 use Rattle.std.specs.Str.{bytes_eq}
 use Rattle.std.specs.declared.cmp.Ordering.{Ordering}
@@ -68,6 +68,14 @@ pub record IsPath (path : List (List ℕ)) : Type 0 where
 -- some path has this text
 abbrev pub IsTextOfPath : List ℕ → Type 0
 IsTextOfPath text = (path : List (List ℕ)) × IsPath path × (text ≡ text_of path)
+
+-- the name is the path's last
+abbrev pub EndsWith : List (List ℕ) → List ℕ → Type 0
+EndsWith path name = (front : List (List ℕ)) × (path ≡ front ++ name ∷ [])
+
+-- the names are the path's but for its last
+abbrev pub IsFrontOf : List (List ℕ) → List (List ℕ) → Type 0
+IsFrontOf path front = (name : List ℕ) × (path ≡ front ++ name ∷ [])
 
 -- names are ordered by their bytes
 abbrev pub name_cmp : List ℕ → List ℕ → Ordering

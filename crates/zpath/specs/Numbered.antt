@@ -1,9 +1,9 @@
 -- The path of a sequential node: a counter's digits follow the last name that was asked for (ZooKeeper Programmer's
 -- Guide, section "Sequence Nodes -- Unique Naming"). The limits and the faults' order are those of every path.
-use Rattle.std.specs.Prelude.{ℕ, zero, suc, ◌+◌, ◌/◌, ◌%◌, Bool, ◌||◌, List, [], ◌∷◌, ◌++◌, Option}
+use Rattle.std.specs.Prelude.{◌≡◌, ◌⊎◌, ℕ, zero, suc, ◌+◌, ◌/◌, ◌%◌, Bool, true, ◌||◌, List, [], ◌∷◌, ◌++◌, Option}
 use Rattle.std.specs.List.{list_any}
 use Rattle.zpath.specs.declared.fault.PathFault.{PathFault}
-use Rattle.zpath.specs.declared.fault.PathFault.TheVariants.{NameTooLong, PathTooLong}
+use Rattle.zpath.specs.declared.fault.PathFault.TheVariants.{NameTooLong, PathTooLong, Memory}
 use Rattle.zpath.specs.First.{first_that_holds}
 use Rattle.zpath.specs.declared.limits.TheConstants.{COUNTER_DIGITS}
 use Rattle.zpath.specs.Grammar.{is_long, is_long_text, text_of}
@@ -22,6 +22,10 @@ numbered_path (name ∷ next ∷ path) counter = name ∷ numbered_path (next �
 -- a name or the whole text is longer than it may be
 abbrev pub is_over : List (List ℕ) → Bool
 is_over path = list_any is_long path || is_long_text (text_of path)
+
+-- memory ran out, or the path with a counter's digits is over a limit
+abbrev pub IsMemoryOrOver : List (List ℕ) → ℕ → PathFault → Type 0
+IsMemoryOrOver path counter fault = (fault ≡ Memory) ⊎ (is_over (numbered_path path counter) ≡ true)
 
 -- the tests of a path that is to have a counter's digits
 abbrev pub numbered_tests : List (List ℕ) → ℕ → List (Bool × PathFault)

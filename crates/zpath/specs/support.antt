@@ -1,2 +1,4 @@
 -- What serves the proofs alone: nobody has to believe it.
 pub mod Plain
+pub mod Texts
+pub mod Shared

@@ -15,6 +15,7 @@ mod numbered;
 mod path;
 mod rows;
 mod scan;
+mod text;
 
 pub use fault::PathFault;
 pub use limits::{COUNTER_DIGITS, MAX_DEPTH, MAX_NAME_LEN, MAX_TEXT_LEN};

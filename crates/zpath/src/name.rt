@@ -12,6 +12,8 @@ ghost use Rattle.zpath.specs.declared.limits.TheConstants.{COUNTER_DIGITS, MAX_N
 use crate::limits::COUNTER_DIGITS;
 use crate::memory::Memory;
 use crate::numbered::push_digits;
+use crate::text::Text;
+use arrayvec::ArrayString;
 use std::alloc::{AllocError, Global};
 use std::cmp::Ordering;
 use std::fmt;
@@ -23,18 +25,19 @@ use std::marker::Model;
 /// Names are got from a path that was parsed, and are ordered by their bytes.
 #[derive(Debug, Drop)]
 pub struct Name {
-    text: String,
+    text: Text,
 }
 
 impl Model for Name {
-    ghost use Rattle.std.specs.Prelude.{ℕ, List, string_bytes};
+    ghost use Rattle.std.specs.Prelude.{ℕ, List};
     ghost use Rattle.zpath.specs.Grammar.{IsName};
+    ghost use Rattle.zpath.specs.support.Texts.{bytes_of};
 
     ghost Value = { List ℕ };
 
-    ghost view = { λ name. string_bytes name.text };
+    ghost view = { λ name. bytes_of name.text };
 
-    ghost invariant = { λ name. IsName (string_bytes name.text) };
+    ghost invariant = { λ name. IsName (bytes_of name.text) };
 }
 
 impl Name {
@@ -46,7 +49,7 @@ impl Name {
         ensures { IfOk result (λ name. name ≡ text.now) }
     {
         Ok(Name {
-            text: String::from_str(alloc, text)?,
+            text: Text::from_str(alloc, text)?,
         })
     }
 
@@ -55,9 +58,11 @@ impl Name {
         requires { length self.now + COUNTER_DIGITS ≤ MAX_NAME_LEN }
         ensures { IfOk result (λ name. name ≡ self.now ++ digits COUNTER_DIGITS counter) }
     {
-        let mut text = String::from_str(alloc, self.text.as_str())?;
-        push_digits(&mut text, COUNTER_DIGITS, counter)?;
-        Ok(Name { text })
+        let mut digits = ArrayString::new();
+        push_digits(&mut digits, COUNTER_DIGITS, counter);
+        Ok(Name {
+            text: Text::joined(alloc, self.as_str(), digits.as_str())?,
+        })
     }
 
     /// The name's text.
@@ -69,13 +74,12 @@ impl Name {
     }
 
     /// A second owner of the same name.
-    pub fn copied(&self, alloc: Global) -> Result<Name, Memory>
+    pub fn copied(&self, _alloc: Global) -> Result<Name, Memory>
         ensures copy { IfOk result (λ copy. copy ≡ self.now) }
         ensures name { IsName self.now }
     {
-        Ok(Name {
-            text: String::from_str(alloc, self.text.as_str())?,
-        })
+        let text = self.text.clone()?;
+        Ok(Name { text })
     }
 }
 
@@ -87,7 +91,6 @@ impl fmt::Display for Name {
     }
 }
 
-// As `copied`, into the memory that the name is in.
 impl Clone for Name {
     ghost is_clone = { λ name copy. copy ≡ name };
 

@@ -1,25 +1,27 @@
 //! A counter's digits after the last name of a path.
 
-ghost use Rattle.std.specs.Prelude.{◌≡◌, ◌++◌, ◌∷◌, [], ℕ, OnOk, string_bytes};
+ghost use Rattle.std.specs.Prelude.{◌≡◌, ◌≤◌, ◌+◌, ◌++◌, ◌∷◌, [], ℕ};
+ghost use Rattle.arrayvec.specs.ArrayString.{array_string_len};
 ghost use Rattle.zpath.specs.Grammar.{IsPath};
 ghost use Rattle.zpath.specs.Numbered.{digits, numbered_fault};
+ghost use Rattle.zpath.specs.declared.limits.TheConstants.{COUNTER_DIGITS};
 
 use crate::fault::PathFault;
 use crate::limits::{COUNTER_DIGITS, MAX_NAME_LEN, MAX_TEXT_LEN};
-use crate::memory::Memory;
 use crate::name::Name;
 use crate::scan;
+use arrayvec::ArrayString;
 
 /// Appends the last `width` decimal digits of a number, with zeros before them where it has fewer.
-pub(crate) fn push_digits(text: &mut String, width: usize, number: u64) -> Result<(), Memory>
-    ensures { OnOk result (string_bytes text.new ≡ string_bytes text.old ++ digits width number) }
+pub(crate) fn push_digits(text: &mut ArrayString<COUNTER_DIGITS>, width: usize, number: u64)
+    requires { array_string_len text.old + width ≤ COUNTER_DIGITS }
+    ensures { text.new.bytes ≡ text.old.bytes ++ digits width number }
 {
     if width == 0 {
-        return Ok(());
+        return;
     }
-    push_digits(text, width - 1, number / 10)?;
-    text.push(char::from(b'0' + (number % 10) as u8))?;
-    Ok(())
+    push_digits(text, width - 1, number / 10);
+    text.push(char::from(b'0' + (number % 10) as u8));
 }
 
 /// Why the path of these names can't have a counter's digits.

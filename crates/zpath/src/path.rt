@@ -1,52 +1,57 @@
 //! Paths: parsing, their family, their order and their text.
 
-ghost use Rattle.std.specs.Prelude.{◌≡◌, ◌≢◌, ◌⊎◌, ◌++◌, ℕ, true, false, List, [], ◌∷◌, Some, None, IfOk, IfErr, IfSome, IfNone, OnOk, refl, nat_eq};
+ghost use Rattle.std.specs.Prelude.{◌≡◌, ◌≢◌, ◌≤◌, ◌⊎◌, ◌++◌, ℕ, length, take, true, false, List, [], ◌∷◌, Some, None, IfOk, IfErr, IfSome, IfNone, OnOk, refl, nat_eq};
 ghost use Rattle.std.specs.Cmp;
 ghost use Rattle.std.specs.Cmp.Lexicographic.{pointwise, bytes_decides, nat_list_cmp_total, nat_list_eq_equiv, texts_ties, lists_total, lists_equiv, lists_ties};
 ghost use Rattle.std.specs.Hash as fed;
 ghost use Rattle.std.specs.Hash.{items_Alike, same_Alike};
 ghost use Rattle.zpath.specs.Grammar.{name_cmp, path_cmp};
 ghost use Rattle.zpath.specs.Faults.{fault_of, child_fault, IsMemoryOr};
-ghost use Rattle.zpath.specs.Numbered.{numbered_path, is_over, numbered_fault};
+ghost use Rattle.zpath.specs.Numbered.{numbered_path, is_over, numbered_fault, IsMemoryOrOver};
 
 use crate::fault::PathFault;
 use crate::memory::Memory;
 use crate::name::Name;
 use crate::{numbered, scan};
-use std::alloc::Global;
+use std::alloc::{AllocError, Global};
 use std::cmp::Ordering;
 use std::fmt;
 use std::hash::{Hash, Hasher};
 use std::marker::Model;
+use std::sync::Arc;
 
 /// An absolute path, by its names from the root down.
 ///
 /// Paths are ordered name by name, so a path comes right before those below it.
+// The names stand in a list that all owners of the path share, and those of the paths above it, which show fewer names
+// of it. The root has no list.
 #[derive(Debug, Drop)]
 pub struct Path {
-    names: Vec<Name>,
+    list: Option<Arc<Vec<Name>>>,
+    depth: usize,
 }
 
 impl Model for Path {
-    ghost use Rattle.std.specs.Prelude.{ℕ, List};
-    ghost use Rattle.zpath.specs.Grammar.{IsPath};
+    ghost use Rattle.std.specs.Prelude.{ℕ, List, take};
+    ghost use Rattle.zpath.specs.support.Shared.{listed, ShowsPath};
 
     ghost Value = { List (List ℕ) };
 
-    ghost view = { λ path. path.names.items };
+    ghost view = { λ path. take path.depth (listed path.list) };
 
-    ghost invariant = { λ path. IsPath path.names.items };
+    ghost invariant = { λ path. ShowsPath path.depth (listed path.list) };
 }
 
 impl Path {
-    ghost use Rattle.zpath.specs.Grammar.{IsPath, IsTextOfPath, text_of};
+    ghost use Rattle.zpath.specs.Grammar.{IsPath, IsTextOfPath, text_of, EndsWith, IsFrontOf};
 
     /// The root, which has no name. Nothing is allocated.
-    pub fn root(alloc: Global) -> Path
+    pub fn root(_alloc: Global) -> Path
         ensures { result ≡ [] }
     {
         Path {
-            names: Vec::new(alloc),
+            list: None,
+            depth: 0,
         }
     }
 
@@ -59,7 +64,7 @@ impl Path {
     {
         let rest = scan::faultless_rest(text)?;
         let names = scan::names_after(alloc, rest)?;
-        Ok(Path { names })
+        Ok(Path::of(alloc, names)?)
     }
 
     /// The names from the root down.
@@ -67,30 +72,30 @@ impl Path {
         ensures names { result.now ≡ self.now }
         ensures path { IsPath self.now }
     {
-        &self.names
+        match &self.list {
+            Some(list) => &list[..self.depth],
+            None => &[],
+        }
     }
 
     /// The last name; none at the root.
     pub fn name(&self) -> Option<&Name>
         ensures root { IfNone result (self.now ≡ []) }
-        ensures last { IfSome result (λ name.
-            (front : List (List ℕ)) × (self.now ≡ front ++ name.now ∷ [])) }
+        ensures last { IfSome result (λ name. EndsWith self.now name.now) }
     {
-        self.names.last()
+        self.names().last()
     }
 
     /// The path without its last name; none at the root.
-    pub fn parent(&self, alloc: Global) -> Result<Option<Path>, Memory>
+    pub fn parent(&self, _alloc: Global) -> Result<Option<Path>, Memory>
         ensures root { IfOk result (λ parent. IfNone parent (self.now ≡ [])) }
         ensures path { IsPath self.now }
-        ensures front { IfOk result (λ parent. IfSome parent (λ front.
-            (name : List ℕ) × (self.now ≡ front ++ name ∷ []))) }
+        ensures front { IfOk result (λ parent. IfSome parent (IsFrontOf self.now)) }
     {
-        let Some((_, front)) = self.names.split_last() else {
+        if self.depth == 0 {
             return Ok(None);
-        };
-        let names = copied(alloc, front)?;
-        Ok(Some(Path { names }))
+        }
+        Ok(Some(self.front(self.depth - 1)?))
     }
 
     /// The path with one more name, unless it is too long, too deep or reserved.
@@ -99,11 +104,11 @@ impl Path {
         ensures only { OnOk result (child_fault self.now name.now ≡ None) }
         ensures fault { IfErr result (IsMemoryOr (child_fault self.now name.now)) }
     {
-        if let Some(fault) = scan::child_fault(&self.names, name) {
+        if let Some(fault) = scan::child_fault(self.names(), name) {
             return Err(fault);
         }
-        let names = with_last(alloc, &self.names, name.copied(alloc)?)?;
-        Ok(Path { names })
+        let last = name.copied(alloc)?;
+        Ok(Path::with_last(alloc, self.names(), last)?)
     }
 
     /// The path with a counter's `COUNTER_DIGITS` digits after its last name, as a sequential node is named ("n-" and 1
@@ -116,44 +121,71 @@ impl Path {
         ensures fits { OnOk result (numbered_fault self.now counter ≡ None) }
         ensures within { OnOk result (is_over (numbered_path self.now counter) ≡ false) }
         ensures fault { IfErr result (IsMemoryOr (numbered_fault self.now counter)) }
-        ensures over { IfErr result (λ fault.
-            (fault ≡ PathFault.Memory) ⊎ (is_over (numbered_path self.now counter) ≡ true)) }
+        ensures over { IfErr result (IsMemoryOrOver self.now counter) }
     {
-        let Some((last, front)) = self.names.split_last() else {
+        let Some((last, front)) = self.names().split_last() else {
             unreachable!()
         };
         if let Some(fault) = numbered::numbered_fault(front, last) {
             return Err(fault);
         }
-        let names = with_last(alloc, front, last.numbered(alloc, counter)?)?;
-        Ok(Path { names })
+        let name = last.numbered(alloc, counter)?;
+        Ok(Path::with_last(alloc, front, name)?)
     }
 
     /// A second owner of the same path.
-    pub fn copied(&self, alloc: Global) -> Result<Path, Memory>
+    pub fn copied(&self, _alloc: Global) -> Result<Path, Memory>
         ensures { IfOk result (λ copy. copy ≡ self.now) }
     {
-        let names = copied(alloc, &self.names)?;
-        Ok(Path { names })
+        Ok(self.clone()?)
+    }
+
+    // The path of these names.
+    fn of(alloc: Global, names: Vec<Name>) -> Result<Path, Memory>
+        requires { IsPath names.items }
+        ensures { IfOk result (λ path. path ≡ names.items) }
+    {
+        let depth = names.len();
+        let list = Arc::new(alloc, names)?;
+        Ok(Path {
+            list: Some(list),
+            depth,
+        })
+    }
+
+    // The path of names and one more.
+    fn with_last(alloc: Global, front: &[Name], last: Name) -> Result<Path, Memory>
+        requires { IsPath (front.now ++ last ∷ []) }
+        ensures { IfOk result (λ path. IsPath path × (path ≡ front.now ++ last ∷ [])) }
+    {
+        let mut names = Vec::with_capacity(alloc, front.len() + 1)?;
+        for name in front {
+            names.push(name.copied(alloc)?)?;
+        }
+        names.push(last)?;
+        Path::of(alloc, names)
+    }
+
+    // One more owner of the list, with the first names of the path.
+    fn front(&self, depth: usize) -> Result<Path, AllocError>
+        requires { depth ≤ length self.now }
+        ensures { IfOk result (λ front. front ≡ take depth self.now) }
+    {
+        let list = match &self.list {
+            Some(list) if depth > 0 => Some(Arc::try_clone(list)?),
+            _ => None,
+        };
+        Ok(Path { list, depth })
     }
 }
 
-fn with_last(alloc: Global, front: &[Name], last: Name) -> Result<Vec<Name>, Memory>
-    ensures { IfOk result (λ names. names.items ≡ front.now ++ last ∷ []) }
-{
-    let mut names = copied(alloc, front)?;
-    names.push(last)?;
-    Ok(names)
-}
+// As `copied`.
+impl Clone for Path {
+    ghost is_clone = { λ path copy. copy ≡ path };
 
-fn copied(alloc: Global, names: &[Name]) -> Result<Vec<Name>, Memory>
-    ensures { IfOk result (λ copy. copy.items ≡ names.now) }
-{
-    let mut copy = Vec::new(alloc);
-    for name in names {
-        copy.push(name.copied(alloc)?)?;
+    fn clone(&self) -> Result<Self, AllocError> {
+        self.front(self.depth)
     }
-    Ok(copy)
 }
 
 impl fmt::Display for Path {
@@ -162,10 +194,10 @@ impl fmt::Display for Path {
     ghost output = { λ path. Some (text_of path) };
 
     fn fmt<W: fmt::Write>(&self, f: &mut fmt::Formatter<W>) -> fmt::Result {
-        if self.names.is_empty() {
+        if self.depth == 0 {
             return f.write_str("/");
         }
-        for name in &self.names {
+        for name in self.names() {
             write!(f, "/{name}")?;
         }
         Ok(())
@@ -178,7 +210,7 @@ impl PartialEq for Path {
     ghost laws = { Cmp.partial_equiv_from_equiv (lists_equiv nat_list_eq_equiv) };
 
     fn eq(&self, other: &Path) -> bool {
-        self.names == other.names
+        self.names() == other.names()
     }
 }
 
@@ -217,6 +249,6 @@ impl Ord for Path {
     ghost matches_eq = { lists_ties name_cmp texts_ties };
 
     fn cmp(&self, other: &Path) -> Ordering {
-        self.names.cmp(&other.names)
+        self.names().cmp(other.names())
     }
 }

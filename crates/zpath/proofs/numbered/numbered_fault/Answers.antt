@@ -1,4 +1,4 @@
-use Rattle.std.proofs.Common.{refl, sym, ◌∙◌}
+use Rattle.std.proofs.Common.{[], ◌∷◌, refl, sym, ◌∙◌}
 use Rattle.zpath.specs.declared.limits.TheConstants.{MAX_NAME_LEN, MAX_TEXT_LEN}
 use Rattle.zpath.proofs.Family.{IsPath-front}
 use Rattle.zpath.proofs.NameTests.{above, not_above}
@@ -6,7 +6,7 @@ use Rattle.zpath.proofs.Sequence.{numbered_fault-lengths}
 use Rattle.zpath.proofs.numbered.numbered_fault.Goals as goal
 
 pub child_len-requires : goal.child_len-requires
-child_len-requires c = IsPath-front c.args.front.now c.args.last.now c.requires
+child_len-requires c = IsPath-front c.args.front.now (c.args.last.now ∷ []) c.requires
 
 pub returns-then-as_str-gt-MAX_NAME_LEN : goal.returns-then-as_str-gt-MAX_NAME_LEN
 returns-then-as_str-gt-MAX_NAME_LEN c = λ counter.

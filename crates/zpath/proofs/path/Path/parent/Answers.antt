@@ -1,9 +1,8 @@
-use Rattle.std.proofs.Common.{rules}
-use Rattle.zpath.proofs.Family.{IsPath-front}
+use Rattle.zpath.specs.support.Shared.{listed}
+use Rattle.zpath.proofs.Shared.{shown_but_last}
 use Rattle.zpath.proofs.path.Path.parent.Goals as goal
 
-pub invariant_of-result : goal.invariant_of-result
-invariant_of-result c = rw c.in_ok-names.ensures (IsPath-front _ c.in-Some.field-0-0.now (rw (← c.in-Some.ensures.cases.0, c.deref.ensures.value) c.self.invariant))
-
 pub returns-clause-front : goal.returns-clause-front
-returns-clause-front c = search rules
+returns-clause-front c =
+    rw c.in_ok-front.ensures
+    (shown_but_last c.self.inside.depth (listed c.self.inside.list) c.args.self.now c.self.invariant.0 c.self.view_is c.if-self-eq0.false)

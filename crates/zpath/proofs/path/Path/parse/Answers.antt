@@ -17,8 +17,8 @@ names_after-requires c =
     let tested = c.in_ok-rest.ensures.ok in
     (path_from_text _ (ap fault_of (sym tested.1) ∙ tested.0)).0.names
 
-pub invariant_of-result : goal.invariant_of-result
-invariant_of-result c =
+pub of-requires : goal.of-requires
+of-requires c =
     let tested = c.in_ok-rest.ensures.ok in
     rw c.in_ok-names.ensures (path_from_text _ (ap fault_of (sym tested.1) ∙ tested.0)).0
 
@@ -26,4 +26,4 @@ pub returns-clause-found : goal.returns-clause-found
 returns-clause-found c =
     let tested = c.in_ok-rest.ensures.ok in
     let is = path_from_text _ (ap fault_of (sym tested.1) ∙ tested.0) in
-    rw c.in_ok-names.ensures (is.0, tested.1 ∙ is.1)
+    rw (c.in_ok-of.ensures, c.in_ok-names.ensures) (is.0, tested.1 ∙ is.1)
