@@ -3,6 +3,7 @@ pub mod NameTests
 pub mod Splits
 pub mod Spelling
 pub mod Plain
+pub mod Cuts
 pub mod Family
 pub mod Shared
 pub mod UniqueSpelling

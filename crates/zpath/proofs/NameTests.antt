@@ -6,7 +6,7 @@ use Rattle.std.proofs.lemmas.List.Elements.{All-nil, All-cons}
 use Rattle.zpath.specs.declared.limits.TheConstants.{MAX_NAME_LEN}
 use Rattle.zpath.specs.Grammar.{is_name_byte, is_empty, is_dots, has_bad_byte, is_long, IsName}
 
-both_false : (a b : Bool) → (a || b) ≡ false → (a ≡ false) × (b ≡ false)
+pub both_false : (a b : Bool) → (a || b) ≡ false → (a ≡ false) × (b ≡ false)
 both_false true b e = cc
 both_false false b e = (refl, e)
 

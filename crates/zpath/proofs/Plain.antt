@@ -1,7 +1,7 @@
 -- A text that passes the quick test has no fault.
 use Rattle.std.proofs.Common.{◌≡◌, ℕ, ◌<◌, ◌≤◌, ◌-◌, Bool, true, false, not, ◌&&◌, cond, eqb, List, [], ◌∷◌, ◌++◌, length, None, codes, refl, sym, ap, ◌∙◌, arith}
 use Rattle.std.specs.Prelude.{nat_lt, nat_eq}
-use Rattle.std.specs.Bool.{OnTrue, OnFalse}
+use Rattle.std.specs.Bool.{OnFalse}
 use Rattle.std.specs.List.{list_any, onto_first, flat_map, starts_with}
 use Rattle.std.specs.Str.{bytes_eq}
 use Rattle.std.proofs.lemmas.Bool.Decides.{nat_tests}
@@ -134,12 +134,13 @@ not_reserved rest true e = tt
 not_reserved rest false e = unreserved rest (sym e)
 
 -- what the quick test says of a text
-pub plain_is_faultless : (text rest : List ℕ) → text ≡ 47 ∷ rest → names_of text ≡ parts_of rest → length text ≤ MAX_NAME_LEN → is_reserved (parts_of rest) ≡ false
-    → (plain : Bool) → plain ≡ has_plain_names (MAX_DEPTH - 1) true rest → OnTrue plain (fault_of text ≡ None)
-plain_is_faultless text rest begins names short other false plain = tt
-plain_is_faultless text rest begins names short other true plain =
+pub plain_is_faultless : (text rest : List ℕ) → text ≡ 47 ∷ rest → length text ≤ MAX_NAME_LEN → is_reserved (parts_of rest) ≡ false → has_plain_names (MAX_DEPTH - 1) true rest ≡ true → fault_of text ≡ None
+plain_is_faultless text [] begins short other plain = cc
+plain_is_faultless text (byte ∷ bytes) begins short other plain =
+    let rest = byte ∷ bytes in
+    let names : names_of text ≡ parts_of rest = ap names_of begins in
     let absolute = tests_of_absolute text rest begins in
-    let parts = plain_parts (MAX_DEPTH - 1) true rest (sym plain) in
+    let parts = plain_parts (MAX_DEPTH - 1) true rest plain in
     let whole = parts.whole refl in
     let spelled = spelled-parts_of rest ∙ sym begins in
     let fits : length (flat_map segment_of (parts_of rest)) ≤ MAX_NAME_LEN = rw spelled short in
@@ -156,3 +157,8 @@ plain_is_faultless text rest begins names short other true plain =
       shallow = let few = parts.few in rw (names, parts.are) (not_above MAX_DEPTH _ (omega (arith, few)));
       unreserved = rw names other;
     })
+
+-- and the text has names
+pub plain_below_root : (text rest : List ℕ) → text ≡ 47 ∷ rest → has_plain_names (MAX_DEPTH - 1) true rest ≡ true → names_of text ≡ parts_of rest
+plain_below_root text [] begins plain = cc
+plain_below_root text (byte ∷ bytes) begins plain = ap names_of begins

@@ -6,13 +6,16 @@
 //! `Name` as its bytes and a `Path` as the list of its names.
 #![tactic(auto)]
 
+mod cut;
 mod fault;
 pub mod laws;
 mod limits;
+mod list;
 mod memory;
 mod name;
 mod numbered;
 mod path;
+mod quick;
 mod rows;
 mod scan;
 mod text;

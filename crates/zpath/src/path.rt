@@ -10,9 +10,11 @@ ghost use Rattle.zpath.specs.Faults.{fault_of, child_fault, IsMemoryOr};
 ghost use Rattle.zpath.specs.Numbered.{numbered_path, is_over, numbered_fault, IsMemoryOrOver};
 
 use crate::fault::PathFault;
+use crate::list::NameList;
 use crate::memory::Memory;
 use crate::name::Name;
-use crate::{numbered, scan};
+use crate::{cut, numbered, quick, scan};
+use arrayvec::ArrayVec;
 use std::alloc::{AllocError, Global};
 use std::cmp::Ordering;
 use std::fmt;
@@ -27,7 +29,7 @@ use std::sync::Arc;
 // of it. The root has no list.
 #[derive(Debug, Drop)]
 pub struct Path {
-    list: Option<Arc<Vec<Name>>>,
+    list: Option<Arc<NameList>>,
     depth: usize,
 }
 
@@ -44,6 +46,7 @@ impl Model for Path {
 
 impl Path {
     ghost use Rattle.zpath.specs.Grammar.{IsPath, IsTextOfPath, text_of, EndsWith, IsFrontOf};
+    ghost use Rattle.zpath.specs.support.Lists.{items_of};
 
     /// The root, which has no name. Nothing is allocated.
     pub fn root(_alloc: Global) -> Path
@@ -62,7 +65,15 @@ impl Path {
         ensures only { IfErr result (λ fault. IsTextOfPath text.now → fault ≡ PathFault.Memory) }
         ensures fault { IfErr result (IsMemoryOr (fault_of text.now)) }
     {
+        let mut lens = ArrayVec::new();
+        if let Some(rest) = quick::plain_rest(text, &mut lens) {
+            let names = cut::names_by(alloc, rest, &lens)?;
+            return Ok(Path::of(alloc, names)?);
+        }
         let rest = scan::faultless_rest(text)?;
+        if rest.is_empty() {
+            return Ok(Path::root(alloc));
+        }
         let names = scan::names_after(alloc, rest)?;
         Ok(Path::of(alloc, names)?)
     }
@@ -73,7 +84,7 @@ impl Path {
         ensures path { IsPath self.now }
     {
         match &self.list {
-            Some(list) => &list[..self.depth],
+            Some(list) => &list.as_slice()[..self.depth],
             None => &[],
         }
     }
@@ -108,7 +119,8 @@ impl Path {
             return Err(fault);
         }
         let last = name.copied(alloc)?;
-        Ok(Path::with_last(alloc, self.names(), last)?)
+        let names = NameList::with_last(alloc, self.names(), last)?;
+        Ok(Path::of(alloc, names)?)
     }
 
     /// The path with a counter's `COUNTER_DIGITS` digits after its last name, as a sequential node is named ("n-" and 1
@@ -130,7 +142,8 @@ impl Path {
             return Err(fault);
         }
         let name = last.numbered(alloc, counter)?;
-        Ok(Path::with_last(alloc, front, name)?)
+        let names = NameList::with_last(alloc, front, name)?;
+        Ok(Path::of(alloc, names)?)
     }
 
     /// A second owner of the same path.
@@ -140,30 +153,17 @@ impl Path {
         Ok(self.clone()?)
     }
 
-    // The path of these names.
-    fn of(alloc: Global, names: Vec<Name>) -> Result<Path, Memory>
-        requires { IsPath names.items }
-        ensures { IfOk result (λ path. path ≡ names.items) }
+    // The path of a list's names.
+    fn of(alloc: Global, names: NameList) -> Result<Path, Memory>
+        requires { IsPath (items_of names) }
+        ensures { IfOk result (λ path. IsPath path × (path ≡ items_of names)) }
     {
-        let depth = names.len();
+        let depth = names.as_slice().len();
         let list = Arc::new(alloc, names)?;
         Ok(Path {
             list: Some(list),
             depth,
         })
-    }
-
-    // The path of names and one more.
-    fn with_last(alloc: Global, front: &[Name], last: Name) -> Result<Path, Memory>
-        requires { IsPath (front.now ++ last ∷ []) }
-        ensures { IfOk result (λ path. IsPath path × (path ≡ front.now ++ last ∷ [])) }
-    {
-        let mut names = Vec::with_capacity(alloc, front.len() + 1)?;
-        for name in front {
-            names.push(name.copied(alloc)?)?;
-        }
-        names.push(last)?;
-        Path::of(alloc, names)
     }
 
     // One more owner of the list, with the first names of the path.

@@ -1,4 +1,4 @@
-//! The tests of a text, each a pass over the whole of it, and the cut at its slashes.
+//! The tests of any text, each a pass over the whole of it, and the cut at its slashes.
 //!
 //! `rest` is what follows the first slash of a text.
 
@@ -7,11 +7,12 @@ ghost use Rattle.std.specs.Bool.{OnTrue, OnFalse};
 ghost use Rattle.std.specs.List.{AllByRecursion, list_any, sum_by};
 ghost use Rattle.zpath.specs.Grammar.{IsName, IsPath, is_empty, is_dots, has_bad_byte, is_long, is_reserved, text_of};
 ghost use Rattle.zpath.specs.Faults.{parts_of, names_of, fault_of, child_fault};
-ghost use Rattle.zpath.specs.support.Plain.{has_plain_names};
-ghost use Rattle.zpath.specs.declared.limits.TheConstants.{MAX_TEXT_LEN, MAX_DEPTH};
+ghost use Rattle.zpath.specs.support.Lists.{items_of};
+ghost use Rattle.zpath.specs.declared.limits.TheConstants.{MAX_TEXT_LEN};
 
 use crate::fault::PathFault;
 use crate::limits::{MAX_DEPTH, MAX_NAME_LEN, MAX_TEXT_LEN};
+use crate::list::NameList;
 use crate::memory::Memory;
 use crate::name::Name;
 use std::alloc::Global;
@@ -68,49 +69,6 @@ fn is_reserved(rest: &str) -> bool
     }
 }
 
-// No name is empty, has a bad byte or begins with a dot, and there are not too many.
-fn has_plain_names(rest: &str) -> bool
-    ensures { result ≡ has_plain_names (MAX_DEPTH - 1) true rest.now }
-{
-    let mut room = MAX_DEPTH - 1;
-    let mut begins = true;
-    for &byte in rest.as_bytes() {
-        if byte == b'/' {
-            if begins || room == 0 {
-                return false;
-            }
-            room -= 1;
-            begins = true;
-        } else {
-            if !(0x21..=0x7e).contains(&byte) || begins && byte == b'.' {
-                return false;
-            }
-            begins = false;
-        }
-    }
-    !begins
-}
-
-// Whether the first name may be the reserved one.
-fn may_be_reserved(rest: &str) -> bool
-    ensures { OnFalse result (is_reserved (parts_of rest.now) ≡ false) }
-{
-    rest.starts_with("zookeeper")
-}
-
-// The quick test of a text that has more than its first slash, in one pass over its bytes. Most paths pass it, and a
-// path that does not is looked through for faults.
-fn is_plain(text: &str, rest: &str) -> bool
-    requires text { text.now ≡ 47 ∷ rest.now }
-    requires below_root { names_of text.now ≡ parts_of rest.now }
-    ensures { OnTrue result (fault_of text.now ≡ None) }
-{
-    if text.len() > MAX_NAME_LEN || may_be_reserved(rest) {
-        return false;
-    }
-    has_plain_names(rest)
-}
-
 // The first fault of a text that has more than its first slash.
 #[tactic(auto, unfolding(crate::specs::Faults::fault_of))]
 fn names_fault(text: &str, rest: &str) -> Option<PathFault>
@@ -149,7 +107,7 @@ pub(crate) fn faultless_rest(text: &str) -> Result<&str, PathFault>
     let Some(rest) = text.strip_prefix('/') else {
         return Err(PathFault::NotAbsolute);
     };
-    if rest.is_empty() || is_plain(text, rest) {
+    if rest.is_empty() {
         return Ok(rest);
     }
     match names_fault(text, rest) {
@@ -159,13 +117,13 @@ pub(crate) fn faultless_rest(text: &str) -> Result<&str, PathFault>
 }
 
 /// The names that follow a first slash.
-pub(crate) fn names_after(alloc: Global, rest: &str) -> Result<Vec<Name>, Memory>
+pub(crate) fn names_after(alloc: Global, rest: &str) -> Result<NameList, Memory>
     requires { AllByRecursion IsName (names_of (47 ∷ rest.now)) }
-    ensures { IfOk result (λ names. names.items ≡ names_of (47 ∷ rest.now)) }
+    ensures { IfOk result (λ list. items_of list ≡ names_of (47 ∷ rest.now)) }
 {
     let mut names = Vec::new(alloc);
     if rest.is_empty() {
-        return Ok(names);
+        return Ok(NameList::Many(names));
     }
     let mut left = rest;
     while let Some((name, more)) = left.split_once('/') {
@@ -173,7 +131,7 @@ pub(crate) fn names_after(alloc: Global, rest: &str) -> Result<Vec<Name>, Memory
         left = more;
     }
     push_name(alloc, &mut names, left)?;
-    Ok(names)
+    Ok(NameList::Many(names))
 }
 
 fn push_name(alloc: Global, names: &mut Vec<Name>, text: &str) -> Result<(), Memory>

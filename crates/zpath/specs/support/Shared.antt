@@ -1,13 +1,15 @@
 -- The list that owners of a path share.
-use Rattle.std.specs.Prelude.{ℕ, ◌≤◌, List, [], length, take, Option, Some, None, Vec}
+use Rattle.std.specs.Prelude.{ℕ, ◌≤◌, List, [], length, take, Option, Some, None}
 use Rattle.std.specs.declared.sync.Arc.{Arc}
 use Rattle.std.specs.Arc.{arc_value}
+use Rattle.zpath.specs.declared.list.NameList.{NameList}
 use Rattle.zpath.specs.Grammar.{IsPath}
+use Rattle.zpath.specs.support.Lists.{items_of}
 
 -- the items of the list, where there is one
-abbrev pub listed : {A B C : Type 0} → Option (Arc (Vec A B) C) → List A
+abbrev pub listed : {C : Type 0} → Option (Arc NameList C) → List (List ℕ)
 listed None = []
-listed (Some list) = (arc_value list).items
+listed (Some list) = items_of (arc_value list)
 
 -- the list begins with so many names, and they are a path
 abbrev pub ShowsPath : ℕ → List (List ℕ) → Type 0

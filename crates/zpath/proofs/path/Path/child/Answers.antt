@@ -3,10 +3,11 @@ use Rattle.zpath.specs.Faults.{child_fault}
 use Rattle.zpath.proofs.Family.{IsPath-child}
 use Rattle.zpath.proofs.path.Path.child.Goals as goal
 
-pub with_last-requires : goal.with_last-requires
-with_last-requires c =
+pub of-requires : goal.of-requires
+of-requires c =
     let none : child_fault c.args.self.now c.args.name.now ≡ None = search rules in
-    rw (c.names-2.ensures.names, c.in_ok-last.ensures.copy) (IsPath-child c.args.self.now c.args.name.now c.names.ensures.path c.in_ok-last.ensures.name none)
+    rw (c.in_ok-names.ensures, c.names-2.ensures.names, c.in_ok-last.ensures.copy)
+    (IsPath-child c.args.self.now c.args.name.now c.names.ensures.path c.in_ok-last.ensures.name none)
 
 pub returns-clause-child : goal.returns-clause-child
-returns-clause-child c = rw (c.names-2.ensures.names, c.in_ok-last.ensures.copy) at c.in_ok-with_last.ensures
+returns-clause-child c = rw (c.in_ok-names.ensures, c.names-2.ensures.names, c.in_ok-last.ensures.copy) at c.in_ok-of.ensures

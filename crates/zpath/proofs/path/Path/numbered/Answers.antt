@@ -18,19 +18,19 @@ numbered-requires c =
     sym (c.numbered_fault.ensures c.args.counter) ∙ c.in_default-numbered_fault.is in
     last_fits c.in-Some.front.now c.in-Some.last.now c.args.counter (rw split at c.names.ensures.path) none
 
-pub with_last-requires : goal.with_last-requires
-with_last-requires c =
+pub of-requires : goal.of-requires
+of-requires c =
     let split : c.args.self.now ≡ c.in-Some.front.now ++ c.in-Some.last.now ∷ [] = search rules in
     let none : numbered_fault (c.in-Some.front.now ++ c.in-Some.last.now ∷ []) c.args.counter ≡ None =
     sym (c.numbered_fault.ensures c.args.counter) ∙ c.in_default-numbered_fault.is in
-    rw c.in_ok-name.ensures (IsPath-numbered c.in-Some.front.now c.in-Some.last.now c.args.counter (rw split at c.names.ensures.path) none)
+    rw (c.in_ok-names.ensures, c.in_ok-name.ensures) (IsPath-numbered c.in-Some.front.now c.in-Some.last.now c.args.counter (rw split at c.names.ensures.path) none)
 
-is_split : (c : goal.In_ok-with_last) → c.args.self.now ≡ c.in-Some.front.now ++ c.in-Some.last.now ∷ []
+is_split : (c : goal.In_ok-of) → c.args.self.now ≡ c.in-Some.front.now ++ c.in-Some.last.now ∷ []
 is_split c = search rules
 
 pub returns-clause-numbered : goal.returns-clause-numbered
 returns-clause-numbered c =
-    let made = rw c.in_ok-name.ensures at c.in_ok-with_last.ensures in
+    let made = rw (c.in_ok-names.ensures, c.in_ok-name.ensures) at c.in_ok-of.ensures in
     (made.0, made.1 ∙ sym (numbered_last c.in-Some.front.now c.in-Some.last.now c.args.counter) ∙ ap (λ path. numbered_path path c.args.counter) (sym (is_split c)))
 
 pub returns-clause-within : goal.returns-clause-within

@@ -1,5 +1,5 @@
 use Rattle.std.proofs.Common.{◌≡◌, take}
-use Rattle.zpath.proofs.path.Path.with_last.Given as goal
+use Rattle.zpath.proofs.list.with_last.Given as goal
 
 abbrev pub invariant-loop-name : goal.invariant-loop-name
 invariant-loop-name l = l.names.items ≡ take l.name-index l.front
