@@ -1,5 +1,7 @@
 pub mod Codes
+pub mod Fields
 pub mod Names
 pub mod Places
 pub mod Ready
+pub mod Steps
 pub mod Stops

@@ -1,15 +1,15 @@
 //! A change of one node, done to a store.
 
-ghost use Rattle.std.specs.Prelude.{◌≡◌, ◌≢◌, ◌<◌, [], length, nat_lt, Some, None, Ok, Err, IfOk, IfErr, OnOk, false};
-ghost use Rattle.zpath.specs.First.{first_that_holds};
+ghost use Rattle.std.specs.Prelude.{◌≡◌, ◌≢◌, ◌<◌, [], Some, None, Ok, Err, IfOk, IfErr, OnOk, OnErr, false};
 ghost use Rattle.zpath.specs.Numbered.{is_over};
-ghost use Rattle.ztree.specs.Tree.{Path, parent_of, children};
+ghost use Rattle.ztree.specs.Tree.{Path, parent_of};
 ghost use Rattle.zstore.specs.StoreView.{path_of, AtPath};
 ghost use Rattle.zcalls.specs.Part.{create_step, delete_step, set_step, change_step};
-ghost use Rattle.zcalls.specs.Part.{is_owned, has_other_version, node_has, made_path};
+ghost use Rattle.zcalls.specs.Part.{is_owned, has_other_version, made_path};
 ghost use Rattle.zops.specs.support.Ready.{IsReadyForPart};
-ghost use Rattle.zops.specs.support.Stops.{IsDone, IsStopped, IsFirst};
-ghost use Rattle.zops.specs.support.Names.{name_refusals};
+ghost use Rattle.zops.specs.support.Stops.{IsDone, IsStop, IsFirst};
+ghost use Rattle.zops.specs.support.Names.{name_refusal};
+ghost use Rattle.zops.specs.support.Steps.{TellsWhether, is_parent};
 
 use crate::owner::has_no_owner;
 use crate::stop::Stop;
@@ -31,8 +31,8 @@ pub(crate) fn change(
     requires ready { IsReadyForPart store.old }
     ensures done { IfOk result
         (IsDone (change_step store.old.tree client change) store.old store.new) }
-    ensures stopped { IfErr result
-        (IsStopped (change_step store.old.tree client change) store.old store.new) }
+    ensures stopped { IfErr result (IsStop (change_step store.old.tree client change)) }
+    ensures same { OnErr result (store.new ≡ store.old) }
 {
     match change {
         Change::Create(wanted) => create(alloc, store, client, wanted),
@@ -47,7 +47,7 @@ pub(crate) fn change(
 
 // Whether a session owns the node.
 fn is_ephemeral(store: &Store, id: Id) -> bool
-    ensures { AtPath store.now id (λ path. result ≡ node_has is_owned store.now.tree.nodes path) }
+    ensures { TellsWhether is_owned store.now id result }
 {
     match store.node(id) {
         Some(node) => node.owner != 0,
@@ -57,8 +57,7 @@ fn is_ephemeral(store: &Store, id: Id) -> bool
 
 // Whether the node has another version than the one that is expected.
 pub(crate) fn has_other_version(store: &Store, id: Id, expected: Expected) -> bool
-    ensures { AtPath store.now id (λ path. result
-        ≡ node_has (has_other_version expected) store.now.tree.nodes path) }
+    ensures { TellsWhether (has_other_version expected) store.now id result }
 {
     match (store.node(id), expected) {
         (Some(node), Expected::Exactly(version)) => node.version != version,
@@ -72,10 +71,8 @@ fn made_path(alloc: Global, store: &Store, parent: Id, kind: Kind, path: Path) -
     requires short { is_over path ≡ false }
     requires live { path_of store.now parent ≡ Some (parent_of path) }
     ensures made { IfOk result (λ made. made ≡ made_path store.now.tree.nodes kind path) }
-    ensures allowed { OnOk result (first_that_holds (name_refusals store.now.tree kind path)
-        ≡ None) }
-    ensures stopped { IfErr result
-        (IsFirst (first_that_holds (name_refusals store.now.tree kind path))) }
+    ensures allowed { OnOk result (name_refusal store.now.tree kind path ≡ None) }
+    ensures stopped { IfErr result (IsFirst (name_refusal store.now.tree kind path)) }
 {
     if !kind.is_sequential() {
         return Ok(path);
@@ -104,8 +101,8 @@ fn create(
     requires ready { IsReadyForPart store.old }
     ensures done { IfOk result
         (IsDone (create_step store.old.tree client create) store.old store.new) }
-    ensures stopped { IfErr result
-        (IsStopped (create_step store.old.tree client create) store.old store.new) }
+    ensures stopped { IfErr result (IsStop (create_step store.old.tree client create)) }
+    ensures same { OnErr result (store.new ≡ store.old) }
 {
     if has_no_owner(store, client, create.kind) {
         drop(create);
@@ -153,8 +150,8 @@ fn delete(store: &mut Store, delete: &Delete) -> Result<ChangeReply, Stop>
     requires ready { IsReadyForPart store.old }
     ensures done { IfOk result
         (IsDone (delete_step store.old.tree delete.now) store.old store.new) }
-    ensures stopped { IfErr result
-        (IsStopped (delete_step store.old.tree delete.now) store.old store.new) }
+    ensures stopped { IfErr result (IsStop (delete_step store.old.tree delete.now)) }
+    ensures same { OnErr result (store.new ≡ store.old) }
 {
     if delete.path.names().is_empty() {
         return Err(Stop::Refused(Refusal::RootFixed));
@@ -176,7 +173,8 @@ fn delete(store: &mut Store, delete: &Delete) -> Result<ChangeReply, Stop>
 fn set(store: &mut Store, set: SetData) -> Result<ChangeReply, Stop>
     requires ready { IsReadyForPart store.old }
     ensures done { IfOk result (IsDone (set_step store.old.tree set) store.old store.new) }
-    ensures stopped { IfErr result (IsStopped (set_step store.old.tree set) store.old store.new) }
+    ensures stopped { IfErr result (IsStop (set_step store.old.tree set)) }
+    ensures same { OnErr result (store.new ≡ store.old) }
 {
     let Some(id) = store.find(&set.path) else {
         drop(set);
@@ -196,8 +194,7 @@ fn set(store: &mut Store, set: SetData) -> Result<ChangeReply, Stop>
 
 // Whether the node has children.
 fn has_children(store: &Store, id: Id) -> bool
-    ensures { AtPath store.now id (λ path. result
-        ≡ nat_lt 0 (length (children store.now.tree.nodes path))) }
+    ensures { AtPath store.now id (λ path. result ≡ is_parent store.now.tree.nodes path) }
 {
     match store.stat(id) {
         Some(stat) => stat.children > 0,

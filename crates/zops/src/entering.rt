@@ -1,8 +1,7 @@
 //! An entry, done to a store and the kept replies by the entry step.
 
-ghost use Rattle.std.specs.Prelude.{◌≡◌, IfOk, Some};
-ghost use Rattle.zcalls.specs.Kept.{entry_step, act_result};
-ghost use Rattle.zcalls.specs.Step.{step};
+ghost use Rattle.std.specs.Prelude.{IfOk};
+ghost use Rattle.zops.specs.support.Steps.{IsEntered, HasActed};
 ghost use Rattle.zops.specs.support.Ready.{IsSteady, StaysBounded};
 
 use crate::kept::KeptReplies;
@@ -22,8 +21,7 @@ pub(crate) fn enter(
     entry: Entry,
 ) -> Result<Option<Reply>, Memory>
     requires { IsSteady store.old }
-    ensures done { IfOk result (λ reply. (record { plain = store.new.tree; kept = kept.new }, reply)
-        ≡ entry_step step (record { plain = store.old.tree; kept = kept.old }) entry) }
+    ensures done { IfOk result (IsEntered entry store.old kept.old store.new kept.new) }
     ensures left { StaysBounded store.old store.new }
 {
     let number = entry.number.number();
@@ -43,11 +41,7 @@ fn act(
     entry: Entry,
 ) -> Result<Reply, Memory>
     requires { IsSteady store.old }
-    ensures done { IfOk result (λ reply. (
-      record { plain = store.new.tree; kept = kept.new },
-      Some reply,
-    )
-        ≡ act_result step (record { plain = store.old.tree; kept = kept.old }) entry) }
+    ensures done { IfOk result (HasActed entry store.old kept.old store.new kept.new) }
     ensures left { StaysBounded store.old store.new }
 {
     let reply = update(alloc, store, entry.client, entry.update)?;

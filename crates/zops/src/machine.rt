@@ -31,15 +31,10 @@ impl Model for Machine {
 
     ghost coded = { coded_machine_view };
 
+    ghost use Rattle.zops.specs.support.Fields.{view_of};
     ghost use Rattle.zops.specs.support.Ready.{IsSound};
 
-    ghost view = { λ m. record {
-      state = record {
-        service = record { plain = m.store.tree; kept = m.kept };
-        applied = m.applied;
-      };
-      is_broken = m.is_broken;
-    } };
+    ghost view = { view_of };
 
     ghost invariant = { λ m. IsSound m.store m.applied };
 }

@@ -1,10 +1,10 @@
 //! One part of a multi, done to a store.
 
-ghost use Rattle.std.specs.Prelude.{◌≡◌, Ok, Err, IfOk, IfErr};
+ghost use Rattle.std.specs.Prelude.{◌≡◌, Ok, Err, IfOk, IfErr, OnErr};
 ghost use Rattle.zcalls.specs.Part.{check_step, part_step};
-ghost use Rattle.zcalls.specs.Change.{part_of};
 ghost use Rattle.zops.specs.support.Ready.{IsReadyForPart};
-ghost use Rattle.zops.specs.support.Stops.{IsDone, IsStop, IsStopped};
+ghost use Rattle.zops.specs.support.Steps.{Gives, as_part};
+ghost use Rattle.zops.specs.support.Stops.{IsDone, IsStop};
 
 use crate::change::{change, has_other_version};
 use crate::stop::Stop;
@@ -22,8 +22,8 @@ pub(crate) fn part(
 ) -> Result<PartReply, Stop>
     requires ready { IsReadyForPart store.old }
     ensures done { IfOk result (IsDone (part_step store.old.tree client part) store.old store.new) }
-    ensures stopped { IfErr result
-        (IsStopped (part_step store.old.tree client part) store.old store.new) }
+    ensures stopped { IfErr result (IsStop (part_step store.old.tree client part)) }
+    ensures same { OnErr result (store.new ≡ store.old) }
 {
     match part {
         Part::Create(wanted) => change_part(alloc, store, client, Change::Create(wanted)),
@@ -46,9 +46,9 @@ fn change_part(
 ) -> Result<PartReply, Stop>
     requires ready { IsReadyForPart store.old }
     ensures done { IfOk result
-        (IsDone (part_step store.old.tree client (part_of wanted)) store.old store.new) }
-    ensures stopped { IfErr result
-        (IsStopped (part_step store.old.tree client (part_of wanted)) store.old store.new) }
+        (IsDone (as_part store.old.tree client wanted) store.old store.new) }
+    ensures stopped { IfErr result (IsStop (as_part store.old.tree client wanted)) }
+    ensures same { OnErr result (store.new ≡ store.old) }
 {
     match change(alloc, store, client, wanted) {
         Ok(did) => Ok(PartReply::from(did)),
@@ -58,8 +58,7 @@ fn change_part(
 
 // Looks whether a node is there and has the version.
 fn check(store: &Store, check: &Check) -> Result<PartReply, Stop>
-    ensures done { IfOk result (λ reply. check_step store.now.tree check.now
-        ≡ Ok (store.now.tree, reply)) }
+    ensures done { IfOk result (Gives (check_step store.now.tree check.now) store.now) }
     ensures stopped { IfErr result (IsStop (check_step store.now.tree check.now)) }
 {
     let Some(id) = store.find(&check.path) else {

@@ -4,6 +4,7 @@ ghost use Rattle.std.specs.Prelude.{◌≡◌, ◌≤◌, ◌+◌, Ok, length, I
 ghost use Rattle.zcalls.specs.Multi.{run};
 ghost use Rattle.zcalls.specs.declared.limits.TheConstants.{MAX_PARTS};
 ghost use Rattle.zops.specs.support.Ready.{IsReady, IsRun, HasMark};
+ghost use Rattle.zops.specs.support.Steps.{Gives};
 ghost use Rattle.zstore.specs.StoreView.{Mark};
 ghost use Rattle.zops.specs.support.Stops.{IsHalt};
 
@@ -24,8 +25,8 @@ pub(crate) fn run(
 ) -> Result<Vec<PartReply>, Halt>
     requires ready { IsReady store.old }
     requires few { length parts.items ≤ MAX_PARTS }
-    ensures done { IfOk result (λ replies. run store.old.tree client parts.items
-        ≡ Ok (store.new.tree, replies.items)) }
+    ensures done { IfOk result (λ r.
+        Gives (run store.old.tree client parts.items) store.new r.items) }
     ensures stopped { IfErr result (IsHalt (run store.old.tree client parts.items)) }
     ensures stays { OnOk result (IsRun store.old store.new) }
     ensures given { store.new.given ≤ store.old.given + MAX_PARTS }

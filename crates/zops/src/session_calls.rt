@@ -1,15 +1,14 @@
 //! The calls of sessions and the tick of the clock, done to a store.
 
-ghost use Rattle.std.specs.Prelude.{◌≡◌, ◌<◌, ◌+◌, ◌||◌, not, nat_lt, List, length, IfOk, OnErr};
-ghost use Rattle.ztree.specs.Sessions.{without_nodes, without_sessions};
-ghost use Rattle.ztree.specs.Tree.{Path};
+ghost use Rattle.std.specs.Prelude.{◌≡◌, ◌<◌, ◌+◌, ◌||◌, not, nat_lt, length, IfOk, OnErr};
+ghost use Rattle.ztree.specs.Sessions.{without_sessions};
 ghost use Rattle.ztree.specs.Lawful.{AllNodes};
 ghost use Rattle.ztree.specs.Room.{HasRoomForLosses};
-ghost use Rattle.zstore.specs.StoreView.{AreAt};
 ghost use Rattle.ztree.specs.declared.limits.TheConstants.{TICK_BOUND, ZXID_BOUND};
 ghost use Rattle.zops.specs.support.Ready.{IsSteady, IsReady, StaysBounded, IsAsItWas};
-ghost use Rattle.zops.specs.support.Ready.{KeepsLeft, CanRemove};
-ghost use Rattle.zcalls.specs.Step.{granted_timeout, due_next, stale_next, tick_result, update_result};
+ghost use Rattle.zops.specs.support.Ready.{KeepsLeft, CanRemove, RemovesNamed};
+ghost use Rattle.zops.specs.support.Steps.{Makes, next_tick_result};
+ghost use Rattle.zcalls.specs.Step.{granted_timeout, due_next, update_result};
 ghost use Rattle.zcalls.specs.declared.call.Update.TheVariants.{Open, Ping, Close};
 ghost use Rattle.zcalls.specs.declared.reply.Reply.TheVariants as reply;
 
@@ -37,8 +36,7 @@ fn granted(ticks: u64) -> u64
 /// Opens a session of a client, who asks for a timeout of so many ticks.
 pub(crate) fn open(store: &mut Store, client: ClientId, ticks: u64) -> Result<Reply, Memory>
     requires { IsReady store.old }
-    ensures done { IfOk result (λ reply. (store.new.tree, reply)
-        ≡ update_result store.old.tree client (Open ticks)) }
+    ensures done { IfOk result (Makes (update_result store.old.tree client (Open ticks)) store.new) }
     ensures left { StaysBounded store.old store.new }
     ensures err { OnErr result (IsAsItWas store.old store.new) }
 {
@@ -104,8 +102,7 @@ fn remove_all(store: &mut Store, ids: Vec<Id>)
     requires named { CanRemove store.old ids.items }
     requires room { AllNodes (HasRoomForLosses (length ids.items)) store.old.tree.nodes }
     requires zxid { store.old.tree.zxid + 1 < ZXID_BOUND }
-    ensures tree { (paths : List Path) → AreAt store.old.places ids.items paths
-        → store.new.tree ≡ without_nodes store.old.tree paths }
+    ensures tree { RemovesNamed ids.items store.old store.new }
     ensures given { store.new.given ≡ store.old.given }
 {
     for id in ids {
@@ -118,8 +115,7 @@ fn remove_all(store: &mut Store, ids: Vec<Id>)
 pub(crate) fn tick(store: &mut Store) -> Result<Reply, Memory>
     requires ready { IsReady store.old }
     requires time { store.old.tree.time + 1 < TICK_BOUND }
-    ensures done { IfOk result (λ reply. (store.new.tree, reply)
-        ≡ tick_result store.old.tree (due_next store.old.tree) (stale_next store.old.tree)) }
+    ensures done { IfOk result (Makes (next_tick_result store.old.tree) store.new) }
     ensures left { StaysBounded store.old store.new }
     ensures err { OnErr result (IsAsItWas store.old store.new) }
 {

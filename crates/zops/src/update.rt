@@ -2,10 +2,10 @@
 
 ghost use Rattle.std.specs.Prelude.{◌≡◌, ◌-◌, nat_le, IfOk, OnErr};
 ghost use Rattle.ztree.specs.declared.limits.TheConstants.{ZXID_BOUND};
-ghost use Rattle.zcalls.specs.declared.call.Update.TheVariants as update;
-ghost use Rattle.zcalls.specs.Part.{change_step};
-ghost use Rattle.zcalls.specs.Step.{step, change_result, update_result, is_exhausted};
+ghost use Rattle.zcalls.specs.declared.call.Update.TheVariants.{Multi as MultiOf};
+ghost use Rattle.zcalls.specs.Step.{step, update_result, is_exhausted};
 ghost use Rattle.zops.specs.support.Ready.{IsSteady, IsReady, StaysBounded, IsAsItWas};
+ghost use Rattle.zops.specs.support.Steps.{Makes, single_result};
 ghost use Rattle.zops.specs.support.Stops.{IsHaltAnswered};
 
 use crate::change::change;
@@ -28,8 +28,7 @@ pub(crate) fn update(
     update: Update,
 ) -> Result<Reply, Memory>
     requires { IsSteady store.old }
-    ensures done { IfOk result (λ reply. (store.new.tree, reply)
-        ≡ step store.old.tree client update) }
+    ensures done { IfOk result (Makes (step store.old.tree client update) store.new) }
     ensures left { StaysBounded store.old store.new }
     ensures err { OnErr result (IsAsItWas store.old store.new) }
 {
@@ -82,8 +81,7 @@ fn single(
     wanted: Change,
 ) -> Result<Reply, Memory>
     requires { IsReady store.old }
-    ensures done { IfOk result (λ reply. (store.new.tree, reply)
-        ≡ change_result store.old.tree (change_step store.old.tree client wanted)) }
+    ensures done { IfOk result (Makes (single_result store.old.tree client wanted) store.new) }
     ensures left { StaysBounded store.old store.new }
     ensures err { OnErr result (IsAsItWas store.old store.new) }
 {
@@ -100,8 +98,8 @@ fn single(
 // Does the parts of a multi from a mark on, and goes back to it where one is refused.
 fn multi(alloc: Global, store: &mut Store, client: ClientId, parts: Multi) -> Result<Reply, Memory>
     requires { IsReady store.old }
-    ensures done { IfOk result (λ reply. (store.new.tree, reply)
-        ≡ update_result store.old.tree client (update.Multi parts)) }
+    ensures done { IfOk result
+        (Makes (update_result store.old.tree client (MultiOf parts)) store.new) }
     ensures left { StaysBounded store.old store.new }
     ensures err { OnErr result (IsAsItWas store.old store.new) }
 {

@@ -7,6 +7,7 @@ use Rattle.zstore.specs.declared.limits.TheConstants.{ID_BOUND}
 use Rattle.zstore.specs.StoreView.{StoreView, Mark, Id, Ids, AreAt, path_of}
 use Rattle.zpath.specs.Grammar.{path_cmp}
 use Rattle.ztree.specs.Tree.{Path, has_node, children}
+use Rattle.ztree.specs.Sessions.{without_nodes}
 use Rattle.ztree.specs.Laws.{NoneTwice}
 use Rattle.std.specs.List.{AllByRecursion}
 use Rattle.zcalls.specs.declared.limits.TheConstants.{MAX_PARTS, MAX_RAISES}
@@ -50,6 +51,11 @@ pub record CanRemove (store : StoreView) (ids : Ids) : Type 0 where
   pub leaves : AllByRecursion (λ path. (path ≢ []) × (children store.tree.nodes path ≡ [])) paths
   pub there : AllByRecursion (λ path. has_node store.tree.nodes path ≡ true) paths
   pub apart : NoneTwice path_cmp paths
+
+-- the nodes that these Ids name are taken away, one after the other
+abbrev pub RemovesNamed : Ids → StoreView → StoreView → Type 0
+RemovesNamed ids old new =
+    (paths : List Path) → AreAt old.places ids paths → new.tree ≡ without_nodes old.tree paths
 
 -- a mark stands that remembers what this one does, with room for undoing so many parts
 abbrev pub HasMark : ℕ → Mark → StoreView → Type 0

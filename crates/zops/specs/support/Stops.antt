@@ -23,11 +23,6 @@ abbrev pub IsStop : {A : Type 0} → Result A Refusal → Stop → Type 0
 IsStop step stop.Memory = Unit {0}
 IsStop step (stop.Refused refusal) = step ≡ Err refusal
 
--- a change or a part was not done, and the store is as it was
-pub record IsStopped {A : Type 0} (step : Result (Tree × A) Refusal) (old new : StoreView) (why : Stop) : Type 0 where
-  pub says : IsStop step why
-  pub same : new ≡ old
-
 -- the same of some tests: the refusal is that of the first that holds
 abbrev pub IsFirst : Option Refusal → Stop → Type 0
 IsFirst refused stop.Memory = Unit {0}

@@ -16,7 +16,7 @@ pub returns-in_default-clause-stopped : goal.returns-in_default-clause-stopped
 unfolding create_step
 returns-in_default-clause-stopped c =
     let owner = sym c.has_no_owner.ensures ∙ c.if-has_no_owner.false in
-    record { says = rw (owner, rw c.in_default.is at c.in_ok-above.ensures.root) refl; same = refl }
+    rw (owner, rw c.in_default.is at c.in_ok-above.ensures.root) refl
 
 pub returns-in_default-find-clause-stopped : goal.returns-in_default-find-clause-stopped
 unfolding create_step
@@ -24,7 +24,7 @@ returns-in_default-find-clause-stopped c =
     let last = rw c.in-Some.is at c.in_ok-above.ensures.front in
     let below = below c.args.create.path c.in-Some.above last.0 last.1 in
     let owner = sym c.has_no_owner.ensures ∙ c.if-has_no_owner.false in
-    record { says = rw (owner, below.root, below.parent, ← c.in_default-find.ensures.node) refl; same = refl }
+    rw (owner, below.root, below.parent, ← c.in_default-find.ensures.node) refl
 
 pub returns-then-is_ephemeral-clause-stopped : goal.returns-then-is_ephemeral-clause-stopped
 unfolding create_step
@@ -33,7 +33,7 @@ returns-then-is_ephemeral-clause-stopped c =
     let below = below c.args.create.path c.in-Some.above last.0 last.1 in
     let owned = sym (c.is_ephemeral.ensures c.in-Some.above c.in-Some-find.ensures.found) ∙ c.if-is_ephemeral.true in
     let owner = sym c.has_no_owner.ensures ∙ c.if-has_no_owner.false in
-    record { says = rw (owner, below.root, below.parent, ← c.in-Some-find.ensures.node, owned) refl; same = refl }
+    rw (owner, below.root, below.parent, ← c.in-Some-find.ensures.node, owned) refl
 
 pub made_path-requires-clause-live : goal.made_path-requires-clause-live
 made_path-requires-clause-live c =
@@ -53,7 +53,7 @@ returns-in_err-made-clause-stopped c =
     let owned = ap (node_has is_owned nodes) below.parent ∙ sym (c.is_ephemeral.ensures c.in-Some.above c.in-Some-find.ensures.found) ∙ c.if-is_ephemeral.false in
     let owner = sym c.has_no_owner.ensures ∙ c.if-has_no_owner.false in
     let p = err_from_is_err_and c.from_residual-in_err-made.result c.from_residual-in_err-made.ensures.1 in
-    rw (p.1, p.2) (record { says = nameless c.args.store.now.tree c.args.client c.args.create owner below.root there owned c.in_err-made.field-0.0 c.in_err-made.ensures.stopped; same = refl })
+    rw (p.1, p.2) (nameless c.args.store.now.tree c.args.client c.args.create owner below.root there owned c.in_err-made.field-0.0 c.in_err-made.ensures.stopped)
 
 pub returns-then-is_some-clause-stopped : goal.returns-then-is_some-clause-stopped
 returns-then-is_some-clause-stopped c =
@@ -64,11 +64,8 @@ returns-then-is_some-clause-stopped c =
     let owned = ap (node_has is_owned nodes) below.parent ∙ sym (c.is_ephemeral.ensures c.in-Some.above c.in-Some-find.ensures.found) ∙ c.if-is_ephemeral.false in
     let here = sym c.find-2.ensures.node ∙ sym c.is_some.ensures ∙ c.if-is_some.true in
     let owner = sym c.has_no_owner.ensures ∙ c.if-has_no_owner.false in
-    record {
-      says = created-refused c.args.store.now.tree c.args.client c.args.create _
-          (taken c.args.store.now.tree c.args.client c.args.create owner below.root there owned c.in_ok-made.made c.in_ok-made.ensures.made c.in_ok-made.ensures.allowed here);
-      same = refl;
-    }
+    created-refused c.args.store.now.tree c.args.client c.args.create _
+    (taken c.args.store.now.tree c.args.client c.args.create owner below.root there owned c.in_ok-made.made c.in_ok-made.ensures.made c.in_ok-made.ensures.allowed here)
 
 pub returns-then-nodes-ge-MAX_NODES-clause-stopped : goal.returns-then-nodes-ge-MAX_NODES-clause-stopped
 returns-then-nodes-ge-MAX_NODES-clause-stopped c =
@@ -80,11 +77,8 @@ returns-then-nodes-ge-MAX_NODES-clause-stopped c =
     let free = sym c.find-2.ensures.node ∙ sym c.is_some.ensures ∙ c.if-is_some.false in
     let many = at_least 4096 _ (rw c.nodes.ensures at c.if-nodes-ge-MAX_NODES.true) in
     let owner = sym c.has_no_owner.ensures ∙ c.if-has_no_owner.false in
-    record {
-      says = created-refused c.args.store.now.tree c.args.client c.args.create _
-          (full c.args.store.now.tree c.args.client c.args.create owner below.root there owned c.in_ok-made.made c.in_ok-made.ensures.made c.in_ok-made.ensures.allowed free many);
-      same = refl;
-    }
+    created-refused c.args.store.now.tree c.args.client c.args.create _
+    (full c.args.store.now.tree c.args.client c.args.create owner below.root there owned c.in_ok-made.made c.in_ok-made.ensures.made c.in_ok-made.ensures.allowed free many)
 
 pub add-requires-clause-live : goal.add-requires-clause-live
 add-requires-clause-live c =
@@ -124,7 +118,7 @@ returns-clause-done c =
 
 pub returns-then-has_no_owner-clause-stopped : goal.returns-then-has_no_owner-clause-stopped
 unfolding create_step
-returns-then-has_no_owner-clause-stopped c = record { says = rw (sym c.has_no_owner.ensures ∙ c.if-has_no_owner.true) refl; same = refl }
+returns-then-has_no_owner-clause-stopped c = rw (sym c.has_no_owner.ensures ∙ c.if-has_no_owner.true) refl
 
 pub add-requires-clause-persistent : goal.add-requires-clause-persistent
 add-requires-clause-persistent c =

@@ -12,20 +12,20 @@ pub returns-then-is_empty-clause-stopped : goal.returns-then-is_empty-clause-sto
 unfolding delete_step
 returns-then-is_empty-clause-stopped c =
     let root = is_root-no_names c.args.delete.now.path ∙ ap (λ p. length p == 0) (sym c.names.ensures.names) ∙ sym c.is_empty.ensures ∙ c.if-is_empty.true in
-    record { says = rw root refl; same = refl }
+    rw root refl
 
 pub returns-in_default-clause-stopped : goal.returns-in_default-clause-stopped
 unfolding delete_step
 returns-in_default-clause-stopped c =
     let root = is_root-no_names c.args.delete.now.path ∙ ap (λ p. length p == 0) (sym c.names.ensures.names) ∙ sym c.is_empty.ensures ∙ c.if-is_empty.false in
-    record { says = rw (root, ← c.in_default.ensures.node) refl; same = refl }
+    rw (root, ← c.in_default.ensures.node) refl
 
 pub returns-then-has_other_version-clause-stopped : goal.returns-then-has_other_version-clause-stopped
 unfolding delete_step
 returns-then-has_other_version-clause-stopped c =
     let root = is_root-no_names c.args.delete.now.path ∙ ap (λ p. length p == 0) (sym c.names.ensures.names) ∙ sym c.is_empty.ensures ∙ c.if-is_empty.false in
     let other = sym (c.has_other_version.ensures c.args.delete.now.path c.in-Some.ensures.found) ∙ c.if-has_other_version.true in
-    record { says = rw (root, ← c.in-Some.ensures.node, other) refl; same = refl }
+    rw (root, ← c.in-Some.ensures.node, other) refl
 
 pub returns-then-has_children-clause-stopped : goal.returns-then-has_children-clause-stopped
 unfolding delete_step
@@ -33,7 +33,7 @@ returns-then-has_children-clause-stopped c =
     let root = is_root-no_names c.args.delete.now.path ∙ ap (λ p. length p == 0) (sym c.names.ensures.names) ∙ sym c.is_empty.ensures ∙ c.if-is_empty.false in
     let other = sym (c.has_other_version.ensures c.args.delete.now.path c.in-Some.ensures.found) ∙ c.if-has_other_version.false in
     let kids = sym (c.has_children.ensures c.args.delete.now.path c.in-Some.ensures.found) ∙ c.if-has_children.true in
-    record { says = rw (root, ← c.in-Some.ensures.node, other, kids) refl; same = refl }
+    rw (root, ← c.in-Some.ensures.node, other, kids) refl
 
 pub returns-clause-done : goal.returns-clause-done
 unfolding delete_step

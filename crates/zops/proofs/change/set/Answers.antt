@@ -1,4 +1,4 @@
-use Rattle.std.proofs.Common.{Ok, ap, sym, refl, ◌∙◌, arith}
+use Rattle.std.proofs.Common.{Ok, ap, sym, ◌∙◌, arith}
 use Rattle.std.specs.FinMap as finite
 use Rattle.ztree.specs.Tree.{stat_at}
 use Rattle.zcalls.specs.declared.change.ChangeReply.TheVariants.{Set}
@@ -10,13 +10,13 @@ use Rattle.zops.proofs.change.set.Goals as goal
 
 pub returns-in_default-clause-stopped : goal.returns-in_default-clause-stopped
 unfolding set_step
-returns-in_default-clause-stopped c = record { says = absent-on_version c.args.set.version _ _ (sym c.in_default.ensures.node); same = refl }
+returns-in_default-clause-stopped c = absent-on_version c.args.set.version _ _ (sym c.in_default.ensures.node)
 
 pub returns-then-has_other_version-clause-stopped : goal.returns-then-has_other_version-clause-stopped
 unfolding set_step
 returns-then-has_other_version-clause-stopped c =
     let other = sym (c.has_other_version.ensures c.args.set.path c.in-Some.ensures.found) ∙ c.if-has_other_version.true in
-    record { says = stale-on_version c.args.set.version _ _ other; same = refl }
+    stale-on_version c.args.set.version _ _ other
 
 pub returns-clause-done : goal.returns-clause-done
 returns-clause-done c =

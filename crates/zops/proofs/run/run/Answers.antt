@@ -70,7 +70,7 @@ loop-wanted-preserved c =
 pub returns-in-Err-Refused-clause-stopped : goal.returns-in-Err-Refused-clause-stopped
 returns-in-Err-Refused-clause-stopped c =
     let here = c.loop-wanted.invariant in
-    let stopped = rw c.in-Err-Refused.field-0-is at c.in-Err-Refused.ensures.stopped.says in
+    let stopped = rw c.in-Err-Refused.field-0-is at c.in-Err-Refused.ensures.stopped in
     here.ran
     ∙ ap (λ parts. behind_all c.loop-wanted.replies.items (run c.loop-wanted.store.tree c.args.client parts)) c.in-Some.ensures.steps.0
     ∙ run-refused c.loop-wanted.store.tree c.args.client c.loop-wanted.replies.items c.in-Some.wanted c.next.new.self.rest.items _ stopped
@@ -100,11 +100,11 @@ returns-in_err-push-in-Ok-clause-mark c = λ m has.
 
 pub returns-in-Err-Refused-clause-mark : goal.returns-in-Err-Refused-clause-mark
 returns-in-Err-Refused-clause-mark c = λ m has.
-    mark_fewer (length c.loop-wanted.wanted-iterator.rest.items) 0 m c.part.new.store (omega arith) (subst (λ (s : StoreView). HasMark (length c.loop-wanted.wanted-iterator.rest.items) m s) (sym c.in-Err-Refused.ensures.stopped.same) (c.loop-wanted.invariant.mark m has))
+    mark_fewer (length c.loop-wanted.wanted-iterator.rest.items) 0 m c.part.new.store (omega arith) (subst (λ (s : StoreView). HasMark (length c.loop-wanted.wanted-iterator.rest.items) m s) (sym c.in-Err-Refused.ensures.same) (c.loop-wanted.invariant.mark m has))
 
 pub returns-in-Err-Memory-clause-mark : goal.returns-in-Err-Memory-clause-mark
 returns-in-Err-Memory-clause-mark c = λ m has.
-    mark_fewer (length c.loop-wanted.wanted-iterator.rest.items) 0 m c.part.new.store (omega arith) (subst (λ (s : StoreView). HasMark (length c.loop-wanted.wanted-iterator.rest.items) m s) (sym c.in-Err-Memory.ensures.stopped.same) (c.loop-wanted.invariant.mark m has))
+    mark_fewer (length c.loop-wanted.wanted-iterator.rest.items) 0 m c.part.new.store (omega arith) (subst (λ (s : StoreView). HasMark (length c.loop-wanted.wanted-iterator.rest.items) m s) (sym c.in-Err-Memory.ensures.same) (c.loop-wanted.invariant.mark m has))
 
 pub returns-clause-mark : goal.returns-clause-mark
 returns-clause-mark c = λ m has.

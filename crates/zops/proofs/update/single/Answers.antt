@@ -45,4 +45,4 @@ pub returns-in-Err-Refused-clause-done : goal.returns-in-Err-Refused-clause-done
 returns-in-Err-Refused-clause-done c = search rules
 
 pub returns-in-Err-Refused-clause-left : goal.returns-in-Err-Refused-clause-left
-returns-in-Err-Refused-clause-left c = rw c.in-Err-Refused.ensures.stopped.same (record { bounded = c.requires.steady.bounded; given = omega arith })
+returns-in-Err-Refused-clause-left c = rw c.in-Err-Refused.ensures.same (record { bounded = c.requires.steady.bounded; given = omega arith })
