@@ -6,8 +6,6 @@ use Rattle.std.proofs.lemmas.Bool.Decides.{nat_tests}
 use mathlib.Core.Bool.{true≢false}
 use Rattle.zcalls.proofs.Among.{test}
 use Rattle.zprotocol.specs.declared.process.Process.{Process}
-use Rattle.zprotocol.specs.declared.process.Process.TheVariants.{Master, Server, Client}
-use Rattle.zworld_model.specs.Links.{is_same}
 use Rattle.zworld_model.specs.World.{World, at}
 use Rattle.zworld_model.specs.Events.{has_failed}
 use Rattle.zworld_model.specs.Alike.{IsAlike}
@@ -30,18 +28,6 @@ alike_by v w master history clients failed servers links = record {
   servers = servers;
   links = links;
 }
-
--- one process
-pub same_process : (p q : Process) → is_same p q ≡ true → p ≡ q
-same_process Master Master same = refl
-same_process (Server s) (Server t) same = ap (λ n. Server n) (eqb-true s t same)
-same_process (Client c) (Client d) same = ap (λ n. Client n) (eqb-true c d same)
-same_process Master (Server t) same = absurd (true≢false (sym same))
-same_process Master (Client d) same = absurd (true≢false (sym same))
-same_process (Server s) Master same = absurd (true≢false (sym same))
-same_process (Server s) (Client d) same = absurd (true≢false (sym same))
-same_process (Client c) Master same = absurd (true≢false (sym same))
-same_process (Client c) (Server t) same = absurd (true≢false (sym same))
 
 -- a list as a family, of which one value is replaced
 pub family_set : {V : Type 0} (xs : List V) (k : ℕ) (v d : V) → k < length xs → (j : ℕ) → get_or (set xs k v) j d ≡ at k v (λ j. get_or xs j d) j

@@ -10,13 +10,13 @@ use Rattle.zprotocol.specs.declared.process.Process.{Process}
 use Rattle.zprotocol.specs.declared.process.Process.TheVariants.{Master, Server, Client}
 use Rattle.zprotocol.specs.server.View.{MessageOf, Post}
 use Rattle.zlinks.specs.Places.{links_of, with_link}
+use Rattle.zlinks.proofs.Places.{same_process}
 use Rattle.zworld_model.specs.Links.{Links, is_same, messages_to, put, without_front}
 use Rattle.zworld_model.specs.Events.{has_failed}
 use Rattle.zworld_model.specs.History.{History}
 use Rattle.zworld.specs.Held.{Held, MemberView, last_words, world_of}
 use Rattle.zworld.specs.support.Posting.{is_lost, Rows, IsPosted}
 use Rattle.zworld.specs.support.Fronts.{without}
-use Rattle.zworld.proofs.Alike.{same_process}
 
 -- who has failed in the world
 pub lost_is : (held : Held) (history : History) (to : Process) → has_failed (world_of held history) to ≡ is_lost held.members to

@@ -66,7 +66,9 @@ impl Processes {
         None
     }
 
-    // The master acts on a message.
+    // The master acts on a message. It seldom does, so what it needs room for stays out of the way of the other deliveries.
+    #[cold]
+    #[inline(never)]
     fn give_to_master(&mut self, from: Process, message: Message<Snapshot>) -> Result<Did, Memory>
         ensures done { IfOk result (λ did. did ≡ Done) }
         ensures given { OnOk result (IsGiven self.old from Master message [] self.new) }

@@ -1,4 +1,4 @@
-//! Servers that fail, and servers that join.
+//! Servers that fail, and servers that join. Both are rare, so they stay out of the way of the other events.
 
 ghost use Rattle.std.specs.Prelude.{[], IfOk, OnErr};
 ghost use Rattle.zworld_model.specs.declared.event.Event.TheVariants.{Fail, Join};
@@ -13,6 +13,8 @@ use zprotocol::{Process, ServerId};
 
 impl Processes {
     /// A server fails: it lets go what it held, and what is on links to it.
+    #[cold]
+    #[inline(never)]
     pub(crate) fn fail(&mut self, server: ServerId) -> Did
         ensures { HasStepped self.old self.new (Fail server) result [] }
     {
@@ -27,6 +29,8 @@ impl Processes {
     }
 
     /// A server is asked to join behind the tail.
+    #[cold]
+    #[inline(never)]
     pub(crate) fn join(&mut self, server: ServerId) -> Result<Did, Memory>
         ensures stepped { IfOk result
             (λ did. HasStepped self.old self.new (Join server) did []) }

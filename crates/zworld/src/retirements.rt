@@ -1,4 +1,4 @@
-//! Members that are ordered to leave.
+//! Members that are ordered to leave, which is rare.
 
 ghost use Rattle.std.specs.Prelude.{[], IfOk, OnErr};
 ghost use Rattle.zworld_model.specs.declared.event.Event.TheVariants.{Retire};
@@ -13,6 +13,8 @@ use zprotocol::{Process, ServerId};
 
 impl Processes {
     /// A member is ordered to leave.
+    #[cold]
+    #[inline(never)]
     pub(crate) fn retire(&mut self, server: ServerId) -> Result<Did, Memory>
         ensures stepped { IfOk result
             (λ did. HasStepped self.old self.new (Retire server) did []) }
