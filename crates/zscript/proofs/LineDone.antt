@@ -13,7 +13,7 @@ use Rattle.zlines.specs.Line.{line_of}
 use Rattle.zlines.specs.Texts.{Writes}
 use Rattle.zworld.specs.Held.{Held, world_of}
 use Rattle.zworld.specs.Steps.{WorldView, world_in}
-use Rattle.zscript.specs.Line.{ServiceWorld, ScriptState, script_state, LineEffect, line_fault_text, line_effect, read_effect, effect_of, taken_text, answer, after}
+use Rattle.zscript.specs.Line.{ServiceWorld, script_state, LineEffect, line_fault_text, line_effect, read_effect, effect_of, taken_text, answer, after}
 use Rattle.zscript.specs.Done.{IsLineDone, world_between}
 use Rattle.zscript.specs.support.Effects.{IsEffectDone}
 use Rattle.zscript.proofs.AlikeLines.{answers_alike, leaves_alike, forgotten_alike, same_history}

@@ -1,7 +1,9 @@
 -- A line that was done, by a program that doesn't know beforehand what becomes of its events.
-use Rattle.std.specs.Prelude.{◌≡◌, ℕ, List, [], ◌++◌}
+use Rattle.std.specs.Prelude.{◌≡◌, ℕ, List, [], ◌++◌, String}
 use Rattle.zworld_model.specs.declared.outcome.Outcome.{Outcome}
 use Rattle.zworld.specs.Held.{Held, world_of}
+use Rattle.zworld.specs.Steps.{WorldView}
+use Rattle.zlines.specs.Texts.{Writes}
 use Rattle.zscript.specs.Line.{ServiceWorld, forgotten, script_state, answer, after}
 
 -- the world between two lines, of the processes that are held
@@ -15,3 +17,8 @@ pub record IsLineDone (old : ServiceWorld) (line : List ℕ) (new : ServiceWorld
   pub written : writes text
   pub left : (later : List Outcome) → after (script_state old (told ++ later)) line ≡ script_state new later
   pub answered : (later : List Outcome) → answer (script_state old (told ++ later)) line ≡ text
+
+-- a line was done on a world, and its answer written
+abbrev pub AnswersLine : {A : Type 0} → List ℕ → WorldView → WorldView → String A → String A → Type 0
+AnswersLine line old new before after =
+    IsLineDone (world_between old.held) line (world_between new.held) (Writes before after)

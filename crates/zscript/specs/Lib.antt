@@ -3,6 +3,7 @@ pub mod Done
 pub mod Histories
 pub mod Promise
 pub mod Script
+pub mod Devices
 pub mod Outcome
 pub mod Servers
 pub mod Laws

@@ -161,10 +161,13 @@ reply_in call [] = None
 reply_in call (Begin client number begun ∷ more) = reply_in call more
 reply_in call (Answer client number reply ∷ more) = if is_answer_to call client number then Some reply else reply_in call more
 
+-- the text of that reply; or that there is none
+abbrev pub own_reply_text : Option (ℕ × ℕ) → History → List ℕ
+own_reply_text call history = option_map_or reply_text (reply_in call history) (codes "unanswered")
+
 -- a call that has begun and for which the world settled
 abbrev pub call_answered : Settling (KeptState Tree) → Option (ℕ × ℕ) → LineEffect
-call_answered did call =
-    record { did = did; own = call; result = option_map_or reply_text (reply_in call did.world.history) (codes "unanswered") }
+call_answered did call = record { did = did; own = call; result = own_reply_text call did.world.history }
 
 -- a client's call: it begins and the world settles, or it can't begin and nothing is done
 abbrev pub call_effect : ScriptState → Request → LineEffect

@@ -1,6 +1,7 @@
 -- What serves the proofs alone: nobody has to believe it.
 pub mod Lines
 pub mod PlayerView
+pub mod Played
 pub mod Stops
 pub mod Effects
 pub mod Rows

@@ -1,14 +1,12 @@
 //! A line of a script, played on a world.
 
 ghost use Rattle.std.specs.Prelude.{◌≡◌, [], IfOk, OnOk};
-ghost use Rattle.zworld_model.specs.declared.event.Event.TheVariants as event;
 ghost use Rattle.zlines.specs.Texts.{Writes};
-ghost use Rattle.zworld.specs.Steps.{world_in};
 ghost use Rattle.zscript.specs.Line.{effect_of, line_effect, call_effect, begin_effect};
 ghost use Rattle.zscript.specs.Line.{settle_effect};
-ghost use Rattle.zscript.specs.Done.{IsLineDone, world_between};
+ghost use Rattle.zscript.specs.Done.{AnswersLine, world_between};
 ghost use Rattle.zscript.specs.Script.{opening_of};
-ghost use Rattle.zscript.specs.support.Effects.{IsEffectDone, IsEventDone};
+ghost use Rattle.zscript.specs.support.Effects.{Plays, IsEventDone};
 
 use crate::limits::MAX_EVENTS;
 use crate::texts::{write_begun, write_called, write_cause, write_did, write_fault, write_settled};
@@ -31,8 +29,7 @@ pub fn script_world(alloc: Global, last: ServerId) -> Result<World, Memory>
 /// Plays a line on a world: what it asks for is done, and its answer is written, with an LF. The world forgets what it told
 /// before.
 pub fn answer_line(world: &mut World, line: &[u8], out: &mut String) -> Result<(), Memory>
-    ensures done { OnOk result (IsLineDone (world_between world.old.held) line.now
-        (world_between world.new.held) (Writes out.old out.new)) }
+    ensures done { OnOk result (AnswersLine line.now world.old world.new out.old out.new) }
 {
     world.forget();
     answer_read(world, line, out)?;
@@ -43,8 +40,7 @@ pub fn answer_line(world: &mut World, line: &[u8], out: &mut String) -> Result<(
 // The same, where the world has told nothing yet, and without the LF.
 fn answer_read(world: &mut World, line: &[u8], out: &mut String) -> Result<(), Memory>
     requires { world.old.history ≡ [] }
-    ensures { OnOk result (IsEffectDone (world_in world.old) (world_in world.new)
-        (λ s. effect_of s line.now) (Writes out.old out.new)) }
+    ensures { OnOk result (Plays (λ s. effect_of s line.now) world.old world.new out.old out.new) }
 {
     match read_line(world.allocator(), line) {
         Ok(asked) => play_line(world, asked, out),
@@ -55,8 +51,7 @@ fn answer_read(world: &mut World, line: &[u8], out: &mut String) -> Result<(), M
 // Does what a line asks for, and writes its answer.
 fn play_line(world: &mut World, asked: Line, out: &mut String) -> Result<(), Memory>
     requires { world.old.history ≡ [] }
-    ensures { OnOk result (IsEffectDone (world_in world.old) (world_in world.new)
-        (λ s. line_effect s asked) (Writes out.old out.new)) }
+    ensures { OnOk result (Plays (λ s. line_effect s asked) world.old world.new out.old out.new) }
 {
     match asked {
         Line::Call(request) => call(world, request, out),
@@ -74,8 +69,7 @@ fn play_line(world: &mut World, asked: Line, out: &mut String) -> Result<(), Mem
 // A call begins, and messages are delivered until none is left.
 fn call(world: &mut World, request: Request, out: &mut String) -> Result<(), Memory>
     requires { world.old.history ≡ [] }
-    ensures { OnOk result (IsEffectDone (world_in world.old) (world_in world.new)
-        (λ s. call_effect s request) (Writes out.old out.new)) }
+    ensures { OnOk result (Plays (λ s. call_effect s request) world.old world.new out.old out.new) }
 {
     let Request { client, call } = request;
     if let Did::Idle(cause) = world.step(Event::Begin(client, call))? {
@@ -88,8 +82,8 @@ fn call(world: &mut World, request: Request, out: &mut String) -> Result<(), Mem
 // A call begins.
 fn begin(world: &mut World, request: Request, out: &mut String) -> Result<(), Memory>
     requires { world.old.history ≡ [] }
-    ensures { OnOk result (IsEffectDone (world_in world.old) (world_in world.new)
-        (λ s. begin_effect s request) (Writes out.old out.new)) }
+    ensures { OnOk result
+        (Plays (λ s. begin_effect s request) world.old world.new out.old out.new) }
 {
     let Request { client, call } = request;
     let did = world.step(Event::Begin(client, call))?;
@@ -106,8 +100,7 @@ fn do_event(world: &mut World, event: Event, out: &mut String) -> Result<(), Mem
 
 // Messages are delivered until none is left.
 fn settle(world: &mut World, out: &mut String) -> Result<(), Memory>
-    ensures { OnOk result (IsEffectDone (world_in world.old) (world_in world.new) settle_effect
-        (Writes out.old out.new)) }
+    ensures { OnOk result (Plays settle_effect world.old world.new out.old out.new) }
 {
     let settled = world.settle(MAX_EVENTS)?;
     write_settled(settled, world.history(), out)

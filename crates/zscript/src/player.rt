@@ -1,12 +1,12 @@
 //! What plays a script: fed with its bytes block by block, it answers each line as soon as its LF is there.
 
-ghost use Rattle.std.specs.Prelude.{◌≡◌, ◌<◌, ◌≤◌, [], ◌++◌, length, IfOk, IfErr, IfSome, IfNone, OnOk, OnErr, string_bytes};
-ghost use Rattle.zdevices.specs.Device.{Between, sink_run, TookBeginning, Failed};
+ghost use Rattle.std.specs.Prelude.{◌≡◌, ◌<◌, ◌≤◌, [], ◌++◌, length, IfOk, IfErr, IfSome, IfNone, OnOk, OnErr};
+ghost use Rattle.zdevices.specs.Device.{Between, TookBeginning, Failed};
 ghost use Rattle.zscript.specs.Script.{opening_of};
-ghost use Rattle.zscript.specs.Done.{IsLineDone};
-ghost use Rattle.zscript.specs.support.Lines.{whole_lines_after, line_left, last_line, AreLinesDone, IsPart, IsCutAtEnd};
-ghost use Rattle.zscript.specs.support.PlayerView.{IsFresh, world_now, kept_front, Tells};
-ghost use Rattle.zscript.specs.support.Stops.{IsBlockStoppedBy, IsEndStoppedBy, AreLinesStoppedBy, IsLineStoppedBy};
+ghost use Rattle.zscript.specs.support.Lines.{IsPart, IsCutAtEnd};
+ghost use Rattle.zscript.specs.support.PlayerView.{IsFresh, world_now, kept_front};
+ghost use Rattle.zscript.specs.support.Played.{line_at, PlaysLines, PlaysLastLine, TellsLines, TellsLine, HoldsAnswer};
+ghost use Rattle.zscript.specs.support.Stops.{StopsInBlock, StopsAtEnd, StopsInLines, StopsInLine};
 
 use crate::fault::PlayFault;
 use crate::limits::KEPT;
@@ -29,9 +29,9 @@ pub(crate) struct Player {
 }
 
 impl Model for Player {
-    ghost use Rattle.std.specs.Prelude.{◌≤◌, length, string_bytes};
+    ghost use Rattle.std.specs.Prelude.{◌≤◌, length};
     ghost use Rattle.zscript.specs.declared.limits.TheConstants.{KEPT};
-    ghost use Rattle.zscript.specs.support.PlayerView.{PlayerView, coded_player_view};
+    ghost use Rattle.zscript.specs.support.PlayerView.{PlayerView, coded_player_view, held_in};
 
     ghost Value = { PlayerView };
 
@@ -40,7 +40,7 @@ impl Model for Player {
     ghost view = { λ p. record {
       world = p.world.held;
       line = p.line.items;
-      held = string_bytes p.output.block;
+      held = held_in p.output;
     } };
 
     ghost invariant = { λ p. length p.line.items ≤ KEPT };
@@ -62,15 +62,12 @@ impl Player {
     /// Plays the lines that end in these bytes, and writes their replies. What follows the last LF is kept.
     pub(crate) fn hear<K: Sink>(&mut self, sink: &mut K, bytes: &[u8]) -> Result<(), PlayFault>
         requires { self.old.held ≡ [] }
-        ensures done { OnOk result (AreLinesDone (world_now self.old)
-            (whole_lines_after self.old.line bytes.now) (world_now self.new)
-            (Between K.took sink.old sink.new)) }
-        ensures line { OnOk result (self.new.line
-            ≡ kept_front (line_left self.old.line bytes.now)) }
+        ensures done { OnOk result
+            (PlaysLines self.old bytes.now self.new K.took sink.old sink.new) }
+        ensures line { OnOk result (self.new.line ≡ kept_front (line_at self.old bytes.now)) }
         ensures held { OnOk result (self.new.held ≡ []) }
         ensures sound { OnOk result (K.failed sink.old 0 sink.new) }
-        ensures stopped { IfErr result (IsBlockStoppedBy self.old bytes.now
-            (sink_run K.took K.failed sink.old sink.new)) }
+        ensures stopped { IfErr result (StopsInBlock self.old bytes.now K.Sink sink.old sink.new) }
     {
         let rest = self.play_lines(sink, bytes)?;
         self.keep(rest)?;
@@ -83,11 +80,9 @@ impl Player {
     /// Plays a last line that has no LF, if it has a byte, and writes its reply.
     pub(crate) fn finish<K: Sink>(&mut self, sink: &mut K) -> Result<(), PlayFault>
         requires { self.old.held ≡ [] }
-        ensures done { OnOk result (AreLinesDone (world_now self.old) (last_line self.old.line)
-            (world_now self.new) (Between K.took sink.old sink.new)) }
+        ensures done { OnOk result (PlaysLastLine self.old self.new K.took sink.old sink.new) }
         ensures sound { OnOk result (K.failed sink.old 0 sink.new) }
-        ensures stopped { IfErr result (IsEndStoppedBy self.old
-            (sink_run K.took K.failed sink.old sink.new)) }
+        ensures stopped { IfErr result (StopsAtEnd self.old K.Sink sink.old sink.new) }
     {
         if self.line.is_empty() {
             return Ok(());
@@ -106,14 +101,13 @@ impl Player {
         bytes: &'a [u8],
     ) -> Result<&'a [u8], PlayFault>
         requires { self.old.held ≡ [] }
-        ensures done { OnOk result (AreLinesDone (world_now self.old)
-            (whole_lines_after self.old.line bytes.entry.now) (world_now self.new)
-            (λ text. Tells (Between K.took sink.old sink.new) text self.new.held)) }
-        ensures line { IfOk result (λ rest. line_left self.old.line bytes.entry.now
-            ≡ self.new.line ++ rest.now) }
+        ensures done { OnOk result
+            (TellsLines self.old bytes.entry.now self.new K.took sink.old sink.new) }
+        ensures line { IfOk result
+            (λ rest. line_at self.old bytes.entry.now ≡ self.new.line ++ rest.now) }
         ensures sound { OnOk result (K.failed sink.old 0 sink.new) }
-        ensures stopped { IfErr result (AreLinesStoppedBy self.old bytes.entry.now
-            (sink_run K.took K.failed sink.old sink.new)) }
+        ensures stopped { IfErr result
+            (StopsInLines self.old bytes.entry.now K.Sink sink.old sink.new) }
     {
         let mut rest = bytes;
         while let Some((end, more)) = split_line(rest) {
@@ -125,14 +119,10 @@ impl Player {
 
     // Ends the line with these bytes, and plays it. Where nothing is kept of it, it is not copied.
     fn end_line<K: Sink>(&mut self, sink: &mut K, end: &[u8]) -> Result<(), PlayFault>
-        ensures done { OnOk result (IsLineDone (world_now self.old) (self.old.line ++ end.now)
-            (world_now self.new)
-            (λ text. Tells (Between K.took sink.old sink.new)
-            (self.old.held ++ text) self.new.held)) }
+        ensures done { OnOk result (TellsLine self.old end.now self.new K.took sink.old sink.new) }
         ensures line { OnOk result (self.new.line ≡ []) }
         ensures sound { OnOk result (K.failed sink.old 0 sink.new) }
-        ensures stopped { IfErr result (IsLineStoppedBy self.old (self.old.line ++ end.now)
-            (sink_run K.took K.failed sink.old sink.new)) }
+        ensures stopped { IfErr result (StopsInLine self.old end.now K.Sink sink.old sink.new) }
     {
         self.answer(end)?;
         let Ok(()) = self.output.flush_full(sink) else {
@@ -143,9 +133,7 @@ impl Player {
 
     // The same, but the reply is held.
     fn answer(&mut self, end: &[u8]) -> Result<(), Memory>
-        ensures done { OnOk result (IsLineDone (world_now self.old) (self.old.line ++ end.now)
-            (world_now self.new)
-            (λ text. self.new.held ≡ self.old.held ++ text)) }
+        ensures done { OnOk result (HoldsAnswer self.old end.now self.new) }
         ensures line { OnOk result (self.new.line ≡ []) }
     {
         if self.line.is_empty() {

@@ -1,7 +1,7 @@
 //! Plays a script from a source to a sink.
 
 ghost use Rattle.std.specs.Prelude.{◌≡◌, ℕ, ◌<◌, length, IfOk, OnOk, OnErr, IfErr, vec_len};
-ghost use Rattle.zdevices.specs.Device.{source_run, sink_run};
+ghost use Rattle.zscript.specs.Devices.{source_did, sink_did};
 ghost use Rattle.zscript.specs.Script.{opening_of};
 ghost use Rattle.zscript.specs.Outcome.{IsPlayed, IsCut, IsCutBy};
 ghost use Rattle.zscript.specs.support.PlayerView.{IsFresh, world_now};
@@ -26,14 +26,11 @@ pub fn play<S: Source, K: Sink>(
     servers: Servers,
 ) -> Result<(), PlayFault>
     ensures played { OnOk result (IsPlayed servers
-        (source_run S.gave S.failed S.has_ended source.old source.new)
-        (sink_run K.took K.failed sink.old sink.new)) }
+        (source_did S.Source source.old source.new) (sink_did K.Sink sink.old sink.new)) }
     ensures cut { OnErr result (IsCut servers
-        (source_run S.gave S.failed S.has_ended source.old source.new)
-        (sink_run K.took K.failed sink.old sink.new)) }
+        (source_did S.Source source.old source.new) (sink_did K.Sink sink.old sink.new)) }
     ensures fault { IfErr result (IsCutBy servers
-        (source_run S.gave S.failed S.has_ended source.old source.new)
-        (sink_run K.took K.failed sink.old sink.new)) }
+        (source_did S.Source source.old source.new) (sink_did K.Sink sink.old sink.new)) }
 {
     let mut block = zeros(alloc, BLOCK)?;
     let mut player = Player::new(alloc, servers)?;
@@ -51,16 +48,13 @@ fn play_blocks<S: Source, K: Sink>(
     requires room { 0 < length block.old }
     ensures played { OnOk result ((servers : ℕ) → world_now player.old ≡ opening_of servers
         → IsPlayed servers
-        (source_run S.gave S.failed S.has_ended source.old source.new)
-        (sink_run K.took K.failed sink.old sink.new)) }
+        (source_did S.Source source.old source.new) (sink_did K.Sink sink.old sink.new)) }
     ensures cut { OnErr result ((servers : ℕ) → world_now player.old ≡ opening_of servers
         → IsCut servers
-        (source_run S.gave S.failed S.has_ended source.old source.new)
-        (sink_run K.took K.failed sink.old sink.new)) }
+        (source_did S.Source source.old source.new) (sink_did K.Sink sink.old sink.new)) }
     ensures fault { IfErr result (λ fault. (servers : ℕ)
         → world_now player.old ≡ opening_of servers → IsCutBy servers
-        (source_run S.gave S.failed S.has_ended source.old source.new)
-        (sink_run K.took K.failed sink.old sink.new) fault) }
+        (source_did S.Source source.old source.new) (sink_did K.Sink sink.old sink.new) fault) }
 {
     loop {
         let Ok(count) = source.read(block) else {

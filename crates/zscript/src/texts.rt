@@ -1,16 +1,12 @@
 //! The words of a line's answer.
 
-ghost use Rattle.std.specs.Prelude.{◌≡◌, ◌++◌, None, codes, OnOk};
+ghost use Rattle.std.specs.Prelude.{◌≡◌, ◌++◌, OnOk};
 ghost use Rattle.std.specs.List.{flat_map};
-ghost use Rattle.std.specs.Option.{option_map_or};
-ghost use Rattle.zlines.specs.Reply.{reply_text};
-ghost use Rattle.zlines.specs.declared.request.LineFault.TheVariants as line_fault;
 ghost use Rattle.zlines.specs.Texts.{Writes};
-ghost use Rattle.zscript.specs.Line.{line_fault_text, join_fault_name, retire_fault_name};
-ghost use Rattle.zscript.specs.Line.{settled_text, taken_text};
-ghost use Rattle.zscript.specs.Line.{is_answer_to, reply_in};
+ghost use Rattle.zscript.specs.Line.{join_fault_name, retire_fault_name, settled_text};
+ghost use Rattle.zscript.specs.Line.{taken_text, is_answer_to, own_reply_text};
 ghost use Rattle.zscript.specs.support.Effects.{cause_text, did_text, begun_text, called_text};
-ghost use Rattle.zscript.specs.support.Effects.{own_call};
+ghost use Rattle.zscript.specs.support.Effects.{WritesFault, taken_lines, own_call};
 
 use zcalls::{CallNumber, ClientId};
 use zlines::{LineFault, write_reply};
@@ -24,8 +20,7 @@ type Own = Option<(ClientId, CallNumber)>;
 
 /// Writes why a line asked for nothing, unless there was no memory for it.
 pub(crate) fn write_fault(fault: LineFault, out: &mut String) -> Result<(), Memory>
-    ensures { OnOk result ((fault ≡ line_fault.Memory → ⊥)
-        × Writes out.old out.new (line_fault_text fault)) }
+    ensures { OnOk result (WritesFault fault out.old out.new) }
 {
     match fault {
         LineFault::BadLine => out.push_str("bad line")?,
@@ -38,8 +33,7 @@ pub(crate) fn write_fault(fault: LineFault, out: &mut String) -> Result<(), Memo
 
 /// Writes the answers that clients took at an event, and what became of it.
 pub(crate) fn write_did(did: Did, history: &[CallEvent], out: &mut String) -> Result<(), Memory>
-    ensures { OnOk result (Writes out.old out.new
-        (flat_map (taken_text None) history.now ++ did_text did)) }
+    ensures { OnOk result (Writes out.old out.new (taken_lines history.now ++ did_text did)) }
 {
     write_taken(history, &None, out)?;
     if let Did::Idle(cause) = did {
@@ -66,8 +60,8 @@ pub(crate) fn write_settled(
     history: &[CallEvent],
     out: &mut String,
 ) -> Result<(), Memory>
-    ensures { OnOk result (Writes out.old out.new
-        (flat_map (taken_text None) history.now ++ settled_text settled)) }
+    ensures { OnOk result
+        (Writes out.old out.new (taken_lines history.now ++ settled_text settled)) }
 {
     write_taken(history, &None, out)?;
     match settled {
@@ -181,8 +175,7 @@ fn is_answer_to(own: &Own, client: &ClientId, number: &CallNumber) -> bool
 
 // Writes the reply to a call, where the history has one.
 fn write_own_reply(history: &[CallEvent], own: &Own, out: &mut String) -> Result<(), Memory>
-    ensures { OnOk result (Writes out.old out.new
-        (option_map_or reply_text (reply_in own.now history.now) (codes "unanswered"))) }
+    ensures { OnOk result (Writes out.old out.new (own_reply_text own.now history.now)) }
 {
     for event in history {
         let CallEvent::Answer(client, number, reply) = event else {

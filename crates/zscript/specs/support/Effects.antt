@@ -1,20 +1,25 @@
 -- What a world brings about of a line's effect, and the words that are written for it.
-use Rattle.std.specs.Prelude.{◌≡◌, ℕ, List, [], ◌∷◌, ◌++◌, codes, Option, None, Some}
+use Rattle.std.specs.Prelude.{◌≡◌, ℕ, List, [], ◌∷◌, ◌++◌, codes, Option, None, Some, String}
 use Rattle.std.specs.List.{flat_map}
-use Rattle.std.specs.Option.{option_map_or}
 use Rattle.zworld_model.specs.declared.event.Event.{Event}
 use Rattle.zworld_model.specs.declared.history.CallEvent.TheVariants as call_event
 use Rattle.zworld_model.specs.declared.outcome.Outcome.{Outcome}
 use Rattle.zworld_model.specs.History.{History}
 use Rattle.zworld_model.specs.Alike.{IsAlike}
-use Rattle.zlines.specs.Reply.{reply_text}
+use Rattle.zlines.specs.declared.request.LineFault.{LineFault}
+use Rattle.zlines.specs.declared.request.LineFault.TheVariants as line_fault
+use Rattle.zlines.specs.Texts.{Writes}
 use Rattle.zworld.specs.declared.did.Did.{Did}
 use Rattle.zworld.specs.declared.did.Did.TheVariants as became
 use Rattle.zworld.specs.declared.did.IdleCause.{IdleCause}
 use Rattle.zworld.specs.declared.did.IdleCause.TheVariants as cause
 use Rattle.zworld.specs.Did.{IsCause}
 use Rattle.zworld.specs.Steps.{WorldView, HasHappened, world_in}
-use Rattle.zscript.specs.Line.{ServiceWorld, ScriptState, script_state, LineEffect, begin_fault_text, join_fault_name, retire_fault_name, taken_text, reply_in}
+use Rattle.zscript.specs.Line.{ServiceWorld, ScriptState, script_state, LineEffect, begin_fault_text, join_fault_name, retire_fault_name, line_fault_text, taken_text, own_reply_text}
+
+-- why a line asked for nothing was written, and it isn't that there was no memory for it
+abbrev pub WritesFault : {A : Type 0} → LineFault → String A → String A → Type 0
+WritesFault fault before after = (fault ≡ line_fault.Memory → ⊥) × Writes before after (line_fault_text fault)
 
 -- why an event didn't happen
 abbrev pub cause_text : IdleCause → List ℕ
@@ -33,6 +38,10 @@ abbrev pub begun_text : Did → List ℕ
 begun_text (became.Idle why) = cause_text why
 begun_text other = codes "begun"
 
+-- the lines for all answers that clients took, where the line has no call of its own
+abbrev pub taken_lines : History → List ℕ
+taken_lines history = flat_map (taken_text None) history
+
 -- the call that a history begins with
 abbrev pub own_call : History → Option (ℕ × ℕ)
 own_call [] = None
@@ -43,7 +52,7 @@ own_call (other ∷ more) = None
 abbrev pub called_text : History → List ℕ
 called_text history =
     let own = own_call history in
-    flat_map (taken_text own) history ++ option_map_or reply_text (reply_in own history) (codes "unanswered")
+    flat_map (taken_text own) history ++ own_reply_text own history
 
 -- the effect led to a world, and takes none of the outcomes that follow
 pub record LeadsTo (effect : LineEffect) (new : ServiceWorld) (own : Option (ℕ × ℕ)) (result : List ℕ) (later : List Outcome) : Type 0 where
@@ -60,9 +69,13 @@ pub record IsEffectDone (old new : ServiceWorld) (effect : ScriptState → LineE
   pub leads : (later : List Outcome) → LeadsTo (effect (script_state old (told ++ later))) new own result later
   pub written : writes (flat_map (taken_text own) new.history ++ result)
 
+-- the effect was brought about on a world, and its answer written, but for the LF
+abbrev pub Plays : {A : Type 0} → (ScriptState → LineEffect) → WorldView → WorldView → String A → String A → Type 0
+Plays effect old new before after = IsEffectDone (world_in old) (world_in new) effect (Writes before after)
+
 -- an event was done, and this written
 pub record IsEventDone (old new : WorldView) (event : Event) (writes : List ℕ → Type 0) : Type 0 where
   pub did : Did
   pub happened : HasHappened (world_in old) event did (world_in new)
   pub caused : (why : IdleCause) → did ≡ became.Idle why → IsCause old.held event why
-  pub written : writes (flat_map (taken_text None) new.history ++ did_text did)
+  pub written : writes (taken_lines new.history ++ did_text did)

@@ -3,6 +3,8 @@ use Rattle.std.specs.Prelude.{ℕ, ◌<◌, List, [], ◌++◌, length}
 use Rattle.zscript.specs.Line.{ServiceWorld}
 use Rattle.zscript.specs.Done.{IsLineDone}
 use Rattle.zdevices.specs.Device.{SinkRun, Failed, TookBeginning}
+use Rattle.zdevices.specs.declared.device.Sink as sink
+use Rattle.zscript.specs.Devices.{sink_did}
 use Rattle.zscript.specs.Outcome.{IsStopped}
 use Rattle.zscript.specs.support.Lines.{whole_lines_after, last_line, lines_after}
 use Rattle.zscript.specs.support.PlayerView.{PlayerView, world_now}
@@ -36,3 +38,18 @@ IsLineStoppedBy p line sink Read = ⊥
 IsLineStoppedBy p line sink Write =
     (new : ServiceWorld) × IsLineDone (world_now p) line new (λ text. TookBeginning sink.took (p.held ++ text)) × Failed sink.failed
 IsLineStoppedBy p line sink Memory = sink.took [] × sink.failed 0
+
+-- The same, by what a sink did between two of its states: in a block, among the lines of a block,
+abbrev pub StopsInBlock : {K : Type 0} → PlayerView → List ℕ → sink.Ghosts K → K → K → PlayFault → Type 0
+StopsInBlock p bytes members before after = IsBlockStoppedBy p bytes (sink_did members before after)
+
+abbrev pub StopsInLines : {K : Type 0} → PlayerView → List ℕ → sink.Ghosts K → K → K → PlayFault → Type 0
+StopsInLines p bytes members before after = AreLinesStoppedBy p bytes (sink_did members before after)
+
+-- at the last line,
+abbrev pub StopsAtEnd : {K : Type 0} → PlayerView → sink.Ghosts K → K → K → PlayFault → Type 0
+StopsAtEnd p members before after = IsEndStoppedBy p (sink_did members before after)
+
+-- and within the line that ends so.
+abbrev pub StopsInLine : {K : Type 0} → PlayerView → List ℕ → sink.Ghosts K → K → K → PlayFault → Type 0
+StopsInLine p end members before after = IsLineStoppedBy p (p.line ++ end) (sink_did members before after)

@@ -1,6 +1,6 @@
 //! Worked rows of a line's answer.
 
-ghost use Rattle.std.specs.Prelude.{◌≡◌, [], ◌∷◌, ◌++◌, codes, Some, None};
+ghost use Rattle.std.specs.Prelude.{◌≡◌, [], ◌∷◌, codes, Some, None};
 ghost use Rattle.zpath.specs.declared.fault.PathFault.TheVariants.{Empty};
 ghost use Rattle.zcalls.specs.declared.reply.Reply.TheVariants.{Children, Deleted, Pinged};
 ghost use Rattle.zprotocol.specs.declared.master.join_fault.JoinFault.TheVariants.{Used, Joining, NoChain, Lost};
@@ -13,44 +13,36 @@ ghost use Rattle.zscript.specs.declared.limits.TheConstants.{MAX_EVENTS};
 ghost use Rattle.zworld_model.specs.declared.history.CallEvent.TheVariants.{Answer};
 ghost use Rattle.zscript.specs.Line.{taken_text, reply_in, join_fault_name, begin_fault_text, settled_text};
 ghost use Rattle.zscript.specs.Line.{line_fault_text, retire_fault_name};
-ghost use Rattle.zscript.specs.support.Rows.{AreAnswered};
+ghost use Rattle.zscript.specs.support.Rows.{AreAnswered, row, begins, takes, takes_none, text_line, call_2, call_3};
 
 /// Events that aren't enabled, failures and joins.
 #[tactic(auto, unfolding(crate::specs::Line::effect_of, crate::specs::Line::answer, crate::specs::Line::after, zlines::specs::Line::line_of, zprotocol::specs::master::Table::join_fault, zprotocol::specs::master::Table::retire_fault))]
 pub fn chain_lines()
-    ensures own_link { AreAnswered ((codes "take s1 s1", codes "idle") ∷ []) }
-    ensures no_server { AreAnswered ((codes "take s17 m", codes "bad line") ∷ []) }
-    ensures fails_once { AreAnswered
-        ((codes "fail s1", codes "done") ∷ (codes "fail s1", codes "idle") ∷ []) }
-    ensures used { AreAnswered ((codes "join s1", codes "no Used") ∷ []) }
-    ensures only_member { AreAnswered ((codes "retire s1", codes "no Last") ∷ []) }
-    ensures not_member { AreAnswered ((codes "retire s2", codes "no NotMember") ∷ []) }
-    ensures nothing_outstanding { AreAnswered ((codes "retry c1", codes "idle") ∷ []) }
+    ensures own_link { AreAnswered (row "take s1 s1" "idle" ∷ []) }
+    ensures no_server { AreAnswered (row "take s17 m" "bad line" ∷ []) }
+    ensures fails_once { AreAnswered (row "fail s1" "done" ∷ row "fail s1" "idle" ∷ []) }
+    ensures used { AreAnswered (row "join s1" "no Used" ∷ []) }
+    ensures only_member { AreAnswered (row "retire s1" "no Last" ∷ []) }
+    ensures not_member { AreAnswered (row "retire s2" "no NotMember" ∷ []) }
+    ensures nothing_outstanding { AreAnswered (row "retry c1" "idle" ∷ []) }
 {}
 
 /// Calls that begin alone, and are delivered, lost and sent again; and joins.
 pub fn chain_calls()
-    ensures begun { AreAnswered
-        ((codes "1 begin get /", codes "begun") ∷ (codes "1 begin ls /", codes "busy") ∷ []) }
-    ensures taken { AreAnswered
-        ((codes "1 begin get /", codes "begun") ∷ (codes "take c1 s1", codes "done")
-        ∷ (codes "take c1 s1", codes "idle") ∷ (codes "retry c1", codes "done") ∷ []) }
-    ensures lost { AreAnswered
-        ((codes "1 begin get /", codes "begun") ∷ (codes "ignore c1 s1", codes "done")
-        ∷ (codes "take c1 s1", codes "idle") ∷ []) }
-    ensures joins { AreAnswered
-        ((codes "join s2", codes "done") ∷ (codes "join s3", codes "no Joining") ∷ []) }
+    ensures begun { AreAnswered (begins ∷ row "1 begin ls /" "busy" ∷ []) }
+    ensures taken { AreAnswered (begins ∷ takes ∷ takes_none ∷ row "retry c1" "done" ∷ []) }
+    ensures lost { AreAnswered (begins ∷ row "ignore c1 s1" "done" ∷ takes_none ∷ []) }
+    ensures joins { AreAnswered (row "join s2" "done" ∷ row "join s3" "no Joining" ∷ []) }
 {}
 
 /// An answer that a client took is told under its name, but for the answer to the line's own call.
 pub fn answers_are_told()
-    ensures told { taken_text None (Answer 1 2 (Children [])) ≡ codes "c1 ok 0" ++ 10 ∷ [] }
-    ensures other_call { taken_text (Some (1, 3)) (Answer 1 2 Deleted)
-        ≡ codes "c1 ok deleted" ++ 10 ∷ [] }
-    ensures own_call { taken_text (Some (1, 2)) (Answer 1 2 (Children [])) ≡ [] }
-    ensures own_reply { reply_in (Some (1, 2)) (Answer 1 1 Pinged ∷ Answer 1 2 Deleted ∷ [])
+    ensures told { taken_text None (Answer 1 2 (Children [])) ≡ text_line "c1 ok 0" }
+    ensures other_call { taken_text call_3 (Answer 1 2 Deleted) ≡ text_line "c1 ok deleted" }
+    ensures own_call { taken_text call_2 (Answer 1 2 (Children [])) ≡ [] }
+    ensures own_reply { reply_in call_2 (Answer 1 1 Pinged ∷ Answer 1 2 Deleted ∷ [])
         ≡ Some Deleted }
-    ensures no_reply { reply_in (Some (1, 2)) (Answer 2 2 Deleted ∷ []) ≡ None }
+    ensures no_reply { reply_in call_2 (Answer 2 2 Deleted ∷ []) ≡ None }
 {}
 
 /// The words for refused joins and calls, for the ends of settling and for lines that ask for nothing, those too that no

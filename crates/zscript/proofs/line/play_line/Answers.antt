@@ -1,4 +1,3 @@
-use Rattle.std.proofs.Common.{refl}
 use Rattle.std.proofs.lemmas.Result.{on_ok_weaker}
 use Rattle.zworld_model.specs.declared.event.Event.TheVariants.{Take, Ignore, Fail, Retry}
 use Rattle.zscript.proofs.Effects.{plain_done, join_done, retire_done}
