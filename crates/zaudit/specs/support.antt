@@ -1,2 +1,4 @@
+pub mod Findings
 pub mod Heads
+pub mod Replays
 pub mod Verdict

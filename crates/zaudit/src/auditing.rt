@@ -1,12 +1,13 @@
 //! The audit.
 
-ghost use Rattle.std.specs.Prelude.{◌≡◌, true, false, Err, IfOk, IfErr};
+ghost use Rattle.std.specs.Prelude.{◌≡◌, true, false, Err, IfOk, IfErr, IsOkUnless};
 ghost use Rattle.zworld_model.specs.Alike.{IsAlike};
 ghost use Rattle.zworld_model.specs.PlainTree.{IsExplained};
 ghost use Rattle.zworld.specs.Steps.{world_in};
 ghost use Rattle.ztraces.specs.Lawful.{AreLawful};
 ghost use Rattle.ztraces.specs.Audit.{opening_of, is_any_cut, IsFound, IsDisordered, IsMismatched};
 ghost use Rattle.ztraces.specs.Audit.{HasFallingStamp};
+ghost use Rattle.zaudit.specs.Audit.{AreUncut};
 ghost use Rattle.zaudit.specs.declared.faults.AuditFault.TheVariants.{Cut, Disorder, Mismatch, Memory};
 
 use crate::faults::AuditFault;
@@ -34,8 +35,7 @@ fn examined(alloc: Global, traces: &Traces) -> Result<World, AuditFault>
     ensures disorder { IfErr result (λ fault. fault ≡ Disorder → IsDisordered traces.now) }
     ensures mismatch { IfErr result (λ fault. fault ≡ Mismatch → IsMismatched traces.now) }
     ensures cut_first { is_any_cut traces.now ≡ true → result ≡ Err Cut }
-    ensures then_stamps { is_any_cut traces.now ≡ false → HasFallingStamp traces.now
-        → result ≡ Err Disorder }
+    ensures then_stamps { AreUncut traces.now → HasFallingStamp traces.now → result ≡ Err Disorder }
 {
     if has_cut(traces) {
         return Err(AuditFault::Cut);
@@ -66,12 +66,10 @@ pub fn audit(alloc: Global, traces: &Traces) -> Result<Vec<CallEvent>, AuditFaul
     ensures explained { IfOk result (λ history. IsExplained history.items) }
     ensures cut { IfErr result (λ fault. fault ≡ Cut → is_any_cut traces.now ≡ true) }
     ensures cut_first { is_any_cut traces.now ≡ true → result ≡ Err Cut }
-    ensures then_stamps { is_any_cut traces.now ≡ false → HasFallingStamp traces.now
-        → result ≡ Err Disorder }
+    ensures then_stamps { AreUncut traces.now → HasFallingStamp traces.now → result ≡ Err Disorder }
     ensures disorder { IfErr result (λ fault. fault ≡ Disorder → IsDisordered traces.now) }
     ensures mismatch { IfErr result (λ fault. fault ≡ Mismatch → IsMismatched traces.now) }
-    ensures complete { ∥ AreLawful traces.now ∥₁ → is_any_cut traces.now ≡ false
-        → IfErr result (λ fault. fault ≡ Memory) }
+    ensures complete { ∥ AreLawful traces.now ∥₁ → AreUncut traces.now → IsOkUnless result Memory }
 {
     match examined(alloc, traces) {
         Ok(world) => Ok(world.into_history()),

@@ -1,11 +1,8 @@
 //! One event of a trace, on the world.
 
-ghost use Rattle.std.specs.Prelude.{◌≡◌, ◌⊎◌, true, false, IfOk, IfErr, OnOk};
-ghost use Rattle.zprotocol.specs.server.Machine.{kept_tree};
-ghost use Rattle.zworld_model.specs.Events.{happens};
-ghost use Rattle.zworld_model.specs.Alike.{IsAlike};
-ghost use Rattle.zworld.specs.Steps.{world_in};
-ghost use Rattle.ztraces.specs.Traces.{event_of, is_in_place, is_step_in_place, step_happens};
+ghost use Rattle.std.specs.Prelude.{◌≡◌, ◌⊎◌, IfOk, IfErr, OnOk};
+ghost use Rattle.ztraces.specs.Traces.{event_of};
+ghost use Rattle.zaudit.specs.support.Replays.{HappensInPlace, CannotHappen, ActsInPlace, CannotAct};
 ghost use Rattle.zaudit.specs.support.Verdict.{asks_the_master, verdict};
 ghost use Rattle.zaudit.specs.declared.faults.AuditFault.TheVariants.{Disorder, Memory};
 
@@ -66,10 +63,8 @@ fn judge(may_be_refused: bool, did: Did) -> Result<(), AuditFault>
 
 // Does an event, where it is in its place.
 fn place(world: &mut World, event: Event) -> Result<(), AuditFault>
-    ensures ok { OnOk result ((is_in_place (world_in world.old) event ≡ true)
-        × IsAlike (happens kept_tree (world_in world.old) event) (world_in world.new)) }
-    ensures disorder { IfErr result (λ fault. fault ≡ Disorder
-        → is_in_place (world_in world.old) event ≡ false) }
+    ensures ok { OnOk result (HappensInPlace world.old event world.new) }
+    ensures disorder { IfErr result (λ fault. fault ≡ Disorder → CannotHappen world.old event) }
     ensures past { world.new.has_forgotten ≡ world.old.has_forgotten }
     ensures only { IfErr result (λ fault. (fault ≡ Disorder) ⊎ (fault ≡ Memory)) }
 {
@@ -87,12 +82,9 @@ pub(crate) fn replay_act(
     process: Process,
     act: &Act,
 ) -> Result<(), AuditFault>
-    ensures ok { OnOk result
-        ((is_step_in_place (world_in world.old) (event_of process act.now) ≡ true)
-        × IsAlike (step_happens kept_tree (world_in world.old) (event_of process act.now))
-        (world_in world.new)) }
-    ensures disorder { IfErr result (λ fault. fault ≡ Disorder
-        → is_step_in_place (world_in world.old) (event_of process act.now) ≡ false) }
+    ensures ok { OnOk result (ActsInPlace world.old process act.now world.new) }
+    ensures disorder { IfErr result
+        (λ fault. fault ≡ Disorder → CannotAct world.old process act.now) }
     ensures past { world.new.has_forgotten ≡ world.old.has_forgotten }
     ensures only { IfErr result (λ fault. (fault ≡ Disorder) ⊎ (fault ≡ Memory)) }
 {

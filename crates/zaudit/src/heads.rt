@@ -1,10 +1,9 @@
 //! The next events of all traces, the one that comes first on top.
 
-ghost use Rattle.std.specs.Prelude.{◌≡◌, ◌<◌, ◌+◌, ◌^◌, ℕ, [], None, length, get_or, IfOk, IfNone, IfSome, OnOk};
+ghost use Rattle.std.specs.Prelude.{◌≡◌, ◌<◌, ◌+◌, ◌^◌, [], None, length, get_or, IfOk, IfNone, IfSome, OnOk};
 ghost use Rattle.std.specs.BinaryHeap.{heap_items, IsHeap, KeepsHeap};
-ghost use Rattle.ztraces.specs.support.Places.{place_count, head_at, IsLeast};
-ghost use Rattle.zaudit.specs.support.Heads.{head_cmp, count_of, count_at, HoldsHeads};
-ghost use Rattle.zaudit.specs.support.Heads.{IsFirstTaken, IsNext};
+ghost use Rattle.ztraces.specs.support.Places.{place_count, IsLeast};
+ghost use Rattle.zaudit.specs.support.Heads.{head_cmp, HoldsAll, PutsHead, TakesFirst, TakesNext};
 
 use crate::places::{count_of, event_at, head_of};
 use std::alloc::Global;
@@ -25,11 +24,8 @@ pub(crate) fn put_head(
 ) -> Result<(), Memory>
     requires place { place < place_count traces.now }
     requires read { length read.now ≡ place_count traces.now }
-    ensures heap { OnOk result
-        (KeepsHeap head_cmp (heap_items heads.old) (heap_items heads.new)) }
-    ensures put { OnOk result ((f : ℕ × ℕ → ℕ) → count_of f (heap_items heads.new)
-        ≡ count_at f place (head_at traces.now read.now place)
-        + count_of f (heap_items heads.old)) }
+    ensures heap { OnOk result (KeepsHeap head_cmp (heap_items heads.old) (heap_items heads.new)) }
+    ensures put { OnOk result (PutsHead traces.now read.now place heads.old heads.new) }
 {
     if let Some(stamp) = head_of(traces, read, place) {
         heads.push(Reverse((stamp, place)))?;
@@ -45,8 +41,7 @@ pub(crate) fn heads_of(
 ) -> Result<BinaryHeap<Head>, Memory>
     requires { length read.now ≡ place_count traces.now }
     ensures heap { IfOk result (λ heads. IsHeap head_cmp (heap_items heads)) }
-    ensures all { IfOk result (λ heads.
-        HoldsHeads traces.now read.now (place_count traces.now) (heap_items heads)) }
+    ensures all { IfOk result (λ heads. HoldsAll traces.now read.now heads) }
 {
     let mut heads = BinaryHeap::new(alloc);
     for place in 0..count_of(traces) {
@@ -59,8 +54,7 @@ pub(crate) fn heads_of(
 fn take_first(heads: &mut BinaryHeap<Head>) -> Option<(u64, usize)>
     requires { IsHeap head_cmp (heap_items heads.old) }
     ensures heap { IsHeap head_cmp (heap_items heads.new) }
-    ensures first { IfSome result (λ first.
-        IsFirstTaken first (heap_items heads.old) (heap_items heads.new)) }
+    ensures first { IfSome result (λ first. TakesFirst first heads.old heads.new) }
     ensures none { IfNone result (heap_items heads.old ≡ []) }
 {
     match heads.pop() {
@@ -77,11 +71,10 @@ pub(crate) fn next_event<'a>(
 ) -> Option<(usize, &'a TraceEvent)>
     requires read { length read.now ≡ place_count traces.now }
     requires heap { IsHeap head_cmp (heap_items heads.old) }
-    requires heads { HoldsHeads traces.now read.now (place_count traces.now)
-        (heap_items heads.old) }
+    requires heads { HoldsAll traces.now read.now heads.old }
     ensures heap { IsHeap head_cmp (heap_items heads.new) }
-    ensures next { IfSome result (λ next. IsNext traces.now read.now next.0 next.1.now
-        (heap_items heads.old) (heap_items heads.new)) }
+    ensures next { IfSome result
+        (λ next. TakesNext traces.now read.now next.0 next.1.now heads.old heads.new) }
     ensures small { IfSome result (λ next. get_or read.now next.0 0 + 1 < 2 ^ 64) }
     ensures none { IfNone result (IsLeast traces.now read.now (place_count traces.now) None) }
 {

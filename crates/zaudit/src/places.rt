@@ -2,8 +2,8 @@
 
 ghost use Rattle.std.specs.Prelude.{◌≡◌, ◌<◌, ◌≤◌, ◌+◌, ◌^◌, length, get_or};
 ghost use Rattle.zprotocol.specs.declared.limits.TheConstants.{PROCESSES};
-ghost use Rattle.ztraces.specs.Traces.{trace_of};
 ghost use Rattle.ztraces.specs.support.Places.{place_count, process_at, head_at};
+ghost use Rattle.zaudit.specs.support.Heads.{trace_at, IsNextAt};
 
 use zcalls::ClientId;
 use zprotocol::{Process, ServerId};
@@ -40,7 +40,7 @@ pub(crate) fn process_in(traces: &Traces, place: usize) -> Process
 /// The events of that trace.
 pub(crate) fn events_at(traces: &Traces, place: usize) -> &[TraceEvent]
     requires { place < place_count traces.now }
-    ensures { result.now ≡ trace_of traces.now (process_at traces.now place) }
+    ensures { result.now ≡ trace_at traces.now place }
 {
     if place == 0 {
         return &traces.master.events;
@@ -69,10 +69,8 @@ pub(crate) fn head_of(traces: &Traces, read: &[usize], place: usize) -> Option<u
 pub(crate) fn event_at<'a>(traces: &'a Traces, read: &[usize], place: usize) -> &'a TraceEvent
     requires place { place < place_count traces.now }
     requires read { length read.now ≡ place_count traces.now }
-    requires left { get_or read.now place 0
-        < length (trace_of traces.now (process_at traces.now place)) }
-    ensures event { result.now ≡ get_or (trace_of traces.now (process_at traces.now place))
-        (get_or read.now place 0) result.now }
+    requires left { get_or read.now place 0 < length (trace_at traces.now place) }
+    ensures event { IsNextAt traces.now read.now place result.now }
     ensures small { get_or read.now place 0 + 1 < 2 ^ 64 }
 {
     &events_at(traces, place)[read[place]]

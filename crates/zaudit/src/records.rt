@@ -1,8 +1,9 @@
 //! Clients' records against a history.
 
-ghost use Rattle.std.specs.Prelude.{◌≡◌, ℕ, true, false, nat_lt, IsTrue};
-ghost use Rattle.ztraces.specs.Traces.{told_of, record_of, client_count, AgreesWithRecords};
+ghost use Rattle.std.specs.Prelude.{◌≡◌, true, false};
+ghost use Rattle.ztraces.specs.Traces.{told_of, AgreesWithRecords};
 ghost use Rattle.ztraces.specs.Traces as traces_of;
+ghost use Rattle.zaudit.specs.support.Findings.{DiffersFromRecord};
 
 use crate::sameness::is_same_event;
 use ztraces::Traces;
@@ -41,8 +42,7 @@ fn tells(history: &[CallEvent], client: u8, seen: &[CallEvent]) -> bool
 /// Whether the history tells of each client what its record does.
 pub(crate) fn agree(traces: &Traces, history: &[CallEvent]) -> bool
     ensures yes { result ≡ true → AgreesWithRecords traces.now history.now }
-    ensures no { result ≡ false → (c : ℕ) × (nat_lt c (client_count traces.now) ≡ true)
-        × (told_of c history.now ≡ record_of traces.now c → ⊥) }
+    ensures no { result ≡ false → DiffersFromRecord traces.now history.now }
 {
     for place in 0..traces.clients.len() {
         if !tells(history, place as u8, &traces.clients[place].record) {

@@ -1,15 +1,14 @@
 //! Traces replayed on a world.
 
-ghost use Rattle.std.specs.Prelude.{◌≡◌, ◌⊎◌, ◌<◌, ◌≤◌, true, false, List, ℕ, length, replicate, IfOk, IfErr, OnOk, IsTrue};
+ghost use Rattle.std.specs.Prelude.{◌≡◌, ◌⊎◌, ◌≤◌, true, false, length, replicate, IfOk, IfErr, OnOk};
+ghost use Rattle.std.specs.BinaryHeap.{heap_items, IsHeap};
 ghost use Rattle.zprotocol.specs.declared.limits.TheConstants.{PROCESSES};
-ghost use Rattle.zprotocol.specs.server.Machine.{kept_tree};
 ghost use Rattle.zworld.specs.Steps.{world_in};
 ghost use Rattle.zworld_model.specs.Alike.{IsAlike};
-ghost use Rattle.ztraces.specs.Traces.{Step, BeginsMerge, are_in_place};
 ghost use Rattle.ztraces.specs.Audit.{opening_of};
-ghost use Rattle.ztraces.specs.support.Places.{place_count, unread, HasReplayed, IsAllRead, IsReplayFault};
-ghost use Rattle.std.specs.BinaryHeap.{heap_items, IsHeap};
-ghost use Rattle.zaudit.specs.support.Heads.{head_cmp, HoldsHeads};
+ghost use Rattle.ztraces.specs.support.Places.{place_count, HasReplayed, IsAllRead, IsReplayFault};
+ghost use Rattle.zaudit.specs.support.Heads.{head_cmp, HoldsAll};
+ghost use Rattle.zaudit.specs.support.Replays.{LeavesFewer, HasReplayedAll};
 ghost use Rattle.zaudit.specs.declared.faults.AuditFault.TheVariants.{Disorder, Memory};
 
 use crate::deeds::replay_act;
@@ -31,17 +30,13 @@ fn replay_next(
 ) -> Result<bool, AuditFault>
     requires read { length read.old ≡ place_count traces.now }
     requires heap { IsHeap head_cmp (heap_items heads.old) }
-    requires heads { HoldsHeads traces.now read.old
-        (place_count traces.now) (heap_items heads.old) }
+    requires heads { HoldsAll traces.now read.old heads.old }
     requires replayed { HasReplayed traces.now read.old (world_in world.old) }
     ensures same { length read.new ≡ length read.old }
     ensures heap { OnOk result (IsHeap head_cmp (heap_items heads.new)) }
-    ensures heads { IfOk result (λ more. more ≡ true
-        → HoldsHeads traces.now read.new (place_count traces.now) (heap_items heads.new)) }
+    ensures heads { IfOk result (λ more. more ≡ true → HoldsAll traces.now read.new heads.new) }
     ensures replayed { OnOk result (HasReplayed traces.now read.new (world_in world.new)) }
-    ensures fewer { IfOk result (λ more. more ≡ true
-        → unread traces.now read.new (place_count traces.now)
-        < unread traces.now read.old (place_count traces.now)) }
+    ensures fewer { IfOk result (λ more. more ≡ true → LeavesFewer traces.now read.old read.new) }
     ensures all { IfOk result (λ more. more ≡ false → IsAllRead traces.now read.new) }
     ensures past { world.new.has_forgotten ≡ world.old.has_forgotten }
     ensures disorder { IfErr result (λ fault. fault ≡ Disorder → IsReplayFault traces.now) }
@@ -66,11 +61,9 @@ fn replay_rest(
 ) -> Result<(), AuditFault>
     requires read { length read.old ≡ place_count traces.now }
     requires heap { IsHeap head_cmp (heap_items heads.old) }
-    requires heads { HoldsHeads traces.now read.old (place_count traces.now)
-        (heap_items heads.old) }
+    requires heads { HoldsAll traces.now read.old heads.old }
     requires replayed { HasReplayed traces.now read.old (world_in world.old) }
-    ensures replayed { OnOk result ((after : List ℕ)
-        × HasReplayed traces.now after (world_in world.new) × IsAllRead traces.now after) }
+    ensures replayed { OnOk result (HasReplayedAll traces.now world.new) }
     ensures past { world.new.has_forgotten ≡ world.old.has_forgotten }
     ensures disorder { IfErr result (λ fault. fault ≡ Disorder → IsReplayFault traces.now) }
     ensures only { IfErr result (λ fault. (fault ≡ Disorder) ⊎ (fault ≡ Memory)) }
@@ -82,9 +75,7 @@ fn replay_rest(
 /// Replays all events, by their stamps.
 pub(crate) fn replay(alloc: Global, traces: &Traces, world: &mut World) -> Result<(), AuditFault>
     requires opening { IsAlike (opening_of traces.now) (world_in world.old) }
-    ensures replayed { OnOk result ((read : List ℕ)
-        × HasReplayed traces.now read (world_in world.new)
-        × IsAllRead traces.now read) }
+    ensures replayed { OnOk result (HasReplayedAll traces.now world.new) }
     ensures past { world.new.has_forgotten ≡ world.old.has_forgotten }
     ensures disorder { IfErr result (λ fault. fault ≡ Disorder → IsReplayFault traces.now) }
     ensures only { IfErr result (λ fault. (fault ≡ Disorder) ⊎ (fault ≡ Memory)) }

@@ -1,6 +1,6 @@
 //! Whether two things that callers saw are the same: of calls, replies and what they are made of.
 
-ghost use Rattle.std.specs.Prelude.{◌≡◌, ℕ, true, false};
+ghost use Rattle.std.specs.Prelude.{◌≡◌, true, false};
 
 use zcalls::{
     Call, Check, Create, Delete, Multi, Names, Part, PartReply, Query, Replies, Reply, SetData,

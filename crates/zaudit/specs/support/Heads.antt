@@ -1,8 +1,10 @@
 -- The next events of all traces, each as its stamp and the place of its trace, in a heap whose top is the least of them.
 use Rattle.std.specs.Prelude.{◌≡◌, ℕ, zero, suc, ◌+◌, Bool, false, Option, None, Some, List, get_or}
+use Rattle.std.specs.BinaryHeap.{heap_items}
 use Rattle.std.specs.List.{sum_by, AllByRecursion}
 use Rattle.std.specs.declared.cmp.Ordering.{Ordering}
 use Rattle.std.specs.declared.cmp.Reverse.{Reverse}
+use Rattle.std.specs.declared.collections.BinaryHeap.{BinaryHeap}
 use Rattle.std.specs.Ordering.{nat_cmp, ordering_then, is_lt}
 use Rattle.ztraces.specs.declared.trace.TraceEvent.{TraceEvent}
 use Rattle.ztraces.specs.declared.trace.Traces.{Traces}
@@ -48,9 +50,34 @@ IsFirstTaken first old new =
     ((f : ℕ × ℕ → ℕ) → count_of f new + f first ≡ count_of f old)
     × AllByRecursion (λ (head : Head). is_before head.0 first ≡ false) old
 
+-- the trace at a place
+abbrev pub trace_at : Traces → ℕ → List TraceEvent
+trace_at t place = trace_of t (process_at t place)
+
+-- this event is the next one there
+abbrev pub IsNextAt : Traces → List ℕ → ℕ → TraceEvent → Type 0
+IsNextAt t read place event = event ≡ get_or (trace_at t place) (get_or read place 0) event
+
 -- this event, at this place, is the next of all traces, and is gone from the heap
 abbrev pub IsNext : Traces → List ℕ → ℕ → TraceEvent → List Head → List Head → Type 0
 IsNext t read place event old new =
     IsLeast t read (place_count t) (Some (place, event.stamp))
-    × (event ≡ get_or (trace_of t (process_at t place)) (get_or read place 0) event)
+    × IsNextAt t read place event
     × ((f : ℕ × ℕ → ℕ) → count_of f new + f (event.stamp, place) ≡ count_of f old)
+
+-- the heap holds the next events of all traces
+abbrev pub HoldsAll : {A : Type 0} → Traces → List ℕ → BinaryHeap Head A → Type 0
+HoldsAll t read heads = HoldsHeads t read (place_count t) (heap_items heads)
+
+-- the next event of this place is put in, where there is one
+abbrev pub PutsHead : {A : Type 0} → Traces → List ℕ → ℕ → BinaryHeap Head A → BinaryHeap Head A → Type 0
+PutsHead t read place old new =
+    (f : ℕ × ℕ → ℕ) → count_of f (heap_items new) ≡ count_at f place (head_at t read place) + count_of f (heap_items old)
+
+-- the one that comes first is taken out
+abbrev pub TakesFirst : {A : Type 0} → ℕ × ℕ → BinaryHeap Head A → BinaryHeap Head A → Type 0
+TakesFirst first old new = IsFirstTaken first (heap_items old) (heap_items new)
+
+-- and so is the next event of all traces
+abbrev pub TakesNext : {A : Type 0} → Traces → List ℕ → ℕ → TraceEvent → BinaryHeap Head A → BinaryHeap Head A → Type 0
+TakesNext t read place event old new = IsNext t read place event (heap_items old) (heap_items new)

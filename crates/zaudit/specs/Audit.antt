@@ -1,0 +1,8 @@
+-- What an audit asks of traces first.
+use Rattle.std.specs.Prelude.{◌≡◌, false}
+use Rattle.ztraces.specs.declared.trace.Traces.{Traces}
+use Rattle.ztraces.specs.Audit.{is_any_cut}
+
+-- none of them is cut
+abbrev pub AreUncut : Traces → Type 0
+AreUncut t = is_any_cut t ≡ false

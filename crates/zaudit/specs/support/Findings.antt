@@ -1,0 +1,21 @@
+-- What the tests of traces look for.
+use Rattle.std.specs.Prelude.{◌≡◌, ℕ, Bool, true, nat_lt}
+use Rattle.std.specs.List.{list_any}
+use Rattle.zworld_model.specs.History.{History}
+use Rattle.ztraces.specs.declared.trace.Trace.{Trace}
+use Rattle.ztraces.specs.declared.trace.ClientTrace.{ClientTrace}
+use Rattle.ztraces.specs.declared.trace.Traces.{Traces}
+use Rattle.ztraces.specs.Traces.{told_of, record_of, client_count}
+
+-- the trace of a server is cut
+abbrev pub is_any_server_cut : Traces → Bool
+is_any_server_cut t = list_any (λ (trace : Trace). trace.is_cut) t.servers.items
+
+-- the trace of a client is cut
+abbrev pub is_any_client_cut : Traces → Bool
+is_any_client_cut t = list_any (λ (client : ClientTrace). client.trace.is_cut) t.clients.items
+
+-- a client's record differs from what the history tells of the client
+abbrev pub DiffersFromRecord : Traces → History → Type 0
+DiffersFromRecord t history =
+    (c : ℕ) × (nat_lt c (client_count t) ≡ true) × (told_of c history ≡ record_of t c → ⊥)

@@ -1,0 +1,39 @@
+-- What is replayed on a world: an event, the event that an act stands for, and all events of the traces.
+use Rattle.std.specs.Prelude.{◌≡◌, ◌<◌, ℕ, true, false, List}
+use Rattle.zprotocol.specs.declared.process.Process.{Process}
+use Rattle.zprotocol.specs.server.Machine.{kept_tree}
+use Rattle.zworld_model.specs.declared.event.Event.{Event}
+use Rattle.zworld_model.specs.Events.{happens}
+use Rattle.zworld_model.specs.Alike.{IsAlike}
+use Rattle.zworld.specs.Steps.{WorldView, world_in}
+use Rattle.ztraces.specs.declared.trace.Act.{Act}
+use Rattle.ztraces.specs.declared.trace.Traces.{Traces}
+use Rattle.ztraces.specs.Traces.{event_of, is_in_place, is_step_in_place, step_happens}
+use Rattle.ztraces.specs.support.Places.{place_count, unread, HasReplayed, IsAllRead}
+
+-- an event is in its place, and happens
+abbrev pub HappensInPlace : WorldView → Event → WorldView → Type 0
+HappensInPlace old event new =
+    (is_in_place (world_in old) event ≡ true) × IsAlike (happens kept_tree (world_in old) event) (world_in new)
+
+-- it isn't in its place
+abbrev pub CannotHappen : WorldView → Event → Type 0
+CannotHappen world event = is_in_place (world_in world) event ≡ false
+
+-- an act of a process stands for an event in its place, which happens
+abbrev pub ActsInPlace : WorldView → Process → Act → WorldView → Type 0
+ActsInPlace old process act new =
+    (is_step_in_place (world_in old) (event_of process act) ≡ true)
+    × IsAlike (step_happens kept_tree (world_in old) (event_of process act)) (world_in new)
+
+-- it stands for none, or for one that isn't in its place
+abbrev pub CannotAct : WorldView → Process → Act → Type 0
+CannotAct world process act = is_step_in_place (world_in world) (event_of process act) ≡ false
+
+-- fewer events are left in the traces
+abbrev pub LeavesFewer : Traces → List ℕ → List ℕ → Type 0
+LeavesFewer t old new = unread t new (place_count t) < unread t old (place_count t)
+
+-- all events of the traces were replayed
+abbrev pub HasReplayedAll : Traces → WorldView → Type 0
+HasReplayedAll t world = (read : List ℕ) × HasReplayed t read (world_in world) × IsAllRead t read
