@@ -1,2 +1,3 @@
 -- What serves the proofs alone: nobody has to believe it.
 pub mod DeviceLaws
+pub mod Seen

@@ -55,13 +55,9 @@ impl<'a> Model for SliceSource<'a> {
 
     ghost Value = { SliceSourceView };
 
-    ghost view = { λ s. record {
-      left = s.left.now;
-      at_most = s.at_most;
-      fails_after = s.failure.calls_left;
-      has_failed = s.has_failed;
-      told_end = s.told_end;
-    } };
+    ghost use Rattle.zdevices.specs.support.Seen.{source_seen};
+
+    ghost view = { source_seen };
 
     ghost invariant = { λ s. 0 < s.at_most };
 }
@@ -127,13 +123,11 @@ impl Source for SliceSource<'_> {
 
     ghost gave_nothing = { λ s. refl };
 
-    ghost gave_both = { λ s t u a b first second.
-        left_after_both s.left t.left u.left a b first second };
+    ghost gave_both = { λ s t u. left_after_both s.left t.left u.left };
 
     ghost failed_never = { λ s. never_raises s.has_failed };
 
-    ghost failed_both = { λ s t u m n first second.
-        raises_both s.has_failed t.has_failed u.has_failed m n first second };
+    ghost failed_both = { λ s t u. raises_both s.has_failed t.has_failed u.has_failed };
 }
 
 /// Takes bytes into a vector, and fails where memory runs out.
@@ -151,12 +145,9 @@ impl Model for VecSink {
 
     ghost Value = { VecSinkView };
 
-    ghost view = { λ s. record {
-      held = s.bytes.items;
-      at_most = s.at_most;
-      fails_after = s.failure.calls_left;
-      has_failed = s.has_failed;
-    } };
+    ghost use Rattle.zdevices.specs.support.Seen.{sink_seen};
+
+    ghost view = { sink_seen };
 
     ghost invariant = { λ s. 0 < s.at_most };
 }
@@ -212,11 +203,9 @@ impl Sink for VecSink {
 
     ghost took_nothing = { λ s. sym (append-nil s.held) };
 
-    ghost took_both = { λ s t u a b first second.
-        held_after_both s.held t.held u.held a b first second };
+    ghost took_both = { λ s t u. held_after_both s.held t.held u.held };
 
     ghost failed_never = { λ s. never_raises s.has_failed };
 
-    ghost failed_both = { λ s t u m n first second.
-        raises_both s.has_failed t.has_failed u.has_failed m n first second };
+    ghost failed_both = { λ s t u. raises_both s.has_failed t.has_failed u.has_failed };
 }

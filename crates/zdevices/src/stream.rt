@@ -26,12 +26,9 @@ impl<R> Model for ReaderSource<R> {
 
     ghost Value = { ReaderSourceView R };
 
-    ghost view = { λ s. record {
-      reader = s.reader;
-      budget = s.budget;
-      has_failed = s.has_failed;
-      told_end = s.told_end;
-    } };
+    ghost use Rattle.zdevices.specs.support.Seen.{reader_seen};
+
+    ghost view = { reader_seen };
 }
 
 impl<R: Read> ReaderSource<R> {
@@ -76,14 +73,11 @@ impl<R: Read> Source for ReaderSource<R> {
 
     ghost gave_nothing = { λ s. consumes_nothing (R.remaining s.reader) };
 
-    ghost gave_both = { λ s t u a b first second.
-        consumes_both (R.remaining s.reader) (R.remaining t.reader) (R.remaining u.reader)
-        a b first second };
+    ghost gave_both = { λ s t u. consumes_both R.remaining s.reader t.reader u.reader };
 
     ghost failed_never = { λ s. never_raises s.has_failed };
 
-    ghost failed_both = { λ s t u m n first second.
-        raises_both s.has_failed t.has_failed u.has_failed m n first second };
+    ghost failed_both = { λ s t u. raises_both s.has_failed t.has_failed u.has_failed };
 }
 
 /// Writes to any writer. A write that takes no byte is a failure.
@@ -133,12 +127,9 @@ impl<W: Write> Sink for WriterSink<W> {
 
     ghost took_nothing = { λ s. appends_nothing (W.contents s.writer) };
 
-    ghost took_both = { λ s t u a b first second.
-        appends_both (W.contents s.writer) (W.contents t.writer) (W.contents u.writer)
-        a b first second };
+    ghost took_both = { λ s t u. appends_both W.contents s.writer t.writer u.writer };
 
     ghost failed_never = { λ s. never_raises s.has_failed };
 
-    ghost failed_both = { λ s t u m n first second.
-        raises_both s.has_failed t.has_failed u.has_failed m n first second };
+    ghost failed_both = { λ s t u. raises_both s.has_failed t.has_failed u.has_failed };
 }

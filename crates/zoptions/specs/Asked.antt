@@ -1,5 +1,5 @@
 -- The numbers that a program's words give to the options of a subcommand, by what clap tells of its parse.
-use Rattle.std.specs.Prelude.{ℕ, ◌^◌, ◌&&◌, pos, List, [], ◌∷◌, map, Option, None, Some}
+use Rattle.std.specs.Prelude.{ℕ, ◌^◌, ◌&&◌, pos, List, [], ◌∷◌, map, Option, None, Some, Result, IfOk, Vec, ◌≡◌}
 use Rattle.std.specs.Prelude.{option_map, option_and_then, if◌then◌else◌, nat_lt, codes}
 use Rattle.std.specs.Borrow.{Bor}
 use Rattle.std.specs.Str.{bytes_eq}
@@ -19,6 +19,10 @@ texts_of words = map (λ word. word.now) words
 -- An option is spelled by its name and its default.
 abbrev pub spelling_of : NumberOption → Text × Text
 spelling_of option = (option.name.now, option.default.now)
+
+-- The spellings of options.
+abbrev pub spellings : List NumberOption → List (Text × Text)
+spellings options = map spelling_of options
 
 -- ---- the command line
 
@@ -68,3 +72,7 @@ asked_of name options words =
     let command = command_of name options in
     unless_faulty (fault_of command words)
     (option_and_then (numbers_of options) (matches_under name (subcommand_of command words)))
+
+-- What is answered, where memory lasts, are these numbers, or that there are none.
+abbrev pub GivesNumbers : {A E : Type 0} → Result (Option (Vec ℕ A)) E → Option (List ℕ) → Type 0
+GivesNumbers result numbers = IfOk result (λ given. option_map (λ v. v.items) given ≡ numbers)

@@ -1,9 +1,9 @@
 //! The words, and the numbers that they give.
 
-ghost use Rattle.std.specs.Prelude.{◌≡◌, ◌≢◌, IfOk, IsErr, IsOk, map, option_map};
+ghost use Rattle.std.specs.Prelude.{◌≡◌, ◌≢◌, IsErr, IsOk};
 ghost use Rattle.clap.specs.Walk.{rows_of};
 ghost use Rattle.clap.specs.Matches.{found_of};
-ghost use Rattle.zoptions.specs.Asked.{asked_of, number_in, numbers_of, spelling_of, texts_of};
+ghost use Rattle.zoptions.specs.Asked.{GivesNumbers, asked_of, number_in, numbers_of, spellings, texts_of};
 
 use crate::line::command_line;
 use crate::options::NumberOption;
@@ -21,8 +21,7 @@ pub fn numbers_asked<'a>(
     options: &'a [NumberOption<'a>],
     words: &'a [&'a str],
 ) -> Result<Option<Vec<u16>>, AllocError>
-    ensures { IfOk result (λ numbers. option_map (λ v. v.items) numbers
-        ≡ asked_of name.now (map spelling_of options.now) (texts_of words.now)) }
+    ensures { GivesNumbers result (asked_of name.now (spellings options.now) (texts_of words.now)) }
 {
     let command = command_line(alloc, name, options)?;
     let matches = match command.try_get_matches_from(words) {
@@ -55,8 +54,7 @@ fn numbers_in(
     options: &[NumberOption],
     given: &ArgMatches,
 ) -> Result<Option<Vec<u16>>, AllocError>
-    ensures { IfOk result (λ numbers. option_map (λ v. v.items) numbers
-        ≡ numbers_of (map spelling_of options.now) (rows_of (found_of given.now))) }
+    ensures { GivesNumbers result (numbers_of (spellings options.now) (rows_of (found_of given.now))) }
 {
     let mut numbers = Vec::new(alloc);
     for option in options {

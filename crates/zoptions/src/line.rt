@@ -1,8 +1,8 @@
 //! The command line of a subcommand with options, as `clap` is told of it.
 
-ghost use Rattle.std.specs.Prelude.{◌≡◌, IfOk, false, map};
+ghost use Rattle.std.specs.Prelude.{◌≡◌, IfOk, false};
 ghost use Rattle.clap.specs.Words.{app_of, rule_of};
-ghost use Rattle.zoptions.specs.Asked.{command_of, rule_for, spelling_of};
+ghost use Rattle.zoptions.specs.Asked.{command_of, rule_for, spelling_of, spellings};
 
 use crate::options::NumberOption;
 use clap::{Arg, Command, value_parser};
@@ -14,8 +14,7 @@ pub(crate) fn command_line<'a>(
     name: &'a str,
     options: &'a [NumberOption<'a>],
 ) -> Result<Command<'a>, AllocError>
-    ensures { IfOk result (λ command.
-        app_of command ≡ command_of name.now (map spelling_of options.now)) }
+    ensures { IfOk result (λ command. app_of command ≡ command_of name.now (spellings options.now)) }
 {
     let mut subcommand = Command::new(alloc, name);
     for option in options {

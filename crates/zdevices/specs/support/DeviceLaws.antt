@@ -34,19 +34,25 @@ pub consumes_nothing : (o : Option (List ℕ)) → Consumes o o []
 consumes_nothing None = tt
 consumes_nothing (Some xs) = refl
 
-pub consumes_both : (o p q : Option (List ℕ)) (a b : List ℕ) → Consumes o p a → Consumes p q b → Consumes o q (a ++ b)
-consumes_both None p q a b first second = tt
-consumes_both (Some s) None q a b first second = absurd first
-consumes_both (Some s) (Some t) None a b first second = absurd second
-consumes_both (Some s) (Some t) (Some u) a b first second = left_after_both s t u a b first second
+consumed : (o p q : Option (List ℕ)) (a b : List ℕ) → Consumes o p a → Consumes p q b → Consumes o q (a ++ b)
+consumed None p q a b first second = tt
+consumed (Some s) None q a b first second = absurd first
+consumed (Some s) (Some t) None a b first second = absurd second
+consumed (Some s) (Some t) (Some u) a b first second = left_after_both s t u a b first second
+
+pub consumes_both : {R : Type 0} (remaining : R → Option (List ℕ)) (s t u : R) (a b : List ℕ) → Consumes (remaining s) (remaining t) a → Consumes (remaining t) (remaining u) b → Consumes (remaining s) (remaining u) (a ++ b)
+consumes_both remaining s t u = consumed (remaining s) (remaining t) (remaining u)
 
 -- and of a writer
 pub appends_nothing : (o : Option (List ℕ)) → Appends o o []
 appends_nothing None = tt
 appends_nothing (Some xs) = sym (append-nil xs)
 
-pub appends_both : (o p q : Option (List ℕ)) (a b : List ℕ) → Appends o p a → Appends p q b → Appends o q (a ++ b)
-appends_both None p q a b first second = tt
-appends_both (Some s) None q a b first second = absurd first
-appends_both (Some s) (Some t) None a b first second = absurd second
-appends_both (Some s) (Some t) (Some u) a b first second = held_after_both s t u a b first second
+appended : (o p q : Option (List ℕ)) (a b : List ℕ) → Appends o p a → Appends p q b → Appends o q (a ++ b)
+appended None p q a b first second = tt
+appended (Some s) None q a b first second = absurd first
+appended (Some s) (Some t) None a b first second = absurd second
+appended (Some s) (Some t) (Some u) a b first second = held_after_both s t u a b first second
+
+pub appends_both : {W : Type 0} (contents : W → Option (List ℕ)) (s t u : W) (a b : List ℕ) → Appends (contents s) (contents t) a → Appends (contents t) (contents u) b → Appends (contents s) (contents u) (a ++ b)
+appends_both contents s t u = appended (contents s) (contents t) (contents u)
