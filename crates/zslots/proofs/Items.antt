@@ -5,24 +5,47 @@ use Rattle.std.specs.Ordering.{eq_by_cmp, is_eq}
 use Rattle.std.specs.Cmp.{tied_itself}
 use Rattle.std.specs.FinMap as finite
 use Rattle.std.specs.FinMap.{find, get-from_entries, len-empty, len-insert}
-use Rattle.std.specs.Prelude.{◌==◌, if◌then◌else◌}
+use Rattle.std.specs.Prelude.{◌==◌, ◌&&◌, if◌then◌else◌}
 use Rattle.slab.specs.Slab.{Slab, Updates, get, with_value, slab_len}
 use Rattle.slab.proofs.SlabLemmas.{Updates-with_value, ContainsKey-within}
 use Rattle.std.proofs.lemmas.List.Sums.{sum_by-set, sum_by-cons}
+use Rattle.zslots.specs.declared.generation.Generation.{Generation}
 use Rattle.zslots.specs.declared.id.Id.{Id}
+use Rattle.zslots.specs.Generations.{is_same}
 use Rattle.zslots.specs.declared.slots.Slot.{Slot}
 use Rattle.zslots.specs.Fields.{entries_from, items_of}
 use Rattle.zslots.specs.Ids.{id_cmp}
 use Rattle.zslots.proofs.Maps.{id_cmp_total, same_or_other, not_tied, get-insert-here, get-insert-elsewhere, get-remove-here, get-remove-elsewhere, same_items}
 
-abbrev pub id_at : ℕ → ℕ → Id
+abbrev pub id_at : ℕ → Generation → Id
 id_at index generation = record { index = index; generation = generation }
 
-pub same_number : (n m : ℕ) → n ≡ m → (n == m) ≡ true
+same_number : (n m : ℕ) → n ≡ m → (n == m) ≡ true
 same_number n m e = grind (arith, tests)
 
-pub other_number : (n m : ℕ) → n ≢ m → (n == m) ≡ false
-other_number n m e = grind (arith, tests)
+-- two generations are the same or not
+pub cases_generation : (g h : Generation) → (g ≡ h) ⊎ (g ≢ h)
+cases_generation g h = by (cases_eq g.high h.high) (cases_eq g.low h.low)
+  where
+    by : (g.high ≡ h.high) ⊎ (g.high ≢ h.high) → (g.low ≡ h.low) ⊎ (g.low ≢ h.low) → (g ≡ h) ⊎ (g ≢ h)
+    by (inl high) (inl low) = inl (λ i. record { high = high i; low = low i })
+    by (inr other) low = inr (λ e. other (ap (λ (k : Generation). k.high) e))
+    by (inl high) (inr other) = inr (λ e. other (ap (λ (k : Generation). k.low) e))
+
+pub same_generation : (g h : Generation) → g ≡ h → is_same g h ≡ true
+same_generation g h e =
+    rw (same_number g.high h.high (ap (λ (k : Generation). k.high) e)) (same_number g.low h.low (ap (λ (k : Generation). k.low) e))
+
+equal_number : (n m : ℕ) → (n == m) ≡ true → n ≡ m
+equal_number n m e = grind (arith, tests)
+
+pub other_generation : (g h : Generation) → g ≢ h → is_same g h ≡ false
+other_generation g h other = by (g.high == h.high) refl (g.low == h.low) refl
+  where
+    by : (a : Bool) → (g.high == h.high) ≡ a → (b : Bool) → (g.low == h.low) ≡ b → is_same g h ≡ false
+    by true high true low = absurd (other (λ i. record { high = equal_number g.high h.high high i; low = equal_number g.low h.low low i }))
+    by false high b low = ap (λ a. a && (g.low == h.low)) high
+    by true high false low = ap (λ a. a && (g.low == h.low)) high ∙ low
 
 pub some_same : {A : Type 0} (x y : A) → Some x ≡ Some y → x ≡ y
 some_same x y e = cc
@@ -41,9 +64,9 @@ some_there None e = cc
 
 module _ {T : Type 0} where
   -- the item of a slot, where it has this generation
-  abbrev pub item_at : Option (Slot T) → ℕ → Option T
+  abbrev pub item_at : Option (Slot T) → Generation → Option T
   item_at None generation = None
-  item_at (Some s) generation = if s.generation == generation then Some s.item else None
+  item_at (Some s) generation = if is_same s.generation generation then Some s.item else None
 
   -- slots from an index on have no item under a smaller one
   find-below : (k : ℕ) (slots : List (Option (Slot T))) (id : Id) → id.index < k → find id_cmp id (entries_from k slots) ≡ None
@@ -65,10 +88,10 @@ module _ {T : Type 0} where
       let one : count_by is_some (Some s ∷ slots) ≡ 1 + count_by is_some slots = sum_by-cons (λ o. cond (is_some o) 1 0) (Some s) slots in
       counted ∙ omega (arith, len-entries_from (k + 1) slots, one)
 
-  pub find-entries : (k : ℕ) (slots : List (Option (Slot T))) (at generation : ℕ) → find id_cmp (id_at (k + at) generation) (entries_from k slots) ≡ item_at (get_or slots at None) generation
+  pub find-entries : (k : ℕ) (slots : List (Option (Slot T))) (at : ℕ) (generation : Generation) → find id_cmp (id_at (k + at) generation) (entries_from k slots) ≡ item_at (get_or slots at None) generation
   find-entries k [] at generation = refl
   find-entries k (None ∷ slots) zero generation = find-below (k + 1) slots _ (omega arith)
-  find-entries k (Some s ∷ slots) zero generation = by (cases_eq s.generation generation)
+  find-entries k (Some s ∷ slots) zero generation = by (cases_generation s.generation generation)
     where
       here : k + zero ≡ k
       here = omega arith
@@ -81,12 +104,12 @@ module _ {T : Type 0} where
           let same : id_at (k + zero) generation ≡ id_at k s.generation = λ i. record { index = here i; generation = sym is i } in
           ap (λ (q : Id). cond (eq_by_cmp id_cmp q (id_at k s.generation)) (Some s.item) (find id_cmp q later)) same
           ∙ ap (λ t. cond t (Some s.item) (find id_cmp (id_at k s.generation) later)) (ap is_eq (tied_itself id_cmp_total (id_at k s.generation)))
-          ∙ ap (λ t. cond t (Some s.item) None) (sym (same_number s.generation generation is))
+          ∙ ap (λ t. cond t (Some s.item) None) (sym (same_generation s.generation generation is))
       by (inr differs) =
           let other : id_at (k + zero) generation ≢ id_at k s.generation = λ e. differs (sym (ap (λ (i : Id). i.generation) e)) in
           ap (λ t. cond t (Some s.item) (find id_cmp (id_at (k + zero) generation) later)) (not_tied _ _ other)
           ∙ find-below (k + 1) slots _ (omega arith)
-          ∙ ap (λ t. cond t (Some s.item) None) (sym (other_number s.generation generation differs))
+          ∙ ap (λ t. cond t (Some s.item) None) (sym (other_generation s.generation generation differs))
   find-entries k (None ∷ slots) (suc at) generation =
       let shift : k + suc at ≡ k + 1 + at = omega arith in
       ap (λ i. find id_cmp (id_at i generation) (entries_from (k + 1) slots)) shift ∙ find-entries (k + 1) slots at generation
@@ -101,7 +124,7 @@ module _ {T : Type 0} where
   get-items slots id = get-from_entries id_cmp_total (entries_from 0 slots) id ∙ ap (λ i. find id_cmp (id_at i id.generation) (entries_from 0 slots)) (sym (zero-add id.index)) ∙ find-entries 0 slots id.index id.generation
 
   -- a slot that is filled is an insert, where it was empty or had the same generation
-  pub items-filled : (old new : Slab (Slot T)) (key : ℕ) (s : Slot T) → Updates old new key (Some s) → ((g : ℕ) → g ≢ s.generation → item_at (get old key) g ≡ None) → items_of new.slots ≡ finite.insert (items_of old.slots) (id_at key s.generation) s.item
+  pub items-filled : (old new : Slab (Slot T)) (key : ℕ) (s : Slot T) → Updates old new key (Some s) → ((g : Generation) → g ≢ s.generation → item_at (get old key) g ≡ None) → items_of new.slots ≡ finite.insert (items_of old.slots) (id_at key s.generation) s.item
   items-filled old new key s updates free = same_items _ _ (λ q. by q (same_or_other q (id_at key s.generation)))
     where
       elsewhere : (q : Id) → q ≢ id_at key s.generation → (q.index ≡ key) ⊎ (q.index ≢ key) → item_at (get new q.index) q.generation ≡ item_at (get old q.index) q.generation
@@ -110,7 +133,7 @@ module _ {T : Type 0} where
           let differs : q.generation ≢ s.generation = λ e. other (λ i. record { index = is i; generation = e i }) in
           ap (λ k. item_at (get new k) q.generation) is
           ∙ ap (λ o. item_at o q.generation) updates.changed
-          ∙ ap (λ t. cond t (Some s.item) None) (other_number s.generation q.generation (λ e. differs (sym e)))
+          ∙ ap (λ t. cond t (Some s.item) None) (other_generation s.generation q.generation (λ e. differs (sym e)))
           ∙ sym (free q.generation differs)
           ∙ ap (λ k. item_at (get old k) q.generation) (sym is)
 
@@ -119,7 +142,7 @@ module _ {T : Type 0} where
           ap (finite.get (items_of new.slots)) is
           ∙ get-items new.slots (id_at key s.generation)
           ∙ ap (λ o. item_at o s.generation) updates.changed
-          ∙ ap (λ t. cond t (Some s.item) None) (same_number s.generation s.generation refl)
+          ∙ ap (λ t. cond t (Some s.item) None) (same_generation s.generation s.generation refl)
           ∙ sym (ap (finite.get (finite.insert (items_of old.slots) (id_at key s.generation) s.item)) is ∙ get-insert-here _ _ _)
       by q (inr other) =
           get-items new.slots q
@@ -137,7 +160,7 @@ module _ {T : Type 0} where
           let differs : q.generation ≢ s.generation = λ e. other (λ i. record { index = is i; generation = e i }) in
           ap (λ k. item_at (get new k) q.generation) is
           ∙ ap (λ o. item_at o q.generation) updates.changed
-          ∙ ap (λ t. cond t (Some s.item) None) (sym (other_number s.generation q.generation (λ e. differs (sym e))))
+          ∙ ap (λ t. cond t (Some s.item) None) (sym (other_generation s.generation q.generation (λ e. differs (sym e))))
           ∙ ap (λ o. item_at o q.generation) (sym was)
           ∙ ap (λ k. item_at (get old k) q.generation) (sym is)
 
@@ -153,8 +176,17 @@ module _ {T : Type 0} where
           ∙ sym (get-items old.slots q)
           ∙ sym (get-remove-elsewhere _ _ q other)
 
+  -- a slot that was filled and emptied again is nothing
+  pub items-undone : (old mid new : Slab (Slot T)) (key : ℕ) (s : Slot T) → get old key ≡ None → Updates old mid key (Some s) → Updates mid new key None → items_of new.slots ≡ items_of old.slots
+  items-undone old mid new key s vacant filled emptied =
+      same_items _ _ (λ q. get-items new.slots q ∙ ap (λ o. item_at o q.generation) (alike q.index (cases_eq q.index key)) ∙ sym (get-items old.slots q))
+    where
+      alike : (k : ℕ) → (k ≡ key) ⊎ (k ≢ key) → get new k ≡ get old k
+      alike k (inl is) = ap (get new) is ∙ emptied.changed ∙ sym vacant ∙ ap (get old) (sym is)
+      alike k (inr differs) = emptied.others k differs ∙ filled.others k differs
+
   -- where a slot has an item, the map finds it under its generation alone
-  pub get-slot : (slots : List (Option (Slot T))) (id : Id) (s : Slot T) → get_or slots id.index None ≡ Some s → finite.get (items_of slots) id ≡ cond (s.generation == id.generation) (Some s.item) None
+  pub get-slot : (slots : List (Option (Slot T))) (id : Id) (s : Slot T) → get_or slots id.index None ≡ Some s → finite.get (items_of slots) id ≡ cond (is_same s.generation id.generation) (Some s.item) None
   get-slot slots id s has = get-items slots id ∙ ap (λ o. item_at o id.generation) has
 
   pub get-empty_slot : (slots : List (Option (Slot T))) (id : Id) → get_or slots id.index None ≡ None → finite.get (items_of slots) id ≡ None
@@ -164,13 +196,13 @@ module _ {T : Type 0} where
   is_some-cond true x = refl
   is_some-cond false x = refl
 
-  item_at-some : (o : Option (Slot T)) (g : ℕ) (x : T) → item_at o g ≡ Some x → (s : Slot T) × (o ≡ Some s) × (s.generation ≡ g) × (s.item ≡ x)
+  item_at-some : (o : Option (Slot T)) (g : Generation) (x : T) → item_at o g ≡ Some x → (s : Slot T) × (o ≡ Some s) × (s.generation ≡ g) × (s.item ≡ x)
   item_at-some None g x e = cc
-  item_at-some (Some s) g x e = by (cases_eq s.generation g)
+  item_at-some (Some s) g x e = by (cases_generation s.generation g)
     where
       by : (s.generation ≡ g) ⊎ (s.generation ≢ g) → (t : Slot T) × (Some s ≡ Some t) × (t.generation ≡ g) × (t.item ≡ x)
-      by (inl is) = let test = same_number s.generation g is in (s, refl, is, some_same s.item x (ap (λ t. cond t (Some s.item) None) (sym test) ∙ e))
-      by (inr other) = let test = other_number s.generation g other in none_some x (ap (λ t. cond t (Some s.item) None) (sym test) ∙ e)
+      by (inl is) = let test = same_generation s.generation g is in (s, refl, is, some_same s.item x (ap (λ t. cond t (Some s.item) None) (sym test) ∙ e))
+      by (inr other) = let test = other_generation s.generation g other in none_some x (ap (λ t. cond t (Some s.item) None) (sym test) ∙ e)
 
   -- an item that is found stands in the slot of its index
   pub slot_found : (slots : List (Option (Slot T))) (id : Id) (x : T) → finite.get (items_of slots) id ≡ Some x → (s : Slot T) × (get_or slots id.index None ≡ Some s) × (s.generation ≡ id.generation) × (s.item ≡ x)
@@ -181,7 +213,7 @@ module _ {T : Type 0} where
   items-written s id x w has is =
       let y : Slot T = record { generation = x.generation; item = w } in
       items-filled s (with_value s id.index y) id.index y (Updates-with_value s id.index y (rw has))
-      (λ g other. ap (λ o. item_at o g) has ∙ ap (λ t. cond t (Some x.item) None) (other_number x.generation g (λ e. other (sym e))))
+      (λ g other. ap (λ o. item_at o g) has ∙ ap (λ t. cond t (Some x.item) None) (other_generation x.generation g (λ e. other (sym e))))
       ∙ ap (λ g. finite.insert (items_of s.slots) (id_at id.index g) w) is
 
   -- the write of an item leaves their number

@@ -21,9 +21,10 @@ number_at k xs = slice_index_or xs k 0
 pub id_cmp_same : IsAntisymmetric id_cmp
 id_cmp_same x y e =
     let keys = slice_cmp-IsAntisymmetric nat_cmp-IsAntisymmetric (id_key x) (id_key y) e in
-    let generation : x.generation ≡ y.generation = ap (number_at 0) keys in
-    let index : x.index ≡ y.index = ap (number_at 1) keys in
-    λ i. record { generation = generation i; index = index i }
+    let high : x.generation.high ≡ y.generation.high = ap (number_at 0) keys in
+    let low : x.generation.low ≡ y.generation.low = ap (number_at 1) keys in
+    let index : x.index ≡ y.index = ap (number_at 2) keys in
+    λ i. record { generation = record { high = high i; low = low i }; index = index i }
 
 pub same_or_other : (p q : Id) → (p ≡ q) ⊎ (p ≢ q)
 same_or_other p q = by (id_cmp p q) refl

@@ -3,6 +3,7 @@ use Rattle.std.proofs.Common.{◌≡◌, ◌≢◌, ◌⊎◌, inl, inr, ℕ, �
 use mathlib.Core.Path.{subst}
 use Rattle.std.specs.FinMap.{get-empty, get, remove}
 use Rattle.zslots.specs.declared.id.Id.{Id}
+use Rattle.zslots.specs.Generations.{generation_number}
 use Rattle.zslots.specs.Ids.{id_cmp, Ids, NotIn, NoTwo}
 use Rattle.zslots.specs.SlotsView.{SlotsView, empty_slots, NamesGivenIds}
 use Rattle.zslots.specs.Runs.{Change, IsChange, IsRun, ids_of_run}
@@ -12,12 +13,12 @@ use Rattle.zslots.proofs.Maps.{same_or_other, get-insert-elsewhere, get-remove-h
 -- no Id of the list has a generation below this one
 abbrev pub NoneBelow : ℕ → Ids → Type 0
 NoneBelow given [] = Unit {0}
-NoneBelow given (id ∷ ids) = (given ≤ id.generation) × NoneBelow given ids
+NoneBelow given (id ∷ ids) = (given ≤ generation_number id.generation) × NoneBelow given ids
 
-NoneBelow-NotIn : (id : Id) (ids : Ids) → NoneBelow (id.generation + 1) ids → NotIn id ids
+NoneBelow-NotIn : (id : Id) (ids : Ids) → NoneBelow (generation_number id.generation + 1) ids → NotIn id ids
 NoneBelow-NotIn id [] b = tt
 NoneBelow-NotIn id (other ∷ ids) b =
-    (λ e. let same : id.generation ≡ other.generation = ap (λ (i : Id). i.generation) e in absurd (omega (arith, b.0)), NoneBelow-NotIn id ids b.1)
+    (λ e. let same : generation_number id.generation ≡ generation_number other.generation = ap (λ (i : Id). generation_number i.generation) e in absurd (omega (arith, b.0)), NoneBelow-NotIn id ids b.1)
 
 NoneBelow-less : (a b : ℕ) (ids : Ids) → a ≤ b → NoneBelow b ids → NoneBelow a ids
 NoneBelow-less a b [] le h = tt
@@ -40,7 +41,7 @@ module _ {T : Type 0} where
   run-no_two s t [] run = tt
   run-no_two s t (Insert id item ∷ changes) run =
       let later = run-above run.0 t changes run.2 in
-      (NoneBelow-NotIn id (ids_of_run changes) (NoneBelow-less (id.generation + 1) run.0.given (ids_of_run changes) (omega (arith, run.1.0.0, run.1.2)) later), run-no_two run.0 t changes run.2)
+      (NoneBelow-NotIn id (ids_of_run changes) (NoneBelow-less (generation_number id.generation + 1) run.0.given (ids_of_run changes) (omega (arith, run.1.0.0, run.1.2)) later), run-no_two run.0 t changes run.2)
   run-no_two s t (Remove id ∷ changes) run = run-no_two run.0 t changes run.2
   run-no_two s t (Write id item ∷ changes) run = run-no_two run.0 t changes run.2
 
@@ -48,21 +49,21 @@ module _ {T : Type 0} where
   known-changed : (s t : SlotsView T) (change : Change T) → IsChange s change t → NamesGivenIds s → NamesGivenIds t
   known-changed s t (Insert id item) is known q has = by (same_or_other q id)
     where
-      by : (q ≡ id) ⊎ (q ≢ id) → q.generation < t.given
-      by (inl e) = let same : q.generation ≡ id.generation = ap (λ (i : Id). i.generation) e in omega (arith, same, is.0.0, is.2)
+      by : (q ≡ id) ⊎ (q ≢ id) → generation_number q.generation < t.given
+      by (inl e) = let same : generation_number q.generation ≡ generation_number id.generation = ap (λ (i : Id). generation_number i.generation) e in omega (arith, same, is.0.0, is.2)
       by (inr other) =
           let below = known q (subst IsSome (ap (λ m. get m q) is.1 ∙ get-insert-elsewhere s.items id item q other) has) in
           omega (arith, below, is.2)
   known-changed s t (Remove id) is known q has = by (same_or_other q id)
     where
-      by : (q ≡ id) ⊎ (q ≢ id) → q.generation < t.given
+      by : (q ≡ id) ⊎ (q ≢ id) → generation_number q.generation < t.given
       by (inl e) = absurd (there (get t.items q) (ap (λ m. get m q) is.0 ∙ ap (get (remove s.items id)) e ∙ get-remove-here s.items id) has)
       by (inr other) =
           let below = known q (subst IsSome (ap (λ m. get m q) is.0 ∙ get-remove-elsewhere s.items id q other) has) in
           omega (arith, below, is.1)
   known-changed s t (Write id item) is known q has = by (same_or_other q id)
     where
-      by : (q ≡ id) ⊎ (q ≢ id) → q.generation < t.given
+      by : (q ≡ id) ⊎ (q ≢ id) → generation_number q.generation < t.given
       by (inl e) = let below = known q (subst (λ i. IsSome (get s.items i)) (sym e) is.0) in omega (arith, below, is.2)
       by (inr other) =
           let below = known q (subst IsSome (ap (λ m. get m q) is.1 ∙ get-insert-elsewhere s.items id item q other) has) in
@@ -76,9 +77,9 @@ module _ {T : Type 0} where
   known-run s t (change ∷ changes) run known = known-run run.0 t changes run.2 (known-changed s run.0 change run.1 known)
 
   -- an Id that was given and names nothing, names nothing after a call
-  absent-changed : (s t : SlotsView T) (change : Change T) (q : Id) → IsChange s change t → q.generation < s.given → get s.items q ≡ None → (q.generation < t.given) × (get t.items q ≡ None)
+  absent-changed : (s t : SlotsView T) (change : Change T) (q : Id) → IsChange s change t → generation_number q.generation < s.given → get s.items q ≡ None → (generation_number q.generation < t.given) × (get t.items q ≡ None)
   absent-changed s t (Insert id item) q is below none =
-      let other : q ≢ id = λ e. let same : q.generation ≡ id.generation = ap (λ (i : Id). i.generation) e in absurd (omega (arith, same, is.0.0, below)) in
+      let other : q ≢ id = λ e. let same : generation_number q.generation ≡ generation_number id.generation = ap (λ (i : Id). generation_number i.generation) e in absurd (omega (arith, same, is.0.0, below)) in
       (omega (arith, below, is.2), ap (λ m. get m q) is.1 ∙ get-insert-elsewhere s.items id item q other ∙ none)
   absent-changed s t (Remove id) q is below none = (omega (arith, below, is.1), ap (λ m. get m q) is.0 ∙ by (same_or_other q id))
     where
@@ -89,7 +90,7 @@ module _ {T : Type 0} where
       let other : q ≢ id = λ e. there (get s.items id) (ap (get s.items) (sym e) ∙ none) is.0 in
       (omega (arith, below, is.2), ap (λ m. get m q) is.1 ∙ get-insert-elsewhere s.items id item q other ∙ none)
 
-  absent-run : (s t : SlotsView T) (changes : List (Change T)) (q : Id) → IsRun s changes t → q.generation < s.given → get s.items q ≡ None → get t.items q ≡ None
+  absent-run : (s t : SlotsView T) (changes : List (Change T)) (q : Id) → IsRun s changes t → generation_number q.generation < s.given → get s.items q ≡ None → get t.items q ≡ None
   absent-run s t [] q run below none = ap (λ m. get m q) run.0 ∙ none
   absent-run s t (change ∷ changes) q run below none =
       let more = absent-changed s run.0 change q run.1 below none in

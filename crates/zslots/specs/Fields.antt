@@ -5,6 +5,7 @@ use Rattle.slab.specs.Slab.{slab_len}
 use Rattle.zslots.specs.declared.id.Id.{Id}
 use Rattle.zslots.specs.declared.slots.Slot.{Slot}
 use Rattle.zslots.specs.declared.slots.Slots.TheInside.{Inside}
+use Rattle.zslots.specs.Generations.{generation_number}
 use Rattle.zslots.specs.SlotsView.{SlotsView, Items}
 
 module _ {T : Type 0} where
@@ -31,4 +32,4 @@ module _ {T : Type 0} where
   -- each slot's generation was given
   abbrev pub HasGivenSlots : List (Option (Slot T)) → ℕ → Type 0
   HasGivenSlots slots given =
-      (index : ℕ) (s : Slot T) → slice_index_or slots index None ≡ Some s → s.generation < given
+      (index : ℕ) (s : Slot T) → slice_index_or slots index None ≡ Some s → generation_number s.generation < given

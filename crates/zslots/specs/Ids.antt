@@ -7,9 +7,9 @@ use Rattle.std.specs.Cmp.Lexicographic.{slice_cmp}
 use Rattle.std.specs.Coded.{Coded, code_by, coded×, coded_ℕ}
 use Rattle.zslots.specs.declared.id.Id.{Id}
 
--- an Id as two numbers
+-- an Id as numbers
 abbrev pub id_key : Id → List ℕ
-id_key id = id.generation ∷ id.index ∷ []
+id_key id = id.generation.high ∷ id.generation.low ∷ id.index ∷ []
 
 -- the order of Ids: by generation, then by index
 abbrev pub id_cmp : Id → Id → Ordering
@@ -18,8 +18,9 @@ id_cmp a b = slice_cmp nat_cmp (id_key a) (id_key b)
 -- how an Id is stored
 abbrev pub coded_id : Coded Id
 coded_id =
-    code_by (ℕ × ℕ) (coded× coded_ℕ coded_ℕ)
-    (λ id. (id.generation, id.index)) (λ p. record { generation = p.0; index = p.1 }) (λ _. refl)
+    code_by (ℕ × (ℕ × ℕ)) (coded× coded_ℕ (coded× coded_ℕ coded_ℕ))
+    (λ id. (id.index, (id.generation.high, id.generation.low)))
+    (λ p. record { index = p.0; generation = record { high = p.1.0; low = p.1.1 } }) (λ _. refl)
 
 -- Ids, one after the other
 abbrev pub Ids : Type 0

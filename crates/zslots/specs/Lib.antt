@@ -1,3 +1,4 @@
+pub mod Generations
 pub mod Ids
 pub mod SlotsView
 pub mod Fields
@@ -5,6 +6,7 @@ pub mod Lends
 pub mod Links
 pub mod Chains
 pub mod Lists
+pub mod ListCalls
 pub mod Runs
 pub mod SlotsLaws
 pub mod ListLaws

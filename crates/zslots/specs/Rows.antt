@@ -5,14 +5,14 @@ use Rattle.zslots.specs.Runs.{Change}
 use Rattle.zslots.specs.Runs.Change.{Insert, Remove, Write}
 
 abbrev pub a : Id
-a = record { index = 0; generation = 0 }
+a = record { index = 0; generation = record { high = 0; low = 0 } }
 
 abbrev pub b : Id
-b = record { index = 1; generation = 1 }
+b = record { index = 1; generation = record { high = 0; low = 1 } }
 
 -- in the slot of a, once that item was removed
 abbrev pub c : Id
-c = record { index = 0; generation = 2 }
+c = record { index = 0; generation = record { high = 0; low = 2 } }
 
 -- an item comes, goes, and another one comes and is written
 abbrev pub reuse : List (Change ℕ)

@@ -1,9 +1,11 @@
 -- What a contract sees of a `Slots`.
-use Rattle.std.specs.Prelude.{◌≡◌, ◌<◌, ℕ, None, IsSome, refl}
+use Rattle.std.specs.Prelude.{◌≡◌, ◌<◌, ◌≤◌, ◌+◌, ℕ, None, IsSome, refl}
 use Rattle.std.specs.Coded.{Coded, code_by, coded×, coded_ℕ}
 use Rattle.std.specs.FinMap as finite
 use Rattle.std.specs.FinMap.{FinMap, get, insert}
+use Rattle.zslots.specs.declared.limits.TheConstants.{MAX_SLOTS}
 use Rattle.zslots.specs.declared.id.Id.{Id}
+use Rattle.zslots.specs.Generations.{generation_number}
 use Rattle.zslots.specs.Ids.{id_cmp, coded_id}
 
 -- items by their Ids
@@ -30,11 +32,15 @@ module _ {T : Type 0} where
 
   -- the Id was never given before, and names nothing
   abbrev pub IsNew : SlotsView T → Id → Type 0
-  IsNew s id = (id.generation ≡ s.given) × (get s.items id ≡ None)
+  IsNew s id = (generation_number id.generation ≡ s.given) × (get s.items id ≡ None)
+
+  -- all items that fit with no memory have indexes
+  abbrev pub HasIndexes : SlotsView T → Type 0
+  HasIndexes s = finite.len s.items + s.room ≤ MAX_SLOTS
 
   -- each Id that names an item was given
   abbrev pub NamesGivenIds : SlotsView T → Type 0
-  NamesGivenIds s = (id : Id) → IsSome (get s.items id) → id.generation < s.given
+  NamesGivenIds s = (id : Id) → IsSome (get s.items id) → generation_number id.generation < s.given
 
   -- these items, and all else as it was
   abbrev pub with_items : SlotsView T → Items T → SlotsView T

@@ -15,6 +15,7 @@
 #![tactic(auto)]
 
 mod copied;
+mod generation;
 mod id;
 pub mod laws;
 pub mod limits;

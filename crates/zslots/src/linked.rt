@@ -34,6 +34,6 @@ pub trait Linked<const L: usize> {
     ghost same: { (x : Self) → with_links x (links x) ≡ x };
 
     // of two writes the second is kept
-    ghost twice: { (x : Self) (first second : Links) →
-        with_links (with_links x first) second ≡ with_links x second };
+    ghost twice: { (x : Self) (one two : Links) →
+        with_links (with_links x one) two ≡ with_links x two };
 }

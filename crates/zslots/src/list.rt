@@ -1,12 +1,8 @@
 //! Lists whose links stand in the items.
 
-ghost use Rattle.std.specs.Prelude.{◌≡◌, ◌<◌, ◌∷◌, ◌++◌, IsSome};
-ghost use Rattle.std.specs.FinMap.{get};
+ghost use Rattle.std.specs.Prelude.{◌≡◌, ◌<◌};
 ghost use Rattle.zslots.specs.declared.limits.TheConstants.{MAX_LENGTH};
-ghost use Rattle.zslots.specs.SlotsView.{with_items};
-ghost use Rattle.zslots.specs.Ids.{Ids, NotIn, first_of};
-ghost use Rattle.zslots.specs.Links.{links_at as item_links, with_front, without, with_between};
-ghost use Rattle.zslots.specs.Chains.{IsBetween};
+ghost use Rattle.zslots.specs.Links.{links_at as item_links};
 
 use crate::id::Id;
 use crate::linked::{Linked, Links};
@@ -24,8 +20,10 @@ pub struct List<const L: usize> {
 }
 
 impl<const L: usize> List<L> {
-    ghost use Rattle.zslots.specs.Lists.{IsList, first_id, length_of, empty_list};
+    ghost use Rattle.zslots.specs.Lists.{first_id, length_of, empty_list};
     ghost use Rattle.zslots.specs.Lists.{list_with_front, list_without, list_with_between};
+    ghost use Rattle.zslots.specs.ListCalls.{slots_with_front, slots_without, slots_with_between};
+    ghost use Rattle.zslots.specs.ListCalls.{PutsFirst, TakesOut, PutsBack, IsNext};
 
     /// No item.
     pub fn new() -> List<L>
@@ -54,11 +52,9 @@ impl<const L: usize> List<L> {
     /// Puts a live item, which stands in no list `L`, before the first.
     pub fn push_front<T: Linked<L>>(&mut self, slots: &mut Slots<T>, id: Id)
         requires { length_of self.old < MAX_LENGTH }
-        ensures items { slots.new ≡ with_items slots.old
-            (with_front T.links T.with_links slots.old.items (first_id self.old) id) }
+        ensures items { slots.new ≡ slots_with_front T.links T.with_links slots.old self.old id }
         ensures own { self.new ≡ list_with_front self.old id }
-        ensures list { (ids : Ids) → IsList T.links slots.old.items self.old ids → NotIn id ids →
-            IsSome (get slots.old.items id) → IsList T.links slots.new.items self.new (id ∷ ids) }
+        ensures list { PutsFirst T.links slots.old.items self.old id slots.new.items self.new }
     {
         set_prev::<L, T>(slots, self.first, Some(id));
         let links = Links {
@@ -73,12 +69,9 @@ impl<const L: usize> List<L> {
     /// Takes out an item of the list. Its own links stay as they are.
     pub fn unlink<T: Linked<L>>(&mut self, slots: &mut Slots<T>, id: Id)
         requires { 0 < length_of self.old }
-        ensures items { slots.new ≡ with_items slots.old
-            (without T.links T.with_links slots.old.items id) }
+        ensures items { slots.new ≡ slots_without T.links T.with_links slots.old id }
         ensures own { self.new ≡ list_without T.links slots.old.items self.old id }
-        ensures list { (front back : Ids) →
-            IsList T.links slots.old.items self.old (front ++ id ∷ back) →
-            IsList T.links slots.new.items self.new (front ++ back) }
+        ensures list { TakesOut T.links slots.old.items self.old id slots.new.items self.new }
     {
         let links = links_at::<L, T>(slots, id);
         set_next::<L, T>(slots, links.prev, links.next);
@@ -90,13 +83,9 @@ impl<const L: usize> List<L> {
     /// Puts an item that is in no list `L` between the neighbours, or ends, that its own links name.
     pub fn relink<T: Linked<L>>(&mut self, slots: &mut Slots<T>, id: Id)
         requires { length_of self.old < MAX_LENGTH }
-        ensures items { slots.new ≡ with_items slots.old
-            (with_between T.links T.with_links slots.old.items id) }
+        ensures items { slots.new ≡ slots_with_between T.links T.with_links slots.old id }
         ensures own { self.new ≡ list_with_between T.links slots.old.items self.old id }
-        ensures list { (front back : Ids) →
-            IsList T.links slots.old.items self.old (front ++ back) →
-            NotIn id (front ++ back) → IsBetween T.links slots.old.items id front back →
-            IsList T.links slots.new.items self.new (front ++ id ∷ back) }
+        ensures list { PutsBack T.links slots.old.items self.old id slots.new.items self.new }
     {
         let links = links_at::<L, T>(slots, id);
         set_next::<L, T>(slots, links.prev, Some(id));
@@ -108,9 +97,7 @@ impl<const L: usize> List<L> {
     /// The Id that follows an item of the list.
     pub fn next<T: Linked<L>>(&self, slots: &Slots<T>, id: Id) -> Option<Id>
         ensures own { result ≡ (item_links T.links slots.now.items id).next }
-        ensures list { (front back : Ids) →
-            IsList T.links slots.now.items self.now (front ++ id ∷ back) →
-            result ≡ first_of back }
+        ensures list { IsNext T.links slots.now.items self.now id result }
     {
         links_at::<L, T>(slots, id).next
     }

@@ -3,7 +3,8 @@
 ghost use Rattle.std.specs.Prelude.{◌≡◌};
 ghost use Rattle.zslots.specs.Ids.{first_if as first_where};
 ghost use Rattle.zslots.specs.SlotsView.{with_items};
-ghost use Rattle.zslots.specs.Links.{links_at as item_links, with_links_at, with_next_at, with_prev_at};
+ghost use Rattle.zslots.specs.Links.{links_at as item_links, with_links_at};
+ghost use Rattle.zslots.specs.ListCalls.{slots_with_next, slots_with_prev};
 
 use crate::id::Id;
 use crate::linked::{Linked, Links};
@@ -38,8 +39,7 @@ pub(crate) fn set_next<const L: usize, T: Linked<L>>(
     at: Option<Id>,
     next: Option<Id>,
 )
-    ensures { slots.new ≡ with_items slots.old
-        (with_next_at T.links T.with_links slots.old.items at next) }
+    ensures { slots.new ≡ slots_with_next T.links T.with_links slots.old at next }
 {
     if let Some(id) = at {
         if let Some(item) = slots.get_mut(id) {
@@ -55,8 +55,7 @@ pub(crate) fn set_prev<const L: usize, T: Linked<L>>(
     at: Option<Id>,
     prev: Option<Id>,
 )
-    ensures { slots.new ≡ with_items slots.old
-        (with_prev_at T.links T.with_links slots.old.items at prev) }
+    ensures { slots.new ≡ slots_with_prev T.links T.with_links slots.old at prev }
 {
     if let Some(id) = at {
         if let Some(item) = slots.get_mut(id) {

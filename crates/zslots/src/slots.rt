@@ -6,7 +6,9 @@ ghost use Rattle.std.specs.Borrow.{sem};
 ghost use Rattle.std.specs.FinMap as finite;
 ghost use Rattle.zslots.specs.declared.limits.TheConstants.{GIVEN_BOUND};
 
+use crate::generation::Generation;
 use crate::id::Id;
+use crate::limits::MAX_SLOTS;
 use slab::Slab;
 use std::alloc::Global;
 use std::marker::Model;
@@ -15,7 +17,7 @@ use zpath::Memory;
 /// An item, and the generation of its Id.
 #[derive(Drop)]
 pub(crate) struct Slot<T> {
-    pub(crate) generation: u128,
+    pub(crate) generation: Generation,
     pub(crate) item: T,
 }
 
@@ -44,7 +46,7 @@ impl<T> Model for Slots<T> {
 }
 
 impl<T> Slots<T> {
-    ghost use Rattle.zslots.specs.SlotsView.{empty_slots, IsNew, NamesGivenIds};
+    ghost use Rattle.zslots.specs.SlotsView.{empty_slots, IsNew, HasIndexes, NamesGivenIds};
     ghost use Rattle.zslots.specs.Lends.{lends_item, lends_get};
 
     /// No item, and no Id given. It takes no memory.
@@ -82,35 +84,40 @@ impl<T> Slots<T> {
         Ok(())
     }
 
-    /// Puts an item under a new Id, or hands it back where there is no memory.
+    /// Puts an item under a new Id, or hands it back where there is no memory, or where there are `MAX_SLOTS` slots.
     pub fn insert(&mut self, item: T) -> Result<Id, T>
         requires { self.old.given < GIVEN_BOUND }
         ensures new { IfOk result (IsNew self.old) }
         ensures items { IfOk result (λ id. self.new.items ≡ finite.insert self.old.items id item) }
         ensures given { OnOk result (self.new.given ≡ self.old.given + 1) }
         ensures room { OnOk result (self.old.room ≤ self.new.room + 1) }
-        ensures had_room { 0 < self.old.room → self.new.room + 1 ≡ self.old.room }
-        // It fails only where there was no room, and then nothing else changes.
-        ensures succeeds { 0 < self.old.room → IsOk result }
+        ensures had_room { 0 < self.old.room → OnOk result (self.new.room + 1 ≡ self.old.room) }
+        // It fails only where there was no room or no index, and then nothing else changes.
+        ensures succeeds { 0 < self.old.room → HasIndexes self.old → IsOk result }
         ensures back { IfErr result (λ same. same ≡ item) }
         ensures err { OnErr result (self.new ≡ record self.old { room = self.new.room }) }
     {
-        let generation = self.given;
-        match self.slab.insert(Slot { generation, item }) {
-            Ok(index) => {
-                self.given += 1;
-                Ok(Id { index, generation })
-            }
-            Err(failed) => Err(failed.value.item),
+        let generation = Generation::new(self.given as u64);
+        let index = match self.slab.insert(Slot { generation, item }) {
+            Ok(index) => index,
+            Err(failed) => return Err(failed.value.item),
+        };
+        if index >= MAX_SLOTS {
+            return Err(self.slab.remove(index).item);
         }
+        self.given += 1;
+        Ok(Id {
+            index: index as u32,
+            generation,
+        })
     }
 
     /// The item that the Id names.
     pub fn get(&self, id: Id) -> Option<&T>
         ensures { option_copied result ≡ finite.get self.now.items id }
     {
-        match self.slab.get(id.index) {
-            Some(slot) if slot.generation == id.generation => Some(&slot.item),
+        match self.slab.get(id.index as usize) {
+            Some(slot) if slot.generation.is(id.generation) => Some(&slot.item),
             _ => None,
         }
     }
@@ -138,15 +145,15 @@ impl<T> Slots<T> {
         if !self.contains(id) {
             return None;
         }
-        Some(self.slab.remove(id.index).item)
+        Some(self.slab.remove(id.index as usize).item)
     }
 
     // Whether the Id names an item.
     fn contains(&self, id: Id) -> bool
         ensures { result ≡ finite.contains_key self.now.items id }
     {
-        match self.slab.get(id.index) {
-            Some(slot) => slot.generation == id.generation,
+        match self.slab.get(id.index as usize) {
+            Some(slot) => slot.generation.is(id.generation),
             None => false,
         }
     }
@@ -157,7 +164,7 @@ impl<T> Slots<T> {
         ensures* writes_back { sem 𝓛 (lends_item T.row self.entry id result) }
         ensures value { finite.get self.old.items id ≡ Some result.now }
     {
-        let slot = &mut self.slab[id.index];
+        let slot = &mut self.slab[id.index as usize];
         &mut slot.item
     }
 }

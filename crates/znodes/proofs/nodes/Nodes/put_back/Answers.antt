@@ -1,12 +1,28 @@
-use Rattle.std.proofs.Common.{Some, sym, ap, ◌∙◌}
+use Rattle.std.proofs.Common.{◌≡◌, ◌≤◌, ◌+◌, ◌⊎◌, Some, None, IsSome, sym, ap, ◌∙◌, arith}
+use mathlib.Core.Path.{subst}
 use Rattle.std.specs.Option.{option_copied}
-use Rattle.std.specs.FinMap.{get}
+use Rattle.std.specs.FinMap as finite
+use Rattle.std.specs.FinMap.{get, insert, remove}
+use Rattle.zslots.specs.declared.id.Id.{Id}
+use Rattle.zslots.specs.declared.limits.TheConstants.{MAX_LENGTH}
+use Rattle.zslots.specs.declared.list.List.{List as IdList}
+use Rattle.zslots.specs.SlotsView.{SlotsView, Items}
 use Rattle.zslots.proofs.Items.{some_there}
+use Rattle.znodes.specs.index.IndexView.{IdsByPath}
 use Rattle.ztree.specs.Tree.{parent_of}
 use Rattle.ztree.proofs.Maps.{same_some, none_some}
-use Rattle.znodes.specs.NodesView.{NodesView, Taken, path_of}
-use Rattle.znodes.proofs.Linked.{taken-row, shown-taken, can-return, place-of}
-use Rattle.znodes.proofs.nodes.Nodes.put_back.Goals as goal
+use Rattle.znodes.specs.declared.row.Row.{Row}
+use Rattle.znodes.specs.NodesView.{NodesView, CanReturn}
+use Rattle.znodes.specs.support.OwnerLists.{OwnerLists, list_of}
+use Rattle.znodes.specs.support.Rows.{Key, IsThreaded, nodes_of, places_of, held_of, known_of}
+use Rattle.znodes.specs.support.Linking.{with_key, kept_key, with_child, with_owned, with_timed}
+use Rattle.znodes.proofs.OwnerMaps.{listed}
+use Rattle.znodes.proofs.Linked.{taken-row, shown-taken, can-return, parent-named}
+use Rattle.znodes.proofs.Heads.{known-with}
+use Rattle.znodes.proofs.Back.{put, back, more, owners_back, key-kept}
+use Rattle.znodes.proofs.Returned.{child-room, owned-room, linked-back, nodes-returned, places-returned, held-returned}
+use Rattle.znodes.proofs.Mortal.{nodes-same, places-same, held-same, mortal-back, timed-room, linked-listed, listed-faces}
+use Rattle.znodes.proofs.nodes.Nodes.put_under.Goals as goal
 
 pub unreachable-requires : goal.unreachable-requires
 unreachable-requires c =
@@ -14,22 +30,139 @@ unreachable-requires c =
     let row = taken-row c.self.inside.slots.items c.args.id t.0 (ap (λ (w : NodesView). get w.held c.args.id) c.self.view_is ∙ t.1) in
     none_some row.0 (ap option_copied (sym c.in_default.is) ∙ c.get.ensures ∙ row.1)
 
--- the Id above, where the node can come back
-pub put_under-requires-clause-under : goal.put_under-requires-clause-under
-put_under-requires-clause-under c = λ t at.
+pub put_child-requires : goal.put_child-requires
+put_child-requires c =
     let s = c.self.inside in
     let r = c.in-Some.row.now in
-    let shown = shown-taken s c.args.self.now c.self.view_is c.args.id r c.requires.held (sym c.in-Some.ensures) in
-    let same = same_some (r.path, r.node) t (sym shown.2 ∙ at) in
-    let named = sym (c.id_above.ensures ∙ ap (λ names. get s.index.ids (parent_of names)) c.names.ensures.names) ∙ c.in-Some-id_above.is in
-    ap (λ w. path_of w c.in-Some-id_above.parent) (sym c.self.view_is)
-    ∙ place-of s.slots.items s.index.ids s.owners c.self.invariant.linked (parent_of r.path) c.in-Some-id_above.parent named
-    ∙ ap (λ (u : Taken). Some (parent_of u.0)) same
+    let there = sym c.in-Some.ensures in
+    let shown = shown-taken s c.args.self.now c.self.view_is c.args.id r c.requires.held there in
+    let few : finite.len s.slots.items ≤ MAX_LENGTH = omega (arith, c.len.ensures, c.len.type_inv) in
+    child-room s.slots.items s.index.ids s.owners c.args.id r shown.0 c.self.invariant.linked there shown.1 MAX_LENGTH few
+    (Some c.args.parent) (sym (parent-named s c.args.self.now c.self.view_is c.self.invariant.linked c.args.parent (parent_of r.path) (c.requires.under (r.path, r.node) shown.2)))
 
+pub put_owned-requires : goal.put_owned-requires
+put_owned-requires c =
+    let s = c.self.inside in
+    let r = c.in-Some.row.now in
+    let there = sym c.in-Some.ensures in
+    let shown = shown-taken s c.args.self.now c.self.view_is c.args.id r c.requires.held there in
+    let few : finite.len s.slots.items ≤ MAX_LENGTH = omega (arith, c.len.ensures, c.len.type_inv) in
+    owned-room s.slots.items s.index.ids s.owners c.args.id r shown.0 c.self.invariant.linked there shown.1 MAX_LENGTH few
+    (list_of s.owners r.node.owner) (λ list e. listed s.owners r.node.owner list e)
+
+pub put_timed-requires : goal.put_timed-requires
+put_timed-requires c = λ some.
+    let s = c.self.inside in
+    let r = c.in-Some.row.now in
+    let there = sym c.in-Some.ensures in
+    let shown = shown-taken s c.args.self.now c.self.view_is c.args.id r c.requires.held there in
+    let few : finite.len s.slots.items ≤ MAX_LENGTH = omega (arith, c.len.ensures, c.len.type_inv) in
+    timed-room s.slots.items s.index.ids s.owners s.timed c.args.id r shown.0 c.self.invariant.mortal there shown.1 MAX_LENGTH few
+
+-- it has a key
 pub unreachable-requires-in-None : goal.unreachable-requires-in-None
 unreachable-requires-in-None c =
     let s = c.self.inside in
+    let id = c.args.id in
     let r = c.in-Some.row.now in
-    let shown = shown-taken s c.args.self.now c.self.view_is c.args.id r c.requires.held (sym c.in-Some.ensures) in
-    let can = can-return s c.args.self.now c.self.view_is c.self.invariant.linked r (c.requires.fits (r.path, r.node) shown.2) in
-    none_some can.1.0 (sym c.in-None.is ∙ c.id_above.ensures ∙ ap (λ names. get s.index.ids (parent_of names)) c.names.ensures.names ∙ can.1.1)
+    let there = sym c.in-Some.ensures in
+    let shown = shown-taken s c.args.self.now c.self.view_is id r c.requires.held there in
+    let list = list_of s.owners r.node.owner in
+    let parent = sym (parent-named s c.args.self.now c.self.view_is c.self.invariant.linked c.args.parent (parent_of r.path) (c.requires.under (r.path, r.node) shown.2)) in
+    let put-is = ap (λ (h : SlotsView Row). h.items) c.put_child.ensures ∙ ap (λ o. with_child s.slots.items o id) parent in
+    let owned = ap (λ (h : SlotsView Row). h.items) c.put_owned.ensures.rows ∙ ap (λ w. with_owned w list id) put-is in
+    none_some shown.0
+    (sym c.in-None.is ∙ c.take_key.ensures.key ∙ ap (λ w. kept_key w id) owned ∙ key-kept s.slots.items s.index.ids s.owners id r there list ∙ shown.1)
+
+-- what is known at the end
+module _ (c : goal.After-put_timed) where
+  abbrev m : Items Row
+  m = c.self.inside.slots.items
+
+  abbrev ids : IdsByPath
+  ids = c.self.inside.index.ids
+
+  abbrev owners : OwnerLists
+  owners = c.self.inside.owners
+
+  abbrev r : Row
+  r = c.in-Some.row.now
+
+  there : get m c.args.id ≡ Some r
+  there = sym c.in-Some.ensures
+
+  shown : (key : Key) × (r.key ≡ Some key) × (get c.args.self.now.held c.args.id ≡ Some (r.path, r.node))
+  shown = shown-taken c.self.inside c.args.self.now c.self.view_is c.args.id r c.requires.held there
+
+  fits : CanReturn c.args.self.now (r.path, r.node)
+  fits = c.requires.fits (r.path, r.node) shown.2
+
+  can : (get ids r.path ≡ None) × ((p : Id) × (get ids (parent_of r.path) ≡ Some p)) × ((r.node.owner ≡ 0) ⊎ IsSome (get owners r.node.owner))
+  can = can-return c.self.inside c.args.self.now c.self.view_is c.self.invariant.linked r fits
+
+  put-is : c.put_child.new.slots.items ≡ put m ids owners c.args.id r
+  put-is =
+      ap (λ (h : SlotsView Row). h.items) c.put_child.ensures
+      ∙ ap (λ o. with_child m o c.args.id) (sym (parent-named c.self.inside c.args.self.now c.self.view_is c.self.invariant.linked c.args.parent (parent_of r.path) (c.requires.under (r.path, r.node) shown.2)))
+
+  owned : c.put_owned.new.slots.items ≡ with_owned (put m ids owners c.args.id r) (list_of owners r.node.owner) c.args.id
+  owned = ap (λ (h : SlotsView Row). h.items) c.put_owned.ensures.rows ∙ ap (λ w. with_owned w (list_of owners r.node.owner) c.args.id) put-is
+
+  back-rows : c.take_key.new.slots.items ≡ back m ids owners c.args.id r
+  back-rows = ap (λ (h : SlotsView Row). h.items) c.take_key.ensures.rows ∙ ap (λ w. with_key w c.args.id None) owned
+
+  rows : c.put_timed.new.slots.items ≡ with_timed (back m ids owners c.args.id r) c.self.inside.timed r.node.ttl c.args.id
+  rows = ap (λ (h : SlotsView Row). h.items) c.put_timed.ensures.rows ∙ ap (λ w. with_timed w c.self.inside.timed r.node.ttl c.args.id) back-rows
+
+  key : c.in-Some-take_key.key ≡ shown.0
+  key =
+      same_some c.in-Some-take_key.key shown.0
+      (sym c.in-Some-take_key.is ∙ c.take_key.ensures.key ∙ ap (λ w. kept_key w c.args.id) owned ∙ key-kept m ids owners c.args.id r there (list_of owners r.node.owner) ∙ shown.1)
+
+  index : c.insert.new.self.ids ≡ more m ids owners c.args.id r
+  index = c.insert.ensures.ids ∙ ap (λ (k : Key). insert ids k c.args.id) (c.into_names.ensures ∙ key) ∙ ap (λ q. insert ids q c.args.id) (c.self.invariant.linked.keyed c.args.id r there shown.0 shown.1).0
+
+  lists : c.put_owned.new.owners ≡ owners_back m ids owners c.args.id r
+  lists = c.put_owned.ensures.owners
+
+pub invariant_of-self : goal.invariant_of-self
+invariant_of-self c =
+    let ends = can c in
+    let linked = linked-back (m c) (ids c) (owners c) c.args.id (r c) (shown c).0 c.self.invariant.linked (there c) (shown c).1 (fits c).below_root ends.0 ends.1.0 ends.1.1 ends.2 in
+    let here = back (m c) (ids c) (owners c) c.args.id (r c) in
+    let all : (Items Row × (IdsByPath × (OwnerLists × IdList 2))) → Type 0 = λ w. IsThreaded w.0 w.1.0 w.1.1.0 w.1.1.1 in
+    subst all (λ i. (sym (rows c) i, (sym (index c) i, (sym (lists c) i, sym c.put_timed.ensures.timed i)))) (record {
+      linked = linked-listed here (more (m c) (ids c) (owners c) c.args.id (r c)) (owners_back (m c) (ids c) (owners c) c.args.id (r c)) c.self.inside.timed (r c).node.ttl c.args.id linked;
+      mortal = mortal-back (m c) (ids c) (owners c) c.self.inside.timed c.args.id (r c) (shown c).0 c.self.invariant.mortal (there c) (shown c).1;
+    })
+
+pub returns : goal.returns
+returns c = λ t at.
+    let id = c.args.id in
+    let view = c.self.view_is in
+    let ends = can c in
+    let here = back (m c) (ids c) (owners c) id (r c) in
+    let faces = listed-faces here (ids c) (owners c) c.self.inside.timed (r c).node.ttl id in
+    let same = same_some ((r c).path, (r c).node) t (sym (shown c).2 ∙ at) in
+    record {
+      nodes =
+          (λ i. nodes_of (rows c i) (index c i))
+          ∙ nodes-same here (with_timed here c.self.inside.timed (r c).node.ttl id) (more (m c) (ids c) (owners c) id (r c)) faces
+          ∙ nodes-returned (m c) (ids c) (owners c) id (r c) (shown c).0 c.self.invariant.linked (there c) (shown c).1 (fits c).below_root ends.0 ends.1.0 ends.1.1 ends.2
+          ∙ (λ i. insert (view i).nodes (same i).0 (same i).1);
+      places =
+          ap places_of (rows c)
+          ∙ places-same here (with_timed here c.self.inside.timed (r c).node.ttl id) (ids c) faces
+          ∙ places-returned (m c) (ids c) (owners c) id (r c) (shown c).0 c.self.invariant.linked (there c) (shown c).1 (fits c).below_root ends.0 ends.1.0 ends.1.1 ends.2
+          ∙ (λ i. insert (view i).places id (same i).0);
+      held =
+          ap held_of (rows c)
+          ∙ held-same here (with_timed here c.self.inside.timed (r c).node.ttl id) (ids c) faces
+          ∙ held-returned (m c) (ids c) (owners c) id (r c) (shown c).0 c.self.invariant.linked (there c) (shown c).1 (fits c).below_root ends.0 ends.1.0 ends.1.1 ends.2
+          ∙ ap (λ (v : NodesView). remove v.held id) view;
+      owners = ap known_of (lists c) ∙ known-with (owners c) (r c).node.owner id ∙ ap (λ (v : NodesView). v.owners) view;
+      given =
+          ap (λ (h : SlotsView Row). h.given) c.put_timed.ensures.rows ∙ ap (λ (h : SlotsView Row). h.given) c.take_key.ensures.rows ∙ ap (λ (h : SlotsView Row). h.given) c.put_owned.ensures.rows
+          ∙ ap (λ (h : SlotsView Row). h.given) c.put_child.ensures ∙ ap (λ (v : NodesView). v.given) view;
+      room = subst (λ room. room ≤ c.insert.new.self.room + 1) (ap (λ (v : NodesView). v.room) view) c.insert.ensures.room;
+    }

@@ -1,5 +1,6 @@
 use Rattle.std.proofs.Common.{rules, ap, ◌∙◌, arith}
 use Rattle.std.specs.FinMap as finite
+use Rattle.zslots.specs.Generations.{generation_number}
 use Rattle.zslots.proofs.Items.{some_there, slot_found}
 use Rattle.zslots.proofs.slots.Slots.given.Goals as goal
 
@@ -13,4 +14,4 @@ returns-clause-known g c =
     let slot = slot_found c.self.inside.slab.slots id there.0 (ap (λ s. finite.get s.items id) c.self.view_is ∙ there.1) in
     let below = c.self.invariant id.index slot.0 slot.1 in
     let given = ap (λ s. s.given) c.self.view_is in
-    omega (arith, below, slot.2, given)
+    omega (arith, below, ap generation_number slot.2, given)
