@@ -20,5 +20,6 @@ pub mod Added
 pub mod OwnersKnown
 pub mod Opening
 pub mod Mortal
+pub mod Parents
 pub mod StaleRows
 pub mod index_lemmas

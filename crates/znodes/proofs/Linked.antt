@@ -40,7 +40,7 @@ pub above-path : (path : Path) → path ≢ [] → above path ≡ Some (parent_o
 above-path [] below = absurd (below refl)
 above-path (n ∷ path) below = refl
 
-path-above : (path k : Path) → above path ≡ Some k → (path ≢ []) × (parent_of path ≡ k)
+pub path-above : (path k : Path) → above path ≡ Some k → (path ≢ []) × (parent_of path ≡ k)
 path-above [] k e = cc
 path-above (n ∷ path) k e = (λ f. cc, same_some _ _ e)
 
@@ -112,12 +112,6 @@ module _ (m : Items Row) (ids : IdsByPath) (owners : OwnerLists) (kept : IsLinke
   named-by p path e =
       let row = live-row m p path e in
       ap (get ids) (sym row.2) ∙ kept.found p row.0 row.1 row.3
-
-  pub place-of : (path : Path) (p : Id) → get ids path ≡ Some p → get (places_of m) p ≡ Some path
-  place-of path p e =
-      let row = kept.named path p e in
-      get-places m p ∙ ap (option_and_then live_path) row.1
-      ∙ ap (λ (k : Option Key). cond (option_map_or (λ (_ : Key). false) k true) (Some row.0.path) None) row.3 ∙ ap Some row.2
 
   -- the list of a leaf
   pub leaf-list : (path : Path) → path ≢ [] → children (nodes_of m ids) path ≡ [] → children_of m ids path ≡ empty_list

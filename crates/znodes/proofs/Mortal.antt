@@ -107,7 +107,7 @@ module _ {X : Type 0} (part : Row → X) (leaves : (r : Row) (to : Links) → pa
       by false = (parts-kept timed_links with_timed_links (λ _ _. refl) part leaves m None id q).1
 
 -- the list's key, as faces tell it
-abbrev timed_face : Face → Option (Unit {0})
+abbrev pub timed_face : Face → Option (Unit {0})
 timed_face f = cond (option_map_or (λ (_ : Key). false) f.1.1 true) (timed_by f.1.0.ttl) None
 
 one_list : (list to : IdList 2) → ChangesHead {K = Unit {0}} (λ _. list) (λ _. to) tt to

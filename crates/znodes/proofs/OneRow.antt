@@ -11,11 +11,12 @@ use Rattle.ztree.proofs.Maps.{same_some, none_some}
 use Rattle.znodes.specs.declared.row.Row.{Row}
 use Rattle.znodes.specs.declared.nodes.Nodes.TheInside.{Inside}
 use Rattle.znodes.specs.NodesView.{NodesView}
-use Rattle.znodes.specs.support.Rows.{Key, KeepsKey, IsLinked, HasTimed, nodes_of, places_of, held_of}
+use Rattle.znodes.specs.support.Rows.{Key, KeepsKey, IsLinked, HasTimed, NamesParents, nodes_of, places_of, held_of}
 use Rattle.znodes.specs.support.OwnerLists.{OwnerLists}
 use Rattle.znodes.specs.support.Fields.{view_of}
 use Rattle.znodes.proofs.Linked.{shown-taken}
 use Rattle.znodes.proofs.Mortal.{mortal-aside}
+use Rattle.znodes.proofs.Parents.{parents-aside}
 use Rattle.znodes.proofs.Aside.{linked-aside, nodes-aside, places-aside, held-come}
 
 pub held-out : (s : Inside) (v : NodesView) → view_of s ≡ v → (id : Id) → IsSome (get v.held id) → (x : Row) → get s.slots.items id ≡ Some x → x.key ≢ None
@@ -52,6 +53,9 @@ module _ (m : Items Row) (ids : IdsByPath) (owners : OwnerLists) (id : Id) (x : 
 
   pub mortal-joined : (timed : IdList 2) → HasTimed m timed → HasTimed (insert m id x) timed
   mortal-joined timed = mortal-aside m (insert m id x) ids owners timed id kept elsewhere out still
+
+  pub parents-joined : NamesParents m ids → NamesParents (insert m id x) ids
+  parents-joined = parents-aside m (insert m id x) ids id elsewhere still
 
   pub nodes-joined : nodes_of (insert m id x) ids ≡ nodes_of m ids
   nodes-joined = nodes-aside m (insert m id x) ids owners id kept elsewhere out still

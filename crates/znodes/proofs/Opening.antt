@@ -22,7 +22,7 @@ use Rattle.ztree.proofs.Maps as maps
 use Rattle.ztree.proofs.Sorted.{paths_total, same_path}
 use Rattle.znodes.specs.declared.row.Row.{Row}
 use Rattle.znodes.specs.support.OwnerLists.{OwnerLists, somebody}
-use Rattle.znodes.specs.support.Rows.{IsLinked, HasTimed, lone_row, timed_by, timed_key, timed_links, live_path, taken_row, parent_key, owner_key, node_at, nodes_of, places_of, held_of, known_of, children_at, children_of, owned_by, sibling_links, fellow_links}
+use Rattle.znodes.specs.support.Rows.{IsLinked, HasTimed, NamesParents, above, lone_row, timed_by, timed_key, timed_links, live_path, taken_row, parent_key, owner_key, node_at, nodes_of, places_of, held_of, known_of, children_at, children_of, owned_by, sibling_links, fellow_links}
 use Rattle.znodes.proofs.Views.{get-nodes, get-places, get-held, get-known, insert-is}
 
 -- no owner's list, and no owner
@@ -105,6 +105,11 @@ module _ (alloc : Global) (root : Node) (id : Id) where
 
   pub mortal-alone : root.ttl ≡ 0 → HasTimed rows empty_list
   mortal-alone stays = families-none {L = 2} timed_links rows (key_at timed_key rows) (λ _. empty_list) (untold timed_key (ap timed_by stays)) (λ k. refl)
+
+  pub parents-alone : NamesParents rows ids
+  parents-alone i x e live =
+      let own = only_row i x e in
+      ap (λ (y : Row). y.parent) (sym own.1) ∙ ap (λ (y : Row). option_and_then (get ids) (above y.path)) own.1
 
   -- what it shows
   pub nodes-alone : nodes_of rows ids ≡ insert finite.empty [] root

@@ -1,5 +1,5 @@
 -- What the nodes show of their rows.
-use Rattle.std.proofs.Common.{◌≡◌, ℕ, ◌<◌, Bool, true, false, cond, List, [], ◌∷◌, ◌++◌, length, Option, Some, None, IfSome, IfNone, refl, sym, ap, subst, ◌∙◌}
+use Rattle.std.proofs.Common.{◌≡◌, ℕ, ◌<◌, Bool, true, false, cond, List, [], length, Option, Some, None, IfSome, IfNone, refl, sym, ap, subst, ◌∙◌}
 use Rattle.std.specs.Prelude.{is_some, IsPermutation, IsSorted}
 use Rattle.std.specs.Option.{option_map, option_map_or, option_and_then}
 use Rattle.std.specs.FinMap.{get}
@@ -16,14 +16,14 @@ use Rattle.ztree.proofs.Maps.{none_some, same_some}
 use Rattle.znodes.specs.declared.row.Row.{Row}
 use Rattle.znodes.specs.declared.nodes.Nodes.TheInside.{Inside}
 use Rattle.znodes.specs.NodesView.{NodesView, path_of, node_of}
-use Rattle.znodes.specs.support.Rows.{IsLinked, is_live, live_path, sibling_links, children_at, children_of, nodes_of, places_of, parent_key}
+use Rattle.znodes.specs.support.Rows.{IsLinked, is_live, live_path, sibling_links, children_at, children_of, nodes_of, places_of}
 use Rattle.znodes.specs.support.OwnerLists.{list_of}
 use Rattle.znodes.specs.support.Fields.{view_of}
 use Rattle.znodes.specs.support.Reading.{if_live, live_at, names_at}
-use Rattle.znodes.proofs.Keys.{no_key-live, live-no_key, parent_key-live}
+use Rattle.znodes.proofs.Keys.{no_key-live, live-no_key}
 use Rattle.znodes.proofs.Found.{has_node-index, live_node}
 use Rattle.znodes.proofs.Owned.{owned-list, owned-first, owned-none}
-use Rattle.znodes.proofs.Siblings.{children-count, children-sorted, parent_is_there}
+use Rattle.znodes.proofs.Siblings.{children-count, children-sorted}
 
 pub if_some : {A : Type 0} (P : A → Type 0) (o : Option A) → ((x : A) → o ≡ Some x → P x) → IfSome o P
 if_some P (Some x) h = h x refl
@@ -119,12 +119,6 @@ module _ (s : Inside) (linked : IsLinked s.slots.items s.index.ids s.owners) (v 
 
   pub has_node-found : (q : Path) → is_some (get s.index.ids q) ≡ has_node v.nodes q
   has_node-found q = sym (has_node-index s.slots.items s.index.ids s.owners linked q) ∙ ap (λ (nodes : Nodes). has_node nodes q) nodes-shown
-
-  -- the node right above a live one is there
-  pub above_is_there : (id : Id) (r : Row) (front : Path) (n : List ℕ) → live_at s.slots.items id ≡ Some r → r.path ≡ front ++ n ∷ [] → get s.index.ids front ≡ None → ⊥
-  above_is_there id r front n is path absent =
-      let row = live_parts s.slots.items id r is in
-      parent_is_there s.slots.items s.index.ids s.owners linked front id (ap (option_and_then parent_key) row.0 ∙ parent_key-live r front n row.1 path) absent
 
   -- the first that is read of an owner is the Id of a live row of that owner
   pub owned_row : (owner : ℕ) (list : IdList 1) (id : Id) → 0 < owner → list_of s.owners owner ≡ Some list → list.first ≡ Some id → (r : Row) × (live_at s.slots.items id ≡ Some r) × (r.node.owner ≡ owner)

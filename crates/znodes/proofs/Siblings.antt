@@ -1,25 +1,22 @@
 -- The children of a path are the rows of its list.
 use Rattle.std.proofs.Common.{◌≡◌, ◌≢◌, ◌↔◌, inl, inr, suc, Bool, true, false, ◌||◌, List, [], ◌∷◌, ◌++◌, length, Option, Some, None, refl, sym, ap, subst, ◌∙◌}
 use Rattle.std.specs.Prelude.{is_some, IsPermutation, IsSorted}
-use Rattle.std.specs.Option.{option_map_or, option_and_then}
+use Rattle.std.specs.Option.{option_and_then}
 use Rattle.std.specs.List.{cons_option, AllByRecursion, IsDistinct}
 use Rattle.std.specs.FinMap.{get}
 use Rattle.std.specs.Str.{bytes_eq}
 use Rattle.std.proofs.lemmas.Slice.Eq.{bytes_eq-Decides}
 use Rattle.zpath.specs.Grammar.{name_cmp}
 use Rattle.zslots.specs.declared.id.Id.{Id}
-use Rattle.zslots.specs.declared.list.List.{List as IdList}
 use Rattle.zslots.specs.Ids.{Ids, IsIn, NotIn, NoTwo}
 use Rattle.zslots.specs.SlotsView.{Items}
-use Rattle.zslots.specs.Lists.{IsList, empty_list}
-use Rattle.zslots.specs.Families.{key_at}
-use Rattle.zslots.proofs.Families.{family-first}
+use Rattle.zslots.specs.Lists.{IsList}
 use Rattle.ztree.specs.Tree.{Name, Path, children}
 use Rattle.ztree.specs.Laws.{has_name}
 use Rattle.ztree.proofs.Listed.{lists_children}
 use Rattle.ztree.proofs.Maps.{none_some, same_some, has_some, is_there}
 use Rattle.znodes.specs.declared.row.Row.{Row}
-use Rattle.znodes.specs.support.Rows.{IsLinked, parent_key, sibling_links, children_at, children_of, nodes_of}
+use Rattle.znodes.specs.support.Rows.{IsLinked, parent_key, sibling_links, children_of, nodes_of}
 use Rattle.znodes.specs.support.OwnerLists.{OwnerLists}
 use Rattle.znodes.specs.index.IndexView.{IdsByPath}
 use Rattle.znodes.specs.support.Reading.{last_name, name_at, names_at}
@@ -147,9 +144,3 @@ module _ (m : Items Row) where
         let family = linked.children p in
         let facts = λ (i : Id) (w : IsIn i family.0). member_named i ((family.2 i).0 w) in
         sorted_same (names_at m family.0) sorted (children (nodes_of m index) p) (names_apart index p family.0 family.1.no_two facts) (subst (λ xs. IsPermutation xs sorted) (are family.0 family.1) moved) up (children_rise (nodes_of m index) p) (names_alike family.0 family.2)
-
-    -- a row stands in no list of a path that isn't there: so the parent of each row is there
-    pub parent_is_there : (id : Id) → option_and_then parent_key (get m id) ≡ Some p → get index p ≡ None → ⊥
-    parent_is_there id member absent =
-        let head : children_of m index p ≡ empty_list = ap (λ o. option_map_or (children_at m) o empty_list) absent in
-        family-first sibling_links m (key_at parent_key m) (children_of m index p) p (linked.children p) (ap (λ (l : IdList 0). l.first) head) id member

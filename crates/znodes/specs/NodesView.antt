@@ -1,15 +1,16 @@
 -- What a `Nodes` shows: the znodes by their paths, and what its Ids name.
-use Rattle.std.specs.Prelude.{◌≡◌, ◌≢◌, ◌⊎◌, ℕ, ◌+◌, ◌≤◌, true, false, List, [], ◌∷◌, Option, None, Some, IsSome, refl}
+use Rattle.std.specs.Prelude.{◌≡◌, ◌≢◌, ◌⊎◌, ℕ, ◌+◌, ◌≤◌, true, false, List, length, [], ◌∷◌, Option, None, Some, IsSome, refl}
 use Rattle.std.specs.Coded.{Coded, code_by, coded×, coded_ℕ, prop_coded, Unit-prop}
-use Rattle.std.specs.Option.{option_and_then}
+use Rattle.std.specs.Option.{option_and_then, option_map}
 use Rattle.std.specs.Ordering.{nat_cmp}
 use Rattle.std.specs.FinMap as finite
 use Rattle.std.specs.FinMap.{FinMap, get, insert, remove}
 use Rattle.zpath.specs.Grammar.{path_cmp}
 use Rattle.zslots.specs.declared.id.Id.{Id}
+use Rattle.zslots.specs.Generations.{generation_number}
 use Rattle.zslots.specs.Ids.{Ids, id_cmp, coded_id}
 use Rattle.ztree.specs.declared.node.Node.{Node}
-use Rattle.ztree.specs.Tree.{Path, Nodes, parent_of, has_node, with_change_at}
+use Rattle.ztree.specs.Tree.{Name, Path, Nodes, parent_of, has_node, children, with_change_at}
 use Rattle.ztree.specs.Stale.{is_stale_at}
 use Rattle.ztree.specs.Laws.{has_path, NoneTwice}
 use Rattle.ztree.specs.support.Codes.{coded_path, coded_node}
@@ -51,6 +52,18 @@ AtNode v id P = (n : Node) → node_of v id ≡ Some n → P n
 abbrev pub AtTaken : NodesView → Id → (Taken → Type 0) → Type 0
 AtTaken v id P = (t : Taken) → get v.held id ≡ Some t → P t
 
+-- these are the names of the children of the node that an Id names
+abbrev pub AreChildrenOf : NodesView → Id → List Name → Type 0
+AreChildrenOf v id names = AtPath v id (λ path. names ≡ children v.nodes path)
+
+-- how many children that node has
+abbrev pub child_count_of : NodesView → Id → Option ℕ
+child_count_of v id = option_map (λ path. length (children v.nodes path)) (path_of v id)
+
+-- the second Id names the node right above that of the first
+abbrev pub IsUnder : NodesView → Id → Id → Type 0
+IsUnder v id parent = AtPath v id (λ path. path_of v parent ≡ Some (parent_of path))
+
 -- an owner is nobody, or one that is known
 abbrev pub IsKnownOwner : NodesView → ℕ → Type 0
 IsKnownOwner v owner = (owner ≡ 0) ⊎ IsSome (get v.owners owner)
@@ -87,7 +100,7 @@ SameButRoom old new = new ≡ record old { room = new.room }
 pub record Adds (old new : NodesView) (id : Id) (path : Path) (n : Node) : Type 0 where
   pub free : path_of old id ≡ None
   pub unheld : get old.held id ≡ None
-  pub next : id.generation ≡ old.given
+  pub next : generation_number id.generation ≡ old.given
   pub nodes : new.nodes ≡ insert old.nodes path n
   pub places : new.places ≡ insert old.places id path
   pub held : new.held ≡ old.held

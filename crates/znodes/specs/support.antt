@@ -1,6 +1,5 @@
 -- What serves proofs alone: the rows of the nodes, the lists in which they stand, and what the
 -- calls write.
-pub mod KeyNames
 pub mod OwnerLists
 pub mod Rows
 pub mod Reading

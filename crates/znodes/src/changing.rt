@@ -8,29 +8,29 @@ ghost use Rattle.znodes.specs.NodesView.{path_of, AtPath, AtNode, AtTaken, IsKno
 ghost use Rattle.znodes.specs.NodesView.{Adds, Takes, CanReturn, Returns};
 ghost use Rattle.znodes.specs.support.Linking.{Holds};
 
-use crate::key::{Key, copy_of};
 use crate::linking::{
-    cut_child, cut_owned, cut_timed, id_above, put_child, put_owned, put_timed, set_key, take_key,
+    cut_child, cut_owned, cut_timed, put_child, put_owned, put_timed, set_key, set_parent, take_key,
 };
 use crate::nodes::Nodes;
 use crate::row::Row;
-use zpath::{Memory, Name, Path};
+use zpath::{Memory, Path};
 use zslots::Id;
+use zslots::limits::GIVEN_BOUND;
 use ztree::Node;
 
 impl Nodes {
-    /// Adds a node beneath a live parent, at a free path. After `Memory` nothing has changed but the room.
+    /// Adds a node beneath a live parent, at a free path. After `Memory` nothing has changed but the room. It is answered
+    /// too where no Id is left: once `GIVEN_BOUND` were given, or `MAX_SLOTS` nodes are there.
     pub fn add(&mut self, parent: Id, path: Path, node: Node) -> Result<Id, Memory>
         requires below_root { path ≢ [] }
         requires parent { path_of self.old parent ≡ Some (parent_of path) }
         requires free { has_node self.old.nodes path ≡ false }
         requires owner { IsKnownOwner self.old node.owner }
-        requires given { self.old.given < GIVEN_BOUND }
         ensures added { IfOk result (λ id. Adds self.old self.new id path node) }
         ensures err { OnErr result (SameButRoom self.old self.new) }
         ensures kept { OnErr result (self.old.room ≤ self.new.room) }
     {
-        let Ok(key) = copy_of(self.alloc, path.names()) else {
+        let Ok(key) = path.copied(self.alloc) else {
             drop(path);
             drop(node);
             return Err(Memory);
@@ -42,18 +42,23 @@ impl Nodes {
             return Err(Memory);
         };
         let id = self.insert_taken(path, node, key)?;
-        self.put_under(parent, id);
+        self.put_back(id, parent);
         Ok(id)
     }
 
     // Puts a row in as if its node had been taken away.
-    fn insert_taken(&mut self, path: Path, node: Node, key: Vec<Name>) -> Result<Id, Memory>
-        requires key { key.items ≡ path }
-        requires given { self.old.given < GIVEN_BOUND }
+    fn insert_taken(&mut self, path: Path, node: Node, key: Path) -> Result<Id, Memory>
+        requires key { key ≡ path }
         ensures held { IfOk result (λ id. Holds self.old self.new id (path, node)) }
         ensures err { OnErr result (self.new ≡ self.old) }
     {
-        let row = Row::alone(self.alloc, path, node, Some(Key::of(key)));
+        if self.slots.given() >= GIVEN_BOUND {
+            drop(path);
+            drop(node);
+            drop(key);
+            return Err(Memory);
+        }
+        let row = Row::alone(self.alloc, path, node, Some(key));
         let id = match self.slots.insert(row) {
             Ok(id) => id,
             Err(row) => {
@@ -77,33 +82,17 @@ impl Nodes {
         };
         let owner = row.node.owner;
         let ttl = row.node.ttl;
-        let names = row.path.names();
-        let parent = id_above(&self.index, names);
-        let key = self.index.remove(names);
+        let parent = row.parent;
+        let key = self.index.remove(&row.path);
         cut_child(&mut self.slots, parent, id);
         cut_owned(&mut self.slots, &mut self.owners, owner, id);
         set_key(&mut self.slots, id, key);
         cut_timed(&mut self.slots, &mut self.timed, ttl, id);
     }
 
-    /// Brings back what was taken away under an Id. It takes no memory.
-    pub fn put_back(&mut self, id: Id)
-        requires held { IsSome (get self.old.held id) }
-        requires fits { AtTaken self.old id (CanReturn self.old) }
-        requires room { 0 < self.old.room }
-        ensures { AtTaken self.old id (Returns self.old self.new id) }
-    {
-        let Some(row) = self.slots.get(id) else {
-            unreachable!()
-        };
-        match id_above(&self.index, row.path.names()) {
-            Some(parent) => self.put_under(parent, id),
-            None => unreachable!(),
-        }
-    }
-
-    // Puts what isn't in the tree beneath a live node: into the lists first, and then into the index.
-    fn put_under(&mut self, parent: Id, id: Id)
+    /// Brings back what was taken away under an Id, beneath the node that is above it now. It takes no memory.
+    // Into the lists first, and then into the index.
+    pub fn put_back(&mut self, id: Id, parent: Id)
         requires held { IsSome (get self.old.held id) }
         requires fits { AtTaken self.old id (CanReturn self.old) }
         requires room { 0 < self.old.room }
@@ -121,10 +110,11 @@ impl Nodes {
         put_child(&mut self.slots, Some(parent), id);
         put_owned(&mut self.slots, &mut self.owners, owner, id);
         match take_key(&mut self.slots, id) {
-            Some(key) => self.index.insert(key.into_names(), id),
+            Some(key) => self.index.insert(key, id),
             None => unreachable!(),
         }
         put_timed(&mut self.slots, &mut self.timed, ttl, id);
+        set_parent(&mut self.slots, id, parent);
     }
 
     /// Gives up what was taken away under an Id.

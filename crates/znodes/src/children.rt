@@ -4,10 +4,9 @@ ghost use Rattle.std.specs.Prelude.{◌≡◌, [], ◌∷◌, ◌++◌, IfOk, On
 ghost use Rattle.std.specs.Option.{option_copied};
 ghost use Rattle.zslots.specs.Ids.{Ids};
 ghost use Rattle.zslots.specs.Lists.{IsList};
-ghost use Rattle.ztree.specs.Tree.{children};
-ghost use Rattle.znodes.specs.NodesView.{path_of, AtPath};
+ghost use Rattle.znodes.specs.NodesView.{path_of, AreChildrenOf};
 ghost use Rattle.znodes.specs.support.Rows.{sibling_links};
-ghost use Rattle.znodes.specs.support.Reading.{name_at, names_at};
+ghost use Rattle.znodes.specs.support.Reading.{name_at, names_at, AreNamesOf};
 
 use crate::nodes::Nodes;
 use crate::reading::live;
@@ -20,8 +19,7 @@ impl Nodes {
     /// The names of the children of the node that an Id names, in the order of their bytes.
     pub fn children(&self, id: Id) -> Result<Vec<Name>, Memory>
         requires live { IsSome (path_of self.now id) }
-        ensures { IfOk result (λ names. AtPath self.now id (λ path.
-            names.items ≡ children self.now.nodes path)) }
+        ensures { IfOk result (λ names. AreChildrenOf self.now id names.items) }
     {
         let Some(row) = live(&self.slots, id) else {
             unreachable!()
@@ -35,8 +33,7 @@ impl Nodes {
 // The last names of the paths of a list's rows, in the list's order.
 fn last_names(alloc: Global, slots: &Slots<Row>, list: List<0>) -> Result<Vec<Name>, Memory>
     requires { (ids : Ids) × IsList sibling_links slots.now.items list ids }
-    ensures { IfOk result (λ names. (ids : Ids) → IsList sibling_links slots.now.items list ids →
-        names.items ≡ names_at slots.now.items ids) }
+    ensures { IfOk result (λ names. AreNamesOf slots.now.items list names.items) }
 {
     let mut names = Vec::with_capacity(alloc, list.len())?;
     let mut at = list.first();

@@ -6,13 +6,13 @@ ghost use Rattle.std.specs.FinMap as finite;
 use std::alloc::Global;
 use std::collections::HashMap;
 use std::marker::Model;
-use zpath::{Memory, Name};
+use zpath::{Memory, Path};
 use zslots::Id;
 
-/// Ids by the names of their paths, from the root down.
+/// Ids by their paths.
 #[derive(Drop)]
 pub struct Index {
-    ids: HashMap<Vec<Name>, Id>,
+    ids: HashMap<Path, Id>,
 }
 
 impl Model for Index {
@@ -37,11 +37,11 @@ impl Index {
         }
     }
 
-    /// The Id under the names.
-    pub fn get(&self, names: &[Name]) -> Option<Id>
-        ensures { result ≡ finite.get self.now.ids names.now }
+    /// The Id at a path.
+    pub fn get(&self, path: &Path) -> Option<Id>
+        ensures { result ≡ finite.get self.now.ids path.now }
     {
-        self.ids.get(names).copied()
+        self.ids.get(path).copied()
     }
 
     /// How many paths there are.
@@ -63,27 +63,27 @@ impl Index {
         Ok(())
     }
 
-    /// Puts an Id under the names, in the place of one that was there. It takes no memory.
-    pub fn insert(&mut self, names: Vec<Name>, id: Id)
+    /// Puts an Id at a path, in the place of one that was there. It takes no memory.
+    pub fn insert(&mut self, path: Path, id: Id)
         requires room { 0 < self.old.room }
-        ensures ids { self.new.ids ≡ finite.insert self.old.ids names.items id }
+        ensures ids { self.new.ids ≡ finite.insert self.old.ids path id }
         ensures room { self.old.room ≤ self.new.room + 1 }
     {
-        match self.ids.insert(names, id) {
+        match self.ids.insert(path, id) {
             Ok(_) => {}
             Err(_) => unreachable!(),
         }
     }
 
-    /// Takes out the Id under the names, and gives back their key, so that `insert` can put it there
-    /// again with no memory for a new one.
-    pub fn remove(&mut self, names: &[Name]) -> Option<Vec<Name>>
-        ensures key { IfSome result (λ key. key.items ≡ names.now) }
-        ensures there { is_some result ≡ finite.contains_key self.old.ids names.now }
-        ensures ids { self.new.ids ≡ finite.remove self.old.ids names.now }
+    /// Takes out the Id at a path, and gives back the path that was its key, so that `insert` can put it there again
+    /// with no memory for a new one.
+    pub fn remove(&mut self, path: &Path) -> Option<Path>
+        ensures key { IfSome result (λ key. key ≡ path.now) }
+        ensures there { is_some result ≡ finite.contains_key self.old.ids path.now }
+        ensures ids { self.new.ids ≡ finite.remove self.old.ids path.now }
         ensures room { self.old.room ≤ self.new.room }
     {
-        let (key, _) = self.ids.remove_entry(names)?;
+        let (key, _) = self.ids.remove_entry(path)?;
         Some(key)
     }
 

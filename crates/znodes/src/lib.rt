@@ -11,7 +11,6 @@
 mod changing;
 mod children;
 mod index;
-mod key;
 mod linking;
 mod nodes;
 mod owners;

@@ -59,7 +59,7 @@ impl Nodes {
                 return Err(Memory);
             }
         };
-        index.insert(Vec::new(alloc), id);
+        index.insert(Path::root(alloc), id);
         Ok(Nodes {
             slots,
             index,

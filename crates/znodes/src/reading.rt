@@ -1,24 +1,24 @@
 //! What is read of the nodes.
 
-ghost use Rattle.std.specs.Prelude.{◌≡◌, ◌≢◌, ◌<◌, [], Some, is_some, length, IfSome, IfNone, OnSome, IsSome};
-ghost use Rattle.std.specs.Option.{option_copied, option_map};
-ghost use Rattle.ztree.specs.Tree.{parent_of, has_node, children, ephemerals};
+ghost use Rattle.std.specs.Prelude.{◌≡◌, ◌≢◌, ◌<◌, [], Some, is_some, IfSome, IfNone, OnSome, IsSome};
+ghost use Rattle.std.specs.Option.{option_copied};
+ghost use Rattle.ztree.specs.Tree.{has_node, ephemerals};
 ghost use Rattle.znodes.specs.support.Reading.{live_at};
-ghost use Rattle.znodes.specs.NodesView.{path_of, node_of, AtPath, AtNode};
+ghost use Rattle.znodes.specs.NodesView.{path_of, node_of, AtPath, AtNode, IsUnder, child_count_of};
 
 use crate::nodes::Nodes;
 use crate::row::Row;
-use zpath::Name;
+use zpath::Path;
 use zslots::{Id, Slots};
 use ztree::Node;
 
 impl Nodes {
-    /// The node whose path has these names; none where there is none. One look into the index.
-    pub fn find(&self, names: &[Name]) -> Option<Id>
-        ensures found { IfSome result (λ id. path_of self.now id ≡ Some names.now) }
-        ensures node { is_some result ≡ has_node self.now.nodes names.now }
+    /// The node at a path; none where there is none. One look into the index.
+    pub fn find(&self, path: &Path) -> Option<Id>
+        ensures found { IfSome result (λ id. path_of self.now id ≡ Some path.now) }
+        ensures node { is_some result ≡ has_node self.now.nodes path.now }
     {
-        self.index.get(names)
+        self.index.get(path)
     }
 
     /// The node that an Id names; none where it names none.
@@ -32,21 +32,17 @@ impl Nodes {
 
     /// The node right above the one that an Id names; none above the root, and where it names none.
     pub fn above(&self, id: Id) -> Option<Id>
-        ensures above { IfSome result (λ parent. AtPath self.now id (λ path.
-            path_of self.now parent ≡ Some (parent_of path))) }
+        ensures above { IfSome result (IsUnder self.now id) }
         ensures live { OnSome result (IsSome (path_of self.now id)) }
         ensures below_root { OnSome result (AtPath self.now id (λ path. path ≢ [])) }
         ensures none { IfNone result (AtPath self.now id (λ path. path ≡ [])) }
     {
-        let row = live(&self.slots, id)?;
-        let (_, front) = row.path.names().split_last()?;
-        self.index.get(front)
+        live(&self.slots, id)?.parent
     }
 
     /// How many children the node has that an Id names; none where it names none.
     pub fn child_count(&self, id: Id) -> Option<usize>
-        ensures { result
-            ≡ option_map (λ path. length (children self.now.nodes path)) (path_of self.now id) }
+        ensures { result ≡ child_count_of self.now id }
     {
         let row = live(&self.slots, id)?;
         Some(row.children.len())

@@ -2,38 +2,44 @@
 
 ghost use Rattle.std.specs.Prelude.{◌≡◌, IfOk};
 
-use crate::key::Key;
 use std::alloc::Global;
+use std::mem::size_of;
 use zpath::{Memory, Path};
-use zslots::{Copied, Linked, Links, List};
+use zslots::{Copied, Id, Linked, Links, List};
 use ztree::Node;
 
-/// A node, where it is, its children, and its neighbours among its siblings, among the nodes of its owner, and among the
-/// nodes with a time to live.
+/// A node, where it is, the node above it, its children, and its neighbours among its siblings, among the nodes of its
+/// owner, and among the nodes with a time to live.
 #[derive(Drop)]
 pub(crate) struct Row {
     pub(crate) path: Path,
     pub(crate) node: Node,
+    // While the node is in the tree; the root has none.
+    pub(crate) parent: Option<Id>,
     pub(crate) children: List<0>,
     pub(crate) siblings: Links,
     pub(crate) fellows: Links,
     pub(crate) timed: Links,
     // The index's key, while the node is taken away: with it the node comes back without memory.
-    pub(crate) key: Option<Key>,
+    pub(crate) key: Option<Path>,
     // Where its copies are allocated.
     pub(crate) alloc: Global,
 }
+
+// Rows are most of what a machine with many nodes takes.
+const _: () = prove!(size_of::<Row>() <= 300);
 
 impl Row {
     ghost use Rattle.znodes.specs.support.Rows.{lone_row};
 
     // A row in no list.
-    pub(crate) fn alone(alloc: Global, path: Path, node: Node, key: Option<Key>) -> Row
+    pub(crate) fn alone(alloc: Global, path: Path, node: Node, key: Option<Path>) -> Row
         ensures { result ≡ lone_row alloc path node key }
     {
         Row {
             path,
             node,
+            parent: None,
             children: List::new(),
             siblings: Links {
                 next: None,
@@ -68,6 +74,7 @@ impl Copied for Row {
         Ok(Row {
             path,
             node,
+            parent: self.parent,
             children: self.children,
             siblings: self.siblings,
             fellows: self.fellows,
@@ -78,7 +85,7 @@ impl Copied for Row {
     }
 }
 
-fn copied_key(alloc: Global, key: &Option<Key>) -> Result<Option<Key>, Memory>
+fn copied_key(alloc: Global, key: &Option<Path>) -> Result<Option<Path>, Memory>
     ensures { IfOk result (λ copy. copy ≡ key.now) }
 {
     match key {

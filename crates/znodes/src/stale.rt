@@ -1,11 +1,11 @@
 //! Which nodes a tick removes.
 
-ghost use Rattle.std.specs.Prelude.{◌≡◌, [], ◌∷◌, ◌++◌, IfOk, OnOk};
+ghost use Rattle.std.specs.Prelude.{◌≡◌, IfOk, OnOk};
 ghost use Rattle.zslots.specs.Ids.{Ids};
 ghost use Rattle.zslots.specs.Lists.{IsList};
 ghost use Rattle.znodes.specs.NodesView.{AreStale};
 ghost use Rattle.znodes.specs.support.Rows.{timed_links};
-ghost use Rattle.znodes.specs.support.Reading.{is_stale_row, stale_of};
+ghost use Rattle.znodes.specs.support.Reading.{is_stale_row, AreStaleOf, AddsStale};
 
 use crate::nodes::Nodes;
 use crate::row::Row;
@@ -27,8 +27,7 @@ impl Nodes {
 // Those of a list's rows that a tick removes, in the list's order.
 fn stale_in(alloc: Global, slots: &Slots<Row>, list: List<2>, tick: u64) -> Result<Vec<Id>, Memory>
     requires { (ids : Ids) × IsList timed_links slots.now.items list ids }
-    ensures { IfOk result (λ stale. (ids : Ids) → IsList timed_links slots.now.items list ids →
-        stale.items ≡ stale_of slots.now.items tick ids) }
+    ensures { IfOk result (λ stale. AreStaleOf slots.now.items tick list stale.items) }
 {
     let mut stale = Vec::new(alloc);
     let mut at = list.first();
@@ -42,7 +41,7 @@ fn stale_in(alloc: Global, slots: &Slots<Row>, list: List<2>, tick: u64) -> Resu
 // Adds a row's Id where a tick removes its node.
 fn push_stale(slots: &Slots<Row>, id: Id, tick: u64, stale: &mut Vec<Id>) -> Result<(), Memory>
     ensures { OnOk result
-        (stale.new.items ≡ stale.old.items ++ stale_of slots.now.items tick (id ∷ [])) }
+        (AddsStale slots.now.items tick id stale.old.items stale.new.items) }
 {
     if is_stale(slots, id, tick) {
         stale.push(id)?;

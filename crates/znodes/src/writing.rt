@@ -2,10 +2,9 @@
 
 ghost use Rattle.std.specs.Prelude.{◌≡◌, IsSome};
 ghost use Rattle.std.specs.Option.{option_map};
-ghost use Rattle.zslots.specs.SlotsView.{with_items};
 ghost use Rattle.znodes.specs.NodesView.{path_of, AtNode, Writes, marks_of, content_of, node_with_marks, node_with_content};
 ghost use Rattle.znodes.specs.support.Rows.{node_at};
-ghost use Rattle.znodes.specs.support.Linking.{with_node_at};
+ghost use Rattle.znodes.specs.support.Linking.{slots_with_node};
 
 use crate::nodes::Nodes;
 use crate::parts::{Content, Marks};
@@ -39,8 +38,7 @@ impl Nodes {
 }
 
 fn marks_put(slots: &mut Slots<Row>, id: Id, marks: Marks) -> Option<Marks>
-    ensures rows { slots.new ≡ with_items slots.old
-        (with_node_at slots.old.items id (node_with_marks marks)) }
+    ensures rows { slots.new ≡ slots_with_node slots.old id (node_with_marks marks) }
     ensures before { result ≡ option_map marks_of (node_at slots.old.items id) }
 {
     let row = slots.get_mut(id)?;
@@ -48,8 +46,7 @@ fn marks_put(slots: &mut Slots<Row>, id: Id, marks: Marks) -> Option<Marks>
 }
 
 fn content_put(slots: &mut Slots<Row>, id: Id, content: Content) -> Option<Content>
-    ensures rows { slots.new ≡ with_items slots.old
-        (with_node_at slots.old.items id (node_with_content content)) }
+    ensures rows { slots.new ≡ slots_with_node slots.old id (node_with_content content) }
     ensures before { result ≡ option_map content_of (node_at slots.old.items id) }
 {
     let Some(row) = slots.get_mut(id) else {

@@ -1,5 +1,5 @@
 -- How the map of an index changes with its entries.
-use Rattle.std.proofs.Common.{◌≡◌, Bool, true, false, cond, List, [], ◌∷◌, map, Option, Some, None, vec_len, refl, sym, ap, ◌∙◌}
+use Rattle.std.proofs.Common.{◌≡◌, Bool, true, false, cond, List, [], ◌∷◌, Option, Some, None, refl, sym, ap, ◌∙◌}
 use mathlib.Core.Path.{subst}
 use Rattle.std.specs.Ordering.{eq_by_cmp}
 use Rattle.std.specs.Cmp.Lexicographic.{nat_list_eq_equiv, lists_equiv}
@@ -11,42 +11,42 @@ use Rattle.zpath.specs.Grammar.{path_cmp}
 use Rattle.zslots.specs.declared.id.Id.{Id}
 use Rattle.znodes.specs.index.Fields.{Entry, ids_of}
 use Rattle.znodes.specs.index.IndexView.{IdsByPath}
-use Rattle.znodes.proofs.index_lemmas.Finds.{Path, Key, same_names, has_names, same_keys, path_cmp_total, path_cmp_same, names_decide, tied-names, row, get-ids}
+use Rattle.znodes.proofs.index_lemmas.Finds.{Path, same_names, path_cmp_total, path_cmp_same, names_decide, tied-names, get-ids}
 
 same_ids : (m n : IdsByPath) → ((q : Path) → get m q ≡ get n q) → m ≡ n
 same_ids m n alike = same_map path_cmp_total path_cmp_same m n alike
 
 -- what is found has a key with these names
 key_at :
-    (es : List Entry) (q : Path) (id : Id) → lookup (has_names q) es ≡ Some id →
-    (key : Key) × (key.items ≡ q)
+    (es : List Entry) (q : Path) (id : Id) → lookup (same_names q) es ≡ Some id →
+    (key : Path) × (key ≡ q)
 key_at [] q id e = cc
-key_at (f ∷ es) q id e = by (same_names q f.0.items) refl (key_at es q id)
+key_at (f ∷ es) q id e = by (same_names q f.0) refl (key_at es q id)
   where
     by :
-        (b : Bool) → same_names q f.0.items ≡ b →
-        (lookup (has_names q) es ≡ Some id → (key : Key) × (key.items ≡ q)) →
-        (key : Key) × (key.items ≡ q)
-    by true t more = (f.0, sym ((names_decide q f.0.items).0 t))
-    by false t more = more (sym (ap (λ b. cond b (Some f.1) (lookup (has_names q) es)) t) ∙ e)
+        (b : Bool) → same_names q f.0 ≡ b →
+        (lookup (same_names q) es ≡ Some id → (key : Path) × (key ≡ q)) →
+        (key : Path) × (key ≡ q)
+    by true t more = (f.0, sym ((names_decide q f.0).0 t))
+    by false t more = more (sym (ap (λ b. cond b (Some f.1) (lookup (same_names q) es)) t) ∙ e)
 
 -- entries in which each key finds the same in both
 abbrev pub FindsSame : List Entry → List Entry → Type 0
 FindsSame es fs =
-    (key : Key) → lookup (has_names key.items) fs ≡ lookup (has_names key.items) es
+    (key : Path) → lookup (same_names key) fs ≡ lookup (same_names key) es
 
 -- where each key finds the same, so does any path
 finds_same :
     (es fs : List Entry) → FindsSame es fs → (q : Path) →
-    lookup (has_names q) fs ≡ lookup (has_names q) es
-finds_same es fs same q = by (lookup (has_names q) es) (lookup (has_names q) fs) refl refl
+    lookup (same_names q) fs ≡ lookup (same_names q) es
+finds_same es fs same q = by (lookup (same_names q) es) (lookup (same_names q) fs) refl refl
   where
-    at_key : (key : Key) → key.items ≡ q → lookup (has_names q) fs ≡ lookup (has_names q) es
-    at_key key is = subst (λ p. lookup (has_names p) fs ≡ lookup (has_names p) es) is (same key)
+    at_key : (key : Path) → key ≡ q → lookup (same_names q) fs ≡ lookup (same_names q) es
+    at_key key is = subst (λ p. lookup (same_names p) fs ≡ lookup (same_names p) es) is (same key)
 
     by :
-        (o t : Option Id) → lookup (has_names q) es ≡ o → lookup (has_names q) fs ≡ t →
-        lookup (has_names q) fs ≡ lookup (has_names q) es
+        (o t : Option Id) → lookup (same_names q) es ≡ o → lookup (same_names q) fs ≡ t →
+        lookup (same_names q) fs ≡ lookup (same_names q) es
     by None None e f = f ∙ sym e
     by (Some id) t e f = let k = key_at es q id e in at_key k.0 k.1
     by None (Some id) e f = let k = key_at fs q id f in at_key k.0 k.1
@@ -57,28 +57,28 @@ ids-reordered es fs same =
 
 -- the names p find this in the new entries, and other names what they found in the old
 pub record IsChange (p : Path) (w : Option Id) (es fs : List Entry) : Type 0 where
-  pub here : lookup (has_names p) fs ≡ w
-  pub elsewhere : KeepsOthers same_keys (has_names p) es fs
+  pub here : lookup (same_names p) fs ≡ w
+  pub elsewhere : KeepsOthers same_names (same_names p) es fs
 
 module _ (p : Path) (w : Option Id) (es fs : List Entry) (change : IsChange p w es fs) where
   other_names :
-      (q : Path) → same_names q p ≡ false → lookup (has_names q) fs ≡ lookup (has_names q) es
+      (q : Path) → same_names q p ≡ false → lookup (same_names q) fs ≡ lookup (same_names q) es
   unfolding KeepsOthers
   other_names q differs =
-      change.elsewhere (has_names q)
-      (λ x y. (lists_equiv nat_list_eq_equiv).congr q x.items y.items)
-      (λ key same. ap (same_names q) (sym ((names_decide p key.items).0 same)) ∙ differs)
+      change.elsewhere (same_names q)
+      (λ x y. (lists_equiv nat_list_eq_equiv).congr q x y)
+      (λ key same. ap (same_names q) (sym ((names_decide p key).0 same)) ∙ differs)
 
-  finds : (q : Path) → lookup (has_names q) fs ≡ cond (same_names q p) w (lookup (has_names q) es)
+  finds : (q : Path) → lookup (same_names q) fs ≡ cond (same_names q p) w (lookup (same_names q) es)
   finds q = by (same_names q p) refl
     where
       by :
           (b : Bool) → same_names q p ≡ b →
-          lookup (has_names q) fs ≡ cond (same_names q p) w (lookup (has_names q) es)
+          lookup (same_names q) fs ≡ cond (same_names q p) w (lookup (same_names q) es)
       by true t =
-          ap (λ n. lookup (has_names n) fs) ((names_decide q p).0 t) ∙ change.here
-          ∙ sym (ap (λ b. cond b w (lookup (has_names q) es)) t)
-      by false t = other_names q t ∙ sym (ap (λ b. cond b w (lookup (has_names q) es)) t)
+          ap (λ n. lookup (same_names n) fs) ((names_decide q p).0 t) ∙ change.here
+          ∙ sym (ap (λ b. cond b w (lookup (same_names q) es)) t)
+      by false t = other_names q t ∙ sym (ap (λ b. cond b w (lookup (same_names q) es)) t)
 
   gets : (q : Path) → get (ids_of fs) q ≡ cond (eq_by_cmp path_cmp q p) w (get (ids_of es) q)
   gets q =
@@ -100,26 +100,15 @@ ids-removed p es fs change =
     same_ids _ _ (λ q.
     gets p None es fs change q ∙ sym (get-remove path_cmp_total (ids_of es) p q))
 
-same_copies : (xs ys : Path) → AllZip (λ name copy. copy ≡ name) xs ys → ys ≡ xs
-same_copies [] [] copies = refl
-same_copies [] (y ∷ ys) copies = absurd copies
-same_copies (x ∷ xs) [] copies = absurd copies
-same_copies (x ∷ xs) (y ∷ ys) copies = λ i. copies.0 i ∷ same_copies xs ys copies.1 i
-
 -- as the clones of keys and of Ids say it
 abbrev pub IsEntryClone : Entry → Entry → Type 0
-IsEntryClone entry copy =
-    (AllZip (λ name other. other ≡ name) entry.0.items copy.0.items
-    × (vec_len copy.0 ≡ vec_len entry.0))
-    × (copy.1 ≡ entry.1)
+IsEntryClone entry copy = (copy.0 ≡ entry.0) × (copy.1 ≡ entry.1)
 
-rows-cloned : (es fs : List Entry) → AllZip IsEntryClone es fs → map row fs ≡ map row es
+rows-cloned : (es fs : List Entry) → AllZip IsEntryClone es fs → fs ≡ es
 rows-cloned [] [] copies = refl
 rows-cloned [] (f ∷ fs) copies = absurd copies
 rows-cloned (e ∷ es) [] copies = absurd copies
-rows-cloned (e ∷ es) (f ∷ fs) copies = λ i.
-    (same_copies e.0.items f.0.items copies.0.0.0 i, copies.0.1 i)
-    ∷ rows-cloned es fs copies.1 i
+rows-cloned (e ∷ es) (f ∷ fs) copies = λ i. (copies.0.0 i, copies.0.1 i) ∷ rows-cloned es fs copies.1 i
 
 pub ids-cloned : (es fs : List Entry) → AllZip IsEntryClone es fs → ids_of fs ≡ ids_of es
 ids-cloned es fs copies = ap from_entries (rows-cloned es fs copies)

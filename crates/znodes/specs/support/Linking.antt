@@ -1,18 +1,19 @@
 -- What the calls write: how a row is put into its lists, and taken out of them.
-use Rattle.std.specs.Prelude.{◌≡◌, ◌+◌, ◌==◌, ℕ, Option, None, Some, if◌then◌else◌}
+use Rattle.std.specs.Prelude.{◌≡◌, ◌+◌, ◌==◌, ℕ, Option, None, Some, IfSome, if◌then◌else◌}
 use Rattle.std.specs.Option.{option_map_or, option_and_then}
 use Rattle.std.specs.FinMap.{get, insert}
 use Rattle.zslots.specs.declared.id.Id.{Id}
+use Rattle.zslots.specs.Generations.{generation_number}
 use Rattle.zslots.specs.declared.linked.Links.{Links}
 use Rattle.zslots.specs.declared.list.List.{List as IdList}
-use Rattle.zslots.specs.SlotsView.{Items}
+use Rattle.zslots.specs.SlotsView.{SlotsView, Items, with_items}
 use Rattle.zslots.specs.Links.{with_front, without}
 use Rattle.zslots.specs.Lists.{first_id, list_with_front, list_without}
 use Rattle.ztree.specs.declared.node.Node.{Node}
 use Rattle.znodes.specs.declared.row.Row.{Row}
 use Rattle.znodes.specs.NodesView.{NodesView, Taken, path_of}
 use Rattle.znodes.specs.support.Rows.{Key, sibling_links, fellow_links, timed_links}
-use Rattle.znodes.specs.support.OwnerLists.{OwnerLists}
+use Rattle.znodes.specs.support.OwnerLists.{OwnerLists, list_of}
 
 -- a row with other links among its siblings
 abbrev pub with_siblings : Row → Links → Row
@@ -38,9 +39,17 @@ with_children m id list = with_row_at m id (λ r. record r { children = list })
 abbrev pub with_key : Items Row → Id → Option Key → Items Row
 with_key m id key = with_row_at m id (λ r. record r { key = key })
 
+-- the rows with the node above one written
+abbrev pub with_parent : Items Row → Id → Id → Items Row
+with_parent m id parent = with_row_at m id (λ r. record r { parent = Some parent })
+
 -- the key that a row keeps
 abbrev pub kept_key : Items Row → Id → Option Key
 kept_key m id = option_and_then (λ (r : Row). r.key) (get m id)
+
+-- a fact on the list of children of a row, where there is one
+abbrev pub AtChildren : Items Row → Option Id → (IdList 0 → Type 0) → Type 0
+AtChildren m parent P = IfSome parent (λ p. (r : Row) → get m p ≡ Some r → P r.children)
 
 -- a row put before the children of another
 abbrev pub with_child : Items Row → Option Id → Id → Items Row
@@ -79,6 +88,19 @@ owners_without m owners owner None id = owners
 owners_without m owners owner (Some list) id =
     insert owners owner (list_without fellow_links m list id)
 
+-- the slots with a row in its owner's list
+abbrev pub slots_with_owned : SlotsView Row → OwnerLists → ℕ → Id → SlotsView Row
+slots_with_owned s owners owner id = with_items s (with_owned s.items (list_of owners owner) id)
+
+-- and with a row out of it
+abbrev pub slots_without_owned : SlotsView Row → OwnerLists → ℕ → Id → SlotsView Row
+slots_without_owned s owners owner id =
+    with_items s (without_owned s.items (list_of owners owner) id)
+
+-- the owners' lists with a row out of its owner's
+abbrev pub owners_left : Items Row → OwnerLists → ℕ → Id → OwnerLists
+owners_left m owners owner id = owners_without m owners owner (list_of owners owner) id
+
 -- a row put before those with a time to live, where its node has one
 abbrev pub with_timed : Items Row → IdList 2 → ℕ → Id → Items Row
 with_timed m list ttl id =
@@ -100,9 +122,13 @@ timed_without m list ttl id = if ttl == 0 then list else list_without timed_link
 abbrev pub with_node_at : Items Row → Id → (Node → Node) → Items Row
 with_node_at m id f = with_row_at m id (λ r. record r { node = f r.node })
 
+-- the slots with that
+abbrev pub slots_with_node : SlotsView Row → Id → (Node → Node) → SlotsView Row
+slots_with_node s id f = with_items s (with_node_at s.items id f)
+
 -- a node was put in under a new Id, and isn't in the tree yet
 pub record Holds (old new : NodesView) (id : Id) (t : Taken) : Type 0 where
   pub free : path_of old id ≡ None
   pub unheld : get old.held id ≡ None
-  pub next : id.generation ≡ old.given
+  pub next : generation_number id.generation ≡ old.given
   pub new_is : new ≡ record old { held = insert old.held id t; given = old.given + 1 }

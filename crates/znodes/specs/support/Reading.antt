@@ -1,16 +1,18 @@
 -- What is read of the rows.
-use Rattle.std.specs.Prelude.{◌≡◌, ◌↔◌, ℕ, Bool, true, false, ◌==◌, ◌&&◌, List, [], ◌∷◌, Option, None, Some, if◌then◌else◌}
+use Rattle.std.specs.Prelude.{◌≡◌, ◌↔◌, ℕ, Bool, true, false, ◌==◌, ◌&&◌, List, [], ◌∷◌, ◌++◌, Option, None, Some, if◌then◌else◌}
 use Rattle.std.specs.Option.{option_map_or, option_and_then}
 use Rattle.std.specs.List.{filter_map}
 use Rattle.std.specs.FinMap.{get}
 use Rattle.zslots.specs.declared.id.Id.{Id}
+use Rattle.zslots.specs.declared.list.List.{List as IdList}
 use Rattle.zslots.specs.Ids.{Ids, IsIn, NoTwo}
+use Rattle.zslots.specs.Lists.{IsList}
 use Rattle.zslots.specs.SlotsView.{Items}
 use Rattle.ztree.specs.Tree.{Name, Path}
 use Rattle.ztree.specs.Stale.{is_due, is_stale_at}
 use Rattle.znodes.specs.NodesView.{NodesView, path_of}
 use Rattle.znodes.specs.declared.row.Row.{Row}
-use Rattle.znodes.specs.support.Rows.{is_live}
+use Rattle.znodes.specs.support.Rows.{is_live, sibling_links, timed_links}
 
 -- the row, where its node is in the tree
 abbrev pub if_live : Row → Option Row
@@ -34,6 +36,10 @@ name_at m id = option_and_then (λ (r : Row). last_name r.path) (get m id)
 abbrev pub names_at : Items Row → Ids → List Name
 names_at m ids = filter_map (name_at m) ids
 
+-- these are the names of a list's rows, in the list's order
+abbrev pub AreNamesOf : Items Row → IdList 0 → List Name → Type 0
+AreNamesOf m list names = (ids : Ids) → IsList sibling_links m list ids → names ≡ names_at m ids
+
 -- a tick removes the node of the row that an Id names, if it is in the tree: it is due, and has no children
 abbrev pub is_stale_row : Items Row → ℕ → Id → Bool
 is_stale_row m tick id =
@@ -52,3 +58,12 @@ pub record AreStaleIds (v : NodesView) (tick : ℕ) (ids : Ids) : Type 0 where
 -- those of these rows that a tick removes
 abbrev pub stale_of : Items Row → ℕ → Ids → Ids
 stale_of m tick ids = filter_map (λ id. if is_stale_row m tick id then Some id else None) ids
+
+-- these are those of a list's rows that a tick removes, in the list's order
+abbrev pub AreStaleOf : Items Row → ℕ → IdList 2 → Ids → Type 0
+AreStaleOf m tick list stale =
+    (ids : Ids) → IsList timed_links m list ids → stale ≡ stale_of m tick ids
+
+-- a row's Id was put behind these, where a tick removes its node
+abbrev pub AddsStale : Items Row → ℕ → Id → Ids → Ids → Type 0
+AddsStale m tick id old new = new ≡ old ++ stale_of m tick (id ∷ [])

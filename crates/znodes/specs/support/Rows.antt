@@ -1,7 +1,7 @@
 -- The rows of the nodes, the lists in which they stand, and what they stand for.
 use Rattle.std.specs.Prelude.{◌≡◌, ℕ, Bool, true, false, [], ◌∷◌, List, Option, None, Some, if◌then◌else◌, ◌==◌}
 use Rattle.std.specs.Global.{Global}
-use Rattle.std.specs.Option.{option_map, option_map_or}
+use Rattle.std.specs.Option.{option_map, option_map_or, option_and_then}
 use Rattle.std.specs.Ordering.{nat_cmp}
 use Rattle.std.specs.FinMap.{FinMap, get}
 use Rattle.zslots.specs.declared.id.Id.{Id}
@@ -30,6 +30,7 @@ lone_row alloc path node key =
     record {
       path = path;
       node = node;
+      parent = None;
       children = empty_list;
       siblings = no_links;
       fellows = no_links;
@@ -106,11 +107,18 @@ pub record IsLinked (m : Items Row) (ids : IdsByPath) (owners : OwnerLists) : Ty
 abbrev pub HasTimed : Items Row → IdList 2 → Type 0
 HasTimed m timed = HasFamilies timed_links timed_key m (λ _. timed)
 
--- what is kept of all lists
+-- each live row names the node above it, and the root's names none
+abbrev pub NamesParents : Items Row → IdsByPath → Type 0
+NamesParents m ids =
+    (id : Id) (r : Row) → get m id ≡ Some r → r.key ≡ None →
+    r.parent ≡ option_and_then (get ids) (above r.path)
+
+-- what is kept of all lists, and of the nodes above
 pub record IsThreaded (m : Items Row) (ids : IdsByPath) (owners : OwnerLists)
     (timed : IdList 2) : Type 0 where
   pub linked : IsLinked m ids owners
   pub mortal : HasTimed m timed
+  pub parents : NamesParents m ids
 
 -- where a live row is
 abbrev pub live_path : Row → Option Path

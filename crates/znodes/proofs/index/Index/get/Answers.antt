@@ -5,6 +5,6 @@ use Rattle.znodes.proofs.index.Index.get.Goals as goal
 
 pub returns : goal.returns
 returns c =
-    let names = c.args.names.now in
-    c.copied.ensures ∙ c.get.ensures.value ∙ sym (get-ids c.self.inside.ids.entries names)
-    ∙ ap (λ v. finite.get v.ids names) c.self.view_is
+    let path = c.args.path.now in
+    c.copied.ensures ∙ c.get.ensures.value ∙ sym (get-ids c.self.inside.ids.entries path)
+    ∙ ap (λ v. finite.get v.ids path) c.self.view_is

@@ -14,6 +14,7 @@ invariant_of-self c =
     record {
       linked = subst (IsLinked s.slots.items s.index.ids) (sym c.close.ensures) (linked-closed s.slots.items s.index.ids s.owners c.args.owner c.self.invariant.linked none);
       mortal = c.self.invariant.mortal;
+      parents = c.self.invariant.parents;
     }
 
 pub returns : goal.returns

@@ -5,8 +5,8 @@ use Rattle.znodes.proofs.nodes.Nodes.find.Goals as goal
 
 pub returns-clause-found : goal.returns-clause-found
 returns-clause-found c =
-    if_some _ c.get.result (λ id is. path_of-found c.self.inside c.self.invariant.linked c.args.self.now c.self.view_is c.args.names.now id (sym c.get.ensures ∙ is))
+    if_some _ c.get.result (λ id is. path_of-found c.self.inside c.self.invariant.linked c.args.self.now c.self.view_is c.args.path.now id (sym c.get.ensures ∙ is))
 
 pub returns-clause-node : goal.returns-clause-node
 returns-clause-node c =
-    ap is_some c.get.ensures ∙ has_node-found c.self.inside c.self.invariant.linked c.args.self.now c.self.view_is c.args.names.now
+    ap is_some c.get.ensures ∙ has_node-found c.self.inside c.self.invariant.linked c.args.self.now c.self.view_is c.args.path.now

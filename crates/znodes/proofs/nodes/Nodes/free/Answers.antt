@@ -7,6 +7,7 @@ use Rattle.znodes.specs.declared.row.Row.{Row}
 use Rattle.znodes.specs.NodesView.{NodesView}
 use Rattle.znodes.specs.support.Rows.{IsThreaded, nodes_of, places_of, held_of}
 use Rattle.znodes.proofs.Mortal.{mortal-aside}
+use Rattle.znodes.proofs.Parents.{parents-aside}
 use Rattle.znodes.proofs.Aside.{linked-aside, nodes-aside, places-aside, held-gone}
 use Rattle.znodes.proofs.nodes.Nodes.free.Goals as goal
 use Rattle.znodes.proofs.OneRow.{held-out, gone-none}
@@ -20,6 +21,7 @@ invariant_of-self c =
     subst (λ a. IsThreaded a s.index.ids s.owners s.timed) (sym c.remove.ensures.items) (record {
       linked = linked-aside m (remove m id) s.index.ids s.owners id c.self.invariant.linked (λ q other. get-remove-elsewhere m id q other) out (λ x e. gone-none m id x e) (λ x e. gone-none m id x e);
       mortal = mortal-aside m (remove m id) s.index.ids s.owners s.timed id c.self.invariant.linked (λ q other. get-remove-elsewhere m id q other) out (λ x e. gone-none m id x e) c.self.invariant.mortal;
+      parents = parents-aside m (remove m id) s.index.ids id (λ q other. get-remove-elsewhere m id q other) (λ x e. gone-none m id x e) c.self.invariant.parents;
     })
 
 pub returns : goal.returns

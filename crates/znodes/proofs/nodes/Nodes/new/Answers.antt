@@ -11,11 +11,11 @@ use Rattle.znodes.specs.declared.row.Row.{Row}
 use Rattle.znodes.specs.support.OwnerLists.{OwnerLists}
 use Rattle.znodes.specs.support.Rows.{IsThreaded, lone_row, nodes_of, places_of, held_of, known_of}
 use Rattle.znodes.proofs.Opening as opening
-use Rattle.znodes.proofs.Opening.{known-none, linked-alone, mortal-alone, nodes-alone, places-alone, held-alone}
+use Rattle.znodes.proofs.Opening.{known-none, linked-alone, mortal-alone, parents-alone, nodes-alone, places-alone, held-alone}
 use Rattle.znodes.proofs.nodes.Nodes.new.Goals as goal
 
 -- what the parts are, once all are made
-module _ (c : goal.After-new-3) where
+module _ (c : goal.After-new-2) where
   abbrev id : Id
   id = c.in-Ok.id
 
@@ -30,8 +30,8 @@ module _ (c : goal.After-new-3) where
   ids : c.insert-2.new.self.ids ≡ opening.ids c.args.alloc c.args.root id
   ids =
       c.insert-2.ensures.ids
-      ∙ ap (λ (m : IdsByPath). insert m c.new.result.items id) (c.reserve.ensures.same ∙ c.new-index.ensures)
-      ∙ ap (λ (path : Path). insert {X = Id} finite.empty path id) c.new.ensures.items
+      ∙ ap (λ (m : IdsByPath). insert m c.root-2.result id) (c.reserve.ensures.same ∙ c.new-index.ensures)
+      ∙ ap (λ (path : Path). insert {X = Id} finite.empty path id) c.root-2.ensures
 
 -- the index has room
 pub insert-requires-2 : goal.insert-requires-2
@@ -40,9 +40,10 @@ insert-requires-2 c = search rules
 pub invariant_of-result : goal.invariant_of-result
 invariant_of-result c =
     let all : (Items Row × (IdsByPath × (OwnerLists × IdList 2))) → Type 0 = λ w. IsThreaded w.0 w.1.0 w.1.1.0 w.1.1.1 in
-    subst all (λ i. (sym (rows c) i, (sym (ids c) i, (sym c.new-2.ensures i, sym c.new-3.ensures i)))) (record {
+    subst all (λ i. (sym (rows c) i, (sym (ids c) i, (sym c.new.ensures i, sym c.new-2.ensures i)))) (record {
       linked = linked-alone c.args.alloc c.args.root (id c) c.requires.nobodys;
       mortal = mortal-alone c.args.alloc c.args.root (id c) c.requires.stays;
+      parents = parents-alone c.args.alloc c.args.root (id c);
     })
 
 pub returns : goal.returns
@@ -54,6 +55,6 @@ returns c =
       id = id c;
       places = ap places_of (rows c) ∙ places-alone alloc root (id c);
       held = ap held_of (rows c) ∙ held-alone alloc root (id c);
-      owners = ap known_of c.new-2.ensures ∙ known-none;
+      owners = ap known_of c.new.ensures ∙ known-none;
       given = c.in-Ok.ensures.given ∙ ap (λ (s : SlotsView Row). s.given + 1) c.new-slots.ensures;
     }

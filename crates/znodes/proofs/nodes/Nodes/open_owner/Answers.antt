@@ -12,6 +12,7 @@ invariant_of-self c =
     record {
       linked = subst (IsLinked s.slots.items s.index.ids) (sym c.in_err-open.ensures.err) c.self.invariant.linked;
       mortal = c.self.invariant.mortal;
+      parents = c.self.invariant.parents;
     }
 
 pub invariant_of-self-2 : goal.invariant_of-self-2
@@ -21,6 +22,7 @@ invariant_of-self-2 c =
     record {
       linked = subst (IsLinked s.slots.items s.index.ids) (sym c.in_ok-open.ensures.ok) (linked-opened s.slots.items s.index.ids s.owners c.args.owner c.self.invariant.linked free);
       mortal = c.self.invariant.mortal;
+      parents = c.self.invariant.parents;
     }
 
 pub returns-clause-ok : goal.returns-clause-ok

@@ -15,14 +15,15 @@ use Rattle.znodes.specs.declared.row.Row.{Row}
 use Rattle.znodes.specs.NodesView.{NodesView, CanReturn}
 use Rattle.znodes.specs.support.OwnerLists.{OwnerLists, list_of}
 use Rattle.znodes.specs.support.Rows.{Key, IsThreaded, nodes_of, places_of, held_of, known_of}
-use Rattle.znodes.specs.support.Linking.{with_key, kept_key, with_child, with_owned, with_timed}
+use Rattle.znodes.specs.support.Linking.{with_key, kept_key, with_child, with_owned, with_timed, timed_with, with_parent}
 use Rattle.znodes.proofs.OwnerMaps.{listed}
 use Rattle.znodes.proofs.Linked.{taken-row, shown-taken, can-return, parent-named}
 use Rattle.znodes.proofs.Heads.{known-with}
 use Rattle.znodes.proofs.Back.{put, back, more, owners_back, key-kept}
 use Rattle.znodes.proofs.Returned.{child-room, owned-room, linked-back, nodes-returned, places-returned, held-returned}
 use Rattle.znodes.proofs.Mortal.{nodes-same, places-same, held-same, mortal-back, timed-room, linked-listed, listed-faces}
-use Rattle.znodes.proofs.nodes.Nodes.put_under.Goals as goal
+use Rattle.znodes.proofs.Parents.{named-faces, linked-named, mortal-named, parents-back}
+use Rattle.znodes.proofs.nodes.Nodes.put_back.Goals as goal
 
 pub unreachable-requires : goal.unreachable-requires
 unreachable-requires c =
@@ -75,7 +76,7 @@ unreachable-requires-in-None c =
     (sym c.in-None.is ∙ c.take_key.ensures.key ∙ ap (λ w. kept_key w id) owned ∙ key-kept s.slots.items s.index.ids s.owners id r there list ∙ shown.1)
 
 -- what is known at the end
-module _ (c : goal.After-put_timed) where
+module _ (c : goal.After-set_parent) where
   abbrev m : Items Row
   m = c.self.inside.slots.items
 
@@ -111,8 +112,16 @@ module _ (c : goal.After-put_timed) where
   back-rows : c.take_key.new.slots.items ≡ back m ids owners c.args.id r
   back-rows = ap (λ (h : SlotsView Row). h.items) c.take_key.ensures.rows ∙ ap (λ w. with_key w c.args.id None) owned
 
-  rows : c.put_timed.new.slots.items ≡ with_timed (back m ids owners c.args.id r) c.self.inside.timed r.node.ttl c.args.id
-  rows = ap (λ (h : SlotsView Row). h.items) c.put_timed.ensures.rows ∙ ap (λ w. with_timed w c.self.inside.timed r.node.ttl c.args.id) back-rows
+  abbrev listed_rows : Items Row
+  listed_rows = with_timed (back m ids owners c.args.id r) c.self.inside.timed r.node.ttl c.args.id
+
+  rows : c.set_parent.new.slots.items ≡ with_parent listed_rows c.args.id c.args.parent
+  rows =
+      ap (λ (h : SlotsView Row). h.items) c.set_parent.ensures
+      ∙ ap (λ w. with_parent w c.args.id c.args.parent) (ap (λ (h : SlotsView Row). h.items) c.put_timed.ensures.rows ∙ ap (λ w. with_timed w c.self.inside.timed r.node.ttl c.args.id) back-rows)
+
+  over : get ids (parent_of r.path) ≡ Some c.args.parent
+  over = parent-named c.self.inside c.args.self.now c.self.view_is c.self.invariant.linked c.args.parent (parent_of r.path) (c.requires.under (r.path, r.node) shown.2)
 
   key : c.in-Some-take_key.key ≡ shown.0
   key =
@@ -120,7 +129,7 @@ module _ (c : goal.After-put_timed) where
       (sym c.in-Some-take_key.is ∙ c.take_key.ensures.key ∙ ap (λ w. kept_key w c.args.id) owned ∙ key-kept m ids owners c.args.id r there (list_of owners r.node.owner) ∙ shown.1)
 
   index : c.insert.new.self.ids ≡ more m ids owners c.args.id r
-  index = c.insert.ensures.ids ∙ ap (λ (k : Key). insert ids k c.args.id) (c.into_names.ensures ∙ key) ∙ ap (λ q. insert ids q c.args.id) (c.self.invariant.linked.keyed c.args.id r there shown.0 shown.1).0
+  index = c.insert.ensures.ids ∙ ap (λ (k : Key). insert ids k c.args.id) key ∙ ap (λ q. insert ids q c.args.id) (c.self.invariant.linked.keyed c.args.id r there shown.0 shown.1).0
 
   lists : c.put_owned.new.owners ≡ owners_back m ids owners c.args.id r
   lists = c.put_owned.ensures.owners
@@ -130,10 +139,15 @@ invariant_of-self c =
     let ends = can c in
     let linked = linked-back (m c) (ids c) (owners c) c.args.id (r c) (shown c).0 c.self.invariant.linked (there c) (shown c).1 (fits c).below_root ends.0 ends.1.0 ends.1.1 ends.2 in
     let here = back (m c) (ids c) (owners c) c.args.id (r c) in
+    let later = more (m c) (ids c) (owners c) c.args.id (r c) in
+    let lists_later = owners_back (m c) (ids c) (owners c) c.args.id (r c) in
     let all : (Items Row × (IdsByPath × (OwnerLists × IdList 2))) → Type 0 = λ w. IsThreaded w.0 w.1.0 w.1.1.0 w.1.1.1 in
     subst all (λ i. (sym (rows c) i, (sym (index c) i, (sym (lists c) i, sym c.put_timed.ensures.timed i)))) (record {
-      linked = linked-listed here (more (m c) (ids c) (owners c) c.args.id (r c)) (owners_back (m c) (ids c) (owners c) c.args.id (r c)) c.self.inside.timed (r c).node.ttl c.args.id linked;
-      mortal = mortal-back (m c) (ids c) (owners c) c.self.inside.timed c.args.id (r c) (shown c).0 c.self.invariant.mortal (there c) (shown c).1;
+      linked = linked-named (listed_rows c) later lists_later c.args.id c.args.parent (linked-listed here later lists_later c.self.inside.timed (r c).node.ttl c.args.id linked);
+      mortal =
+          mortal-named (listed_rows c) later lists_later c.args.id c.args.parent (timed_with c.self.inside.timed (r c).node.ttl c.args.id)
+          (mortal-back (m c) (ids c) (owners c) c.self.inside.timed c.args.id (r c) (shown c).0 c.self.invariant.mortal (there c) (shown c).1);
+      parents = parents-back (m c) (ids c) (owners c) c.self.inside.timed c.args.id (r c) c.self.invariant.linked (there c) (fits c).below_root ends.0 c.args.parent (over c) c.self.invariant.parents;
     })
 
 pub returns : goal.returns
@@ -142,27 +156,31 @@ returns c = λ t at.
     let view = c.self.view_is in
     let ends = can c in
     let here = back (m c) (ids c) (owners c) id (r c) in
+    let named = named-faces (listed_rows c) (ids c) (owners c) id c.args.parent in
     let faces = listed-faces here (ids c) (owners c) c.self.inside.timed (r c).node.ttl id in
     let same = same_some ((r c).path, (r c).node) t (sym (shown c).2 ∙ at) in
     record {
       nodes =
           (λ i. nodes_of (rows c i) (index c i))
+          ∙ nodes-same (listed_rows c) (with_parent (listed_rows c) id c.args.parent) (more (m c) (ids c) (owners c) id (r c)) named
           ∙ nodes-same here (with_timed here c.self.inside.timed (r c).node.ttl id) (more (m c) (ids c) (owners c) id (r c)) faces
           ∙ nodes-returned (m c) (ids c) (owners c) id (r c) (shown c).0 c.self.invariant.linked (there c) (shown c).1 (fits c).below_root ends.0 ends.1.0 ends.1.1 ends.2
           ∙ (λ i. insert (view i).nodes (same i).0 (same i).1);
       places =
           ap places_of (rows c)
+          ∙ places-same (listed_rows c) (with_parent (listed_rows c) id c.args.parent) (ids c) named
           ∙ places-same here (with_timed here c.self.inside.timed (r c).node.ttl id) (ids c) faces
           ∙ places-returned (m c) (ids c) (owners c) id (r c) (shown c).0 c.self.invariant.linked (there c) (shown c).1 (fits c).below_root ends.0 ends.1.0 ends.1.1 ends.2
           ∙ (λ i. insert (view i).places id (same i).0);
       held =
           ap held_of (rows c)
+          ∙ held-same (listed_rows c) (with_parent (listed_rows c) id c.args.parent) (ids c) named
           ∙ held-same here (with_timed here c.self.inside.timed (r c).node.ttl id) (ids c) faces
           ∙ held-returned (m c) (ids c) (owners c) id (r c) (shown c).0 c.self.invariant.linked (there c) (shown c).1 (fits c).below_root ends.0 ends.1.0 ends.1.1 ends.2
           ∙ ap (λ (v : NodesView). remove v.held id) view;
       owners = ap known_of (lists c) ∙ known-with (owners c) (r c).node.owner id ∙ ap (λ (v : NodesView). v.owners) view;
       given =
-          ap (λ (h : SlotsView Row). h.given) c.put_timed.ensures.rows ∙ ap (λ (h : SlotsView Row). h.given) c.take_key.ensures.rows ∙ ap (λ (h : SlotsView Row). h.given) c.put_owned.ensures.rows
+          ap (λ (h : SlotsView Row). h.given) c.set_parent.ensures ∙ ap (λ (h : SlotsView Row). h.given) c.put_timed.ensures.rows ∙ ap (λ (h : SlotsView Row). h.given) c.take_key.ensures.rows ∙ ap (λ (h : SlotsView Row). h.given) c.put_owned.ensures.rows
           ∙ ap (λ (h : SlotsView Row). h.given) c.put_child.ensures ∙ ap (λ (v : NodesView). v.given) view;
       room = subst (λ room. room ≤ c.insert.new.self.room + 1) (ap (λ (v : NodesView). v.room) view) c.insert.ensures.room;
     }

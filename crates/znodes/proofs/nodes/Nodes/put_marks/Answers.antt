@@ -9,6 +9,7 @@ use Rattle.znodes.specs.NodesView.{NodesView, marks_of, node_with_marks}
 use Rattle.znodes.specs.support.Rows.{IsThreaded, nodes_of, places_of, held_of}
 use Rattle.znodes.proofs.Linked.{live-shown, node-is}
 use Rattle.znodes.proofs.Mortal.{mortal-written}
+use Rattle.znodes.proofs.Parents.{parents-written}
 use Rattle.znodes.proofs.Written.{linked-written, nodes-written, places-written, held-written}
 use Rattle.znodes.proofs.nodes.Nodes.put_marks.Goals as goal
 
@@ -24,6 +25,7 @@ invariant_of-self c =
     subst (λ m. IsThreaded m s.index.ids s.owners s.timed) (ap (λ (h : SlotsView Row). h.items) (sym c.marks_put.ensures.rows)) (record {
       linked = linked-written s.slots.items s.index.ids s.owners c.args.id r.0 (node_with_marks c.args.marks) c.self.invariant.linked r.1 r.2 (λ _. refl);
       mortal = mortal-written s.slots.items s.timed c.args.id (node_with_marks c.args.marks) (λ _. refl) c.self.invariant.mortal;
+      parents = parents-written s.slots.items s.index.ids c.args.id (node_with_marks c.args.marks) c.self.invariant.parents;
     })
 
 pub returns-clause-written : goal.returns-clause-written

@@ -5,10 +5,7 @@ use Rattle.std.specs.FinMap.{get, insert, remove}
 use Rattle.zslots.specs.declared.list.List.{List as IdList}
 use Rattle.zslots.specs.SlotsView.{SlotsView, Items}
 use Rattle.znodes.specs.index.IndexView.{IdsByPath}
-use Rattle.std.specs.Prelude.{Vec}
-use Rattle.std.specs.Global.{Global}
-use Rattle.znodes.specs.support.KeyNames.{names_of}
-use Rattle.ztree.specs.Tree.{Name, parent_of, children}
+use Rattle.ztree.specs.Tree.{Path, parent_of, children}
 use Rattle.ztree.proofs.Maps.{same_some, none_some, has_some}
 use Rattle.zslots.proofs.Items.{some_there}
 use Rattle.znodes.specs.declared.row.Row.{Row}
@@ -21,6 +18,7 @@ use Rattle.znodes.proofs.Heads.{known-without}
 use Rattle.znodes.proofs.Away.{cut, away, fewer, owners_after}
 use Rattle.znodes.proofs.Taken.{child-counted, owned-counted, linked-away, nodes-away, places-away, held-away}
 use Rattle.znodes.proofs.Mortal.{nodes-same, places-same, held-same, mortal-away, timed-counted, linked-unlisted, unlisted-faces}
+use Rattle.znodes.proofs.Parents.{parent-of-live, parents-away}
 use Rattle.znodes.proofs.nodes.Nodes.take.Goals as goal
 
 pub unreachable-requires : goal.unreachable-requires
@@ -37,7 +35,7 @@ cut_child-requires c =
     let there = sym c.in-Some.ensures in
     let shown = shown-row s c.args.self.now c.self.view_is c.args.id r c.requires.live there in
     child-counted s.slots.items s.index.ids s.owners c.args.id r c.self.invariant.linked there shown.0 (c.requires.below_root r.path shown.1)
-    c.id_above-parent.result (c.id_above-parent.ensures ∙ ap (λ names. get s.index.ids (parent_of names)) c.names-names.ensures.names)
+    r.parent (parent-of-live s.slots.items s.index.ids c.self.invariant.parents c.args.id r there shown.0 (c.requires.below_root r.path shown.1))
 
 pub cut_owned-requires : goal.cut_owned-requires
 cut_owned-requires c =
@@ -81,25 +79,22 @@ module _ (c : goal.After-cut_timed) where
   leaf : children (nodes_of m ids) r.path ≡ []
   leaf = ap (λ (v : NodesView). children v.nodes r.path) c.self.view_is ∙ c.requires.leaf r.path shown.1
 
-  names : c.names-names.result.now ≡ r.path
-  names = c.names-names.ensures.names
+  above : r.parent ≡ get ids (parent_of r.path)
+  above = parent-of-live m ids c.self.invariant.parents c.args.id r there shown.0 below
 
-  raw : (names : Vec Name Global) × (c.remove-key.result ≡ Some names)
-  raw =
+  key : (k : Key) × (c.remove-key.result ≡ Some k)
+  key =
       has_some c.remove-key.result
-      (c.remove-key.ensures.there ∙ ap (λ q. is_some (get ids q)) names ∙ ap is_some (c.self.invariant.linked.found c.args.id r there shown.0))
-
-  key : (k : Key) × (names_of c.remove-key.result ≡ Some k)
-  key = (raw.0.items, ap names_of raw.1)
+      (c.remove-key.ensures.there ∙ ap is_some (c.self.invariant.linked.found c.args.id r there shown.0))
 
   named : key.0 ≡ r.path
-  unfolding key raw
-  named = subst (λ (o : Option (Vec Name Global)). IfSome o (λ k. k.items ≡ c.names-names.result.now)) raw.1 c.remove-key.ensures.key ∙ names
+  unfolding key
+  named = subst (λ (o : Option Path). IfSome o (λ k. k ≡ r.path)) key.1 c.remove-key.ensures.key
 
   cut-is : c.cut_child.new.slots.items ≡ cut m ids owners c.args.id r key.0
   cut-is =
       ap (λ (h : SlotsView Row). h.items) c.cut_child.ensures
-      ∙ ap (λ o. without_child m o c.args.id) (c.id_above-parent.ensures ∙ ap (λ q. get ids (parent_of q)) names)
+      ∙ ap (λ o. without_child m o c.args.id) above
 
   kept-rows : c.set_key.new.slots.items ≡ away m ids owners c.args.id r key.0
   kept-rows =
@@ -114,7 +109,7 @@ module _ (c : goal.After-cut_timed) where
   timed = c.cut_timed.ensures.timed ∙ ap (λ w. timed_without w c.self.inside.timed r.node.ttl c.args.id) kept-rows
 
   index : c.remove-key.new.self.ids ≡ fewer m ids owners c.args.id r key.0
-  index = c.remove-key.ensures.ids ∙ ap (remove ids) names
+  index = c.remove-key.ensures.ids
 
   lists : c.cut_owned.new.owners ≡ owners_after m ids owners c.args.id r key.0
   lists = c.cut_owned.ensures.owners ∙ ap (λ w. owners_without w owners r.node.owner (list_of owners r.node.owner) c.args.id) cut-is
@@ -129,6 +124,7 @@ invariant_of-self c =
     subst all (λ i. (sym (rows c) i, (sym (index c) i, (sym (lists c) i, sym (timed c) i)))) (record {
       linked = linked-unlisted gone left after (r c).node.ttl c.args.id linked;
       mortal = mortal-away (m c) (ids c) (owners c) c.self.inside.timed c.args.id (r c) (key c).0 c.self.invariant.mortal (there c) (shown c).0;
+      parents = parents-away (m c) (ids c) (owners c) c.args.id (r c) (key c).0 c.self.invariant.linked (there c) (below c) (leaf c) c.self.invariant.parents;
     })
 
 pub returns : goal.returns
