@@ -1,16 +1,18 @@
 -- What a store shows: the plain tree that it stands for, and which Ids name its nodes.
-use Rattle.std.specs.Prelude.{◌≡◌, ℕ, ◌+◌, ◌-◌, ◌≤◌, nat_le, List, Option, None, Some, refl, if◌then◌else◌}
+use Rattle.std.specs.Prelude.{◌≡◌, ℕ, ◌+◌, ◌-◌, ◌≤◌, nat_le, Bool, List, Option, None, Some, refl, if◌then◌else◌}
 use Rattle.std.specs.Coded.{Coded, code_by, coded×, coded_ℕ, coded_option}
 use Rattle.std.specs.Option.{option_and_then, option_map}
 use Rattle.std.specs.FinMap as finite
 use Rattle.std.specs.FinMap.{FinMap, get, insert, remove}
 pub use Rattle.zslots.specs.declared.id.Id.{Id}
 pub use Rattle.zslots.specs.Ids.{Ids}
+use Rattle.zslots.specs.Generations.{generation_number}
 use Rattle.zslots.specs.Ids.{id_cmp, coded_id}
 pub use Rattle.znodes.specs.NodesView.{AreAt, AreStale}
 use Rattle.ztree.specs.declared.node.Node.{Node}
 use Rattle.ztree.specs.declared.node.Stat.{Stat}
-use Rattle.ztree.specs.Tree.{Tree, Name, Path, Nodes, has_node, stat_at, children, with_data_at, without_node}
+use Rattle.ztree.specs.declared.session.Session.{Session}
+use Rattle.ztree.specs.Tree.{Tree, Name, Path, Nodes, has_node, stat_at, children, with_node, with_data_at, without_node}
 use Rattle.ztree.specs.Room.{AtParent}
 use Rattle.ztree.specs.support.Codes.{coded_tree, coded_path}
 
@@ -29,7 +31,7 @@ pub record StoreView : Type 0 where
 
 -- the number of an Id: how many were given before it
 abbrev pub number_of : Id → ℕ
-number_of id = id.generation
+number_of id = generation_number id.generation
 
 -- the path of the node that an Id names
 abbrev pub path_of : StoreView → Id → Option Path
@@ -46,6 +48,10 @@ AtPath h id P = (path : Path) → path_of h id ≡ Some path → P path
 -- a fact on the node right above that path, where there is one
 abbrev pub AtParentOf : StoreView → Id → (Node → Type 0) → Type 0
 AtParentOf h id P = AtPath h id (λ path. AtParent h.tree.nodes path P)
+
+-- a fact on the session of an id
+abbrev pub AtSession : StoreView → ℕ → (Session → Type 0) → Type 0
+AtSession h id P = (s : Session) → get h.tree.sessions id ≡ Some s → P s
 
 -- a fact on the node that an Id names
 abbrev pub AtNode : StoreView → Id → (Node → Type 0) → Type 0
@@ -98,6 +104,11 @@ while_there nodes path = if has_node nodes path then Some path else None
 abbrev pub ForgetsGone : StoreView → StoreView → Type 0
 ForgetsGone old new = (id : Id) →
     path_of new id ≡ option_and_then (while_there new.tree.nodes) (path_of old id)
+
+-- a node is made at a path by the next change
+abbrev pub MakesNode : StoreView → StoreView → Path → List ℕ → ℕ → ℕ → Bool → Type 0
+MakesNode old new path bytes owner ttl sequential =
+    new.tree ≡ with_node old.tree path bytes owner ttl sequential
 
 -- the data of the node that an Id names is written by the next change
 abbrev pub WritesData : StoreView → StoreView → Id → List ℕ → Type 0

@@ -18,8 +18,8 @@ pub(crate) struct Log {
 
 impl Log {
     ghost use Rattle.std.specs.Prelude.{None, OnOk, OnErr};
-    ghost use Rattle.zstore.specs.support.Undoing.{notes_of, add_note, held_after, undos_of, StartsWith, GivesUp};
-    ghost use Rattle.zstore.specs.support.Undoing.{FitAll, parts_of, all_undone, all_returning, release_all, AllHeld};
+    ghost use Rattle.zstore.specs.support.Undoing.{notes_of, add_note, undos_in, nodes_noted, nodes_released, StartsWith, GivesUp};
+    ghost use Rattle.zstore.specs.support.Undoing.{FitAll, parts_of, all_undone, all_returning, AllHeld};
 
     /// No mark.
     pub(crate) fn new(alloc: Global) -> Log
@@ -33,10 +33,10 @@ impl Log {
 
     /// A mark here, with room for so many notes, and for as many nodes that come back; one that stood is given up.
     pub(crate) fn start(&mut self, nodes: &mut Nodes, steps: usize) -> Result<(), Memory>
-        requires { AllHeld (undos_of (notes_of self.old)) nodes.old.held }
+        requires { AllHeld (undos_in self.old) nodes.old.held }
         ensures ok { OnOk result (StartsWith steps (notes_of self.new) nodes.new.room) }
         ensures err { OnErr result (notes_of self.new ≡ None) }
-        ensures nodes { GivesUp (undos_of (notes_of self.old)) nodes.old nodes.new }
+        ensures nodes { GivesUp (undos_in self.old) nodes.old nodes.new }
     {
         self.stop(nodes);
         self.undos.reserve(steps)?;
@@ -47,11 +47,9 @@ impl Log {
 
     /// Notes what undoes a change. A mark that has no room left is given up.
     pub(crate) fn note(&mut self, nodes: &mut Nodes, undo: Undo)
-        requires { AllHeld (undos_of (notes_of self.old) ++ undo ∷ []) nodes.old.held }
+        requires { AllHeld (undos_in self.old ++ undo ∷ []) nodes.old.held }
         ensures notes { notes_of self.new ≡ add_note undo (notes_of self.old) }
-        ensures nodes { nodes.new ≡ record nodes.old {
-          held = held_after undo (notes_of self.old) nodes.old.held;
-        } }
+        ensures nodes { nodes.new ≡ nodes_noted undo (notes_of self.old) nodes.old }
     {
         if self.is_on && self.undos.len() < self.undos.capacity() {
             push_within(&mut self.undos, undo);
@@ -63,10 +61,9 @@ impl Log {
 
     /// Undoes what was noted; then there is no mark any more. It takes no memory.
     pub(crate) fn undo(&mut self, nodes: &mut Nodes)
-        requires fit { FitAll nodes.old.owners (undos_of (notes_of self.old)) (parts_of nodes.old) }
-        requires room { all_returning (undos_of (notes_of self.old)) ≤ nodes.old.room }
-        ensures parts { parts_of nodes.new
-            ≡ all_undone (undos_of (notes_of self.old)) (parts_of nodes.old) }
+        requires fit { FitAll nodes.old.owners (undos_in self.old) (parts_of nodes.old) }
+        requires room { all_returning (undos_in self.old) ≤ nodes.old.room }
+        ensures parts { parts_of nodes.new ≡ all_undone (undos_in self.old) (parts_of nodes.old) }
         ensures owners { nodes.new.owners ≡ nodes.old.owners }
         ensures given { nodes.new.given ≡ nodes.old.given }
         ensures off { notes_of self.new ≡ None }
@@ -79,12 +76,10 @@ impl Log {
 
     /// No mark any more; what was done stays, and what was taken away is given up.
     pub(crate) fn stop(&mut self, nodes: &mut Nodes)
-        requires { AllHeld (undos_of (notes_of self.old)) nodes.old.held }
+        requires { AllHeld (undos_in self.old) nodes.old.held }
         ensures off { notes_of self.new ≡ None }
         ensures empty { self.new.undos.items ≡ [] }
-        ensures nodes { nodes.new ≡ record nodes.old {
-          held = release_all (undos_of (notes_of self.old)) nodes.old.held;
-        } }
+        ensures nodes { nodes.new ≡ nodes_released (undos_in self.old) nodes.old }
     {
         self.free_taken(nodes);
         self.undos.clear();
@@ -93,10 +88,8 @@ impl Log {
 
     /// Gives up what was taken away since the mark, if one stands, in the nodes or in a copy of them.
     pub(crate) fn free_taken(&self, nodes: &mut Nodes)
-        requires { AllHeld (undos_of (notes_of self.now)) nodes.old.held }
-        ensures { nodes.new ≡ record nodes.old {
-          held = release_all (undos_of (notes_of self.now)) nodes.old.held;
-        } }
+        requires { AllHeld (undos_in self.now) nodes.old.held }
+        ensures { nodes.new ≡ nodes_released (undos_in self.now) nodes.old }
     {
         if self.is_on {
             free_all(nodes, &self.undos);

@@ -16,7 +16,7 @@ impl Store {
         ensures found { IfSome result (λ id. path_of self.now id ≡ Some path.now) }
         ensures node { is_some result ≡ has_node self.now.tree.nodes path.now }
     {
-        self.nodes.find(path.names())
+        self.nodes.find(path)
     }
 
     /// The node that an Id names; none where it names none.

@@ -7,10 +7,9 @@ ghost use Rattle.ztree.specs.Tree.{ephemerals};
 ghost use Rattle.ztree.specs.Sessions.{with_session, with_renewed_session, without_session, due_sessions, with_next_tick};
 ghost use Rattle.ztree.specs.Lawful.{IsLawful};
 ghost use Rattle.ztree.specs.declared.limits.TheConstants.{MAX_SESSIONS, ZXID_BOUND, TICK_BOUND, DEADLINE_BOUND};
-ghost use Rattle.ztree.specs.declared.session.Session.{Session};
 ghost use Rattle.ztree.specs.Room.{HasRoomForEnd, HasRoomForDeadline};
 ghost use Rattle.zsessions.specs.Deadlines.{is_held_by};
-ghost use Rattle.zstore.specs.StoreView.{KeepsIds, ForgetsGone};
+ghost use Rattle.zstore.specs.StoreView.{AtSession, KeepsIds, ForgetsGone};
 ghost use Rattle.zstore.specs.support.Parts.{tree_without_session, IsOwned};
 
 use crate::store::Store;
@@ -66,8 +65,8 @@ impl Store {
     /// Keeps a session alive: its deadline is its timeout from now. It takes no memory.
     pub fn touch(&mut self, id: SessionId)
         requires live { IsSome (get self.old.tree.sessions id) }
-        requires deadline { (s : Session) → get self.old.tree.sessions id ≡ Some s
-            → HasRoomForDeadline self.old.tree.time s.timeout }
+        requires deadline { AtSession self.old id (λ s.
+            HasRoomForDeadline self.old.tree.time s.timeout) }
         ensures tree { self.new.tree ≡ with_renewed_session self.old.tree id }
         ensures same { KeepsIds self.old self.new }
         ensures unmarked { self.new.marked ≡ None }

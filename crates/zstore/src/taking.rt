@@ -6,7 +6,7 @@ ghost use Rattle.ztree.specs.Tree.{children, parent_of};
 ghost use Rattle.ztree.specs.Room.{HasRoomForLosses};
 ghost use Rattle.zstore.specs.StoreView.{path_of, AtPath, AtNode, AtParentOf, KeepsIds, mark_left};
 ghost use Rattle.zstore.specs.StoreView.{Forgets, ForgetsGone, DropsNode};
-ghost use Rattle.zstore.specs.support.Parts.{tree_without, LosesChild};
+ghost use Rattle.zstore.specs.support.Parts.{tree_without, LosesChild, IsUnder};
 
 use crate::store::Store;
 use crate::undo::Undo;
@@ -28,7 +28,7 @@ impl Store {
         ensures marked { self.new.marked ≡ mark_left 2 self.old.marked }
     {
         let parent = self.parent_id(id);
-        self.take(id);
+        self.take(id, parent);
         self.child_gone(parent);
     }
 
@@ -36,7 +36,7 @@ impl Store {
     fn parent_id(&self, id: Id) -> Id
         requires live { IsSome (path_of self.now id) }
         requires below_root { AtPath self.now id (λ path. path ≢ []) }
-        ensures { AtPath self.now id (λ path. path_of self.now result ≡ Some (parent_of path)) }
+        ensures { IsUnder self.now id result }
     {
         match self.nodes.above(id) {
             Some(parent) => parent,
@@ -44,11 +44,12 @@ impl Store {
         }
     }
 
-    // A live Id's node gone.
-    fn take(&mut self, id: Id)
+    // A live Id's node gone from beneath its parent.
+    fn take(&mut self, id: Id, parent: Id)
         requires live { IsSome (path_of self.old id) }
         requires below_root { AtPath self.old id (λ path. path ≢ []) }
         requires leaf { AtPath self.old id (λ path. children self.old.tree.nodes path ≡ []) }
+        requires under { IsUnder self.old id parent }
         ensures tree { AtPath self.old id (λ path.
             self.new.tree ≡ tree_without self.old.tree path) }
         ensures forgotten { Forgets self.old self.new id }
@@ -57,7 +58,7 @@ impl Store {
         ensures marked { self.new.marked ≡ mark_left 1 self.old.marked }
     {
         self.nodes.take(id);
-        self.log.note(&mut self.nodes, Undo::Taken(id));
+        self.log.note(&mut self.nodes, Undo::Taken(id, parent));
     }
 
     // The marks of the next change at a node beneath which a child went.

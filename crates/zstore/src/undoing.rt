@@ -34,7 +34,7 @@ fn undo_one(nodes: &mut Nodes, undo: Undo)
             nodes.take(id);
             nodes.free(id);
         }
-        Undo::Taken(id) => nodes.put_back(id),
+        Undo::Taken(id, parent) => nodes.put_back(id, parent),
         Undo::Marked(id, marks) => {
             nodes.put_marks(id, marks);
         }
@@ -61,7 +61,7 @@ pub(crate) fn free_one(nodes: &mut Nodes, undo: &Undo)
     requires { IsHeld undo.now nodes.old.held }
     ensures { nodes.new ≡ record nodes.old { held = release undo.now nodes.old.held } }
 {
-    if let Undo::Taken(id) = undo {
+    if let Undo::Taken(id, _) = undo {
         nodes.free(*id);
     }
 }

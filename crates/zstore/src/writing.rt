@@ -4,10 +4,10 @@ ghost use Rattle.std.specs.Prelude.{◌≡◌, ◌≢◌, ◌⊎◌, ◌<◌, �
 ghost use Rattle.std.specs.FinMap as finite;
 ghost use Rattle.ztree.specs.declared.limits.TheConstants.{MAX_NODES, ZXID_BOUND};
 ghost use Rattle.zstore.specs.declared.limits.TheConstants.{ID_BOUND};
-ghost use Rattle.ztree.specs.Tree.{parent_of, has_node, with_node, with_next_zxid};
+ghost use Rattle.ztree.specs.Tree.{parent_of, has_node, with_next_zxid};
 ghost use Rattle.ztree.specs.Room.{HasRoomForChild, HasRoomForData};
 ghost use Rattle.zstore.specs.StoreView.{path_of, node_of, AtNode};
-ghost use Rattle.zstore.specs.StoreView.{KeepsIds, GivesAtMostOne, NamesNew, WritesData, mark_left};
+ghost use Rattle.zstore.specs.StoreView.{KeepsIds, GivesAtMostOne, NamesNew, MakesNode, WritesData, mark_left};
 ghost use Rattle.zstore.specs.support.Parts.{tree_with, GainsChild, WritesMarks, WritesContent};
 ghost use Rattle.ztree.specs.Lawful.{IsPersistent, IsOwner, HasOneEnd};
 
@@ -51,7 +51,7 @@ impl Store {
         requires zxid { self.old.tree.zxid + 1 < ZXID_BOUND }
         requires given { self.old.given < ID_BOUND }
         ensures added { OnOk result
-            (self.new.tree ≡ with_node self.old.tree path bytes owner ttl sequential) }
+            (MakesNode self.old self.new path bytes owner ttl sequential) }
         ensures named { IfOk result (λ id. NamesNew self.old self.new id path) }
         ensures given { GivesAtMostOne self.old self.new }
         ensures marked { OnOk result (self.new.marked ≡ mark_left 2 self.old.marked) }

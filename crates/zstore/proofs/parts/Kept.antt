@@ -11,7 +11,7 @@ use Rattle.ztree.specs.declared.limits.TheConstants.{MAX_NODES}
 use Rattle.ztree.specs.Tree.{Path, Nodes, Sessions, parent_of, has_node, child_name, children, with_change_at}
 use Rattle.ztree.specs.Lawful.{IsPersistent, IsOwner, HasOneEnd}
 use Rattle.ztree.proofs.Sorted.{paths_total, same_path}
-use Rattle.ztree.proofs.Maps.{is_there, same_or_other, get-insert-here, get-insert-elsewhere, get-remove-here, get-remove-elsewhere, get-removed, get-inserted, none_of_map}
+use Rattle.ztree.proofs.Maps.{is_there, same_some, same_or_other, get-insert-here, get-insert-elsewhere, get-remove-here, get-remove-elsewhere, get-removed, get-inserted, none_of_map}
 use Rattle.ztree.proofs.Nodes.{parent_is_other}
 use Rattle.ztree.proofs.Paths.{paths_inserted, paths_removed, paths_changed}
 use Rattle.ztree.proofs.Lawful.{lawful_inserted, lawful_changed, lawful_removed}
@@ -211,11 +211,15 @@ module _ (nodes : Nodes) (places : Places) (sessions : Sessions) (time zxid : �
   }
 
   -- a node that went can come back
-  pub can_come_back : (held : Held) (owners : Owners) (id : Id) (path : Path) (n : Node) →
+  pub can_come_back : (held : Held) (owners : Owners) (id over : Id) (path : Path) (n : Node) →
       AreOwners owners sessions → finite.get nodes path ≡ Some n → path ≢ [] →
+      finite.get places id ≡ Some path → finite.get places over ≡ Some (parent_of path) →
       CanComeBack owners
-      (parts_without (record { nodes = nodes; places = places; held = held }) id path n) id
-  can_come_back held owners id path n same found below =
+      (parts_without (record { nodes = nodes; places = places; held = held }) id path n) id over
+  can_come_back held owners id over path n same found below named upper =
+      let other : over ≢ id = λ e.
+      parent_is_other path below
+      (same_some (parent_of path) path (sym upper ∙ ap (finite.get places) e ∙ named)) in
       let above = kept.lawful.parents path (is_there _ n found) in
       record {
         taken = (path, n);
@@ -225,6 +229,7 @@ module _ (nodes : Nodes) (places : Places) (sessions : Sessions) (time zxid : �
         parent = ap is_some
             (get-remove-elsewhere paths_total same_path nodes path (parent_of path)
             (parent_is_other path below)) ∙ is_there _ above.0 above.1;
+        under = get-remove-elsewhere id_cmp_total id_cmp_same places id over other ∙ upper;
         owner = by (kept.lawful.owners path n found);
       }
     where

@@ -6,7 +6,7 @@ use Rattle.std.specs.FinMap as finite
 use Rattle.zslots.specs.declared.id.Id.{Id}
 use Rattle.zslots.proofs.Maps.{id_cmp_total, id_cmp_same}
 use Rattle.ztree.specs.declared.node.Node.{Node}
-use Rattle.ztree.specs.Tree.{Path, Nodes, Sessions, children}
+use Rattle.ztree.specs.Tree.{Path, Nodes, Sessions, parent_of, children}
 use Rattle.ztree.proofs.Maps.{has_some}
 use Rattle.znodes.specs.declared.parts.Marks.{Marks}
 use Rattle.znodes.specs.declared.parts.Content.{Content}
@@ -76,29 +76,31 @@ module _ (old new : NodesView) (sessions : Sessions) (time zxid : ℕ) (notes : 
   is_node : option_and_then (finite.get old.nodes) (finite.get old.places id) ≡ Some node
   is_node = ap (option_and_then (finite.get old.nodes)) named ∙ found
 
-  module _ (takes : AtPath old id (λ path. AtNode old id (Takes old new id path))) where
+  module _ (takes : AtPath old id (λ path. AtNode old id (Takes old new id path))) (above : Id) where
     took : Takes old new id path node
     took = takes path named node is_node
 
     pub take_back : AtPath old id (λ path. path ≢ []) →
-        undone (undo.Taken id) (parts_of new) ≡ parts_of old
+        undone (undo.Taken id above) (parts_of new) ≡ parts_of old
     take_back below =
         taken_back old new sessions time zxid notes stored id path node took named found
-        (below path named)
+        (below path named) above
 
     pub take_held : AtPath old id (λ path. path ≢ []) →
-        AllHeld (undos_of notes ++ undo.Taken id ∷ []) new.held
-    take_held below =
+        AtPath old id (λ path. finite.get old.places above ≡ Some (parent_of path)) →
+        AllHeld (undos_of notes ++ undo.Taken id above ∷ []) new.held
+    take_held below over =
         taken_held old new sessions time zxid notes stored id path node took named found
-        (below path named)
+        (below path named) above (over path named)
 
     pub take_stored : AtPath old id (λ path. path ≢ []) →
+        AtPath old id (λ path. finite.get old.places above ≡ Some (parent_of path)) →
         AtPath old id (λ path. children old.nodes path ≡ []) →
-        IsStored (add_note (undo.Taken id) notes)
-        (with_held new (held_after (undo.Taken id) notes new.held)) sessions time zxid
-    take_stored below leaf =
+        IsStored (add_note (undo.Taken id above) notes)
+        (with_held new (held_after (undo.Taken id above) notes new.held)) sessions time zxid
+    take_stored below over leaf =
         taken_stored old new sessions time zxid notes stored id path node took named found
-        (below path named) (leaf path named)
+        (below path named) above (over path named) (leaf path named)
 
     pub take_places : new.places ≡ finite.remove old.places id
     take_places = took.places

@@ -60,31 +60,31 @@ module _ (old new : NodesView) (sessions : Sessions) (time zxid : ℕ) (notes : 
   -- a node that went
   module _ (path : Path) (n : Node) (takes : Takes old new id path n)
       (named : finite.get old.places id ≡ Some path) (found : finite.get old.nodes path ≡ Some n)
-      (below : path ≢ []) where
+      (below : path ≢ []) (above : Id) where
     taken_parts : parts_of new ≡ parts_without (parts_of old) id path n
     taken_parts = λ i. record
         { nodes = takes.nodes i; places = takes.places i; held = takes.held i }
 
-    pub taken_back : undone (undo.Taken id) (parts_of new) ≡ parts_of old
-    taken_back = ap (undone (undo.Taken id)) taken_parts
-        ∙ undone-taken (parts_of old) id path n named found (stored.apart id path named)
+    pub taken_back : undone (undo.Taken id above) (parts_of new) ≡ parts_of old
+    taken_back = ap (undone (undo.Taken id above)) taken_parts
+        ∙ undone-taken (parts_of old) id path n above named found (stored.apart id path named)
 
-    taken_fits : Fits new.owners (undo.Taken id) (parts_of new)
-    taken_fits =
-        subst (λ (p : Parts). CanComeBack new.owners p id) (sym taken_parts)
-        (can_come_back old.nodes old.places sessions time zxid stored.kept old.held new.owners id
+    taken_fits : finite.get old.places above ≡ Some (parent_of path) → Fits new.owners (undo.Taken id above) (parts_of new)
+    taken_fits over =
+        subst (λ (p : Parts). CanComeBack new.owners p id above) (sym taken_parts)
+        (can_come_back old.nodes old.places sessions time zxid stored.kept old.held new.owners id above
         path n (subst (λ (o : Owners). AreOwners o sessions) (sym takes.owners) stored.owners) found
-        below)
+        below named over)
 
-    pub taken_held : AllHeld (undos_of notes ++ undo.Taken id ∷ []) new.held
-    taken_held =
-        noted_held (undo.Taken id) old new sessions time zxid taken_back notes stored takes.owners
-        taken_fits
+    pub taken_held : finite.get old.places above ≡ Some (parent_of path) → AllHeld (undos_of notes ++ undo.Taken id above ∷ []) new.held
+    taken_held over =
+        noted_held (undo.Taken id above) old new sessions time zxid taken_back notes stored takes.owners
+        (taken_fits over)
 
-    pub taken_stored : children old.nodes path ≡ [] →
-        IsStored (add_note (undo.Taken id) notes)
-        (with_held new (held_after (undo.Taken id) notes new.held)) sessions time zxid
-    taken_stored leaf =
+    pub taken_stored : finite.get old.places above ≡ Some (parent_of path) → children old.nodes path ≡ [] →
+        IsStored (add_note (undo.Taken id above) notes)
+        (with_held new (held_after (undo.Taken id above) notes new.held)) sessions time zxid
+    taken_stored over leaf =
         let room = takes.room in
         let kept =
         subst (λ (p : Parts). IsKept p.nodes p.places sessions time zxid) (sym taken_parts)
@@ -94,8 +94,8 @@ module _ (old new : NodesView) (sessions : Sessions) (time zxid : ℕ) (notes : 
         subst (λ (p : Parts). (a : Id) (q : Path) → finite.get p.places a ≡ Some q →
         finite.get p.held a ≡ None) (sym taken_parts)
         (apart_without old.places old.held id (path, n) stored.apart) in
-        stored_noted (undo.Taken id) old new sessions time zxid taken_back notes stored takes.owners
-        taken_fits kept apart (omega (arith, room))
+        stored_noted (undo.Taken id above) old new sessions time zxid taken_back notes stored takes.owners
+        (taken_fits over) kept apart (omega (arith, room))
 
   -- a node that was written, and a note that writes back
   module _ (u : Undo) (path : Path) (n : Node) (f g : Node → Node)

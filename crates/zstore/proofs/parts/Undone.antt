@@ -12,7 +12,7 @@ use Rattle.ztree.proofs.Maps.{get-insert-here}
 use Rattle.ztree.proofs.Nodes.{changed_at-some}
 use Rattle.zstore.specs.declared.undo.Undo.{Undo}
 use Rattle.zstore.specs.declared.undo.Undo.TheVariants as undo
-use Rattle.zstore.specs.support.Undoing.{Held, Owners, Parts, CanGo, CanComeBack, with_change_of, undone, all_undone, Fits, FitAll, returning, all_returning, release, release_all, IsHeld, AllHeld}
+use Rattle.zstore.specs.support.Undoing.{Held, Owners, Parts, CanGo, with_change_of, undone, all_undone, Fits, FitAll, returning, all_returning, release, release_all, IsHeld, AllHeld}
 use Rattle.zstore.proofs.parts.Maps.{remove-insert, insert-remove, insert-insert}
 
 -- the parts with one node more
@@ -48,9 +48,9 @@ module _ (p : Parts) (id : Id) (path : Path) (n : Node) where
         held = p.held;
       })
 
-  pub undone-taken : finite.get p.places id ≡ Some path → finite.get p.nodes path ≡ Some n →
-      finite.get p.held id ≡ None → undone (undo.Taken id) (parts_without p id path n) ≡ p
-  undone-taken named found unheld =
+  pub undone-taken : (above : Id) → finite.get p.places id ≡ Some path → finite.get p.nodes path ≡ Some n →
+      finite.get p.held id ≡ None → undone (undo.Taken id above) (parts_without p id path n) ≡ p
+  undone-taken above named found unheld =
       rw (get-insert-here id_cmp_total id_cmp_same p.held id (path, n))
       (λ i. record {
         nodes = insert-remove paths_total same_path p.nodes path n found i;
@@ -76,14 +76,6 @@ pub undone-gone : (p : Parts) (id : Id) (fits : CanGo p id) →
     undone (undo.Added id) p ≡ record
     { nodes = finite.remove p.nodes fits.path; places = finite.remove p.places id; held = p.held }
 undone-gone p id fits = rw fits.named refl
-
-pub undone-returned : (owners : Owners) (p : Parts) (id : Id) (fits : CanComeBack owners p id) →
-    undone (undo.Taken id) p ≡ record {
-      nodes = finite.insert p.nodes fits.taken.0 fits.taken.1;
-      places = finite.insert p.places id fits.taken.0;
-      held = finite.remove p.held id;
-    }
-undone-returned owners p id fits = rw fits.held refl
 
 -- the last note is undone first
 pub all_undone-push : (us : List Undo) (u : Undo) (p : Parts) →
@@ -136,7 +128,7 @@ held-changed p f (Some path) = refl
 held-undone : (owners : Owners) (u : Undo) (p : Parts) → Fits owners u p →
     (undone u p).held ≡ release u p.held
 held-undone owners (undo.Added id) p fits = rw fits.named refl
-held-undone owners (undo.Taken id) p fits = rw fits.held refl
+held-undone owners (undo.Taken id above) p fits = rw fits.held refl
 held-undone owners (undo.Marked id marks) p fits = held-changed p _ (finite.get p.places id)
 held-undone owners (undo.Written id content) p fits = held-changed p _ (finite.get p.places id)
 
@@ -149,7 +141,7 @@ held-all_undone owners (u ∷ us) p fit = held-undone owners u (all_undone us p)
 -- what can be undone is held
 is_held : (owners : Owners) (u : Undo) (p : Parts) → Fits owners u p → IsHeld u p.held
 is_held owners (undo.Added id) p fits = tt
-is_held owners (undo.Taken id) p fits = ap is_some fits.held
+is_held owners (undo.Taken id above) p fits = ap is_some fits.held
 is_held owners (undo.Marked id marks) p fits = tt
 is_held owners (undo.Written id content) p fits = tt
 

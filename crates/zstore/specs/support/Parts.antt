@@ -2,7 +2,7 @@
 use Rattle.std.specs.Prelude.{◌≡◌, ℕ, ◌+◌, Bool, Some}
 use Rattle.std.specs.FinMap.{get, insert, remove}
 use Rattle.ztree.specs.declared.node.Node.{Node}
-use Rattle.ztree.specs.Tree.{Tree, Path, with_change_at, with_child, without_child}
+use Rattle.ztree.specs.Tree.{Tree, Path, parent_of, with_change_at, with_child, without_child}
 use Rattle.zslots.specs.declared.id.Id.{Id}
 use Rattle.znodes.specs.declared.parts.Marks.{Marks}
 use Rattle.znodes.specs.declared.parts.Content.{Content}
@@ -35,6 +35,10 @@ GainsChild old new id sequential =
 -- a child went from beneath the node that an Id names
 abbrev pub LosesChild : StoreView → StoreView → Id → Type 0
 LosesChild old new id = AtPath old id (λ path. new.tree ≡ without_child_at old.tree path)
+
+-- the second Id names the node right above that of the first
+abbrev pub IsUnder : StoreView → Id → Id → Type 0
+IsUnder h id parent = AtPath h id (λ path. path_of h parent ≡ Some (parent_of path))
 
 -- one session fewer
 abbrev pub tree_without_session : Tree → ℕ → Tree

@@ -55,7 +55,7 @@ with_change_of id f p =
 -- the parts before a change
 abbrev pub undone : Undo → Parts → Parts
 undone (undo.Added id) p = without_added id p
-undone (undo.Taken id) p = with_taken id p
+undone (undo.Taken id parent) p = with_taken id p
 undone (undo.Marked id marks) p = with_change_of id (node_with_marks marks) p
 undone (undo.Written id content) p = with_change_of id (node_with_content content) p
 
@@ -69,19 +69,20 @@ pub record CanGo (p : Parts) (id : Id) : Type 0 where
   pub leaf : children p.nodes path ≡ []
   pub unheld : get p.held id ≡ None
 
--- a node that was taken away can come back: its path is free, the node above is there, and its owner is known
-pub record CanComeBack (owners : Owners) (p : Parts) (id : Id) : Type 0 where
+-- a node that was taken away can come back: its path is free, the Id names the node above, and its owner is known
+pub record CanComeBack (owners : Owners) (p : Parts) (id above : Id) : Type 0 where
   pub taken : Taken
   pub held : get p.held id ≡ Some taken
   pub below_root : taken.0 ≢ []
   pub free : has_node p.nodes taken.0 ≡ false
   pub parent : has_node p.nodes (parent_of taken.0) ≡ true
+  pub under : get p.places above ≡ Some (parent_of taken.0)
   pub owner : (taken.1.owner ≡ 0) ⊎ IsSome (get owners taken.1.owner)
 
 -- the change can be undone
 abbrev pub Fits : Owners → Undo → Parts → Type 0
 Fits owners (undo.Added id) p = CanGo p id
-Fits owners (undo.Taken id) p = CanComeBack owners p id
+Fits owners (undo.Taken id parent) p = CanComeBack owners p id parent
 Fits owners (undo.Marked id marks) p = IsSome (get p.places id)
 Fits owners (undo.Written id content) p = IsSome (get p.places id)
 
@@ -98,7 +99,7 @@ FitAll owners (u ∷ us) p = Fits owners u (all_undone us p) × FitAll owners us
 -- how many nodes come back where a change is undone, and where all are
 abbrev pub returning : Undo → ℕ
 returning (undo.Added id) = 0
-returning (undo.Taken id) = 1
+returning (undo.Taken id parent) = 1
 returning (undo.Marked id marks) = 0
 returning (undo.Written id content) = 0
 
@@ -109,7 +110,7 @@ all_returning (u ∷ us) = returning u + all_returning us
 -- what is held once a change needn't be undone any more
 abbrev pub release : Undo → Held → Held
 release (undo.Added id) held = held
-release (undo.Taken id) held = remove held id
+release (undo.Taken id parent) held = remove held id
 release (undo.Marked id marks) held = held
 release (undo.Written id content) held = held
 
@@ -121,7 +122,7 @@ release_all (u ∷ us) held = release u (release_all us held)
 -- what a change took away is held
 abbrev pub IsHeld : Undo → Held → Type 0
 IsHeld (undo.Added id) held = Unit {0}
-IsHeld (undo.Taken id) held = IsSome (get held id)
+IsHeld (undo.Taken id parent) held = IsSome (get held id)
 IsHeld (undo.Marked id marks) held = Unit {0}
 IsHeld (undo.Written id content) held = Unit {0}
 
@@ -146,6 +147,10 @@ abbrev pub undos_of : Option Notes → List Undo
 undos_of None = []
 undos_of (Some n) = n.undos
 
+-- what undoes all that a log has noted
+abbrev pub undos_in : Log → List Undo
+undos_in l = undos_of (notes_of l)
+
 -- how much more can be noted
 abbrev pub room_of : Option Notes → ℕ
 room_of None = 0
@@ -161,6 +166,14 @@ add_note u (Some n) =
 abbrev pub held_after : Undo → Option Notes → Held → Held
 held_after u None held = release u held
 held_after u (Some n) held = if nat_le 1 n.room then held else release_all (n.undos ++ u ∷ []) held
+
+-- the nodes once a change was noted
+abbrev pub nodes_noted : Undo → Option Notes → NodesView → NodesView
+nodes_noted u notes v = record v { held = held_after u notes v.held }
+
+-- the nodes once none of these changes needs to be undone
+abbrev pub nodes_released : List Undo → NodesView → NodesView
+nodes_released us v = record v { held = release_all us v.held }
 
 -- a mark was set, with room for so many notes, and for as many nodes
 pub record StartsWith (steps : ℕ) (notes : Option Notes) (room : ℕ) : Type 0 where

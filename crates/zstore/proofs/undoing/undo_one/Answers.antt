@@ -1,9 +1,10 @@
-use Rattle.std.proofs.Common.{sym, ap, subst, ◌∙◌, arith, rules}
+use Rattle.std.proofs.Common.{Some, sym, ap, subst, ◌∙◌, arith, rules}
 use Rattle.std.specs.Prelude.{is_some}
 use Rattle.std.specs.FinMap as finite
 use Rattle.zslots.proofs.Maps.{id_cmp_total, id_cmp_same}
-use Rattle.ztree.proofs.Maps.{get-insert-here}
-use Rattle.znodes.specs.NodesView.{NodesView}
+use Rattle.ztree.proofs.Maps.{same_some, get-insert-here}
+use Rattle.ztree.specs.Tree.{parent_of}
+use Rattle.znodes.specs.NodesView.{NodesView, Taken}
 use Rattle.zstore.specs.support.Undoing.{Held, parts_of, undone, Fits, returning}
 use Rattle.zstore.proofs.parts.Noting.{gone, gone_parts}
 use Rattle.zstore.proofs.undoing.undo_one.Goals as goal
@@ -46,6 +47,12 @@ returns-in-Added-clause-room c =
     let took = (gone v c.take.new.self c.in-Added.id fits c.take.ensures).room in
     let same = ap (λ (w : NodesView). w.room) c.free.ensures in
     omega (arith, took, same)
+
+pub put_back-requires-clause-under : goal.put_back-requires-clause-under
+put_back-requires-clause-under c = λ t at.
+    let v = c.args.nodes.now in
+    let fits = subst (λ u. Fits v.owners u (parts_of v)) c.in-Taken.is c.requires.fits in
+    fits.under ∙ ap (λ (u : Taken). Some (parent_of u.0)) (same_some fits.taken t (sym fits.held ∙ at))
 
 pub returns-in-Taken-clause-owners : goal.returns-in-Taken-clause-owners
 returns-in-Taken-clause-owners c =
