@@ -80,8 +80,8 @@ impl Store {
     /// Keeps a client's session alive: its deadline is its timeout from now. Answers whether the client
     /// has it; else nothing changes. The session is looked up once. It takes no memory.
     pub fn keep_alive(&mut self, client: ClientId, id: SessionId) -> bool
-        requires deadline { (s : Session) → get self.old.tree.sessions id ≡ Some s
-            → HasRoomForDeadline self.old.tree.time s.timeout }
+        requires deadline { AtSession self.old id (λ s.
+            HasRoomForDeadline self.old.tree.time s.timeout) }
         ensures held { result ≡ is_held_by self.old.tree.sessions client id }
         ensures tree { IsTrue result → self.new.tree ≡ with_renewed_session self.old.tree id }
         ensures same { KeepsIds self.old self.new }
