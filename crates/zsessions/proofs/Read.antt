@@ -6,6 +6,7 @@ use Rattle.std.specs.Ordering.{nat_cmp}
 use Rattle.std.specs.FinMap.{get, find, from_entries, get-from_entries, nat_cmp-IsAntisymmetric, same_map}
 use Rattle.std.specs.Cmp.{nat_cmp_total, unsigned_tied}
 use Rattle.std.specs.Prelude.{nat_eq}
+use Rattle.std.proofs.lemmas.Bool.{ne_eqb}
 use Rattle.ztree.proofs.Maps.{same_or_other}
 use Rattle.ztree.specs.declared.session.Session.{Session}
 use Rattle.ztree.specs.Tree.{Sessions}
@@ -14,7 +15,7 @@ use Rattle.zslots.specs.declared.linked.Links.{Links}
 use Rattle.zslots.specs.declared.list.List.{List as IdList}
 use Rattle.zslots.specs.Families.{key_at, ChangesHead}
 use Rattle.zslots.specs.Lists.{empty_list}
-use Rattle.zslots.proofs.Items.{some_same, other_number}
+use Rattle.zslots.proofs.Items.{some_same}
 use Rattle.zslots.proofs.MapValues.{get-map_values}
 use Rattle.zsessions.specs.declared.row.SessionRow.{SessionRow}
 use Rattle.zsessions.specs.support.Rows.{Rows, Buckets, IdEntries, IsTable, bucket, bucket_number, number_of, session_at, id_at, found_at, sessions_of}
@@ -24,7 +25,7 @@ same_number p q = same_or_other nat_cmp_total nat_cmp-IsAntisymmetric p q
 
 -- a query for n finds no other key
 pub other_key : (n q : ℕ) → q ≢ n → nat_eq n q ≡ false
-other_key n q other = other_number n q (λ e. other (sym e))
+other_key n q other = ne_eqb n q (λ e. other (sym e))
 
 pub same_sessions : (m n : Sessions) → ((q : ℕ) → get m q ≡ get n q) → m ≡ n
 same_sessions m n alike = same_map nat_cmp_total nat_cmp-IsAntisymmetric m n alike

@@ -14,12 +14,12 @@ use Rattle.ztree.specs.declared.session.Session.{Session}
 use Rattle.zslots.specs.declared.id.Id.{Id}
 use Rattle.zsessions.specs.support.Rows.{Rows, IdEntries, session_at, id_at, sessions_of}
 use Rattle.zsessions.proofs.Read.{same_number, other_key, same_sessions, get-sessions}
-use Rattle.zslots.proofs.Items.{same_number as equal}
+use Rattle.std.proofs.lemmas.Bool.{eq-eqb}
 use Rattle.zsessions.proofs.Length.{apart-none}
 
 -- what an entry is under its key, and under another
 here : (n : ℕ) (id : Id) (left : IdEntries) → id_at ((n, id) ∷ left) n ≡ Some id
-here n id left = ap (λ b. cond b (Some id) (id_at left n)) (equal n n refl)
+here n id left = ap (λ b. cond b (Some id) (id_at left n)) (eq-eqb n n refl)
 
 elsewhere : (n q : ℕ) (id : Id) (left : IdEntries) → q ≢ n → id_at ((n, id) ∷ left) q ≡ id_at left q
 elsewhere n q id left other = ap (λ b. cond b (Some id) (id_at left q)) (other_key q n (λ e. other (sym e)))
