@@ -1,10 +1,14 @@
 -- What a clause says of a call that is sent again while it has no reply.
 use Rattle.std.specs.Prelude.{◌≡◌, ◌<◌, ◌⊎◌, ℕ, zero, suc, true}
+use Rattle.zcalls.specs.declared.call.Call.{Call}
 use Rattle.zcalls.specs.declared.reply.Reply.{Reply}
 use Rattle.zcaller.specs.declared.caller.Caller.{Caller}
 use Rattle.zcaller.specs.Callers.{Retried, SameCaller}
+use Rattle.zrun.specs.declared.client.Client.{Client}
+use Rattle.zrun.specs.declared.faults.Unanswered.{Unanswered}
+use Rattle.zrun.specs.declared.faults.Unanswered.TheVariants.{NoAnswer}
 use Rattle.zrun.specs.declared.patience.Patience.{Patience}
-use Rattle.zrun.specs.Clients.{TurnedInVain, TurnedUntil}
+use Rattle.zrun.specs.Clients.{BeganThen, caller_of, TurnedInVain, TurnedUntil}
 
 -- it sent the call again, or had no memory for that
 abbrev pub SentAgain : Caller → Caller → Type 0
@@ -32,3 +36,18 @@ abbrev pub AskedUntil : Patience → Caller → Caller → Reply → Type 0
 AskedUntil patience a b reply =
     TurnedUntil patience.turns a b reply
     ⊎ ((m : Caller) × TurnedInVain patience.turns a m × InsistedUntil patience m b reply)
+
+-- it began the call, and so it went on until this reply came
+abbrev pub CalledPatientlyUntil : Patience → Call → Client → Client → Reply → Type 0
+CalledPatientlyUntil patience call a b reply =
+    BeganThen (caller_of a) call (λ begun. AskedUntil patience begun (caller_of b) reply)
+
+-- where it has no answer, it began the call, and so it went on in vain
+abbrev pub CalledPatientlyInVain : Patience → Call → Client → Client → Unanswered → Type 0
+CalledPatientlyInVain patience call a b fault =
+    fault ≡ NoAnswer → BeganThen (caller_of a) call (λ begun. AskedInVain patience begun (caller_of b))
+
+-- it has no answer: it sent the call again as often as it may, in vain
+abbrev pub GaveUp : Patience → Client → Client → Unanswered → Type 0
+GaveUp patience a b fault =
+    (fault ≡ NoAnswer) × InsistedInVain patience.turns patience.retries (caller_of a) (caller_of b)

@@ -1,5 +1,5 @@
 -- What a clause says of a client of a cluster.
-use Rattle.std.specs.Prelude.{◌≡◌, ◌<◌, ℕ, zero, suc, true, List, Option, None, Some}
+use Rattle.std.specs.Prelude.{◌≡◌, ◌≢◌, ◌<◌, ℕ, zero, suc, true, List, Option, None, Some}
 use Rattle.zcalls.specs.declared.call.Call.{Call}
 use Rattle.zcalls.specs.declared.reply.Reply.{Reply}
 use Rattle.zprotocol.specs.declared.client.begin_fault.BeginFault.{BeginFault}
@@ -10,9 +10,10 @@ use Rattle.zdesks.specs.Desks.{Each}
 use Rattle.zdesks.specs.Desks as desk
 use Rattle.zdesks.specs.Endings.{HasEnded, SameWires}
 use Rattle.zcaller.specs.declared.caller.Caller.{Caller}
-use Rattle.zcaller.specs.Callers.{caller_desk, caller_id, Began, MayRefuse, Turned}
+use Rattle.zcaller.specs.Callers.{caller_desk, caller_id, caller_view, Began, MayRefuse, SameCaller, Turned}
 use Rattle.zrun.specs.declared.client.Client.{Client}
 use Rattle.zrun.specs.declared.faults.Unanswered.{Unanswered}
+use Rattle.zrun.specs.declared.faults.Unanswered.TheVariants.{NoAnswer}
 use Rattle.zrun.specs.Faults.{unanswered_by}
 use Rattle.zrun.specs.Origins.{desk_wiring, IsOneOf, Run, Wiring}
 
@@ -37,6 +38,24 @@ IsRefused v fault = (by : BeginFault) × (fault ≡ unanswered_by by) × MayRefu
 abbrev pub BeganThen : Caller → Call → (Caller → Type 0) → Type 0
 BeganThen a call P = (m : Caller) × (number : ℕ) × Began a m call number × P m
 
+-- it began the call, and took turns until one of so many gave out this reply
+abbrev pub CalledUntil : ℕ → Call → Client → Client → Reply → Type 0
+CalledUntil turns call a b reply = BeganThen (caller_of a) call (λ begun. TurnedUntil turns begun (caller_of b) reply)
+
+-- where it has no answer, it began the call, and took so many turns in vain
+abbrev pub CalledInVain : ℕ → Call → Client → Client → Unanswered → Type 0
+CalledInVain turns call a b fault =
+    fault ≡ NoAnswer → BeganThen (caller_of a) call (λ begun. TurnedInVain turns begun (caller_of b))
+
+-- with any other fault nothing was begun
+abbrev pub BeganNothing : Client → Client → Unanswered → Type 0
+BeganNothing a b fault =
+    fault ≢ NoAnswer → IsRefused (caller_view (caller_of a)) fault × SameCaller (caller_of a) (caller_of b)
+
+-- it has no answer: it took so many turns in vain
+abbrev pub WaitedInVain : ℕ → Client → Client → Unanswered → Type 0
+WaitedInVain turns a b fault = (fault ≡ NoAnswer) × TurnedInVain turns (caller_of a) (caller_of b)
+
 -- its number, and its desk
 abbrev pub number_of : Client → ℕ
 number_of c = caller_id c.caller
@@ -56,9 +75,13 @@ pub record SameClient (a b : Client) : Type 0 where
   pub number : number_of b ≡ number_of a
   pub wiring : client_wiring b ≡ client_wiring a
 
+-- it is the one of that number
+abbrev pub IsClientOf : Run → ℕ → Client → Type 0
+IsClientOf run number c = BelongsTo run c × (number_of c ≡ number)
+
 -- each is at the place of its number, and belongs to the run
 abbrev pub AreIn : Run → List (Option Client) → Type 0
-AreIn run places = Each (λ i place. (c : Client) → place ≡ Some c → BelongsTo run c × (number_of c ≡ i)) places
+AreIn run places = Each (λ i place. (c : Client) → place ≡ Some c → IsClientOf run i c) places
 
 -- it is what the client left; of one that isn't there the trace is cut
 abbrev pub IsLeftIn : Option Client → Ending → Type 0

@@ -1,10 +1,27 @@
--- What a clause says of the links of a process at the opening.
-use Rattle.std.specs.Prelude.{◌≡◌, List, length, map}
+-- What a clause says of processes at the opening, and of their links.
+use Rattle.std.specs.Prelude.{◌≡◌, ◌+◌, List, length, map}
+use Rattle.zprotocol.specs.declared.limits.TheConstants.{MAX_SERVERS}
+use Rattle.zprotocol.specs.declared.process.Process.{Process}
 use Rattle.zrings.specs.Ends.{Ring, ring_of_rx, ring_of_tx}
 use Rattle.zdesks.specs.declared.desk.Desk.{Desk}
-use Rattle.zdesks.specs.Desks.{AreFreshIns, AreFreshOuts}
+use Rattle.zdesks.specs.Desks.{AreFreshIns, AreFreshOuts, IsDeskOf}
 use Rattle.zrun.specs.declared.opening.Ends.{Ends}
-use Rattle.zrun.specs.Runs.{in_rings_of, out_rings_of}
+use Rattle.zrun.specs.declared.opening.Opening.{Opening}
+use Rattle.zrun.specs.Runs.{AreDesks, in_rings_of, IsRun, out_rings_of}
+
+-- it is the desk of that process in a run with that opening
+abbrev pub IsDeskAt : Opening → Process → Desk → Type 0
+IsDeskAt opening p d = IsDeskOf p opening.last opening.clients d
+
+-- they are those of its servers, of its clients, or of all its processes
+abbrev pub AreServerDesks : Opening → List Desk → Type 0
+AreServerDesks opening desks = AreDesks opening.last opening.clients 1 desks
+
+abbrev pub AreClientDesks : Opening → List Desk → Type 0
+AreClientDesks opening desks = AreDesks opening.last opening.clients (MAX_SERVERS + 1) desks
+
+abbrev pub IsRunFrom : Opening → List Desk → Type 0
+IsRunFrom opening desks = IsRun opening.last opening.clients desks
 
 -- nothing was put on them, and there are as many from others as to others
 abbrev pub AreFresh : Ends → Type 0

@@ -1,7 +1,7 @@
 -- What a clause says of a supply.
 use Rattle.std.specs.Prelude.{◌≡◌, ℕ, List, [], ◌∷◌, ◌++◌, length, map}
 use Rattle.zrings.specs.Ends.{Ring}
-use Rattle.zmesh.specs.Woven.{in_rings, out_rings}
+use Rattle.zmesh.specs.Woven.{AreWoven, in_rings, out_rings}
 use Rattle.zdesks.specs.declared.desk.Desk.{Desk}
 use Rattle.zrun.specs.declared.opening.Ends.{Ends}
 use Rattle.zrun.specs.declared.supply.Supply.{Supply}
@@ -18,6 +18,10 @@ out_rings_left s = out_rings s.outs.items
 
 abbrev pub in_rings_left : Supply → List (List Ring)
 in_rings_left s = in_rings s.ins.items
+
+-- they go from each of so many processes to each
+abbrev pub IsWovenFor : ℕ → Supply → Type 0
+IsWovenFor n s = AreWoven n s.outs.items s.ins.items
 
 -- it handed out the last links
 abbrev pub HandsEnds : Supply → Supply → Ends → Type 0

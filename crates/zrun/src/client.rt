@@ -1,6 +1,6 @@
 //! A client, as its caller's thread owns it.
 
-ghost use Rattle.std.specs.Prelude.{◌≡◌, ◌≢◌, IfErr, IfOk, OnErr, OnOk, Some, max};
+ghost use Rattle.std.specs.Prelude.{◌≡◌, IfErr, IfOk, OnErr, OnOk, Some, max};
 ghost use Rattle.std.specs.Arc.{arc_value};
 ghost use Rattle.zwords.specs.HaltSeats.{IsSeatOf};
 ghost use Rattle.zcaller.specs.Callers.{Began, caller_stamp, caller_view, IsUncut, MayRefuse};
@@ -29,10 +29,10 @@ pub struct Client {
 }
 
 impl Client {
-    ghost use Rattle.zrun.specs.Clients.{BeganThen, caller_of, IsRefused, number_of, SameClient};
-    ghost use Rattle.zrun.specs.Clients.{TurnedInVain, TurnedUntil};
-    ghost use Rattle.zrun.specs.Asked.{AskedInVain, AskedUntil, InsistedInVain, InsistedUntil, SentAgain};
-    ghost use Rattle.zrun.specs.declared.faults.Unanswered.TheVariants.{NoAnswer};
+    ghost use Rattle.zrun.specs.Clients.{BeganNothing, CalledInVain, CalledUntil, caller_of};
+    ghost use Rattle.zrun.specs.Clients.{number_of, SameClient, TurnedUntil, WaitedInVain};
+    ghost use Rattle.zrun.specs.Asked.{CalledPatientlyInVain, CalledPatientlyUntil, GaveUp};
+    ghost use Rattle.zrun.specs.Asked.{InsistedUntil, SentAgain};
 
     /// Begins a call, and answers its number.
     pub fn begin(&mut self, call: Call) -> Result<CallNumber, BeginFault>
@@ -98,14 +98,9 @@ impl Client {
 
     /// Begins a call and takes at most so many turns for its reply.
     pub fn call(&mut self, call: Call, turns: u64) -> Result<Reply, Unanswered>
-        ensures reply { IfOk result (λ reply. BeganThen (caller_of self.old) call (λ begun.
-            TurnedUntil turns begun (caller_of self.new) reply)) }
-        ensures unanswered { IfErr result (λ fault. fault ≡ NoAnswer
-            → BeganThen (caller_of self.old) call (λ begun.
-            TurnedInVain turns begun (caller_of self.new))) }
-        ensures refused { IfErr result (λ fault. fault ≢ NoAnswer
-            → IsRefused (caller_view (caller_of self.old)) fault
-            × SameCaller (caller_of self.old) (caller_of self.new)) }
+        ensures reply { IfOk result (CalledUntil turns call self.old self.new) }
+        ensures unanswered { IfErr result (CalledInVain turns call self.old self.new) }
+        ensures refused { IfErr result (BeganNothing self.old self.new) }
         ensures same { SameClient self.old self.new }
     {
         // (the number of the call is asked for by nobody here)
@@ -115,14 +110,9 @@ impl Client {
 
     /// Begins a call, and waits for its reply. While it has none the call is sent again, the same, so that it acts once.
     pub fn ask(&mut self, call: Call, patience: Patience) -> Result<Reply, Unanswered>
-        ensures reply { IfOk result (λ reply. BeganThen (caller_of self.old) call (λ begun.
-            AskedUntil patience begun (caller_of self.new) reply)) }
-        ensures unanswered { IfErr result (λ fault. fault ≡ NoAnswer
-            → BeganThen (caller_of self.old) call (λ begun.
-            AskedInVain patience begun (caller_of self.new))) }
-        ensures refused { IfErr result (λ fault. fault ≢ NoAnswer
-            → IsRefused (caller_view (caller_of self.old)) fault
-            × SameCaller (caller_of self.old) (caller_of self.new)) }
+        ensures reply { IfOk result (CalledPatientlyUntil patience call self.old self.new) }
+        ensures unanswered { IfErr result (CalledPatientlyInVain patience call self.old self.new) }
+        ensures refused { IfErr result (BeganNothing self.old self.new) }
         ensures same { SameClient self.old self.new }
     {
         // (the number of the call is asked for by nobody here)
@@ -137,9 +127,7 @@ impl Client {
     fn insist(&mut self, patience: Patience) -> Result<Reply, Unanswered>
         ensures reply { IfOk result
             (InsistedUntil patience (caller_of self.old) (caller_of self.new)) }
-        ensures unanswered { IfErr result (λ fault. (fault ≡ NoAnswer)
-            × InsistedInVain patience.turns patience.retries
-            (caller_of self.old) (caller_of self.new)) }
+        ensures unanswered { IfErr result (GaveUp patience self.old self.new) }
         ensures same { SameClient self.old self.new }
     {
         for _ in 0..patience.retries {
@@ -165,8 +153,7 @@ impl Client {
     /// Takes at most so many turns for the reply of the call that was begun. Its only fault is NoAnswer.
     pub fn wait(&mut self, turns: u64) -> Result<Reply, Unanswered>
         ensures reply { IfOk result (TurnedUntil turns (caller_of self.old) (caller_of self.new)) }
-        ensures unanswered { IfErr result (λ fault. (fault ≡ NoAnswer)
-            × TurnedInVain turns (caller_of self.old) (caller_of self.new)) }
+        ensures unanswered { IfErr result (WaitedInVain turns self.old self.new) }
         ensures same { SameClient self.old self.new }
     {
         for _ in 0..turns {

@@ -3,7 +3,7 @@
 ghost use Rattle.std.specs.Prelude.{◌≡◌, ◌≢◌, ◌<◌, ℕ, IfOk, IfSome, None, Some, length};
 ghost use Rattle.zcaller.specs.Callers.{caller_id};
 ghost use Rattle.zdesks.specs.Desks.{Each};
-ghost use Rattle.zrun.specs.Clients.{AreIn, BelongsTo, number_of};
+ghost use Rattle.zrun.specs.Clients.{AreIn, BelongsTo, IsClientOf, number_of};
 
 use crate::client::Client;
 use crate::posts::ClientPost;
@@ -43,8 +43,7 @@ impl Clients {
     /// Hands out the client of this number, if it is here.
     pub fn take(&mut self, id: ClientId) -> Option<Client>
         ensures found { result ≡ client_at self.old id }
-        ensures own { IfSome result (λ client.
-            BelongsTo (clients_run self.old) client × (number_of client ≡ id)) }
+        ensures own { IfSome result (IsClientOf (clients_run self.old) id) }
         ensures gone { client_at self.new id ≡ None }
         ensures others { (i : ℕ) → i ≢ id → client_at self.new i ≡ client_at self.old i }
         ensures run { clients_run self.new ≡ clients_run self.old }

@@ -4,8 +4,8 @@ ghost use Rattle.std.specs.Prelude.{◌≡◌, false, IfOk, length};
 ghost use Rattle.zprotocol.specs.declared.limits.TheConstants.{MAX_SERVERS};
 ghost use Rattle.ztraces.specs.Audit.{is_any_cut};
 ghost use Rattle.ztraces.specs.Lawful.{AreLawful};
-ghost use Rattle.zrun.specs.Runs.{IsRun};
 ghost use Rattle.zrun.specs.Handles.{given_desks};
+ghost use Rattle.zrun.specs.Openings.{IsRunFrom};
 
 use crate::clients::Clients;
 use crate::joining::{end_clients, join_servers};
@@ -34,8 +34,7 @@ pub struct Cluster {
     pub(crate) run: Snapshot<Vec<ClientPost>>,
     ghost all: { length servers.items ≡ MAX_SERVERS },
     ghost count: { length run.value.items ≡ opening.clients },
-    ghost wired: { IsRun opening.last opening.clients
-        (given_desks master servers.items run.value.items) },
+    ghost wired: { IsRunFrom opening (given_desks master servers.items run.value.items) },
 }
 
 impl Cluster {

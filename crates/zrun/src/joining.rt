@@ -39,9 +39,9 @@ pub(crate) fn join_servers<R: Threads>(
 
 /// What the clients left, by number. Of a client that isn't here the trace is cut.
 pub(crate) fn end_clients(alloc: Global, clients: Clients) -> Result<Vec<Ending>, Memory>
-    ensures left { IfOk result (λ endings.
-        AreLeftBy (client_desks (clients_run clients)) endings.items) }
-    ensures kept { IfOk result (λ endings. Pairs IsLeftIn clients.places.items endings.items) }
+    ensures left { IfOk result (λ ended.
+        AreLeftBy (client_desks (clients_run clients)) ended.items) }
+    ensures kept { IfOk result (λ ended. Pairs IsLeftIn clients.places.items ended.items) }
 {
     let Clients { places, .. } = clients;
     let mut endings = Vec::with_capacity(alloc, places.len())?;

@@ -5,7 +5,6 @@ ghost use Rattle.ztree.specs.declared.limits.TheConstants.{MAX_CLIENTS};
 ghost use Rattle.zprotocol.specs.server.Machine.{kept_tree};
 ghost use Rattle.zprotocol.specs.server.View.{opening_server};
 ghost use Rattle.zprotocol.specs.declared.process.Process.TheVariants as process;
-ghost use Rattle.zdesks.specs.Desks.{IsDeskOf};
 ghost use Rattle.zthreads.specs.Owned.{master_desk, server_desk};
 ghost use Rattle.zcaller.specs.Callers.{caller_desk};
 
@@ -39,12 +38,12 @@ pub(crate) struct Ends {
 }
 
 impl Opening {
-    ghost use Rattle.zrun.specs.Openings.{AreFresh, HasEnds};
+    ghost use Rattle.zrun.specs.Openings.{AreFresh, HasEnds, IsDeskAt};
 
     /// The master.
     pub(crate) fn master(&self, alloc: Global, ends: Ends) -> MasterThread
         requires { AreFresh ends }
-        ensures desk { IsDeskOf process.Master self.now.last self.now.clients (master_desk result) }
+        ensures desk { IsDeskAt self.now process.Master (master_desk result) }
         ensures ends { HasEnds ends (master_desk result) }
     {
         let Ends { ins, outs } = ends;
@@ -61,7 +60,7 @@ impl Opening {
     ) -> Result<ServerThread, Memory>
         requires { AreFresh ends }
         ensures desk { IfOk result (λ server.
-            IsDeskOf (process.Server id) self.now.last self.now.clients (server_desk server)) }
+            IsDeskAt self.now (process.Server id) (server_desk server)) }
         ensures ends { IfOk result (λ server. HasEnds ends (server_desk server)) }
     {
         // The number of a server is one of a chain: its clause tells that.
@@ -83,8 +82,7 @@ impl Opening {
     pub(crate) fn caller(&self, alloc: Global, id: ClientId, ends: Ends) -> Caller
         requires fresh { AreFresh ends }
         requires known { id < self.now.clients }
-        ensures desk { IsDeskOf (process.Client id)
-            self.now.last self.now.clients (caller_desk result) }
+        ensures desk { IsDeskAt self.now (process.Client id) (caller_desk result) }
         ensures ends { HasEnds ends (caller_desk result) }
     {
         let Ends { ins, outs } = ends;

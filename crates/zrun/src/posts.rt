@@ -6,7 +6,7 @@ ghost use Rattle.zrun.specs.Supplies.{HandsOut, left};
 ghost use Rattle.zrun.specs.Origins.{client_desks};
 ghost use Rattle.zrun.specs.Members.{clients_run, HasAll};
 ghost use Rattle.zrun.specs.Posts.{desks_in, post_desks, run_in};
-ghost use Rattle.zrun.specs.Runs.{AreDesks, IsRun};
+ghost use Rattle.zrun.specs.Openings.{AreClientDesks, AreServerDesks, IsRunFrom};
 
 use crate::clients::Clients;
 use crate::opening::Opening;
@@ -63,8 +63,7 @@ pub(crate) fn prepare(alloc: Global, opening: &Opening) -> Result<Posts, Memory>
     ensures count { IfOk result (λ posts. length (run_in posts) ≡ opening.now.clients) }
     ensures own { IfOk result (λ posts. clients_run posts.clients ≡ run_in posts) }
     ensures all { IfOk result (λ posts. HasAll opening.now.clients posts.clients) }
-    ensures run { IfOk result (λ posts.
-        IsRun opening.now.last opening.now.clients (desks_in posts)) }
+    ensures run { IfOk result (λ posts. IsRunFrom opening.now (desks_in posts)) }
 {
     let count = 1 + MAX_SERVERS as usize + opening.clients as usize;
     let mut supply = Supply::new(alloc, count)?;
@@ -92,13 +91,12 @@ fn prepare_clients(
     supply: &mut Supply,
 ) -> Result<Vec<ClientPost>, Memory>
     requires { opening.now.clients ≤ left supply.old }
-    ensures clients { IfOk result (λ clients. length clients.items ≡ opening.now.clients) }
+    ensures clients { IfOk result (λ posts. length posts.items ≡ opening.now.clients) }
     ensures left { OnOk result (left supply.new + opening.now.clients ≡ left supply.old) }
-    ensures desks { IfOk result (λ clients.
-        AreDesks opening.now.last opening.now.clients (MAX_SERVERS + 1)
-        (client_desks clients.items)) }
-    ensures rings { IfOk result (λ clients.
-        HandsOut supply.old supply.new (client_desks clients.items)) }
+    ensures desks { IfOk result (λ posts.
+        AreClientDesks opening.now (client_desks posts.items)) }
+    ensures rings { IfOk result (λ posts.
+        HandsOut supply.old supply.new (client_desks posts.items)) }
 {
     let mut clients = Vec::with_capacity(alloc, opening.clients as usize)?;
     for done in 0..opening.clients {
@@ -120,12 +118,11 @@ fn prepare_servers(
     supply: &mut Supply,
 ) -> Result<Vec<ServerPost>, Memory>
     requires { MAX_SERVERS ≤ left supply.old }
-    ensures servers { IfOk result (λ servers. length servers.items ≡ MAX_SERVERS) }
+    ensures servers { IfOk result (λ posts. length posts.items ≡ MAX_SERVERS) }
     ensures left { OnOk result (left supply.new + MAX_SERVERS ≡ left supply.old) }
-    ensures desks { IfOk result (λ servers.
-        AreDesks opening.now.last opening.now.clients 1 (post_desks servers.items)) }
-    ensures rings { IfOk result (λ servers.
-        HandsOut supply.old supply.new (post_desks servers.items)) }
+    ensures desks { IfOk result (λ posts. AreServerDesks opening.now (post_desks posts.items)) }
+    ensures rings { IfOk result (λ posts.
+        HandsOut supply.old supply.new (post_desks posts.items)) }
 {
     let mut servers = Vec::with_capacity(alloc, MAX_SERVERS as usize)?;
     for done in 0..MAX_SERVERS {

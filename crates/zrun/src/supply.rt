@@ -3,7 +3,7 @@
 ghost use Rattle.std.specs.Prelude.{◌≡◌, ◌<◌, ◌+◌, IfOk, OnOk, length, All};
 ghost use Rattle.std.specs.Arc.{arc_value};
 ghost use Rattle.zwords.specs.HaltSeats.{IsSeatOf};
-ghost use Rattle.zmesh.specs.Woven.{AreBlankIns, AreBlankOuts, AreWide, IsWoven};
+ghost use Rattle.zmesh.specs.Woven.{AreBlankIns, AreBlankOuts, AreWide};
 
 use crate::opening::Ends;
 use std::alloc::Global;
@@ -47,15 +47,14 @@ pub(crate) struct Supply {
 }
 
 impl Supply {
-    ghost use Rattle.zrun.specs.Supplies.{HandsEnds, in_rings_left, left, out_rings_left};
+    ghost use Rattle.zrun.specs.Supplies.{HandsEnds, IsWovenFor, left};
     ghost use Rattle.zrun.specs.Openings.{AreFresh};
 
     /// For so many processes.
     pub(crate) fn new(alloc: Global, count: usize) -> Result<Supply, Memory>
         requires { count < 100 }
         ensures left { IfOk result (λ supply. left supply ≡ count) }
-        ensures woven { IfOk result (λ supply.
-            IsWoven count (out_rings_left supply) (in_rings_left supply)) }
+        ensures woven { IfOk result (IsWovenFor count) }
     {
         let Mesh { outs, ins } = weave(alloc, count)?;
         let (halt, seats) = Halt::new(alloc, count + 1)?;
