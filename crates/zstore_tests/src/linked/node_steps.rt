@@ -59,7 +59,7 @@ pub(crate) fn take(rt: &impl Abort, nodes: &mut Nodes, path: &Path) -> Id
     ensures taken { IsTakenFrom nodes.new result path.now }
     ensures owners { IsSome (get nodes.new.owners 7) }
 {
-    let id = nodes.find(path.names()).expect(rt, "there is a node");
+    let id = nodes.find(path).expect(rt, "there is a node");
     assert!(rt; nodes.above(id).is_some());
     is_leaf(rt, nodes, id);
     has_known_owner(rt, nodes, id);
@@ -72,9 +72,9 @@ pub(crate) fn put_back(rt: &impl Abort, alloc: Global, nodes: &mut Nodes, path: 
     requires { IsTakenFrom nodes.old id path.now }
 {
     is_free(rt, nodes, path);
-    parent_of(rt, alloc, nodes, path);
+    let parent = parent_of(rt, alloc, nodes, path);
     nodes.reserve(1).expect(rt, "there is memory");
-    nodes.put_back(id);
+    nodes.put_back(id, parent);
 }
 
 /// The path that a text spells.
@@ -87,7 +87,7 @@ pub(crate) fn id_at(rt: &impl Abort, alloc: Global, nodes: &Nodes, text: &str) -
     ensures { IsSome (path_of nodes.now result) }
 {
     nodes
-        .find(path(rt, alloc, text).names())
+        .find(&path(rt, alloc, text))
         .expect(rt, "there is a node")
 }
 
@@ -126,14 +126,14 @@ fn parent_of(rt: &impl Abort, alloc: Global, nodes: &Nodes, path: &Path) -> Id
         .parent(alloc)
         .expect(rt, "there is memory")
         .expect(rt, "the path is below the root");
-    nodes.find(above.names()).expect(rt, "there is a parent")
+    nodes.find(&above).expect(rt, "there is a parent")
 }
 
 // There is no node at the path.
 fn is_free(rt: &impl Abort, nodes: &Nodes, path: &Path)
     ensures { has_node nodes.now.nodes path.now ≡ false }
 {
-    assert!(rt; nodes.find(path.names()).is_none());
+    assert!(rt; nodes.find(path).is_none());
 }
 
 // There is no node beneath the node.

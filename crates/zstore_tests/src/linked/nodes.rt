@@ -45,12 +45,12 @@ fn goes_and_comes(rt: &impl Abort, alloc: Global, nodes: &mut Nodes, path: &Path
     let id = take(rt, nodes, path);
     is_away(rt, nodes, path, id);
     put_back(rt, alloc, nodes, path, id);
-    assert!(rt; nodes.find(path.names()) == Some(id) && nodes.first_owned(7) == Some(id));
+    assert!(rt; nodes.find(path) == Some(id) && nodes.first_owned(7) == Some(id));
     assert!(rt; nodes.above(id) == Some(id_at(rt, alloc, nodes, "/a")));
 }
 
 fn is_away(rt: &impl Abort, nodes: &Nodes, path: &Path, id: Id) {
-    assert!(rt; nodes.find(path.names()).is_none() && nodes.node(id).is_none());
+    assert!(rt; nodes.find(path).is_none() && nodes.node(id).is_none());
     assert!(rt; nodes.first_owned(7).is_none() && nodes.given() == 3);
 }
 
@@ -71,6 +71,6 @@ fn goes_from_one(rt: &impl Abort, nodes: &mut Nodes, copy: &Nodes, path: &Path)
 {
     let id = take(rt, nodes, path);
     nodes.free(id);
-    assert!(rt; nodes.find(path.names()).is_none() && copy.find(path.names()) == Some(id));
+    assert!(rt; nodes.find(path).is_none() && copy.find(path) == Some(id));
     assert!(rt; nodes.given() == 2 && copy.given() == 2);
 }
