@@ -1,16 +1,18 @@
 //! A machine that meets want of memory in `apply` answers `Memory` for good.
 
-use crate::machines::{acts, can_be_copied, first_entry, machine, second_entry, timed_machine};
-use crate::values::{create, multi};
+use crate::machines::{
+    acts, can_be_copied, first_entry, machine, machine_of_multi, second_entry, timed_machine,
+};
+use crate::values::{create_sequential, multi};
 use std::alloc::Global;
 use zcalls::{Entry, Query, Update};
 use zops::Machine;
 use zpath::{Memory, Path};
 use zstories::Ended;
 
-/// A create.
+/// A create, whose path is made where it is applied.
 pub(crate) fn create_is_applied(alloc: Global) -> Ended {
-    is_second(alloc, create(alloc, "/a/b"))
+    is_second(alloc, create_sequential(alloc, "/a/b"))
 }
 
 /// A multi.
@@ -23,9 +25,9 @@ pub(crate) fn open_is_applied(alloc: Global) -> Ended {
     is_second(alloc, Ok(Update::Open(5)))
 }
 
-/// The reply that is kept for client 1 is given once more, which makes a copy.
+/// The reply that is kept for client 1 is given once more, which makes a copy of its list.
 pub(crate) fn retry_is_applied(alloc: Global) -> Ended {
-    is_applied(alloc, first_entry(Update::Tick))
+    is_applied_at(alloc, machine_of_multi(alloc), first_entry(Update::Tick))
 }
 
 /// A tick that removes a node, whose time to live is over.

@@ -1,6 +1,6 @@
 //! A machine, and entries for it.
 
-use crate::values::{create, create_timed};
+use crate::values::{create, create_timed, multi};
 use std::alloc::Global;
 use zcalls::{Entry, Reply, Update};
 use zliterals::{call_number, client};
@@ -15,6 +15,11 @@ pub(crate) fn machine(alloc: Global) -> Result<Machine, Memory> {
 /// A machine at which client 1's first call made `/a`, which lives for a tick.
 pub(crate) fn timed_machine(alloc: Global) -> Result<Machine, Memory> {
     machine_after(alloc, create_timed(alloc, "/a"))
+}
+
+/// A machine at which client 1's first call was a multi that made `/a`.
+pub(crate) fn machine_of_multi(alloc: Global) -> Result<Machine, Memory> {
+    machine_after(alloc, multi(alloc, "/a"))
 }
 
 fn machine_after(alloc: Global, update: Result<Update, Memory>) -> Result<Machine, Memory> {

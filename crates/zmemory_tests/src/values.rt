@@ -14,18 +14,24 @@ pub(crate) fn path(alloc: Global, text: &str) -> Result<Path, Memory> {
 
 /// An update that makes a node with two bytes.
 pub(crate) fn create(alloc: Global, text: &str) -> Result<Update, Memory> {
-    match creation(alloc, text, Kind::Persistent) {
-        Ok(create) => Ok(Update::Create(create)),
-        Err(memory) => Err(memory),
-    }
+    create_of(alloc, text, Kind::Persistent)
+}
+
+/// An update that makes a node with two bytes, whose name goes on with its parent's counter.
+pub(crate) fn create_sequential(alloc: Global, text: &str) -> Result<Update, Memory> {
+    create_of(alloc, text, Kind::PersistentSequential)
 }
 
 /// An update that makes a node with two bytes, which lives for a tick.
 pub(crate) fn create_timed(alloc: Global, text: &str) -> Result<Update, Memory> {
-    let Some(ttl) = Ttl::new(1) else {
-        return Err(Memory);
-    };
-    match creation(alloc, text, Kind::PersistentWithTtl(ttl)) {
+    match Ttl::new(1) {
+        Some(ttl) => create_of(alloc, text, Kind::PersistentWithTtl(ttl)),
+        None => Err(Memory),
+    }
+}
+
+fn create_of(alloc: Global, text: &str, kind: Kind) -> Result<Update, Memory> {
+    match creation(alloc, text, kind) {
         Ok(create) => Ok(Update::Create(create)),
         Err(memory) => Err(memory),
     }
