@@ -5,6 +5,7 @@ ghost use Rattle.std.specs.Fmt.{decimal};
 ghost use Rattle.std.specs.List.{flat_map};
 ghost use Rattle.zlines.specs.Texts.{Writes};
 ghost use Rattle.zlines.specs.Reply.{stat_text, spaced_number};
+ghost use Rattle.zlines.specs.declared.stat_text.TheConstants.{NUMBER_ROOM, FRONT_ROOM, ROOM};
 
 use itoa::write_digits;
 use std::str;
@@ -22,7 +23,7 @@ const ROOM: usize = FRONT_ROOM + 10 * NUMBER_ROOM;
 
 /// Writes the numbers of a stat, behind a short text.
 pub(crate) fn write_stat_behind(front: &str, stat: &Stat, out: &mut String) -> Result<(), Memory>
-    requires { length front.now ≤ 8 }
+    requires { length front.now ≤ FRONT_ROOM }
     ensures { OnOk result (Writes out.old out.new (front.now ++ stat_text stat.now)) }
 {
     let mut text = [0u8; ROOM];
@@ -39,11 +40,11 @@ pub(crate) fn write_stat_behind(front: &str, stat: &Stat, out: &mut String) -> R
 
 // Puts the ten numbers of a stat, with a space before each, at the end of a place, and answers where they begin.
 fn put_stat(stat: &Stat, place: &mut [u8]) -> usize
-    requires { length place.old ≡ 218 }
+    requires { length place.old ≡ ROOM }
     ensures told { drop result place.new ≡ stat_text stat.now }
     ensures ascii { IsAscii (drop result place.new) }
     ensures len { length place.new ≡ length place.old }
-    ensures room { 8 ≤ result }
+    ensures room { FRONT_ROOM ≤ result }
     ensures within { result ≤ length place.new }
 {
     let numbers = [
@@ -64,11 +65,11 @@ fn put_stat(stat: &Stat, place: &mut [u8]) -> usize
 // Puts numbers, with a space before each, at the end of a place, and answers where they begin.
 #[inline(always)]
 fn put_numbers(numbers: &[u64], place: &mut [u8]) -> usize
-    requires { 21 * length numbers.now ≤ length place.old }
+    requires { NUMBER_ROOM * length numbers.now ≤ length place.old }
     ensures told { drop result place.new ≡ flat_map spaced_number numbers.now }
     ensures ascii { IsAscii (drop result place.new) }
     ensures len { length place.new ≡ length place.old }
-    ensures room { length place.old ≤ result + 21 * length numbers.now }
+    ensures room { length place.old ≤ result + NUMBER_ROOM * length numbers.now }
     ensures within { result ≤ length place.new }
 {
     let mut start = place.len();
@@ -83,12 +84,12 @@ fn put_numbers(numbers: &[u64], place: &mut [u8]) -> usize
 // Puts a number, with a space before it, so that it ends at a place, and answers where it begins.
 #[inline(always)]
 fn put_number(number: u64, place: &mut [u8], end: usize) -> usize
-    requires room { 21 ≤ end }
+    requires room { NUMBER_ROOM ≤ end }
     requires within { end ≤ length place.old }
     ensures told { drop result place.new ≡ spaced_number number ++ drop end place.old }
     ensures ascii { IsAscii (spaced_number number) }
     ensures len { length place.new ≡ length place.old }
-    ensures room { end ≤ result + 21 }
+    ensures room { end ≤ result + NUMBER_ROOM }
     ensures before { result ≤ end }
 {
     let start = write_digits(number, place, end) - 1;
