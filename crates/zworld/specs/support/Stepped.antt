@@ -59,6 +59,7 @@ HasBegun old new client call number =
 abbrev pub GoesBy : Held → Held → Event → (before after : History) → Did → Type 0
 GoesBy old new event before after did = (told : History) × (after ≡ before ++ told) × HasStepped old new event did told
 
+-- the same, as what callers saw is handed on
 abbrev pub Goes : Held → Held → Event → (before after : Seen) → Did → Type 0
 Goes old new event before after did = GoesBy old new event before.items after.items did
 
