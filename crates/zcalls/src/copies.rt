@@ -2,7 +2,7 @@
 
 ghost use Rattle.std.specs.Prelude.{◌≡◌, IfOk};
 
-use crate::call::{Call, Check, Create, Delete, Entry, Part, Query, SetData, Update};
+use crate::call::{Call, Check, Create, Delete, Part, Query, SetData, Update};
 use crate::listed::{Names, Replies};
 use crate::multi::Multi;
 use crate::reply::{PartReply, Reply};
@@ -136,19 +136,6 @@ impl Call {
             Call::Update(update) => Ok(Call::Update(update.copied(alloc)?)),
             Call::Query(query) => Ok(Call::Query(query.copied(alloc)?)),
         }
-    }
-}
-
-impl Entry {
-    /// The same entry once more.
-    pub fn copied(&self, alloc: Global) -> Result<Entry, Memory>
-        ensures { IfOk result (λ copy. copy ≡ self.now) }
-    {
-        Ok(Entry {
-            client: self.client,
-            number: self.number,
-            update: self.update.copied(alloc)?,
-        })
     }
 }
 

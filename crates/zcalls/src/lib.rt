@@ -16,6 +16,7 @@ mod multi;
 mod refusal;
 mod reply;
 mod rows;
+mod shared_entry;
 
 pub use call::{Call, Check, Create, Delete, Entry, Expected, Kind, Part, Query, SetData, Update};
 pub use call_number::CallNumber;
@@ -25,4 +26,5 @@ pub use listed::{Names, Replies};
 pub use multi::Multi;
 pub use refusal::Refusal;
 pub use reply::{PartReply, Reply};
+pub use shared_entry::SharedEntry;
 pub use ztree::{ClientId, Data, SessionId, Stat, Ttl};

@@ -3,7 +3,7 @@
 use crate::epoch::Epoch;
 use crate::log_number::LogNumber;
 use crate::server_id::ServerId;
-use zcalls::{CallNumber, Entry, Query, Reply, Update};
+use zcalls::{CallNumber, Query, Reply, SharedEntry, Update};
 
 /// What processes send each other. `T` is what a `Snapshot` hands over: a machine with the number of
 /// its last entry (van Renesse and Schneider, "Chain Replication for Supporting High Throughput and
@@ -18,7 +18,7 @@ pub enum Message<T> {
     /// From a server to a client: the reply to the call of this number.
     Answer(CallNumber, Reply),
     /// From a server to its successor: the log's entry of this number, in their pair's epoch.
-    Update(Epoch, LogNumber, Entry),
+    Update(Epoch, LogNumber, SharedEntry),
     /// From a server to its predecessor: the tail has processed the entries up to this number.
     Ack(Epoch, LogNumber),
     /// From a server to its successor that has no state: the whole state.

@@ -1,3 +1,4 @@
 -- What serves proofs alone.
 pub mod Codes
 pub mod Samples
+pub mod Shared

@@ -19,7 +19,7 @@ mod zxid;
 pub use client::ClientId;
 pub use limits::{MAX_DATA, MAX_NODES, MAX_SESSIONS, MAX_TTL};
 pub use node::{Node, Stat};
-pub use node_data::Data;
+pub use node_data::{Data, DataFault};
 pub use session::Session;
 pub use session_id::SessionId;
 pub use ttl::Ttl;

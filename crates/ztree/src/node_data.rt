@@ -1,52 +1,76 @@
 //! The data of a znode.
 
-ghost use Rattle.std.specs.Prelude.{◌≡◌, [], ◌<◌, ◌≤◌, length, IfErr, IfOk, OnErr, OnOk};
+ghost use Rattle.std.specs.Prelude.{◌≡◌, [], ◌<◌, ◌≤◌, length, Err, IfErr, IfOk, OnOk};
 ghost use Rattle.ztree.specs.declared.limits.TheConstants.{MAX_DATA};
+ghost use Rattle.ztree.specs.declared.node_data.DataFault.TheVariants.{TooLong};
 
 use crate::limits::MAX_DATA;
 use std::alloc::Global;
 use std::marker::Model;
+use std::sync::Arc;
+use thiserror::Error;
 use zpath::Memory;
 
 /// A znode's data: at most 65,536 bytes, which are read and written whole.
+// All owners of the data share its bytes. No bytes take no room.
 #[derive(Debug, Drop)]
 pub struct Data {
-    bytes: Vec<u8>,
+    bytes: Option<Arc<Vec<u8>>>,
 }
 
 impl Model for Data {
     ghost use Rattle.std.specs.Prelude.{ℕ, List, length, ◌≤◌};
     ghost use Rattle.ztree.specs.declared.limits.TheConstants.{MAX_DATA};
+    ghost use Rattle.ztree.specs.support.Shared.{shared_bytes};
 
     ghost Value = { List ℕ };
 
-    ghost view = { λ d. d.bytes.items };
+    ghost view = { λ d. shared_bytes d.bytes };
 
-    ghost invariant = { λ d. length d.bytes.items ≤ MAX_DATA };
+    ghost invariant = { λ d. length (shared_bytes d.bytes) ≤ MAX_DATA };
+}
+
+/// Why bytes are no znode's data.
+#[derive(Clone, Copy, Debug, PartialEq, Eq, Error)]
+pub enum DataFault {
+    /// There are more than 65,536.
+    #[error("too long")]
+    TooLong,
+    /// A growth was refused: there is no memory to share them.
+    #[error("memory")]
+    Memory,
 }
 
 impl Data {
-    /// Takes the bytes, and allocates nothing. Where there are more than 65,536, hands them back.
-    pub fn new(bytes: Vec<u8>) -> Result<Data, Vec<u8>>
+    /// Takes the bytes. Where there are more than 65,536, or no memory to share them, they are let go.
+    pub fn new(alloc: Global, bytes: Vec<u8>) -> Result<Data, DataFault>
         ensures taken { IfOk result (λ d. d ≡ bytes.items) }
         ensures fits { OnOk result (length bytes.items ≤ MAX_DATA) }
-        ensures same { IfErr result (λ back. back.items ≡ bytes.items) }
-        ensures too_long { OnErr result (MAX_DATA < length bytes.items) }
+        ensures only { IfErr result (λ fault. fault ≡ TooLong → MAX_DATA < length bytes.items) }
+        ensures too_long { MAX_DATA < length bytes.items → result ≡ Err TooLong }
     {
-        if bytes.len() <= MAX_DATA {
-            Ok(Data { bytes })
-        } else {
-            Err(bytes)
+        if bytes.len() > MAX_DATA {
+            drop(bytes);
+            return Err(DataFault::TooLong);
+        }
+        if bytes.is_empty() {
+            drop(bytes);
+            return Ok(Data { bytes: None });
+        }
+        match Arc::new(alloc, bytes) {
+            Ok(bytes) => Ok(Data { bytes: Some(bytes) }),
+            Err(refused) => {
+                drop(refused);
+                Err(DataFault::Memory)
+            }
         }
     }
 
     /// No bytes. It allocates nothing.
-    pub fn empty(alloc: Global) -> Data
+    pub fn empty(_alloc: Global) -> Data
         ensures { result ≡ [] }
     {
-        Data {
-            bytes: Vec::new(alloc),
-        }
+        Data { bytes: None }
     }
 
     /// The bytes.
@@ -54,15 +78,20 @@ impl Data {
         ensures bytes { result.now ≡ self.now }
         ensures short { length self.now ≤ MAX_DATA }
     {
-        &self.bytes
+        match &self.bytes {
+            Some(bytes) => bytes.as_slice(),
+            None => &[],
+        }
     }
 
-    /// The same bytes once more.
-    pub fn copied(&self, alloc: Global) -> Result<Data, Memory>
+    /// A second owner of the same bytes.
+    pub fn copied(&self, _alloc: Global) -> Result<Data, Memory>
         ensures { IfOk result (λ d. d ≡ self.now) }
     {
-        Ok(Data {
-            bytes: Vec::from_slice(alloc, &self.bytes)?,
-        })
+        let bytes = match &self.bytes {
+            Some(bytes) => Some(Arc::try_clone(bytes)?),
+            None => None,
+        };
+        Ok(Data { bytes })
     }
 }
