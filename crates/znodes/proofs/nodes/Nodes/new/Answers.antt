@@ -20,7 +20,7 @@ module _ (c : goal.After-new-2) where
   id = c.in-Ok.id
 
   row : c.alone-row.result ≡ opening.row c.args.alloc c.args.root id
-  row = c.alone-row.ensures ∙ ap (λ (path : Path). lone_row c.args.alloc path c.args.root None) c.root.ensures
+  row = c.alone-row.ensures ∙ ap (λ (path : Path). lone_row c.args.alloc path c.args.root None) c.root-2.ensures
 
   rows : c.insert.new.self.items ≡ opening.rows c.args.alloc c.args.root id
   rows =
@@ -30,8 +30,8 @@ module _ (c : goal.After-new-2) where
   ids : c.insert-2.new.self.ids ≡ opening.ids c.args.alloc c.args.root id
   ids =
       c.insert-2.ensures.ids
-      ∙ ap (λ (m : IdsByPath). insert m c.root-2.result id) (c.reserve.ensures.same ∙ c.new-index.ensures)
-      ∙ ap (λ (path : Path). insert {X = Id} finite.empty path id) c.root-2.ensures
+      ∙ ap (λ (m : IdsByPath). insert m c.root-3.result id) (c.reserve.ensures.same ∙ c.new-index.ensures)
+      ∙ ap (λ (path : Path). insert {X = Id} finite.empty path id) c.root-3.ensures
 
 -- the index has room
 pub insert-requires-2 : goal.insert-requires-2
