@@ -1,7 +1,6 @@
 -- A text that passes the quick test has no fault.
 use Rattle.std.proofs.Common.{◌≡◌, ℕ, ◌<◌, ◌≤◌, ◌-◌, Bool, true, false, not, ◌&&◌, cond, eqb, List, [], ◌∷◌, ◌++◌, length, None, codes, refl, sym, ap, ◌∙◌, arith}
 use Rattle.std.specs.Prelude.{nat_lt, nat_eq}
-use Rattle.std.specs.Bool.{OnFalse}
 use Rattle.std.specs.List.{list_any, onto_first, flat_map, starts_with}
 use Rattle.std.specs.Str.{bytes_eq}
 use Rattle.std.proofs.lemmas.Bool.Decides.{nat_tests}
@@ -116,7 +115,7 @@ short_parts (part ∷ parts) fits =
     rw (not_above MAX_NAME_LEN (length part) (omega (arith, more)), short_parts parts (omega (arith, more))) refl
 
 -- a text that doesn't begin with the reserved name has another first name
-unreserved : (rest : List ℕ) → starts_with nat_eq rest (codes "zookeeper") ≡ false → is_reserved (parts_of rest) ≡ false
+pub unreserved : (rest : List ℕ) → starts_with nat_eq rest (codes "zookeeper") ≡ false → is_reserved (parts_of rest) ≡ false
 unreserved rest other = at (parts_of rest) (spelled-parts_of rest)
   where
     by : (first tail : List ℕ) (is : Bool) → bytes_eq first (codes "zookeeper") ≡ is → first ++ tail ≡ rest → is ≡ false
@@ -128,10 +127,6 @@ unreserved rest other = at (parts_of rest) (spelled-parts_of rest)
     at : (parts : List (List ℕ)) → flat_map segment_of parts ≡ 47 ∷ rest → is_reserved parts ≡ false
     at [] spelled = refl
     at (first ∷ parts) spelled = by first (flat_map segment_of parts) (bytes_eq first (codes "zookeeper")) refl cc
-
-pub not_reserved : (rest : List ℕ) (starts : Bool) → starts ≡ starts_with nat_eq rest (codes "zookeeper") → OnFalse starts (is_reserved (parts_of rest) ≡ false)
-not_reserved rest true e = tt
-not_reserved rest false e = unreserved rest (sym e)
 
 -- what the quick test says of a text
 pub plain_is_faultless : (text rest : List ℕ) → text ≡ 47 ∷ rest → length text ≤ MAX_NAME_LEN → is_reserved (parts_of rest) ≡ false → has_plain_names (MAX_DEPTH - 1) true rest ≡ true → fault_of text ≡ None

@@ -6,7 +6,6 @@
 //! `Name` as its bytes and a `Path` as the list of its names.
 #![tactic(auto)]
 
-mod cut;
 mod fault;
 pub mod laws;
 mod limits;

@@ -13,7 +13,7 @@ use crate::fault::PathFault;
 use crate::list::NameList;
 use crate::memory::Memory;
 use crate::name::Name;
-use crate::{cut, numbered, quick, scan};
+use crate::{numbered, quick, scan};
 use arrayvec::ArrayVec;
 use std::alloc::{AllocError, Global};
 use std::cmp::Ordering;
@@ -67,7 +67,7 @@ impl Path {
     {
         let mut lens = ArrayVec::new();
         if let Some(rest) = quick::plain_rest(text, &mut lens) {
-            let names = cut::names_by(alloc, rest, &lens)?;
+            let names = quick::names_by(alloc, rest, &lens)?;
             return Ok(Path::of(alloc, names)?);
         }
         let rest = scan::faultless_rest(text)?;
@@ -150,7 +150,7 @@ impl Path {
     pub fn copied(&self, _alloc: Global) -> Result<Path, Memory>
         ensures { IfOk result (λ copy. copy ≡ self.now) }
     {
-        Ok(self.clone()?)
+        Ok(self.front(self.depth)?)
     }
 
     // The path of a list's names.
@@ -179,7 +179,6 @@ impl Path {
     }
 }
 
-// As `copied`.
 impl Clone for Path {
     ghost is_clone = { λ path copy. copy ≡ path };
 
