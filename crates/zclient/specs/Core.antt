@@ -1,5 +1,5 @@
 -- What the client table leaves open: when there is no memory, and how a reply is handed out.
-use Rattle.std.specs.Prelude.{◌≡◌, ◌<◌, ℕ, Option, None, Some, List, [], ◌∷◌}
+use Rattle.std.specs.Prelude.{◌≡◌, ◌<◌, ℕ, Option, None, Some, List}
 use Rattle.std.specs.Option.{IsSome, option_map}
 use Rattle.zcalls.specs.declared.reply.Reply.{Reply}
 use Rattle.zprotocol.specs.declared.message.Message.{Message}
@@ -29,8 +29,3 @@ reply_of given = option_map (λ answer. answer.1) given
 -- the call that a client waits for, sent to these ends of the chain
 abbrev pub sent_to : {T : Type 0} → ClientView → Option ℕ → Option ℕ → List (PostOf T)
 sent_to v head tail = outstanding_posts (record v { head = head; tail = tail })
-
--- the one post or none, as a list
-abbrev pub posts_of : {T : Type 0} → Option (PostOf T) → List (PostOf T)
-posts_of None = []
-posts_of (Some post) = post ∷ []

@@ -3,11 +3,10 @@
 ghost use Rattle.std.specs.Prelude.{◌≡◌, ◌+◌, ◌<◌, ◌≤◌, ℕ, None, Some, [], IfErr, IfOk, IsSome, OnErr, OnOk, is_some};
 ghost use Rattle.std.specs.Option.{option_map};
 ghost use Rattle.zprotocol.specs.client.View.{opening_client};
-ghost use Rattle.zprotocol.specs.client.Table.{begin_fault, begin_step, client_step, answer_row, config_row, retry_posts};
+ghost use Rattle.zprotocol.specs.client.Table.{begin_fault, begin_step, call_posts, client_step, answer_row, config_row, retry_posts};
 ghost use Rattle.zprotocol.specs.Posts.{Puts};
 ghost use Rattle.zclient.specs.Core.{IsBeginFault, IsResend, reply_of, sent_to};
 
-use crate::post::send_call;
 use std::alloc::Global;
 use std::marker::Model;
 use zcalls::{Call, CallNumber, MAX_CALL_NUMBER, Reply};
@@ -102,18 +101,20 @@ impl ClientCore {
         ensures same { OnErr result (self.new ≡ self.old) }
         ensures silent { OnErr result (out.new.posts ≡ out.old.posts) }
     {
-        let number = match self.next_number() {
-            Ok(number) => number,
-            Err(fault) => {
-                drop(call);
-                return Err(fault);
-            }
+        if let Some(fault) = self.begin_fault() {
+            drop(call);
+            return Err(fault);
+        }
+        let Some(number) = CallNumber::new(self.number.number() + 1) else {
+            // Without a fault there is a next number.
+            unreachable!();
         };
         let Ok(()) = send_call(self.alloc, &self.head, &self.tail, number, &call, out) else {
             drop(call);
             return Err(BeginFault::Memory);
         };
-        self.wait_for(number, call);
+        self.number = number;
+        drop(self.outstanding.replace((number, call)));
         Ok(number)
     }
 
@@ -162,33 +163,6 @@ impl ClientCore {
     {
         self.send(&self.head, &self.tail, out)?;
         Ok(self.outstanding.is_some())
-    }
-
-    // The number of the next call, or why none can begin.
-    #[tactic(auto, unfolding(zprotocol::specs::client::Table::begin_fault))]
-    fn next_number(&self) -> Result<CallNumber, BeginFault>
-        ensures next { IfOk result (λ number. number ≡ self.now.number + 1) }
-        ensures allowed { OnOk result (begin_fault self.now ≡ None) }
-        ensures fault { IfErr result (IsBeginFault self.now) }
-    {
-        if let Some(fault) = self.begin_fault() {
-            return Err(fault);
-        }
-        match CallNumber::new(self.number.number() + 1) {
-            Some(number) => Ok(number),
-            None => unreachable!(),
-        }
-    }
-
-    // From now on it waits for this call.
-    fn wait_for(&mut self, number: CallNumber, call: Call)
-        ensures { self.new ≡ record self.old {
-          number = number;
-          outstanding = Some (number, call);
-        } }
-    {
-        self.number = number;
-        drop(self.outstanding.replace((number, call)));
     }
 
     // Sends the call that it waits for, where there is one, to these ends of the chain.
@@ -254,4 +228,36 @@ impl ClientCore {
         self.tail = *tail;
         Ok(())
     }
+}
+
+// Sends a call to these ends of the chain: an update to the head, a query to the tail. Where there is no such
+// server, nothing is put. All growth is made before that.
+fn send_call<T: Drop>(
+    alloc: Global,
+    head: &Option<ServerId>,
+    tail: &Option<ServerId>,
+    number: CallNumber,
+    call: &Call,
+    out: &mut Out<T>,
+) -> Result<(), Memory>
+    ensures puts { OnOk result (Puts out.old out.new
+        (call_posts head.now tail.now number call.now)) }
+    ensures silent { OnErr result (out.new.posts ≡ out.old.posts) }
+{
+    out.reserve(1)?;
+    match call {
+        Call::Update(update) => {
+            if let Some(head) = head {
+                let copy = update.copied(alloc)?;
+                out.put_reserved(Process::Server(*head), Message::Submit(number, copy));
+            }
+        }
+        Call::Query(query) => {
+            if let Some(tail) = tail {
+                let copy = query.copied(alloc)?;
+                out.put_reserved(Process::Server(*tail), Message::Query(number, copy));
+            }
+        }
+    }
+    Ok(())
 }

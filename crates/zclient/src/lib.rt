@@ -6,7 +6,6 @@
 #![tactic(auto)]
 
 mod client_core;
-mod post;
 
 pub use client_core::ClientCore;
 pub use zprotocol::BeginFault;
