@@ -1,8 +1,7 @@
 //! The words of a line, one after the other.
 
-ghost use Rattle.std.specs.Prelude.{◌≡◌, [], ◌∷◌, List, ℕ, IfSome, IfNone, ◌==◌};
+ghost use Rattle.std.specs.Prelude.{◌≡◌, [], ◌∷◌, List, ℕ, IfSome, IfNone};
 ghost use Rattle.std.specs.Bool.{OnTrue, OnFalse};
-ghost use Rattle.std.specs.List.{position_or_len};
 ghost use Rattle.zlines.specs.LineWords.{words_of};
 ghost use Rattle.zlines.specs.support.Words.{HasWord};
 
@@ -38,7 +37,12 @@ impl<'a> Cursor<'a> {
         ensures none { IfNone result ((self.old ≡ []) × (self.new ≡ [])) }
     {
         let left = self.left?;
-        let end = word_end(left.as_bytes());
+        let bytes = left.as_bytes();
+        // Words are short, so their bytes are looked at one by one.
+        let mut end = 0;
+        while end < bytes.len() && bytes[end] != b' ' {
+            end += 1;
+        }
         if end == left.len() {
             self.left = None;
             return Some(left);
@@ -54,15 +58,4 @@ impl<'a> Cursor<'a> {
     {
         self.left.is_none()
     }
-}
-
-// How many bytes stand before the first space. Words are short, so they are looked at one by one.
-fn word_end(bytes: &[u8]) -> usize
-    ensures { result ≡ position_or_len (λ byte. byte == 0x20) bytes.now }
-{
-    let mut end = 0;
-    while end < bytes.len() && bytes[end] != b' ' {
-        end += 1;
-    }
-    end
 }

@@ -1,18 +1,17 @@
 //! Lines, read.
 
-ghost use Rattle.std.specs.Prelude.{◌≡◌, Ok, IfOk, IfErr, IfNone, IfSome, true, false};
+ghost use Rattle.std.specs.Prelude.{◌≡◌, Ok, IfOk, IfErr};
 ghost use Rattle.zlines.specs.Request.{IsUnread};
 ghost use Rattle.zlines.specs.Line.{line_of, line_in, client_line_in, take_in, ignore_in, fail_in};
 ghost use Rattle.zlines.specs.Line.{join_in, retire_in, retry_in, settle_in, link_in, lone_server_in};
-ghost use Rattle.zlines.specs.LineWords.{is_malformed};
 
 use crate::cursor::Cursor;
 use crate::limits::MAX_LINE;
 use crate::line::Line;
-use crate::process_words::{client_in, client_process_in, process_in, server_in};
 use crate::reading::read_request;
 use crate::request::LineFault;
 use crate::spaced::is_spaced;
+use crate::words::{client_in, client_process_in, process_in, server_in};
 use std::alloc::Global;
 use std::str;
 use zcalls::ClientId;
@@ -24,28 +23,17 @@ pub fn read_line(alloc: Global, line: &[u8]) -> Result<Line, LineFault>
     ensures found { IfOk result (λ asked. line_of line.now ≡ Ok asked) }
     ensures fault { IfErr result (IsUnread (line_of line.now)) }
 {
-    let Some(text) = well_formed(line) else {
-        return Err(LineFault::BadLine);
-    };
-    read_words(alloc, Cursor::new(text))
-}
-
-// The line as a text, if it is well formed: not too long, of plain bytes, and with no empty word.
-fn well_formed(line: &[u8]) -> Option<&str>
-    ensures text { IfSome result (λ text. (text.now ≡ line.now) × (is_malformed line.now ≡ false)) }
-    ensures none { IfNone result (is_malformed line.now ≡ true) }
-{
     if line.len() > MAX_LINE {
-        return None;
+        return Err(LineFault::BadLine);
     }
     if !is_spaced(line) {
-        return None;
+        return Err(LineFault::BadLine);
     }
     let Ok(text) = str::from_utf8(line) else {
         // Plain bytes are a text.
         unreachable!();
     };
-    Some(text)
+    read_words(alloc, Cursor::new(text))
 }
 
 // What the words of a line ask for.

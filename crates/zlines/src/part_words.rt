@@ -1,14 +1,12 @@
 //! A part of a command, taken apart into words.
 
-ghost use Rattle.std.specs.Prelude.{◌≡◌};
-
 use std::marker::Model;
 use zcalls::{Expected, Kind};
 
 /// A word that is yet to be read.
 #[derive(Drop)]
 pub(crate) struct Word<'a> {
-    text: &'a str,
+    pub(crate) text: &'a str,
 }
 
 impl<'a> Model for Word<'a> {
@@ -17,22 +15,6 @@ impl<'a> Model for Word<'a> {
     ghost Value = { List ℕ };
 
     ghost view = { λ word. word.text.now };
-}
-
-impl<'a> Word<'a> {
-    /// This word.
-    pub(crate) fn new(text: &'a str) -> Word<'a>
-        ensures { result ≡ text.now }
-    {
-        Word { text }
-    }
-
-    /// Its text.
-    pub(crate) fn text(&self) -> &'a str
-        ensures { result.now ≡ self.now }
-    {
-        self.text
-    }
 }
 
 /// A change whose shape was looked at, and whose path and data are yet to be read.

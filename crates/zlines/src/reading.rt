@@ -1,20 +1,21 @@
 //! Commands of clients, read.
 
 ghost use Rattle.std.specs.Prelude.{◌≡◌, ◌∷◌, Ok, Err, IfOk, IfErr};
-ghost use Rattle.zlines.specs.Request.{IsUnread, request_in, command_in, tick_in, call_in, number_in, asked_in, query_in, session_in, single_in, multi_in};
+ghost use Rattle.zlines.specs.Request.{IsUnread, request_in, tick_in, call_in, number_in, asked_in, query_in, session_in, multi_in};
 ghost use Rattle.zcalls.specs.declared.call.Query.TheVariants.{GetData, Exists, GetChildren};
 ghost use Rattle.zcalls.specs.declared.call.Update.TheVariants.{Open, Ping, Close};
 
 use crate::cursor::Cursor;
-use crate::number::number;
 use crate::part_reading::{read_change, read_parts, read_path};
 use crate::request::{LineFault, Request};
 use crate::shape::{all_parts, lone_change};
+use crate::words::number;
 use std::alloc::Global;
 use zcalls::{Call, ClientId, Multi, Query, SessionId, Update};
 use zpath::Path;
 
-/// Reads a client's command: its verb, and the words behind it.
+/// Reads a client's command: its verb, and the words behind it. Client 0 is the clock: it gives `tick` alone,
+/// and no other client gives it.
 pub(crate) fn read_request(
     alloc: Global,
     client: ClientId,
@@ -25,26 +26,12 @@ pub(crate) fn read_request(
         ≡ Ok request) }
     ensures fault { IfErr result (IsUnread (request_in client (verb.now ∷ words.entry))) }
 {
-    let call = read_command(alloc, client, verb, words)?;
-    Ok(Request { client, call })
-}
-
-// The call that a client's command asks for. Client 0 is the clock: it gives `tick` alone, and no
-// other client gives it.
-fn read_command(
-    alloc: Global,
-    client: ClientId,
-    verb: &str,
-    words: Cursor,
-) -> Result<Call, LineFault>
-    ensures found { IfOk result (λ call. command_in client (verb.now ∷ words.entry) ≡ Ok call) }
-    ensures fault { IfErr result (IsUnread (command_in client (verb.now ∷ words.entry))) }
-{
-    if client.number() == 0 {
-        read_tick(verb, words)
+    let call = if client.number() == 0 {
+        read_tick(verb, words)?
     } else {
-        read_call(alloc, verb, words)
-    }
+        read_call(alloc, verb, words)?
+    };
+    Ok(Request { client, call })
 }
 
 // `tick`, and no further word.
@@ -72,7 +59,13 @@ fn read_call(alloc: Global, verb: &str, words: Cursor) -> Result<Call, LineFault
         "open" => read_open(words),
         "ping" => read_ping(words),
         "close" => read_close(words),
-        _ => read_single(alloc, verb, words),
+        _ => {
+            let Some(change) = lone_change(verb, words) else {
+                return Err(LineFault::BadLine);
+            };
+            let change = read_change(alloc, &change)?;
+            Ok(Call::Update(Update::from(change)))
+        }
     }
 }
 
@@ -156,18 +149,6 @@ fn read_number(mut words: Cursor) -> Result<u64, LineFault>
         return Err(LineFault::BadLine);
     }
     number(word).ok_or(LineFault::BadLine)
-}
-
-// A call of one part.
-fn read_single(alloc: Global, verb: &str, words: Cursor) -> Result<Call, LineFault>
-    ensures found { IfOk result (λ call. single_in verb.now words.entry ≡ Ok call) }
-    ensures fault { IfErr result (IsUnread (single_in verb.now words.entry)) }
-{
-    let Some(words) = lone_change(verb, words) else {
-        return Err(LineFault::BadLine);
-    };
-    let change = read_change(alloc, &words)?;
-    Ok(Call::Update(Update::from(change)))
 }
 
 // A call of several parts.

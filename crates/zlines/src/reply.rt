@@ -6,21 +6,24 @@ ghost use Rattle.std.specs.Fmt.{decimal};
 ghost use Rattle.std.specs.List.{flat_map};
 ghost use Rattle.zcalls.specs.Step.{refusal_name};
 ghost use Rattle.zcalls.specs.declared.reply.Reply.TheVariants.{Data};
-ghost use Rattle.zpath.specs.Grammar.{text_of};
+ghost use Rattle.zlines.specs.LineWords.{data_text};
 ghost use Rattle.zlines.specs.Reply.{reply_text, removed_text, parts_text, part_text, next_part_text, spaced_name};
 
-use crate::node_bytes::write_data;
 use crate::stat_text::write_stat_behind;
+use base64::engine::general_purpose::STANDARD;
 use itoa::Buffer;
 use zcalls::{PartReply, Refusal, Reply, Stat};
-use zpath::{Memory, Name, Path};
+use zpath::{Memory, Name};
 
 /// Writes a reply, without the end of its line.
 pub fn write_reply(reply: &Reply, out: &mut String) -> Result<(), Memory>
     ensures { OnOk result (Writes out.old out.new (reply_text reply.now)) }
 {
     match reply {
-        Reply::Created(path) => write_path("ok ", path, out),
+        Reply::Created(path) => {
+            write!(out, "ok {path}")?;
+            Ok(())
+        }
         Reply::Deleted => write_text("ok deleted", out),
         Reply::Set(stat) | Reply::Exists(stat) => write_stat_behind("ok stat", stat, out),
         Reply::Multi(replies) => {
@@ -55,14 +58,6 @@ fn write_text(text: &str, out: &mut String) -> Result<(), Memory>
     ensures { OnOk result (Writes out.old out.new text.now) }
 {
     out.push_str(text)?;
-    Ok(())
-}
-
-// A path, behind a text.
-fn write_path(front: &str, path: &Path, out: &mut String) -> Result<(), Memory>
-    ensures { OnOk result (Writes out.old out.new (front.now ++ text_of path.now)) }
-{
-    write!(out, "{front}{path}")?;
     Ok(())
 }
 
@@ -108,6 +103,18 @@ fn write_node(bytes: &[u8], stat: &Stat, out: &mut String) -> Result<(), Memory>
     write_stat_behind(" stat", stat, out)
 }
 
+// Data: `-` for no bytes, else base64.
+fn write_data(bytes: &[u8], out: &mut String) -> Result<(), Memory>
+    ensures { OnOk result (Writes out.old out.new (data_text bytes.now)) }
+{
+    if bytes.is_empty() {
+        out.push_str("-")?;
+        return Ok(());
+    }
+    STANDARD.encode_string(bytes, out)?;
+    Ok(())
+}
+
 // The name of a refusal, behind a text.
 fn write_refusal(front: &str, refusal: &Refusal, out: &mut String) -> Result<(), Memory>
     ensures { OnOk result (Writes out.old out.new (front.now ++ refusal_name refusal.now)) }
@@ -143,7 +150,10 @@ fn write_part(reply: &PartReply, out: &mut String) -> Result<(), Memory>
     ensures { OnOk result (Writes out.old out.new (part_text reply.now)) }
 {
     match reply {
-        PartReply::Created(path) => write_path("", path, out),
+        PartReply::Created(path) => {
+            write!(out, "{path}")?;
+            Ok(())
+        }
         PartReply::Deleted => write_text("deleted", out),
         PartReply::Set(stat) => write_stat_behind("stat", stat, out),
         PartReply::Checked => write_text("checked", out),

@@ -1,7 +1,6 @@
 //! Whether a line is well spaced, seen many bytes at a time. Two loads that overlap cover a short line.
 
 ghost use Rattle.std.specs.Prelude.{◌≡◌, ◌+◌, ◌-◌, ◌<◌, ◌≤◌, length, true};
-ghost use Rattle.zlines.specs.LineWords.{is_plain};
 ghost use Rattle.zlines.specs.support.Spaced.{is_spaced, IsOddAmong};
 
 use std::simd::prelude::*;
@@ -13,20 +12,13 @@ pub(crate) fn is_spaced(line: &[u8]) -> bool
     let [first, ..] = line else {
         return false;
     };
-    if !is_plain(*first) || *first == b' ' {
+    if !(0x21..=0x7e).contains(first) {
         return false;
     }
     if line[line.len() - 1] == b' ' {
         return false;
     }
     !has_odd(line)
-}
-
-// A space, or a byte that can be seen.
-fn is_plain(byte: u8) -> bool
-    ensures { result ≡ is_plain byte }
-{
-    (0x20..=0x7e).contains(&byte)
 }
 
 // Whether a byte behind the first is odd: not plain, or a space behind a space.
@@ -84,7 +76,7 @@ fn has_odd_in_few(line: &[u8], pairs: usize) -> bool
 {
     for at in 0..pairs {
         let byte = line[at + 1];
-        if !is_plain(byte) || byte == b' ' && line[at] == b' ' {
+        if !(0x20..=0x7e).contains(&byte) || byte == b' ' && line[at] == b' ' {
             return true;
         }
     }

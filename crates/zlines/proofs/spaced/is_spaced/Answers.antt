@@ -1,4 +1,5 @@
-use Rattle.std.proofs.Common.{◌<◌, length, sym, ◌∙◌, arith}
+use Rattle.std.proofs.Common.{◌≡◌, ◌<◌, true, length, get_or, arith, rules}
+use Rattle.zlines.specs.LineWords.{is_plain}
 use Rattle.zlines.proofs.OddPairs.{space_last, spaced_line}
 use Rattle.zlines.proofs.spaced.is_spaced.Goals as goal
 
@@ -10,4 +11,6 @@ returns-then-line-eq32 c =
 pub returns : goal.returns
 returns c =
     let some : 0 < length c.args.line.now = omega (arith, c.in-len1-up.len_at_least) in
-    spaced_line c.args.line.now c.has_odd.result some c.has_odd.ensures (sym c.is_plain.ensures ∙ c.if-not-is_plain.false) c.if-first-eq32.false c.if-line-eq32.false
+    let plain : is_plain (get_or c.args.line.now 0 0) ≡ true = search rules in
+    let visible : get_or c.args.line.now 0 0 ≡ 32 → ⊥ = search rules in
+    spaced_line c.args.line.now c.has_odd.result some c.has_odd.ensures plain visible c.if-line-eq32.false

@@ -1,5 +1,5 @@
 use Rattle.std.proofs.Common.{rules}
-use Rattle.zlines.proofs.process_words.client_in.Goals as goal
+use Rattle.zlines.proofs.words.client_in.Goals as goal
 
 pub returns-in_default : goal.returns-in_default
 returns-in_default c = search rules

@@ -1,6 +1,6 @@
 use Rattle.std.proofs.Common.{sym}
 use Rattle.zlines.proofs.Numerals.{number_of-unread}
-use Rattle.zlines.proofs.number.number.Goals as goal
+use Rattle.zlines.proofs.words.number.Goals as goal
 
 pub returns-in_default-parse : goal.returns-in_default-parse
 returns-in_default-parse c =

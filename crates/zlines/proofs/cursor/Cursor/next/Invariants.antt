@@ -1,6 +1,6 @@
 use Rattle.std.proofs.Common.{◌≡◌, ◌+◌, ◌-◌, ◌≤◌, ◌==◌, drop, length}
 use Rattle.std.specs.List.{position_or_len}
-use Rattle.zlines.proofs.cursor.word_end.Given as goal
+use Rattle.zlines.proofs.cursor.Cursor.next.Given as goal
 
 abbrev pub invariant-loop-end : goal.invariant-loop-end
 invariant-loop-end l = record {

@@ -1,5 +1,5 @@
 use Rattle.std.proofs.Common.{rules}
-use Rattle.zlines.proofs.process_words.server_in.Goals as goal
+use Rattle.zlines.proofs.words.server_in.Goals as goal
 
 pub returns-in-Some : goal.returns-in-Some
 returns-in-Some c = search rules

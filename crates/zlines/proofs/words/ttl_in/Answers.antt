@@ -4,7 +4,7 @@ use Rattle.std.specs.Option.{option_and_then}
 use Rattle.std.proofs.lemmas.Bool.Decides.{nat_tests}
 use Rattle.ztree.specs.Stale.{IsTtl}
 use Rattle.zlines.specs.Shape.{in_ttl_range}
-use Rattle.zlines.proofs.shape.ttl_in.Goals as goal
+use Rattle.zlines.proofs.words.ttl_in.Goals as goal
 
 within : (n : ℕ) → 0 < n → n ≤ 1048576 → (nat_lt 0 n && nat_le n 1048576) ≡ true
 within n above few =

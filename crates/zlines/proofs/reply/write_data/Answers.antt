@@ -1,5 +1,5 @@
 use Rattle.std.proofs.Common.{rules}
-use Rattle.zlines.proofs.node_bytes.write_data.Goals as goal
+use Rattle.zlines.proofs.reply.write_data.Goals as goal
 
 pub returns : goal.returns
 returns c = search rules

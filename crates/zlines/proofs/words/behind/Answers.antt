@@ -1,5 +1,5 @@
 use Rattle.zlines.proofs.Prefixes.{stripped, unstripped}
-use Rattle.zlines.proofs.shape.behind.Goals as goal
+use Rattle.zlines.proofs.words.behind.Goals as goal
 
 pub returns-clause-rest : goal.returns-clause-rest
 returns-clause-rest c = stripped c.args.front.now c.args.word.now c.strip_prefix.result c.strip_prefix.ensures.cases
