@@ -3,3 +3,5 @@ pub mod Rows
 pub mod Bounds
 pub mod Places
 pub mod Fronted
+pub mod FrontedCalls
+pub mod Searches

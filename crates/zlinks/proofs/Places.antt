@@ -1,7 +1,7 @@
 -- The links that rows keep, and one that is written.
 use Rattle.std.proofs.Common.{◌≡◌, ℕ, ◌+◌, ◌<◌, ◌≤◌, zero, suc, Bool, true, false, if◌then◌else◌, List, [], ◌∷◌, length, get_or, set, refl, sym, ap, subst, ◌∙◌, arith, inl, inr, get_or-set_same, get_or-set_other, eqb-true, eq-eqb}
 use mathlib.Core.Bool.{true≢false}
-use Rattle.std.proofs.lemmas.List.{get_or_default, get_or_past, set-get_or}
+use Rattle.std.proofs.lemmas.List.{get_or_default, get_or_past}
 use Rattle.std.proofs.lemmas.Bool.Decides.{nat_tests}
 use Rattle.std.specs.Prelude.{not, nat_lt, ◌==◌}
 use Rattle.std.specs.List.{list_any}
@@ -206,10 +206,3 @@ module _ {T : Type 0} where
               | inr more ↦ let so : nat_lt r (from + 1) ≡ false = grind (arith, nat_tests, more) in so ∙ sym not_less
             ]
       ]
-
-  -- a row that stays
-  pub row_same : (view rows : List (List (List (Message T)))) (i : ℕ) (row new : List (List (Message T)))
-      → rows ≡ view → i < PROCESSES → length rows ≡ PROCESSES → row ≡ get_or rows i row → new ≡ row
-      → (p q : Process) → links_of (set rows i new) p q ≡ links_of view p q
-  row_same view rows i row new seen few long at same p q =
-      ap (λ r. links_of (set rows i r) p q) (same ∙ at) ∙ ap (λ rs. links_of rs p q) (set-get_or rows i row) ∙ ap (λ rs. links_of rs p q) seen

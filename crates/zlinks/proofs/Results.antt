@@ -1,5 +1,5 @@
 -- On results and options.
-use Rattle.std.proofs.Common.{Result, Ok, Err, Option, None, Some, IfNone, ◌≡◌, false, refl}
+use Rattle.std.proofs.Common.{Result, Ok, Err, Option, None, Some, ◌≡◌, false, refl}
 use mathlib.Core.Bool.{true≢false}
 use Rattle.std.specs.Prelude.{is_some}
 use Rattle.std.specs.Result.{OnErr}
@@ -8,11 +8,6 @@ use Rattle.std.specs.Result.{OnErr}
 pub on_err : {T E P : Type 0} (r : Result T E) → P → OnErr r P
 on_err (Ok x) holds = tt
 on_err (Err e) holds = holds
-
--- more holds where there is no value
-pub if_none_more : {T P Q : Type 0} (o : Option T) → (P → Q) → IfNone o P → IfNone o Q
-if_none_more (Some x) more holds = tt
-if_none_more None more holds = more holds
 
 -- there is no value
 pub none_is : {T : Type 0} (o : Option T) → is_some o ≡ false → o ≡ None

@@ -1,6 +1,6 @@
 //! What is known of a list of which some hold something.
 
-ghost use Rattle.std.specs.Prelude.{◌≡◌, ◌<◌, ◌≤◌, ◌==◌, max};
+ghost use Rattle.std.specs.Prelude.{◌≡◌, ◌<◌, ◌≤◌};
 ghost use Rattle.zprotocol.specs.declared.limits.TheConstants.{PROCESSES};
 
 use zprotocol::PROCESSES;
@@ -9,9 +9,9 @@ use zprotocol::PROCESSES;
 /// below `first` holds something, and none from `end` on. So a search for one costs by what is held.
 #[derive(Drop)]
 pub(crate) struct Held {
-    count: usize,
-    first: usize,
-    end: usize,
+    pub(crate) count: usize,
+    pub(crate) first: usize,
+    pub(crate) end: usize,
 }
 
 impl Held {
@@ -26,27 +26,6 @@ impl Held {
             first: PROCESSES,
             end: 0,
         }
-    }
-
-    /// Whether none holds something.
-    pub(crate) fn is_none(&self) -> bool
-        ensures { result ≡ (self.now.count == 0) }
-    {
-        self.count == 0
-    }
-
-    /// The place to begin a search at that is to begin at this one.
-    pub(crate) fn start(&self, at: usize) -> usize
-        ensures { result ≡ max at self.now.first }
-    {
-        at.max(self.first)
-    }
-
-    /// The place to end a search before.
-    pub(crate) fn end(&self) -> usize
-        ensures { result ≡ self.now.end }
-    {
-        self.end
     }
 
     /// The one at this place holds something from now on.
@@ -68,7 +47,8 @@ impl Held {
     {
         self.count -= 1;
         if self.count == 0 {
-            *self = Held::none();
+            self.first = PROCESSES;
+            self.end = 0;
         }
     }
 }

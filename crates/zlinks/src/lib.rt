@@ -5,7 +5,6 @@
 //! messages passes by the others. What a `Snapshot` hands over is a type parameter.
 #![tactic(auto)]
 
-mod grid;
 mod held;
 mod link;
 mod links;

@@ -6,30 +6,35 @@ ghost use Rattle.zprotocol.specs.declared.limits.TheConstants.{PROCESSES};
 ghost use Rattle.zlinks.specs.Places.{links_of, with_last, without_first, without_receiver, Keeps};
 ghost use Rattle.zlinks.specs.Places.{is_silent, holds, IsFrontOf, ShowsFront, Between, At};
 
-use crate::grid::Grid;
+use crate::held::Held;
 use crate::lone::Lone;
-use crate::slot::{clear_to, front_on, lay, sooner_receiver, sooner_sender, take_on};
+use crate::row::Row;
+use crate::slot::{clear_to, front_on, receiver_bound, sender_bound, take_on};
 use std::alloc::Global;
 use std::marker::Model;
 use zpath::Memory;
-use zprotocol::{Message, Process};
+use zprotocol::{Message, PROCESSES, Process};
 
-/// The links between all processes. Mostly one message is under way: what is put where nothing else is lies by itself, in
-/// front of its queue, and takes no queue.
+/// The links between all processes: a row for each sender, with a queue for each receiver, and which senders' rows hold
+/// something. Mostly one message is under way: what is put where nothing else is lies by itself, in front of its queue,
+/// and takes no queue.
 #[derive(Drop)]
 pub struct Links<T> {
     lone: Option<Lone<T>>,
-    grid: Grid<T>,
+    rows: Vec<Row<T>>,
+    held: Held,
 }
 
 impl<T> Model for Links<T> {
     ghost use Rattle.std.specs.Prelude.{List};
     ghost use Rattle.zprotocol.specs.declared.message.Message.{Message};
-    ghost use Rattle.zlinks.specs.support.Lone.{with_lone};
+    ghost use Rattle.zlinks.specs.support.Lone.{with_lone, IsKept};
 
     ghost Value = { List (List (List (Message T))) };
 
-    ghost view = { λ links. with_lone links.lone links.grid };
+    ghost view = { λ links. with_lone links.lone links.rows.items };
+
+    ghost invariant = { λ links. IsKept links.lone links.rows.items links.held };
 }
 
 impl<T: Drop> Links<T> {
@@ -37,9 +42,14 @@ impl<T: Drop> Links<T> {
     pub fn new(alloc: Global) -> Result<Links<T>, Memory>
         ensures { IfOk result (λ links. (from to : Process) → links_of links from to ≡ []) }
     {
+        let mut rows = Vec::new(alloc);
+        for place in 0..PROCESSES {
+            rows.push(Row::new(alloc)?)?;
+        }
         Ok(Links {
             lone: None,
-            grid: Grid::new(alloc)?,
+            rows,
+            held: Held::none(),
         })
     }
 
@@ -51,7 +61,13 @@ impl<T: Drop> Links<T> {
         ensures silent { Between at result (λ from. is_silent self.now from ≡ true) }
         ensures sends { At result (λ from. is_silent self.now from ≡ false) }
     {
-        sooner_sender(&self.lone, at, self.grid.next_sender(at))
+        let end = sender_bound(&self.lone, at);
+        for place in at.max(self.held.first)..end.min(self.held.end) {
+            if !self.rows[place].is_silent() {
+                return place;
+            }
+        }
+        end
     }
 
     /// The first place, from this one on, of a process to which the first one has something under way; or `PROCESSES`.
@@ -61,8 +77,9 @@ impl<T: Drop> Links<T> {
         ensures empty { Between at result (λ to. links_of self.now from.now to ≡ []) }
         ensures held { At result (λ to. holds (links_of self.now from.now to) ≡ true) }
     {
-        let next = self.grid.next_receiver(from, at);
-        sooner_receiver(&self.lone, from.place(), at, next)
+        let sender = from.place();
+        let end = receiver_bound(&self.lone, sender, at);
+        self.rows[sender].next_held(at, end)
     }
 
     /// Puts a message last on a link.
@@ -71,26 +88,35 @@ impl<T: Drop> Links<T> {
             (Keeps self.new (with_last (links_of self.old) from.now to.now message)) }
         ensures same { OnErr result (Keeps self.new (links_of self.old)) }
     {
-        if self.lone.is_none() && self.grid.is_blank() {
-            let lone = Lone {
-                from: from.place(),
-                to: to.place(),
+        let sender = from.place();
+        let receiver = to.place();
+        if self.lone.is_none() && self.held.count == 0 {
+            self.lone = Some(Lone {
+                from: sender,
+                to: receiver,
                 message,
-            };
-            lay(&mut self.lone, lone);
+            });
             return Ok(());
         }
-        self.grid.put(from, to, message)
+        let row = &mut self.rows[sender];
+        let was_silent = row.is_silent();
+        row.put(receiver, message)?;
+        if was_silent {
+            self.held.add(sender);
+        }
+        Ok(())
     }
 
     /// The front of a link, which stays.
     pub fn front(&self, from: &Process, to: &Process) -> Option<&Message<T>>
         ensures { ShowsFront (links_of self.now from.now to.now) result }
     {
-        if let Some(front) = front_on(&self.lone, from.place(), to.place()) {
+        let sender = from.place();
+        let receiver = to.place();
+        if let Some(front) = front_on(&self.lone, sender, receiver) {
             return Some(front);
         }
-        self.grid.front(from, to)
+        self.rows[sender].front(receiver)
     }
 
     /// Takes out the front of a link.
@@ -99,17 +125,30 @@ impl<T: Drop> Links<T> {
         ensures front { IsFrontOf (links_of self.old from.now to.now) result }
         ensures same { IfNone result (self.new ≡ self.old) }
     {
-        if let Some(front) = take_on(&mut self.lone, from.place(), to.place()) {
+        let sender = from.place();
+        let receiver = to.place();
+        if let Some(front) = take_on(&mut self.lone, sender, receiver) {
             return Some(front);
         }
-        self.grid.next(from, to)
+        let row = &mut self.rows[sender];
+        let front = row.next(receiver)?;
+        if row.is_silent() {
+            self.held.remove();
+        }
+        Some(front)
     }
 
     /// Drops all that is on links to a process.
     pub fn clear(&mut self, to: &Process)
         ensures { Keeps self.new (without_receiver (links_of self.old) to.now) }
     {
-        clear_to(&mut self.lone, to.place());
-        self.grid.clear(to);
+        let receiver = to.place();
+        clear_to(&mut self.lone, receiver);
+        for sender in 0..PROCESSES {
+            let row = &mut self.rows[sender];
+            if row.clear(receiver) {
+                self.held.remove();
+            }
+        }
     }
 }

@@ -51,22 +51,22 @@ impl<T: Drop> Row<T> {
     pub(crate) fn is_silent(&self) -> bool
         ensures { result ≡ not (sends self.now) }
     {
-        self.held.is_none()
+        self.held.count == 0
     }
 
-    /// The first place, from this one on, on the link to which something is; or `PROCESSES`.
-    pub(crate) fn next_held(&self, at: usize) -> usize
-        ensures few { result ≤ PROCESSES }
+    /// The first place, from this one on and before the end, on the link to which something is; or the end.
+    pub(crate) fn next_held(&self, at: usize, end: usize) -> usize
+        ensures few { result ≤ end }
         ensures empty { (i : ℕ) → at ≤ i → i < result → get_or self.now i [] ≡ [] }
-        ensures ahead { at ≤ PROCESSES → at ≤ result }
-        ensures held { result < PROCESSES → holds (get_or self.now result []) ≡ true }
+        ensures ahead { at ≤ end → at ≤ result }
+        ensures held { result < end → holds (get_or self.now result []) ≡ true }
     {
-        for place in self.held.start(at)..self.held.end() {
+        for place in at.max(self.held.first)..end.min(self.held.end) {
             if !self.links[place].is_empty() {
                 return place;
             }
         }
-        PROCESSES
+        end
     }
 
     /// Puts a message last on the link to this place.
@@ -123,6 +123,6 @@ impl<T: Drop> Row<T> {
         }
         link.clear();
         self.held.remove();
-        self.held.is_none()
+        self.held.count == 0
     }
 }

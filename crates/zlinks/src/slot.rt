@@ -1,17 +1,10 @@
 //! Where a lone message lies.
 
 ghost use Rattle.std.specs.Prelude.{◌≡◌, false, IfNone, IfSome, None, Some};
-ghost use Rattle.zlinks.specs.support.Lone.{is_on, sooner, sooner_sender, sooner_receiver, without_to};
+ghost use Rattle.zlinks.specs.support.Lone.{is_on, sender_bound, receiver_bound, without_to};
 
 use crate::lone::Lone;
-use zprotocol::Message;
-
-/// Lays a message there.
-pub(crate) fn lay<T: Drop>(slot: &mut Option<Lone<T>>, lone: Lone<T>)
-    ensures { slot.new ≡ Some lone }
-{
-    *slot = Some(lone);
-}
+use zprotocol::{Message, PROCESSES};
 
 /// Shows the message, where it is on the link between these places.
 pub(crate) fn front_on<T: Drop>(
@@ -63,40 +56,30 @@ pub(crate) fn clear_to<T: Drop>(slot: &mut Option<Lone<T>>, to: usize)
     }
 }
 
-/// The first place of a sender, from one on: that of the message's, or the next of the others.
-pub(crate) fn sooner_sender<T: Drop>(slot: &Option<Lone<T>>, at: usize, next: usize) -> usize
-    ensures { result ≡ sooner_sender slot.now at next }
+/// Where a search for a sender among the others ends that begins at a place: at the message's sender, unless that was
+/// passed.
+pub(crate) fn sender_bound<T: Drop>(slot: &Option<Lone<T>>, at: usize) -> usize
+    ensures { result ≡ sender_bound slot.now at }
 {
-    match slot {
-        Some(lone) => sooner(lone.from, at, next),
-        None => next,
+    let Some(lone) = slot else {
+        return PROCESSES;
+    };
+    if at <= lone.from {
+        lone.from
+    } else {
+        PROCESSES
     }
 }
 
-/// The first place of a receiver, from one on, of what a sender put: that of the message's, or the next of the others.
-pub(crate) fn sooner_receiver<T: Drop>(
-    slot: &Option<Lone<T>>,
-    from: usize,
-    at: usize,
-    next: usize,
-) -> usize
-    ensures { result ≡ sooner_receiver slot.now from at next }
+/// The same of a search for a receiver of what a sender put.
+pub(crate) fn receiver_bound<T: Drop>(slot: &Option<Lone<T>>, from: usize, at: usize) -> usize
+    ensures { result ≡ receiver_bound slot.now from at }
 {
-    match slot {
-        Some(lone) => {
-            if lone.from == from {
-                sooner(lone.to, at, next)
-            } else {
-                next
-            }
-        }
-        None => next,
+    let Some(lone) = slot else {
+        return PROCESSES;
+    };
+    if lone.from == from && at <= lone.to {
+        return lone.to;
     }
-}
-
-// The next of two places, of which the first counts where it isn't before the one that is searched from.
-fn sooner(place: usize, at: usize, next: usize) -> usize
-    ensures { result ≡ sooner place at next }
-{
-    if place < at { next } else { next.min(place) }
+    PROCESSES
 }

@@ -1,9 +1,13 @@
 -- A lone message lies in front of the queue of its link.
-use Rattle.std.specs.Prelude.{ℕ, zero, suc, ◌==◌, nat_lt, min, Bool, false, ◌&&◌, Option, None, Some, List, [], ◌∷◌, if◌then◌else◌}
+use Rattle.std.specs.Prelude.{ℕ, zero, suc, ◌<◌, ◌==◌, nat_le, Bool, false, ◌&&◌, Option, None, Some, List, [], ◌∷◌, if◌then◌else◌}
+use Rattle.std.specs.List.{list_any}
+use Rattle.zprotocol.specs.declared.limits.TheConstants.{PROCESSES}
 use Rattle.zprotocol.specs.declared.message.Message.{Message}
 use Rattle.zprotocol.specs.Places.{place_of}
+use Rattle.zlinks.specs.declared.held.Held.{Held}
 use Rattle.zlinks.specs.declared.lone.Lone.{Lone}
-use Rattle.zlinks.specs.Places.{Queues}
+use Rattle.zlinks.specs.Places.{Queues, holds}
+use Rattle.zlinks.specs.support.Bounds.{Tells}
 
 -- a list of which one item is changed; where it is too short it goes on with none
 abbrev pub changed_at : {X : Type 0} → X → (X → X) → ℕ → List X → List X
@@ -36,16 +40,25 @@ abbrev pub without_to : {T : Type 0} → Option (Lone T) → ℕ → Option (Lon
 without_to None to = None
 without_to (Some lone) to = if lone.to == to then None else Some lone
 
--- the next of two places, of which the first counts where it isn't before the one that is searched from
-abbrev pub sooner : (place at next : ℕ) → ℕ
-sooner place at next = if nat_lt place at then next else min next place
+-- its places are of processes
+abbrev pub IsPlaced : {T : Type 0} → Option (Lone T) → Type 0
+IsPlaced None = Unit {0}
+IsPlaced (Some lone) = (lone.from < PROCESSES) × (lone.to < PROCESSES)
 
--- the first place of a sender, from one on: that of its own, or the next of the others
-abbrev pub sooner_sender : {T : Type 0} → Option (Lone T) → (at next : ℕ) → ℕ
-sooner_sender None at next = next
-sooner_sender (Some lone) at next = sooner lone.from at next
+-- what the links know of their rows and of it
+abbrev pub IsKept : {T : Type 0} → Option (Lone T) → List (List (List (Message T))) → Held → Type 0
+IsKept lone rows held = Tells (list_any holds) [] rows held × IsPlaced lone
 
--- the first place of a receiver, from one on, of what a sender put: that of its own, or the next of the others
-abbrev pub sooner_receiver : {T : Type 0} → Option (Lone T) → (from at next : ℕ) → ℕ
-sooner_receiver None from at next = next
-sooner_receiver (Some lone) from at next = if lone.from == from then sooner lone.to at next else next
+-- where a search among the others ends that begins at a place: at its own place, unless that was passed
+abbrev pub bound : (place at : ℕ) → ℕ
+bound place at = if nat_le at place then place else PROCESSES
+
+-- a search for a sender
+abbrev pub sender_bound : {T : Type 0} → Option (Lone T) → (at : ℕ) → ℕ
+sender_bound None at = PROCESSES
+sender_bound (Some lone) at = bound lone.from at
+
+-- a search for a receiver of what a sender put
+abbrev pub receiver_bound : {T : Type 0} → Option (Lone T) → (from at : ℕ) → ℕ
+receiver_bound None from at = PROCESSES
+receiver_bound (Some lone) from at = if (lone.from == from) && nat_le at lone.to then lone.to else PROCESSES

@@ -1,27 +1,32 @@
-use Rattle.std.proofs.Common.{◌≤◌, ◌≡◌, true, [], sym, subst}
-use Rattle.zprotocol.specs.declared.limits.TheConstants.{PROCESSES}
-use Rattle.zlinks.specs.Places.{links_of, holds, Between, At}
-use Rattle.zlinks.proofs.Fronted.{receivers_few, receivers_ahead, empty_before, receiver_there}
+use Rattle.std.proofs.Common.{◌<◌, ◌≤◌, [], get_or, refl, ap, sym, subst, ◌∙◌, arith}
+use Rattle.zprotocol.specs.Places.{place_of}
+use Rattle.zlinks.specs.Places.{holds}
+use Rattle.zlinks.proofs.Places.{row_at}
+use Rattle.zlinks.proofs.Searches.{receiver_few, receiver_ahead, empty_before, receiver_there}
 use Rattle.zlinks.proofs.links.Links.next_receiver.Goals as goal
 
 pub returns-clause-few : goal.returns-clause-few
 returns-clause-few g c =
-    subst (λ n. n ≤ PROCESSES) (sym c.sooner_receiver.ensures)
-    (receivers_few c.self.inside.grid c.args.self.now c.self.inside.lone c.place.result c.args.at c.next_receiver-next.result c.next_receiver-next.ensures.few)
+    omega (arith, c.next_held.ensures.few, c.receiver_bound-end.ensures, receiver_few c.self.inside.lone c.place-sender.result c.args.at c.self.invariant.1)
 
 pub returns-clause-ahead : goal.returns-clause-ahead
 returns-clause-ahead g c few =
-    subst (λ n. c.args.at ≤ n) (sym c.sooner_receiver.ensures)
-    (receivers_ahead c.self.inside.grid c.args.self.now c.self.inside.lone c.place.result c.args.at c.next_receiver-next.result (c.next_receiver-next.ensures.ahead few))
+    c.next_held.ensures.ahead
+    (subst (λ n. c.args.at ≤ n) (sym c.receiver_bound-end.ensures) (receiver_ahead c.self.inside.lone c.place-sender.result c.args.at few))
 
 pub returns-clause-empty : goal.returns-clause-empty
 returns-clause-empty g c =
-    subst (λ n. Between c.args.at n (λ to. links_of c.args.self.now c.args.from.now to ≡ [])) (sym c.sooner_receiver.ensures)
-    (empty_before c.self.inside.grid c.args.self.now c.self.inside.lone c.args.from.now c.place.result c.args.at c.next_receiver-next.result c.self.view_is
-    c.place.ensures.place c.next_receiver-next.ensures.empty)
+    let rows = c.self.inside.rows.items in
+    empty_before rows c.args.self.now c.self.inside.lone c.args.from.now c.place-sender.result c.args.at c.next_held.result c.self.view_is c.place-sender.ensures.place
+    (subst (λ n. c.next_held.result ≤ n) c.receiver_bound-end.ensures c.next_held.ensures.few)
+    (λ to behind before. row_at rows rows c.args.from.now to c.place-sender.result (place_of to) c.index.result.now refl c.place-sender.ensures.place refl
+    c.place-sender.ensures.small c.self.invariant.0.wide c.index.ensures ∙ c.next_held.ensures.empty (place_of to) behind before)
 
 pub returns-clause-held : goal.returns-clause-held
 returns-clause-held g c =
-    subst (λ n. At n (λ to. holds (links_of c.args.self.now c.args.from.now to) ≡ true)) (sym c.sooner_receiver.ensures)
-    (receiver_there c.self.inside.grid c.args.self.now c.self.inside.lone c.args.from.now c.place.result c.args.at c.next_receiver-next.result c.self.view_is
-    c.place.ensures.place c.next_receiver-next.ensures.held)
+    let rows = c.self.inside.rows.items in
+    receiver_there rows c.args.self.now c.self.inside.lone c.args.from.now c.place-sender.result c.args.at c.next_held.result c.self.view_is c.place-sender.ensures.place
+    (subst (λ n. c.next_held.result ≤ n) c.receiver_bound-end.ensures c.next_held.ensures.few)
+    (λ less to there small. ap holds (row_at rows rows c.args.from.now to c.place-sender.result (place_of to) c.index.result.now refl c.place-sender.ensures.place refl
+    c.place-sender.ensures.small c.self.invariant.0.wide c.index.ensures ∙ ap (λ n. get_or c.index.result.now n []) there)
+    ∙ c.next_held.ensures.held (subst (λ n. c.next_held.result < n) (sym c.receiver_bound-end.ensures) less))

@@ -1,25 +1,59 @@
-use Rattle.std.proofs.Common.{◌≤◌, ◌≡◌, true, false, sym, subst}
+use Rattle.std.proofs.Common.{◌≡◌, ◌<◌, ◌≤◌, false, not, [], inl, inr, length, get_or, ap, sym, subst, ◌∙◌, arith}
+use Rattle.std.proofs.lemmas.List.{get_or_default}
+use Rattle.std.proofs.lemmas.Bool.Decides.{nat_tests}
+use Rattle.std.specs.Prelude.{nat_lt}
+use Rattle.zcalls.proofs.Among.{test}
 use Rattle.zprotocol.specs.declared.limits.TheConstants.{PROCESSES}
-use Rattle.zlinks.specs.Places.{is_silent, Between, At}
-use Rattle.zlinks.proofs.Fronted.{senders_few, senders_ahead, silent_before, sender_there}
+use Rattle.zprotocol.specs.Places.{place_of}
+use Rattle.zlinks.specs.Places.{is_silent, sends, At}
+use Rattle.zlinks.proofs.Searches.{sender_few, sender_ahead, silent_before, other_sends, sender_there}
 use Rattle.zlinks.proofs.links.Links.next_sender.Goals as goal
 
+pub loop-place-init : goal.loop-place-init
+loop-place-init g c =
+    (omega (arith, c.max-place.ensures), λ i behind before. c.self.invariant.0.before i (omega (arith, behind, before, c.max-place.ensures)))
+
+pub returns-then-not-is_silent-clause-few : goal.returns-then-not-is_silent-clause-few
+returns-then-not-is_silent-clause-few g c = omega (arith, c.loop-place-test.true, c.min-place-end.ensures, c.self.invariant.0.few)
+
+pub returns-then-not-is_silent-clause-ahead : goal.returns-then-not-is_silent-clause-ahead
+returns-then-not-is_silent-clause-ahead g c few = c.loop-place.invariant.0
+
+pub returns-then-not-is_silent-clause-silent : goal.returns-then-not-is_silent-clause-silent
+unfolding is_silent
+returns-then-not-is_silent-clause-silent g c =
+    silent_before c.self.inside.rows.items c.args.self.now c.self.inside.lone c.args.at c.loop-place.place c.self.view_is
+    (omega (arith, c.loop-place-test.true, c.min-place-end.ensures, c.sender_bound-end.ensures))
+    (λ p behind before. ap not (c.loop-place.invariant.1 (place_of p) behind before))
+
+pub returns-then-not-is_silent-clause-sends : goal.returns-then-not-is_silent-clause-sends
+unfolding is_silent
+returns-then-not-is_silent-clause-sends g c =
+    let rows = c.self.inside.rows.items in let row = c.index.result.now in let place = c.loop-place.place in
+    let inside : place < length rows = omega (arith, c.loop-place-test.true, c.min-place-end.ensures, c.self.invariant.0.few, c.self.invariant.0.wide) in
+    other_sends rows c.args.self.now c.self.inside.lone place c.self.view_is
+    (λ p is small. ap (λ n. not (sends (get_or rows n []))) is ∙ ap (λ r. not (sends r)) (get_or_default rows place [] row inside ∙ sym c.index.ensures)
+    ∙ sym c.is_silent.ensures ∙ c.if-not-is_silent.true)
+
 pub returns-clause-few : goal.returns-clause-few
-returns-clause-few g c =
-    subst (λ n. n ≤ PROCESSES) (sym c.sooner_sender.ensures)
-    (senders_few c.self.inside.grid c.args.self.now c.self.inside.lone c.args.at c.next_sender.result c.next_sender.ensures.few)
+returns-clause-few g c = subst (λ n. n ≤ PROCESSES) (sym c.sender_bound-end.ensures) (sender_few c.self.inside.lone c.args.at c.self.invariant.1)
 
 pub returns-clause-ahead : goal.returns-clause-ahead
-returns-clause-ahead g c few =
-    subst (λ n. c.args.at ≤ n) (sym c.sooner_sender.ensures)
-    (senders_ahead c.self.inside.grid c.args.self.now c.self.inside.lone c.args.at c.next_sender.result (c.next_sender.ensures.ahead few))
+returns-clause-ahead g c few = subst (λ n. c.args.at ≤ n) (sym c.sender_bound-end.ensures) (sender_ahead c.self.inside.lone c.args.at few)
 
 pub returns-clause-silent : goal.returns-clause-silent
+unfolding is_silent
 returns-clause-silent g c =
-    subst (λ n. Between c.args.at n (λ p. is_silent c.args.self.now p ≡ true)) (sym c.sooner_sender.ensures)
-    (silent_before c.self.inside.grid c.args.self.now c.self.inside.lone c.args.at c.next_sender.result c.self.view_is c.next_sender.ensures.silent)
+    silent_before c.self.inside.rows.items c.args.self.now c.self.inside.lone c.args.at c.sender_bound-end.result c.self.view_is
+    (omega (arith, c.sender_bound-end.ensures))
+    (λ p behind before. ap not (elim (test (nat_lt (place_of p) c.loop-place.place)) [
+      | inl less ↦ c.loop-place.invariant.1 (place_of p) behind (grind (arith, nat_tests, less))
+      | inr not_less ↦
+          let far : c.loop-place.place ≤ place_of p = grind (arith, nat_tests, not_less) in
+          c.self.invariant.0.behind (place_of p) (omega (arith, far, before, c.loop-place-test.false, c.min-place-end.ensures))
+    ]))
 
 pub returns-clause-sends : goal.returns-clause-sends
 returns-clause-sends g c =
-    subst (λ n. At n (λ p. is_silent c.args.self.now p ≡ false)) (sym c.sooner_sender.ensures)
-    (sender_there c.self.inside.grid c.args.self.now c.self.inside.lone c.args.at c.next_sender.result c.self.view_is c.next_sender.ensures.sends)
+    subst (λ n. At n (λ p. is_silent c.args.self.now p ≡ false)) (sym c.sender_bound-end.ensures)
+    (sender_there c.self.inside.rows.items c.args.self.now c.self.inside.lone c.args.at c.self.view_is)

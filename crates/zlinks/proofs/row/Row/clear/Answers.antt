@@ -1,4 +1,4 @@
-use Rattle.std.proofs.Common.{◌+◌, [], refl, ap, sym, subst, ◌∙◌, set}
+use Rattle.std.proofs.Common.{[], refl, ap, sym, subst, ◌∙◌, set}
 use Rattle.std.specs.List.{list_any}
 use Rattle.zlinks.specs.Places.{holds}
 use Rattle.zlinks.specs.support.Bounds.{Tells}
@@ -26,4 +26,3 @@ returns-clause-silenced g c =
     ap (λ queues. share (list_any holds queues)) (sym c.self.view_is)
     ∙ share_left links c.self.inside.held c.remove.new.self c.args.at queue new c.self.invariant c.requires c.index_mut-link.ensures.value
     (not_false (holds queue) (sym c.is_empty.ensures ∙ c.if-is_empty.false)) (invariant_of-self-2 g c)
-    ∙ ap (λ b. share (list_any holds (set links c.args.at new)) + share b) (sym c.is_none.ensures)

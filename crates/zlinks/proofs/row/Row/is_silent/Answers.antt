@@ -7,5 +7,5 @@ use Rattle.zlinks.proofs.row.Row.is_silent.Goals as goal
 
 pub returns : goal.returns
 returns g c =
-    c.is_none.ensures ∙ ap (λ n. n == 0) c.self.invariant.counted
+    ap (λ n. n == 0) c.self.invariant.counted
     ∙ none_passes holds c.self.inside.links.items ∙ ap (λ qs. not (list_any holds qs)) c.self.view_is
