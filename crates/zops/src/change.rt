@@ -1,47 +1,38 @@
-//! A change of one node, done to a store.
+//! The changes of one node, done to a store.
 
 ghost use Rattle.std.specs.Prelude.{◌≡◌, ◌≢◌, ◌<◌, [], Some, None, Ok, Err, IfOk, IfErr, OnOk, OnErr, false};
 ghost use Rattle.zpath.specs.Numbered.{is_over};
 ghost use Rattle.ztree.specs.Tree.{Path, parent_of};
 ghost use Rattle.zstore.specs.StoreView.{path_of, AtPath};
-ghost use Rattle.zcalls.specs.Part.{create_step, delete_step, set_step, change_step};
-ghost use Rattle.zcalls.specs.Part.{is_owned, has_other_version, made_path};
+ghost use Rattle.zcalls.specs.Part.{create_step, delete_step, set_step};
+ghost use Rattle.zcalls.specs.Part.{has_no_owner, is_owned, has_other_version, made_path};
 ghost use Rattle.zops.specs.support.Ready.{IsReadyForPart};
 ghost use Rattle.zops.specs.support.Stops.{IsDone, IsStop, IsFirst};
 ghost use Rattle.zops.specs.support.Names.{name_refusal};
 ghost use Rattle.zops.specs.support.Steps.{TellsWhether, is_parent};
 
-use crate::owner::has_no_owner;
+use crate::session_calls::is_gone;
 use crate::stop::Stop;
 use std::alloc::Global;
 use zcalls::limits::MAX_COUNTER;
-use zcalls::{Change, ChangeReply, Create, Delete, Expected, Kind, Refusal, SetData};
+use zcalls::{ChangeReply, Create, Delete, Expected, Kind, Refusal, SetData};
 use zpath::{Path, PathFault};
 use zstore::{Id, Store};
 use ztree::ClientId;
 use ztree::limits::MAX_NODES;
 
-/// Does one change for a client. Where it did nothing, the store is as it was.
-pub(crate) fn change(
-    alloc: Global,
-    store: &mut Store,
-    client: ClientId,
-    change: Change,
-) -> Result<ChangeReply, Stop>
-    requires ready { IsReadyForPart store.old }
-    ensures done { IfOk result
-        (IsDone (change_step store.old.tree client change) store.old store.new) }
-    ensures stopped { IfErr result (IsStop (change_step store.old.tree client change)) }
-    ensures same { OnErr result (store.new ≡ store.old) }
+// Whether a node of that kind is to be owned by a session that is gone to this client.
+fn has_no_owner(store: &Store, client: ClientId, kind: Kind) -> bool
+    ensures { result ≡ has_no_owner store.now.tree.sessions client kind }
 {
-    match change {
-        Change::Create(wanted) => create(alloc, store, client, wanted),
-        Change::Delete(wanted) => {
-            let did = delete(store, &wanted);
-            drop(wanted);
-            did
+    match kind {
+        Kind::Persistent
+        | Kind::PersistentSequential
+        | Kind::PersistentWithTtl(_)
+        | Kind::PersistentSequentialWithTtl(_) => false,
+        Kind::Ephemeral(session) | Kind::EphemeralSequential(session) => {
+            is_gone(store, client, session)
         }
-        Change::SetData(wanted) => set(store, wanted),
     }
 }
 
@@ -66,22 +57,27 @@ pub(crate) fn has_other_version(store: &Store, id: Id, expected: Expected) -> bo
 }
 
 // The path of the node that a create makes beneath a live parent.
-fn made_path(alloc: Global, store: &Store, parent: Id, kind: Kind, path: Path) -> Result<Path, Stop>
-    requires below_root { path ≢ [] }
-    requires short { is_over path ≡ false }
-    requires live { path_of store.now parent ≡ Some (parent_of path) }
-    ensures made { IfOk result (λ made. made ≡ made_path store.now.tree.nodes kind path) }
-    ensures allowed { OnOk result (name_refusal store.now.tree kind path ≡ None) }
-    ensures stopped { IfErr result (IsFirst (name_refusal store.now.tree kind path)) }
+fn made_path(
+    alloc: Global,
+    store: &Store,
+    parent: Id,
+    kind: Kind,
+    path: &Path,
+) -> Result<Path, Stop>
+    requires below_root { path.now ≢ [] }
+    requires short { is_over path.now ≡ false }
+    requires live { path_of store.now parent ≡ Some (parent_of path.now) }
+    ensures made { IfOk result (λ made. made ≡ made_path store.now.tree.nodes kind path.now) }
+    ensures allowed { OnOk result (name_refusal store.now.tree kind path.now ≡ None) }
+    ensures stopped { IfErr result (IsFirst (name_refusal store.now.tree kind path.now)) }
 {
     if !kind.is_sequential() {
-        return Ok(path);
+        return Ok(path.copied(alloc)?);
     }
     let Some(counter) = store.seq(parent) else {
         unreachable!();
     };
     if counter > MAX_COUNTER {
-        drop(path);
         return Err(Stop::Refused(Refusal::SequenceFull));
     }
     match path.numbered(alloc, counter) {
@@ -91,62 +87,53 @@ fn made_path(alloc: Global, store: &Store, parent: Id, kind: Kind, path: Path) -
     }
 }
 
-// Makes a node.
-fn create(
+/// Makes a node for a client. Where it did nothing, the store is as it was.
+pub(crate) fn create(
     alloc: Global,
     store: &mut Store,
     client: ClientId,
-    create: Create,
+    create: &Create,
 ) -> Result<ChangeReply, Stop>
     requires ready { IsReadyForPart store.old }
     ensures done { IfOk result
-        (IsDone (create_step store.old.tree client create) store.old store.new) }
-    ensures stopped { IfErr result (IsStop (create_step store.old.tree client create)) }
+        (IsDone (create_step store.old.tree client create.now) store.old store.new) }
+    ensures stopped { IfErr result (IsStop (create_step store.old.tree client create.now)) }
     ensures same { OnErr result (store.new ≡ store.old) }
 {
     if has_no_owner(store, client, create.kind) {
-        drop(create);
         return Err(Stop::Refused(Refusal::SessionGone));
     }
     let Some(above) = create.path.parent(alloc)? else {
-        drop(create);
         return Err(Stop::Refused(Refusal::NodeExists));
     };
     let Some(parent) = store.find(&above) else {
         drop(above);
-        drop(create);
         return Err(Stop::Refused(Refusal::NoNode));
     };
     drop(above);
     if is_ephemeral(store, parent) {
-        drop(create);
         return Err(Stop::Refused(Refusal::NoChildrenForEphemerals));
     }
-    let made = made_path(alloc, store, parent, create.kind, create.path)?;
+    let made = made_path(alloc, store, parent, create.kind, &create.path)?;
     if store.find(&made).is_some() {
         drop(made);
-        drop(create.bytes);
         return Err(Stop::Refused(Refusal::NodeExists));
     }
     if store.nodes() >= MAX_NODES {
         drop(made);
-        drop(create.bytes);
         return Err(Stop::Refused(Refusal::Full));
     }
-    let Ok(path) = made.copied(alloc) else {
-        drop(made);
-        drop(create.bytes);
-        return Err(Stop::Memory);
-    };
+    let path = made.copied(alloc)?;
+    let bytes = create.bytes.copied(alloc)?;
     let owner = create.kind.owner();
     let ttl = create.kind.ttl();
     let is_sequential = create.kind.is_sequential();
-    store.add(parent, made, create.bytes, owner, ttl, is_sequential)?;
+    store.add(parent, made, bytes, owner, ttl, is_sequential)?;
     Ok(ChangeReply::Created(path))
 }
 
-// Takes a node away.
-fn delete(store: &mut Store, delete: &Delete) -> Result<ChangeReply, Stop>
+/// Takes a node away. Where it did nothing, the store is as it was.
+pub(crate) fn delete(store: &mut Store, delete: &Delete) -> Result<ChangeReply, Stop>
     requires ready { IsReadyForPart store.old }
     ensures done { IfOk result
         (IsDone (delete_step store.old.tree delete.now) store.old store.new) }
@@ -169,23 +156,20 @@ fn delete(store: &mut Store, delete: &Delete) -> Result<ChangeReply, Stop>
     Ok(ChangeReply::Deleted)
 }
 
-// Writes a node's data.
-fn set(store: &mut Store, set: SetData) -> Result<ChangeReply, Stop>
+/// Writes a node's data. Where it did nothing, the store is as it was.
+pub(crate) fn set(alloc: Global, store: &mut Store, set: &SetData) -> Result<ChangeReply, Stop>
     requires ready { IsReadyForPart store.old }
-    ensures done { IfOk result (IsDone (set_step store.old.tree set) store.old store.new) }
-    ensures stopped { IfErr result (IsStop (set_step store.old.tree set)) }
+    ensures done { IfOk result (IsDone (set_step store.old.tree set.now) store.old store.new) }
+    ensures stopped { IfErr result (IsStop (set_step store.old.tree set.now)) }
     ensures same { OnErr result (store.new ≡ store.old) }
 {
     let Some(id) = store.find(&set.path) else {
-        drop(set);
         return Err(Stop::Refused(Refusal::NoNode));
     };
     if has_other_version(store, id, set.version) {
-        drop(set);
         return Err(Stop::Refused(Refusal::BadVersion));
     }
-    drop(set.path);
-    store.put_data(id, set.bytes)?;
+    store.put_data(id, set.bytes.copied(alloc)?)?;
     match store.stat(id) {
         Some(stat) => Ok(ChangeReply::Set(stat)),
         None => unreachable!(),

@@ -1,6 +1,6 @@
 //! The kept replies: the last one to each client, with the number of its call.
 
-ghost use Rattle.std.specs.Prelude.{◌≡◌, IfOk, option_copied};
+ghost use Rattle.std.specs.Prelude.{◌≡◌, IfOk};
 ghost use Rattle.std.specs.FinMap.{empty, get, insert};
 ghost use Rattle.zcalls.specs.Kept.{last_of, kept_reply};
 
@@ -81,7 +81,7 @@ impl KeptReplies {
     pub(crate) fn last_number(&self, client: ClientId) -> u64
         ensures { result ≡ last_of (get self.now client) }
     {
-        match self.kept_for(client) {
+        match &self.places[client.number() as usize] {
             Some(kept) => kept.number.number(),
             None => 0,
         }
@@ -96,21 +96,13 @@ impl KeptReplies {
     ) -> Result<Option<Reply>, Memory>
         ensures { IfOk result (λ reply. reply ≡ kept_reply number (get self.now client)) }
     {
-        let Some(kept) = self.kept_for(client) else {
+        let Some(kept) = &self.places[client.number() as usize] else {
             return Ok(None);
         };
-        if number.number() == kept.number.number() {
-            Ok(Some(kept.reply.copied(alloc)?))
-        } else {
-            Ok(None)
+        if number.number() != kept.number.number() {
+            return Ok(None);
         }
-    }
-
-    // What is kept for a client.
-    fn kept_for(&self, client: ClientId) -> Option<&Kept>
-        ensures { option_copied result ≡ get self.now client }
-    {
-        self.places[client.number() as usize].as_ref()
+        Ok(Some(kept.reply.copied(alloc)?))
     }
 
     /// Keeps a reply of the client's call of this number, in the place of the one before it.

@@ -7,11 +7,9 @@
 #![tactic(auto)]
 
 mod change;
-mod entering;
 mod kept;
 pub mod limits;
 mod machine;
-mod owner;
 mod part;
 mod query;
 mod rows;

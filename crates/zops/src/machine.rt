@@ -1,11 +1,13 @@
 //! The machine.
 
 ghost use Rattle.zops.specs.declared.limits.TheConstants.{MAX_APPLIED};
+ghost use Rattle.zops.specs.support.Ready.{IsSteady, StaysBounded};
+ghost use Rattle.zops.specs.support.Steps.{IsEntered};
 ghost use Rattle.std.specs.Prelude.{◌≡◌, ◌<◌, ◌≤◌, IfOk, OnOk, OnErr, IsErr, true, false};
 
-use crate::entering::enter;
 use crate::kept::KeptReplies;
 use crate::query::answer;
+use crate::update::update;
 use std::alloc::Global;
 use std::marker::Model;
 use zcalls::{Entry, Query, Reply};
@@ -83,10 +85,10 @@ impl Machine {
     /// and its reply is kept; the number of the kept reply has that one; any other has none. After
     /// `Memory` the machine answers `Memory` for good.
     #[tactic(auto, unfolding(crate::specs::Machine::entry_result))]
-    pub fn apply(&mut self, entry: Entry) -> Result<Option<Reply>, Memory>
+    pub fn apply(&mut self, entry: &Entry) -> Result<Option<Reply>, Memory>
         requires { self.old.state.applied < MAX_APPLIED }
         ensures ok { IfOk result (λ reply. (self.new.state, reply)
-            ≡ entry_result self.old.state entry) }
+            ≡ entry_result self.old.state entry.now) }
         ensures sound { OnOk result ((self.old.is_broken ≡ false) × (self.new.is_broken ≡ false)) }
         ensures broken { OnErr result (self.new.is_broken ≡ true) }
         ensures stays { self.old.is_broken ≡ true → IsErr result }
@@ -95,7 +97,6 @@ impl Machine {
         ensures bounded { OnOk result (IsBounded self.new.state.service.plain) }
     {
         if self.is_broken {
-            drop(entry);
             return Err(Memory);
         }
         self.applied += 1;
@@ -156,4 +157,31 @@ impl Machine {
             is_broken: self.is_broken,
         })
     }
+}
+
+// Does an entry by the entry step, where its number and its reply are kept if it acts. What is left where it finds no
+// memory isn't told.
+#[tactic(auto, unfolding(zcalls::specs::Kept::entry_step))]
+fn enter(
+    alloc: Global,
+    store: &mut Store,
+    kept: &mut KeptReplies,
+    entry: &Entry,
+) -> Result<Option<Reply>, Memory>
+    requires { IsSteady store.old }
+    ensures done { IfOk result (IsEntered entry.now store.old kept.old store.new kept.new) }
+    ensures left { StaysBounded store.old store.new }
+{
+    let number = entry.number.number();
+    let last = kept.last_number(entry.client);
+    if number <= last {
+        return kept.reply(alloc, entry.client, entry.number);
+    }
+    let reply = update(alloc, store, entry.client, &entry.update)?;
+    let Ok(copy) = reply.copied(alloc) else {
+        drop(reply);
+        return Err(Memory);
+    };
+    kept.keep(entry.client, entry.number, copy);
+    Ok(Some(reply))
 }

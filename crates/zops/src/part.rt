@@ -3,13 +3,13 @@
 ghost use Rattle.std.specs.Prelude.{◌≡◌, Ok, Err, IfOk, IfErr, OnErr};
 ghost use Rattle.zcalls.specs.Part.{check_step, part_step};
 ghost use Rattle.zops.specs.support.Ready.{IsReadyForPart};
-ghost use Rattle.zops.specs.support.Steps.{Gives, as_part};
+ghost use Rattle.zops.specs.support.Steps.{Gives};
 ghost use Rattle.zops.specs.support.Stops.{IsDone, IsStop};
 
-use crate::change::{change, has_other_version};
+use crate::change::{create, delete, has_other_version, set};
 use crate::stop::Stop;
 use std::alloc::Global;
-use zcalls::{Change, Check, Part, PartReply, Refusal};
+use zcalls::{Check, Part, PartReply, Refusal};
 use zstore::Store;
 use ztree::ClientId;
 
@@ -18,41 +18,18 @@ pub(crate) fn part(
     alloc: Global,
     store: &mut Store,
     client: ClientId,
-    part: Part,
+    part: &Part,
 ) -> Result<PartReply, Stop>
     requires ready { IsReadyForPart store.old }
-    ensures done { IfOk result (IsDone (part_step store.old.tree client part) store.old store.new) }
-    ensures stopped { IfErr result (IsStop (part_step store.old.tree client part)) }
+    ensures done { IfOk result (IsDone (part_step store.old.tree client part.now) store.old store.new) }
+    ensures stopped { IfErr result (IsStop (part_step store.old.tree client part.now)) }
     ensures same { OnErr result (store.new ≡ store.old) }
 {
     match part {
-        Part::Create(wanted) => change_part(alloc, store, client, Change::Create(wanted)),
-        Part::Delete(wanted) => change_part(alloc, store, client, Change::Delete(wanted)),
-        Part::SetData(wanted) => change_part(alloc, store, client, Change::SetData(wanted)),
-        Part::Check(wanted) => {
-            let did = check(store, &wanted);
-            drop(wanted);
-            did
-        }
-    }
-}
-
-// Does a part that is a change.
-fn change_part(
-    alloc: Global,
-    store: &mut Store,
-    client: ClientId,
-    wanted: Change,
-) -> Result<PartReply, Stop>
-    requires ready { IsReadyForPart store.old }
-    ensures done { IfOk result
-        (IsDone (as_part store.old.tree client wanted) store.old store.new) }
-    ensures stopped { IfErr result (IsStop (as_part store.old.tree client wanted)) }
-    ensures same { OnErr result (store.new ≡ store.old) }
-{
-    match change(alloc, store, client, wanted) {
-        Ok(did) => Ok(PartReply::from(did)),
-        Err(stop) => Err(stop),
+        Part::Create(wanted) => Ok(PartReply::from(create(alloc, store, client, wanted)?)),
+        Part::Delete(wanted) => Ok(PartReply::from(delete(store, wanted)?)),
+        Part::SetData(wanted) => Ok(PartReply::from(set(alloc, store, wanted)?)),
+        Part::Check(wanted) => check(store, wanted),
     }
 }
 

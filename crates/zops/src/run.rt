@@ -21,16 +21,16 @@ pub(crate) fn run(
     alloc: Global,
     store: &mut Store,
     client: ClientId,
-    parts: Vec<Part>,
+    parts: &[Part],
 ) -> Result<Vec<PartReply>, Halt>
     requires ready { IsReady store.old }
-    requires few { length parts.items ≤ MAX_PARTS }
+    requires few { length parts.now ≤ MAX_PARTS }
     ensures done { IfOk result (λ r.
-        Gives (run store.old.tree client parts.items) store.new r.items) }
-    ensures stopped { IfErr result (IsHalt (run store.old.tree client parts.items)) }
+        Gives (run store.old.tree client parts.now) store.new r.items) }
+    ensures stopped { IfErr result (IsHalt (run store.old.tree client parts.now)) }
     ensures stays { OnOk result (IsRun store.old store.new) }
     ensures given { store.new.given ≤ store.old.given + MAX_PARTS }
-    ensures mark { (m : Mark) → HasMark (length parts.items) m store.old → HasMark 0 m store.new }
+    ensures mark { (m : Mark) → HasMark (length parts.now) m store.old → HasMark 0 m store.new }
 {
     let mut replies = Vec::new(alloc);
     for wanted in parts {

@@ -8,17 +8,27 @@ ghost use Rattle.ztree.specs.declared.limits.TheConstants.{TICK_BOUND, ZXID_BOUN
 ghost use Rattle.zops.specs.support.Ready.{IsSteady, IsReady, StaysBounded, IsAsItWas};
 ghost use Rattle.zops.specs.support.Ready.{KeepsLeft, CanRemove, RemovesNamed};
 ghost use Rattle.zops.specs.support.Steps.{Makes, next_tick_result};
+ghost use Rattle.zcalls.specs.Part.{is_gone};
 ghost use Rattle.zcalls.specs.Step.{granted_timeout, due_next, update_result};
 ghost use Rattle.zcalls.specs.declared.call.Update.TheVariants.{Open, Ping, Close};
 ghost use Rattle.zcalls.specs.declared.reply.Reply.TheVariants as reply;
 
-use crate::owner::is_gone;
 use zcalls::limits::{MAX_TIMEOUT, MIN_TIMEOUT};
 use zcalls::{Refusal, Reply};
 use zpath::Memory;
 use zstore::{Id, Store};
 use ztree::limits::MAX_SESSIONS;
 use ztree::{ClientId, SessionId};
+
+/// Whether the session is gone to this client: it isn't there, or is another client's.
+pub(crate) fn is_gone(store: &Store, client: ClientId, session: SessionId) -> bool
+    ensures { result ≡ is_gone store.now.tree.sessions client session }
+{
+    match store.session(session) {
+        Some(found) => found.client != client,
+        None => true,
+    }
+}
 
 // The timeout that is given to who asks for so many ticks.
 fn granted(ticks: u64) -> u64

@@ -1,19 +1,15 @@
 -- The steps of `zcalls`, said of stores: what a call gives, leaves and answers.
-use Rattle.std.specs.Prelude.{◌≡◌, ℕ, Bool, length, nat_lt, Option, Some, Result, Ok}
+use Rattle.std.specs.Prelude.{◌≡◌, Bool, length, nat_lt, Option, Result, Ok}
 use Rattle.std.specs.Ordering.{nat_cmp}
 use Rattle.std.specs.FinMap.{FinMap}
 use Rattle.ztree.specs.declared.node.Node.{Node}
 use Rattle.ztree.specs.Tree.{Tree, Nodes, Path, children}
 use Rattle.zstore.specs.StoreView.{StoreView, Id, AtPath}
 use Rattle.zcalls.specs.declared.call.Entry.{Entry}
-use Rattle.zcalls.specs.declared.change.Change.{Change}
-use Rattle.zcalls.specs.declared.refusal.Refusal.{Refusal}
 use Rattle.zcalls.specs.declared.reply.Reply.{Reply}
-use Rattle.zcalls.specs.declared.reply.PartReply.{PartReply}
-use Rattle.zcalls.specs.Change.{part_of}
-use Rattle.zcalls.specs.Kept.{Kept, entry_step, act_result}
-use Rattle.zcalls.specs.Part.{change_step, node_has, part_step}
-use Rattle.zcalls.specs.Step.{step, change_result, due_next, stale_next, tick_result}
+use Rattle.zcalls.specs.Kept.{Kept, entry_step}
+use Rattle.zcalls.specs.Part.{node_has}
+use Rattle.zcalls.specs.Step.{step, due_next, stale_next, tick_result}
 
 -- a step that can be refused was done: it gives the tree of this store, and this reply
 abbrev pub Gives : {A E : Type 0} → Result (Tree × A) E → StoreView → A → Type 0
@@ -22,14 +18,6 @@ Gives step store reply = step ≡ Ok (store.tree, reply)
 -- a call's outcome is the tree of this store, and this reply
 abbrev pub Makes : {A : Type 0} → Tree × A → StoreView → A → Type 0
 Makes outcome store reply = (store.tree, reply) ≡ outcome
-
--- a change done as a part
-abbrev pub as_part : Tree → ℕ → Change → Result (Tree × PartReply) Refusal
-as_part t client change = part_step t client (part_of change)
-
--- a change done as a call
-abbrev pub single_result : Tree → ℕ → Change → Tree × Reply
-single_result t client change = change_result t (change_step t client change)
 
 -- a tick that ends and removes what it reaches
 abbrev pub next_tick_result : Tree → Tree × Reply
@@ -44,12 +32,6 @@ abbrev pub IsEntered : Entry → StoreView → Replies → StoreView → Replies
 IsEntered entry old kept_old new kept_new reply =
     (record { plain = new.tree; kept = kept_new }, reply)
     ≡ entry_step step (record { plain = old.tree; kept = kept_old }) entry
-
--- the same of an entry that acts
-abbrev pub HasActed : Entry → StoreView → Replies → StoreView → Replies → Reply → Type 0
-HasActed entry old kept_old new kept_new reply =
-    (record { plain = new.tree; kept = kept_new }, Some reply)
-    ≡ act_result step (record { plain = old.tree; kept = kept_old }) entry
 
 -- it is told whether the node that an Id names passes a test
 abbrev pub TellsWhether : (Node → Bool) → StoreView → Id → Bool → Type 0

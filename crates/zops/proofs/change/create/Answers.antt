@@ -22,7 +22,7 @@ pub returns-in_default-find-clause-stopped : goal.returns-in_default-find-clause
 unfolding create_step
 returns-in_default-find-clause-stopped c =
     let last = rw c.in-Some.is at c.in_ok-above.ensures.front in
-    let below = below c.args.create.path c.in-Some.above last.0 last.1 in
+    let below = below c.args.create.now.path c.in-Some.above last.0 last.1 in
     let owner = sym c.has_no_owner.ensures ∙ c.if-has_no_owner.false in
     rw (owner, below.root, below.parent, ← c.in_default-find.ensures.node) refl
 
@@ -30,7 +30,7 @@ pub returns-then-is_ephemeral-clause-stopped : goal.returns-then-is_ephemeral-cl
 unfolding create_step
 returns-then-is_ephemeral-clause-stopped c =
     let last = rw c.in-Some.is at c.in_ok-above.ensures.front in
-    let below = below c.args.create.path c.in-Some.above last.0 last.1 in
+    let below = below c.args.create.now.path c.in-Some.above last.0 last.1 in
     let owned = sym (c.is_ephemeral.ensures c.in-Some.above c.in-Some-find.ensures.found) ∙ c.if-is_ephemeral.true in
     let owner = sym c.has_no_owner.ensures ∙ c.if-has_no_owner.false in
     rw (owner, below.root, below.parent, ← c.in-Some-find.ensures.node, owned) refl
@@ -38,67 +38,67 @@ returns-then-is_ephemeral-clause-stopped c =
 pub made_path-requires-clause-live : goal.made_path-requires-clause-live
 made_path-requires-clause-live c =
     let last = rw c.in-Some.is at c.in_ok-above.ensures.front in
-    let below = below c.args.create.path c.in-Some.above last.0 last.1 in
+    let below = below c.args.create.now.path c.in-Some.above last.0 last.1 in
     c.in-Some-find.ensures.found ∙ ap Some (sym below.parent)
 
 pub made_path-requires-clause-short : goal.made_path-requires-clause-short
-made_path-requires-clause-short c = is_over-path c.args.create.path c.in_ok-above.ensures.path
+made_path-requires-clause-short c = is_over-path c.args.create.now.path c.in_ok-above.ensures.path
 
 pub returns-in_err-made-clause-stopped : goal.returns-in_err-made-clause-stopped
 returns-in_err-made-clause-stopped c =
     let last = rw c.in-Some.is at c.in_ok-above.ensures.front in
-    let below = below c.args.create.path c.in-Some.above last.0 last.1 in
+    let below = below c.args.create.now.path c.in-Some.above last.0 last.1 in
     let nodes = c.args.store.now.tree.nodes in
     let there = ap (has_node nodes) below.parent ∙ sym c.in-Some-find.ensures.node in
     let owned = ap (node_has is_owned nodes) below.parent ∙ sym (c.is_ephemeral.ensures c.in-Some.above c.in-Some-find.ensures.found) ∙ c.if-is_ephemeral.false in
     let owner = sym c.has_no_owner.ensures ∙ c.if-has_no_owner.false in
     let p = err_from_is_err_and c.from_residual-in_err-made.result c.from_residual-in_err-made.ensures.1 in
-    rw (p.1, p.2) (nameless c.args.store.now.tree c.args.client c.args.create owner below.root there owned c.in_err-made.field-0.0 c.in_err-made.ensures.stopped)
+    rw (p.1, p.2) (nameless c.args.store.now.tree c.args.client c.args.create.now owner below.root there owned c.in_err-made.field-0.0 c.in_err-made.ensures.stopped)
 
 pub returns-then-is_some-clause-stopped : goal.returns-then-is_some-clause-stopped
 returns-then-is_some-clause-stopped c =
     let last = rw c.in-Some.is at c.in_ok-above.ensures.front in
-    let below = below c.args.create.path c.in-Some.above last.0 last.1 in
+    let below = below c.args.create.now.path c.in-Some.above last.0 last.1 in
     let nodes = c.args.store.now.tree.nodes in
     let there = ap (has_node nodes) below.parent ∙ sym c.in-Some-find.ensures.node in
     let owned = ap (node_has is_owned nodes) below.parent ∙ sym (c.is_ephemeral.ensures c.in-Some.above c.in-Some-find.ensures.found) ∙ c.if-is_ephemeral.false in
     let here = sym c.find-2.ensures.node ∙ sym c.is_some.ensures ∙ c.if-is_some.true in
     let owner = sym c.has_no_owner.ensures ∙ c.if-has_no_owner.false in
-    created-refused c.args.store.now.tree c.args.client c.args.create _
-    (taken c.args.store.now.tree c.args.client c.args.create owner below.root there owned c.in_ok-made.made c.in_ok-made.ensures.made c.in_ok-made.ensures.allowed here)
+    created-refused c.args.store.now.tree c.args.client c.args.create.now _
+    (taken c.args.store.now.tree c.args.client c.args.create.now owner below.root there owned c.in_ok-made.made c.in_ok-made.ensures.made c.in_ok-made.ensures.allowed here)
 
 pub returns-then-nodes-ge-MAX_NODES-clause-stopped : goal.returns-then-nodes-ge-MAX_NODES-clause-stopped
 returns-then-nodes-ge-MAX_NODES-clause-stopped c =
     let last = rw c.in-Some.is at c.in_ok-above.ensures.front in
-    let below = below c.args.create.path c.in-Some.above last.0 last.1 in
+    let below = below c.args.create.now.path c.in-Some.above last.0 last.1 in
     let nodes = c.args.store.now.tree.nodes in
     let there = ap (has_node nodes) below.parent ∙ sym c.in-Some-find.ensures.node in
     let owned = ap (node_has is_owned nodes) below.parent ∙ sym (c.is_ephemeral.ensures c.in-Some.above c.in-Some-find.ensures.found) ∙ c.if-is_ephemeral.false in
     let free = sym c.find-2.ensures.node ∙ sym c.is_some.ensures ∙ c.if-is_some.false in
     let many = at_least 4096 _ (rw c.nodes.ensures at c.if-nodes-ge-MAX_NODES.true) in
     let owner = sym c.has_no_owner.ensures ∙ c.if-has_no_owner.false in
-    created-refused c.args.store.now.tree c.args.client c.args.create _
-    (full c.args.store.now.tree c.args.client c.args.create owner below.root there owned c.in_ok-made.made c.in_ok-made.ensures.made c.in_ok-made.ensures.allowed free many)
+    created-refused c.args.store.now.tree c.args.client c.args.create.now _
+    (full c.args.store.now.tree c.args.client c.args.create.now owner below.root there owned c.in_ok-made.made c.in_ok-made.ensures.made c.in_ok-made.ensures.allowed free many)
 
 pub add-requires-clause-live : goal.add-requires-clause-live
 add-requires-clause-live c =
     let last = rw c.in-Some.is at c.in_ok-above.ensures.front in
-    let below = below c.args.create.path c.in-Some.above last.0 last.1 in
+    let below = below c.args.create.now.path c.in-Some.above last.0 last.1 in
     let nodes = c.args.store.now.tree.nodes in
-    let parent = ap parent_of c.in_ok-made.ensures.made ∙ parent_of-made nodes c.args.create.kind c.args.create.path ∙ below.parent in
+    let parent = ap parent_of c.in_ok-made.ensures.made ∙ parent_of-made nodes c.args.create.now.kind c.args.create.now.path ∙ below.parent in
     c.in-Some-find.ensures.found ∙ ap Some (sym parent)
 
 pub add-requires-clause-below_root : goal.add-requires-clause-below_root
 add-requires-clause-below_root c e =
     let last = rw c.in-Some.is at c.in_ok-above.ensures.front in
-    let below = below c.args.create.path c.in-Some.above last.0 last.1 in
-    let path = c.args.create.path in
-    made-below_root c.args.store.now.tree.nodes c.args.create.kind path (not_root path below.root) (sym c.in_ok-made.ensures.made ∙ e)
+    let below = below c.args.create.now.path c.in-Some.above last.0 last.1 in
+    let path = c.args.create.now.path in
+    made-below_root c.args.store.now.tree.nodes c.args.create.now.kind path (not_root path below.root) (sym c.in_ok-made.ensures.made ∙ e)
 
 pub returns-clause-done : goal.returns-clause-done
 returns-clause-done c =
     let last = rw c.in-Some.is at c.in_ok-above.ensures.front in
-    let below = below c.args.create.path c.in-Some.above last.0 last.1 in
+    let below = below c.args.create.now.path c.in-Some.above last.0 last.1 in
     let nodes = c.args.store.now.tree.nodes in
     let there = ap (has_node nodes) below.parent ∙ sym c.in-Some-find.ensures.node in
     let owned = ap (node_has is_owned nodes) below.parent ∙ sym (c.is_ephemeral.ensures c.in-Some.above c.in-Some-find.ensures.found) ∙ c.if-is_ephemeral.false in
@@ -106,12 +106,12 @@ returns-clause-done c =
     let few = less_than 4096 _ (rw c.nodes.ensures at c.if-nodes-ge-MAX_NODES.false) in
     let owner = sym c.has_no_owner.ensures ∙ c.if-has_no_owner.false in
     let t = c.args.store.now.tree in
-    let create = c.args.create in
+    let create = c.args.create.now in
     record {
       step_is = created-done t c.args.client create
           (all_clear t c.args.client create owner below.root there owned c.in_ok-made.made c.in_ok-made.ensures.made c.in_ok-made.ensures.allowed free few)
-          ∙ (λ i. Ok (with_node t (sym c.in_ok-made.ensures.made i) create.bytes (sym c.owner-owner.ensures i) (sym c.ttl-ttl.ensures i) (sym c.is_sequential-is_sequential.ensures i), Created (sym c.in_ok-made.ensures.made i)))
-          ∙ (λ i. Ok (sym c.in_ok-add.ensures.added i, Created (sym c.in-Ok.ensures i)));
+          ∙ (λ i. Ok (with_node t (sym c.in_ok-made.ensures.made i) (sym c.in_ok-bytes.ensures i) (sym c.owner-owner.ensures i) (sym c.ttl-ttl.ensures i) (sym c.is_sequential-is_sequential.ensures i), Created (sym c.in_ok-made.ensures.made i)))
+          ∙ (λ i. Ok (sym c.in_ok-add.ensures.added i, Created (sym c.in_ok-path.ensures i)));
       given = c.in_ok-add.ensures.given.1;
       mark = mark_steps 2 c.args.store.now c.add.new.self (omega arith) c.in_ok-add.ensures.marked;
     }
@@ -131,7 +131,7 @@ pub add-requires-clause-owner : goal.add-requires-clause-owner
 add-requires-clause-owner c =
     let sessions = c.args.store.now.tree.sessions in
     subst (IsOwner sessions) (sym c.owner-owner.ensures)
-    (owner_lives sessions c.args.client c.args.create.kind (sym c.has_no_owner.ensures ∙ c.if-has_no_owner.false))
+    (owner_lives sessions c.args.client c.args.create.now.kind (sym c.has_no_owner.ensures ∙ c.if-has_no_owner.false))
 
 pub add-requires-clause-one_end : goal.add-requires-clause-one_end
-add-requires-clause-one_end c = rw (c.ttl-ttl.ensures, c.owner-owner.ensures) (one_end c.args.create.kind)
+add-requires-clause-one_end c = rw (c.ttl-ttl.ensures, c.owner-owner.ensures) (one_end c.args.create.now.kind)

@@ -15,4 +15,4 @@ looked_at (Ok reply) step store is = record { step_is = is; given = omega arith;
 looked_at (Err stop) step store is = tt
 
 pub returns-in-Check-clause-done : goal.returns-in-Check-clause-done
-returns-in-Check-clause-done c = rw c.in-Check.is (looked_at c.check-did.result (check_step c.args.store.now.tree c.in-Check.wanted) c.args.store.now c.check-did.ensures.done)
+returns-in-Check-clause-done c = rw c.in-Check.is (looked_at c.check.result (check_step c.args.store.now.tree c.in-Check.wanted) c.args.store.now c.check.ensures.done)

@@ -1,5 +1,6 @@
-use Rattle.std.proofs.Common.{◌≡◌, ◌+◌, ◌*◌, [], ◌∷◌, ◌++◌, ◌<◌, ◌^◌, Err, length, ap, sym, subst, ◌∙◌, arith}
-use Rattle.std.proofs.lemmas.List.{length-append, nil_from_length}
+use Rattle.std.proofs.Common.{◌≡◌, ◌+◌, ◌*◌, [], ◌∷◌, ◌++◌, ◌<◌, ◌^◌, Err, List, ℕ, length, drop, get_or, ap, sym, subst, ◌∙◌, arith}
+use Rattle.std.proofs.lemmas.List.{length-append, drop_more, drop_all}
+use Rattle.zcalls.specs.declared.call.Part.{Part}
 use Rattle.zcalls.specs.support.Alone.{ChangesNodesAlone}
 use Rattle.zcalls.specs.Multi.{run}
 use Rattle.zcalls.proofs.Bounds.{IsWithinAll, part_roomy, within_more, has_room}
@@ -11,32 +12,35 @@ use Rattle.zops.specs.support.Ready.{HasMark}
 use Rattle.zops.proofs.Marks.{mark_fewer}
 use Rattle.zops.proofs.run.run.Goals as goal
 
+-- the parts that are left are this one, and those behind it
+next : (parts : List Part) (at : ℕ) (part : Part) → at < length parts → part ≡ get_or parts at part → drop at parts ≡ part ∷ drop (at + 1) parts
+next parts at part l is = drop_more parts at part l ∙ ap (λ p. p ∷ drop (at + 1) parts) (sym is)
+
 pub loop-wanted-init : goal.loop-wanted-init
 loop-wanted-init c =
     let t = c.args.store.now.tree in
-    let all = c.into_iter-wanted-iterator.ensures.into_iter_gives.0 in
     let none = c.new-replies.ensures.items in
     let no_length = ap length none in
-    let length_all = ap length all in
     record {
-      ran = run-start (run t c.args.client c.args.parts.items) ∙ (λ i. behind_all (sym none i) (run t c.args.client (sym all i)));
+      ran = run-start (run t c.args.client c.args.parts.now) ∙ (λ i. behind_all (sym none i) (run t c.args.client c.args.parts.now));
       within = λ path n e. within_more _ _ n (omega arith) (c.requires.ready.steady.bounded.counters path n e);
       stays = alone_itself t;
-      count = omega (arith, no_length, length_all);
+      count = omega (arith, no_length);
       given = omega arith;
-      mark = λ m has. subst (λ n. HasMark n m c.args.store.now) (sym length_all) has;
+      mark = λ m has. has;
     }
 
 pub part-requires : goal.part-requires
 part-requires c =
     let here = c.loop-wanted.invariant in
     let bounded = c.requires.ready.steady.bounded in
+    let steps = ap length (next c.args.parts.now c.loop-wanted.wanted-index c.wanted-item.result c.loop-wanted-test.true c.wanted-item.is) in
     let few : 4096 * c.args.store.now.tree.zxid + length c.loop-wanted.replies.items + 1 < 2 ^ 62 = omega (arith, here.count, c.requires.few, bounded.zxid) in
     record {
       ready = record {
         counters = λ path n e. has_room (4096 * c.args.store.now.tree.zxid + length c.loop-wanted.replies.items) n few (here.within path n e);
         zxid = rw here.stays.zxid c.requires.ready.zxid;
-        given = let left = c.requires.ready.steady.given in let more = here.given in omega (arith, here.count, c.requires.few, left, more);
+        given = let left = c.requires.ready.steady.given in let more = here.given in omega (arith, steps, here.count, c.requires.few, left, more);
       };
     }
 
@@ -45,10 +49,10 @@ loop-wanted-preserved c =
     let old = c.args.store.now.tree in
     let before = c.loop-wanted.store.tree in
     let here = c.loop-wanted.invariant in
-    let wanted = c.in-Some.wanted in
-    let rest = c.next.new.self.rest.items in
+    let wanted = c.wanted-item.result in
+    let rest = drop (c.loop-wanted.wanted-index + 1) c.args.parts.now in
     let replies = c.loop-wanted.replies.items in
-    let steps = c.in-Some.ensures.steps.0 in
+    let steps = next c.args.parts.now c.loop-wanted.wanted-index wanted c.loop-wanted-test.true c.wanted-item.is in
     let did = c.in-Ok.ensures.done.step_is in
     let pushed : c.push.new.self.items ≡ replies ++ c.in-Ok.reply ∷ [] = c.in_ok-push-in-Ok.ensures.items in
     let longer : length c.push.new.self.items ≡ length replies + 1 = ap length pushed ∙ length-append replies (c.in-Ok.reply ∷ []) in
@@ -70,16 +74,19 @@ loop-wanted-preserved c =
 pub returns-in-Err-Refused-clause-stopped : goal.returns-in-Err-Refused-clause-stopped
 returns-in-Err-Refused-clause-stopped c =
     let here = c.loop-wanted.invariant in
+    let wanted = c.wanted-item.result in
+    let rest = drop (c.loop-wanted.wanted-index + 1) c.args.parts.now in
+    let steps = next c.args.parts.now c.loop-wanted.wanted-index wanted c.loop-wanted-test.true c.wanted-item.is in
     let stopped = rw c.in-Err-Refused.field-0-is at c.in-Err-Refused.ensures.stopped in
     here.ran
-    ∙ ap (λ parts. behind_all c.loop-wanted.replies.items (run c.loop-wanted.store.tree c.args.client parts)) c.in-Some.ensures.steps.0
-    ∙ run-refused c.loop-wanted.store.tree c.args.client c.loop-wanted.replies.items c.in-Some.wanted c.next.new.self.rest.items _ stopped
+    ∙ ap (λ parts. behind_all c.loop-wanted.replies.items (run c.loop-wanted.store.tree c.args.client parts)) steps
+    ∙ run-refused c.loop-wanted.store.tree c.args.client c.loop-wanted.replies.items wanted rest _ stopped
     ∙ rw c.in-Err-Refused.field-0-is (λ i. Err (sym (c.len.ensures ∙ c.loop-wanted.replies.ok.0) i + 1, c.in-Err-Refused.refusal))
 
 pub returns-clause-done : goal.returns-clause-done
 returns-clause-done c =
     let here = c.loop-wanted.invariant in
-    let ended : c.loop-wanted.wanted-iterator.rest.items ≡ [] = nil_from_length c.loop-wanted.wanted-iterator.rest.items (sym c.loop-wanted.wanted-iterator.rest.ok.0 ∙ c.in-None.ensures.steps.0) in
+    let ended = drop_all c.loop-wanted.wanted-index c.args.parts.now c.loop-wanted-test.false in
     here.ran ∙ ap (λ parts. behind_all c.loop-wanted.replies.items (run c.loop-wanted.store.tree c.args.client parts)) ended ∙ run-end c.loop-wanted.store.tree c.args.client c.loop-wanted.replies.items
 
 pub returns-clause-stays : goal.returns-clause-stays
@@ -94,18 +101,21 @@ returns-clause-stays c =
 
 pub returns-in_err-push-in-Ok-clause-mark : goal.returns-in_err-push-in-Ok-clause-mark
 returns-in_err-push-in-Ok-clause-mark c = λ m has.
-    let rest = c.next.new.self.rest.items in
-    let left : length c.loop-wanted.wanted-iterator.rest.items ≡ length rest + 1 = ap length c.in-Some.ensures.steps.0 ∙ omega arith in
+    let rest = drop (c.loop-wanted.wanted-index + 1) c.args.parts.now in
+    let steps = next c.args.parts.now c.loop-wanted.wanted-index c.wanted-item.result c.loop-wanted-test.true c.wanted-item.is in
+    let left : length (drop c.loop-wanted.wanted-index c.args.parts.now) ≡ length rest + 1 = ap length steps ∙ omega arith in
     mark_fewer (length rest) 0 m c.part.new.store (omega arith) (c.in-Ok.ensures.done.mark (length rest) m (subst (λ n. HasMark n m c.loop-wanted.store) left (c.loop-wanted.invariant.mark m has)))
 
 pub returns-in-Err-Refused-clause-mark : goal.returns-in-Err-Refused-clause-mark
 returns-in-Err-Refused-clause-mark c = λ m has.
-    mark_fewer (length c.loop-wanted.wanted-iterator.rest.items) 0 m c.part.new.store (omega arith) (subst (λ (s : StoreView). HasMark (length c.loop-wanted.wanted-iterator.rest.items) m s) (sym c.in-Err-Refused.ensures.same) (c.loop-wanted.invariant.mark m has))
+    let left = length (drop c.loop-wanted.wanted-index c.args.parts.now) in
+    mark_fewer left 0 m c.part.new.store (omega arith) (subst (λ (s : StoreView). HasMark left m s) (sym c.in-Err-Refused.ensures.same) (c.loop-wanted.invariant.mark m has))
 
 pub returns-in-Err-Memory-clause-mark : goal.returns-in-Err-Memory-clause-mark
 returns-in-Err-Memory-clause-mark c = λ m has.
-    mark_fewer (length c.loop-wanted.wanted-iterator.rest.items) 0 m c.part.new.store (omega arith) (subst (λ (s : StoreView). HasMark (length c.loop-wanted.wanted-iterator.rest.items) m s) (sym c.in-Err-Memory.ensures.same) (c.loop-wanted.invariant.mark m has))
+    let left = length (drop c.loop-wanted.wanted-index c.args.parts.now) in
+    mark_fewer left 0 m c.part.new.store (omega arith) (subst (λ (s : StoreView). HasMark left m s) (sym c.in-Err-Memory.ensures.same) (c.loop-wanted.invariant.mark m has))
 
 pub returns-clause-mark : goal.returns-clause-mark
 returns-clause-mark c = λ m has.
-    mark_fewer (length c.loop-wanted.wanted-iterator.rest.items) 0 m c.loop-wanted.store (omega arith) (c.loop-wanted.invariant.mark m has)
+    mark_fewer (length (drop c.loop-wanted.wanted-index c.args.parts.now)) 0 m c.loop-wanted.store (omega arith) (c.loop-wanted.invariant.mark m has)

@@ -30,7 +30,7 @@ halted_is (Refused number refusal) result t u ran same is answered = rw answered
 pub back-requires : goal.back-requires
 back-requires c =
     let here = c.in_ok-mark.ensures.marked in
-    let has = mark_after (length c.into_parts-parts.result.items) c.args.store.now c.mark.new.self c.run.new.store here (let len = c.len.ensures in let items = c.into_parts-parts.result.ok.0 in omega (arith, len, items)) c.run.ensures.mark in
+    let has = mark_after (length c.as_slice-parts.result.now) c.args.store.now c.mark.new.self c.run.new.store here (omega arith) c.run.ensures.mark in
     record { marked = mark_stands here.mark c.run.new.store has }
 
 pub returns-in-Ok-clause-left : goal.returns-in-Ok-clause-left
@@ -50,15 +50,15 @@ pub returns-in-Err-clause-done : goal.returns-in-Err-clause-done
 returns-in-Err-clause-done c =
     let t = c.args.store.now.tree in
     let here = c.in_ok-mark.ensures.marked in
-    let has = mark_after (length c.into_parts-parts.result.items) c.args.store.now c.mark.new.self c.run.new.store here (let len = c.len.ensures in let items = c.into_parts-parts.result.ok.0 in omega (arith, len, items)) c.run.ensures.mark in
+    let has = mark_after (length c.as_slice-parts.result.now) c.args.store.now c.mark.new.self c.run.new.store here (omega arith) c.run.ensures.mark in
     let back = back_at_mark c.args.store.now c.mark.new.self c.run.new.store c.back.new.self here has c.back.ensures.tree in
-    let ran : run c.mark.new.self.tree c.args.client c.into_parts-parts.result.items ≡ run t c.args.client c.args.parts = λ i. run (here.tree i) c.args.client (c.into_parts-parts.ensures.parts i) in
-    halted_is c.in-Err.halt c.halted.result t c.back.new.self.tree (run t c.args.client c.args.parts) back.0 (subst (λ (r : Run). IsHalt r c.in-Err.halt) ran c.in-Err.ensures.stopped) c.halted.ensures
+    let ran : run c.mark.new.self.tree c.args.client c.as_slice-parts.result.now ≡ run t c.args.client c.args.parts.now = λ i. run (here.tree i) c.args.client (c.as_slice-parts.ensures.parts i) in
+    halted_is c.in-Err.halt c.halted.result t c.back.new.self.tree (run t c.args.client c.args.parts.now) back.0 (subst (λ (r : Run). IsHalt r c.in-Err.halt) ran c.in-Err.ensures.stopped) c.halted.ensures
 
 pub returns-in-Err-clause-left : goal.returns-in-Err-clause-left
 returns-in-Err-clause-left c =
     let here = c.in_ok-mark.ensures.marked in
-    let has = mark_after (length c.into_parts-parts.result.items) c.args.store.now c.mark.new.self c.run.new.store here (let len = c.len.ensures in let items = c.into_parts-parts.result.ok.0 in omega (arith, len, items)) c.run.ensures.mark in
+    let has = mark_after (length c.as_slice-parts.result.now) c.args.store.now c.mark.new.self c.run.new.store here (omega arith) c.run.ensures.mark in
     let back = back_at_mark c.args.store.now c.mark.new.self c.run.new.store c.back.new.self here has c.back.ensures.tree in
     let same = c.back.ensures.given in
     let more = c.run.ensures.given in
@@ -68,5 +68,5 @@ returns-in-Err-clause-left c =
 pub returns-in-Err-clause-err : goal.returns-in-Err-clause-err
 returns-in-Err-clause-err c =
     let here = c.in_ok-mark.ensures.marked in
-    let has = mark_after (length c.into_parts-parts.result.items) c.args.store.now c.mark.new.self c.run.new.store here (let len = c.len.ensures in let items = c.into_parts-parts.result.ok.0 in omega (arith, len, items)) c.run.ensures.mark in
+    let has = mark_after (length c.as_slice-parts.result.now) c.args.store.now c.mark.new.self c.run.new.store here (omega arith) c.run.ensures.mark in
     on_err c.halted.result _ (back_at_mark c.args.store.now c.mark.new.self c.run.new.store c.back.new.self here has c.back.ensures.tree)
