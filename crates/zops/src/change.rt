@@ -123,8 +123,15 @@ pub(crate) fn create(
         drop(made);
         return Err(Stop::Refused(Refusal::Full));
     }
-    let path = made.copied(alloc)?;
-    let bytes = create.bytes.copied(alloc)?;
+    let Ok(path) = made.copied(alloc) else {
+        drop(made);
+        return Err(Stop::Memory);
+    };
+    let Ok(bytes) = create.bytes.copied(alloc) else {
+        drop(made);
+        drop(path);
+        return Err(Stop::Memory);
+    };
     let owner = create.kind.owner();
     let ttl = create.kind.ttl();
     let is_sequential = create.kind.is_sequential();

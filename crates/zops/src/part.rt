@@ -4,7 +4,7 @@ ghost use Rattle.std.specs.Prelude.{◌≡◌, Ok, Err, IfOk, IfErr, OnErr};
 ghost use Rattle.zcalls.specs.Part.{check_step, part_step};
 ghost use Rattle.zops.specs.support.Ready.{IsReadyForPart};
 ghost use Rattle.zops.specs.support.Steps.{Gives};
-ghost use Rattle.zops.specs.support.Stops.{IsDone, IsStop};
+ghost use Rattle.zops.specs.support.Stops.{IsPartDone, IsStop};
 
 use crate::change::{create, delete, has_other_version, set};
 use crate::stop::Stop;
@@ -21,7 +21,7 @@ pub(crate) fn part(
     part: &Part,
 ) -> Result<PartReply, Stop>
     requires ready { IsReadyForPart store.old }
-    ensures done { IfOk result (IsDone (part_step store.old.tree client part.now) store.old store.new) }
+    ensures done { IfOk result (IsPartDone client part.now store.old store.new) }
     ensures stopped { IfErr result (IsStop (part_step store.old.tree client part.now)) }
     ensures same { OnErr result (store.new ≡ store.old) }
 {

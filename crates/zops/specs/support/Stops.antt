@@ -1,12 +1,15 @@
 -- What is left by a part, or by the parts of a multi, done to a store.
-use Rattle.std.specs.Prelude.{◌≡◌, ◌+◌, ◌≤◌, Option, Some, Result, Ok, Err, IsErr}
+use Rattle.std.specs.Prelude.{ℕ, ◌≡◌, ◌+◌, ◌≤◌, Option, Some, Result, Ok, Err, IsErr}
 use Rattle.ztree.specs.Tree.{Tree}
 use Rattle.zstore.specs.StoreView.{StoreView}
+use Rattle.zcalls.specs.declared.call.Part.{Part}
 use Rattle.zcalls.specs.declared.refusal.Refusal.{Refusal}
 use Rattle.zops.specs.support.Ready.{KeepsMark}
+use Rattle.zcalls.specs.declared.reply.PartReply.{PartReply}
 use Rattle.zcalls.specs.declared.reply.Reply.{Reply}
 use Rattle.zcalls.specs.declared.reply.Reply.TheVariants as reply
 use Rattle.zcalls.specs.Multi.{Run}
+use Rattle.zcalls.specs.Part.{part_step}
 use Rattle.zops.specs.declared.stop.Stop.{Stop}
 use Rattle.zops.specs.declared.stop.Stop.TheVariants as stop
 use Rattle.zops.specs.declared.stop.Halt.{Halt}
@@ -17,6 +20,10 @@ pub record IsDone {A : Type 0} (step : Result (Tree × A) Refusal) (old new : St
   pub step_is : step ≡ Ok (new.tree, reply)
   pub given : new.given ≤ old.given + 1
   pub mark : KeepsMark old new
+
+-- the same of a client's part
+abbrev pub IsPartDone : ℕ → Part → StoreView → StoreView → PartReply → Type 0
+IsPartDone client part old new reply = IsDone (part_step old.tree client part) old new reply
 
 -- what a step that was not done says: memory nothing, and a refusal that it is the step's
 abbrev pub IsStop : {A : Type 0} → Result A Refusal → Stop → Type 0
