@@ -4,7 +4,7 @@ ghost use Rattle.std.specs.Prelude.{◌≡◌, ◌<◌, ◌≤◌, ◌+◌, ◌+
 ghost use Rattle.std.specs.Vec.{vec_len, vec_capacity};
 
 use crate::undo::Undo;
-use crate::undoing::{free_all, free_one, undo_all};
+use crate::undoing::{free_all, undo_all};
 use std::alloc::Global;
 use znodes::Nodes;
 use zpath::Memory;
@@ -55,7 +55,9 @@ impl Log {
             push_within(&mut self.undos, undo);
             return;
         }
-        free_one(nodes, &undo);
+        if let Undo::Taken(id, _) = &undo {
+            nodes.free(*id);
+        }
         self.stop(nodes);
     }
 
@@ -81,19 +83,11 @@ impl Log {
         ensures empty { self.new.undos.items ≡ [] }
         ensures nodes { nodes.new ≡ nodes_released (undos_in self.old) nodes.old }
     {
-        self.free_taken(nodes);
-        self.undos.clear();
-        self.is_on = false;
-    }
-
-    /// Gives up what was taken away since the mark, if one stands, in the nodes or in a copy of them.
-    pub(crate) fn free_taken(&self, nodes: &mut Nodes)
-        requires { AllHeld (undos_in self.now) nodes.old.held }
-        ensures { nodes.new ≡ nodes_released (undos_in self.now) nodes.old }
-    {
         if self.is_on {
             free_all(nodes, &self.undos);
         }
+        self.undos.clear();
+        self.is_on = false;
     }
 }
 

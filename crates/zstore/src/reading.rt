@@ -6,6 +6,7 @@ ghost use Rattle.zstore.specs.StoreView.{path_of, node_of, data_of, seq_of, ttl_
 
 use crate::log::Log;
 use crate::store::Store;
+use crate::undoing::free_all;
 use znodes::Id;
 use zpath::{Memory, Name, Path};
 use ztree::{Node, Stat};
@@ -86,7 +87,9 @@ impl Store {
         ensures { IfOk result (λ copy. copy ≡ without_mark self.now) }
     {
         let mut nodes = self.nodes.copy()?;
-        self.log.free_taken(&mut nodes);
+        if self.log.is_on {
+            free_all(&mut nodes, &self.log.undos);
+        }
         Ok(Store {
             nodes,
             sessions: self.sessions.copy()?,

@@ -76,7 +76,8 @@ impl Store {
                 cversion: node.cversion + 1,
                 seq: node.seq,
             };
-            self.put_marks(parent, marks);
+            let before = self.nodes.put_marks(parent, marks);
+            self.log.note(&mut self.nodes, Undo::Marked(parent, before));
         }
     }
 }

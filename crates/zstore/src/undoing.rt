@@ -2,7 +2,7 @@
 
 ghost use Rattle.std.specs.Prelude.{◌≡◌, ◌≤◌, ◌+◌};
 ghost use Rattle.zstore.specs.support.Undoing.{Fits, FitAll, parts_of, undone, all_undone, returning, all_returning};
-ghost use Rattle.zstore.specs.support.Undoing.{release, release_all, IsHeld, AllHeld};
+ghost use Rattle.zstore.specs.support.Undoing.{release_all, AllHeld};
 
 use crate::undo::Undo;
 use znodes::Nodes;
@@ -51,17 +51,9 @@ pub(crate) fn free_all(nodes: &mut Nodes, undos: &[Undo])
 {
     let mut left = undos;
     while let Some((last, before)) = left.split_last() {
-        free_one(nodes, last);
+        if let Undo::Taken(id, _) = last {
+            nodes.free(*id);
+        }
         left = before;
-    }
-}
-
-/// Gives up what one change took away, if it took something.
-pub(crate) fn free_one(nodes: &mut Nodes, undo: &Undo)
-    requires { IsHeld undo.now nodes.old.held }
-    ensures { nodes.new ≡ record nodes.old { held = release undo.now nodes.old.held } }
-{
-    if let Undo::Taken(id, _) = undo {
-        nodes.free(*id);
     }
 }

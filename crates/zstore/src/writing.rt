@@ -8,8 +8,8 @@ ghost use Rattle.ztree.specs.Tree.{parent_of, has_node, with_next_zxid};
 ghost use Rattle.ztree.specs.Room.{HasRoomForChild, HasRoomForData};
 ghost use Rattle.zstore.specs.StoreView.{path_of, node_of, AtNode};
 ghost use Rattle.zstore.specs.StoreView.{KeepsIds, GivesAtMostOne, NamesNew, MakesNode, WritesData, mark_left};
-ghost use Rattle.zstore.specs.support.Parts.{tree_with, GainsChild, WritesMarks, WritesContent};
-ghost use Rattle.ztree.specs.Lawful.{IsPersistent, IsOwner, HasOneEnd};
+ghost use Rattle.zstore.specs.support.Parts.{GainsChild, WritesContent};
+ghost use Rattle.ztree.specs.Lawful.{IsPersistent, IsOwner};
 
 use crate::store::Store;
 use crate::undo::Undo;
@@ -57,8 +57,11 @@ impl Store {
         ensures marked { OnOk result (self.new.marked ≡ mark_left 2 self.old.marked) }
         ensures err { OnErr result (self.new ≡ self.old) }
     {
+        // A path's names are those of a path: the store keeps that.
+        let _ = path.names();
         let node = Node::new(bytes, owner, ttl, self.zxid.next(), self.time);
-        let id = self.insert(parent, path, node)?;
+        let id = self.nodes.add(parent, path, node)?;
+        self.log.note(&mut self.nodes, Undo::Added(id));
         self.child_changed(parent, sequential);
         Ok(id)
     }
@@ -85,28 +88,6 @@ impl Store {
         Ok(())
     }
 
-    // A node at a free path, under a new Id.
-    fn insert(&mut self, parent: Id, path: Path, node: Node) -> Result<Id, Memory>
-        requires below_root { path ≢ [] }
-        requires live { path_of self.old parent ≡ Some (parent_of path) }
-        requires free { has_node self.old.tree.nodes path ≡ false }
-        requires persistent { IsPersistent (node_of self.old parent) }
-        requires owner { IsOwner self.old.tree.sessions node.owner }
-        requires one_end { HasOneEnd node }
-        requires few { finite.len self.old.tree.nodes < MAX_NODES }
-        requires given { self.old.given < ID_BOUND }
-        ensures tree { OnOk result (self.new.tree ≡ tree_with self.old.tree path node) }
-        ensures named { IfOk result (λ id. NamesNew self.old self.new id path) }
-        ensures marked { OnOk result (self.new.marked ≡ mark_left 1 self.old.marked) }
-        ensures err { OnErr result (self.new ≡ self.old) }
-    {
-        // A path's names are those of a path: the store keeps that.
-        let _ = path.names();
-        let id = self.nodes.add(parent, path, node)?;
-        self.log.note(&mut self.nodes, Undo::Added(id));
-        Ok(id)
-    }
-
     // The marks of the next change at a node beneath which a child came.
     fn child_changed(&mut self, parent: Id, sequential: bool)
         requires live { IsSome (path_of self.old parent) }
@@ -122,19 +103,9 @@ impl Store {
                 cversion: node.cversion + 1,
                 seq: node.seq + u64::from(sequential),
             };
-            self.put_marks(parent, marks);
+            let before = self.nodes.put_marks(parent, marks);
+            self.log.note(&mut self.nodes, Undo::Marked(parent, before));
         }
-    }
-
-    // The marks of a live node written.
-    pub(crate) fn put_marks(&mut self, id: Id, marks: Marks)
-        requires live { IsSome (path_of self.old id) }
-        ensures tree { WritesMarks self.old self.new id marks }
-        ensures same { KeepsIds self.old self.new }
-        ensures marked { self.new.marked ≡ mark_left 1 self.old.marked }
-    {
-        let before = self.nodes.put_marks(id, marks);
-        self.log.note(&mut self.nodes, Undo::Marked(id, before));
     }
 
     // The data of a live node written.

@@ -7,19 +7,18 @@ use Rattle.zslots.specs.declared.id.Id.{Id}
 use Rattle.zslots.proofs.Maps.{id_cmp_total, id_cmp_same}
 use Rattle.ztree.specs.Tree.{Path}
 use Rattle.ztree.proofs.Maps.{same_some, none_some, same_or_other, get-insert-elsewhere, get-remove-elsewhere}
-use Rattle.zstore.specs.StoreView.{StoreView, Mark, path_of, NamesNew, Forgets, mark_left}
+use Rattle.zstore.specs.StoreView.{StoreView, Mark, path_of, Forgets, mark_left}
+use Rattle.zstore.specs.support.Undoing.{Places}
 
 -- an Id that names a path still names it after another Id was given
-pub still_named : (old new : StoreView) (id : Id) (path : Path) (other : Id) (p : Path) →
-    NamesNew old new id path → path_of old other ≡ Some p → path_of new other ≡ Some p
-still_named old new id path other p names is = ap (λ places. finite.get places other) names.named
-    ∙ by (same_or_other id_cmp_total id_cmp_same other id)
+pub still_named : (places : Places) (id other : Id) (path p : Path) → finite.get places id ≡ None →
+    finite.get places other ≡ Some p → finite.get (finite.insert places id path) other ≡ Some p
+still_named places id other path p free is = by (same_or_other id_cmp_total id_cmp_same other id)
   where
-    by : (other ≡ id) ⊎ (other ≢ id) → finite.get (finite.insert old.places id path) other ≡ Some p
-    by (inl same) =
-        absurd (none_some p (sym names.free ∙ ap (finite.get old.places) (sym same) ∙ is))
+    by : (other ≡ id) ⊎ (other ≢ id) → finite.get (finite.insert places id path) other ≡ Some p
+    by (inl same) = absurd (none_some p (sym free ∙ ap (finite.get places) (sym same) ∙ is))
     by (inr differs) =
-        get-insert-elsewhere id_cmp_total id_cmp_same old.places id path other differs ∙ is
+        get-insert-elsewhere id_cmp_total id_cmp_same places id path other differs ∙ is
 
 -- and so does one after another was forgotten
 pub not_forgotten : (old new : StoreView) (id other : Id) (path p : Path) → Forgets old new id →

@@ -11,6 +11,7 @@ use Rattle.zslots.specs.Ids.{id_cmp}
 use Rattle.ztree.specs.Tree.{Path, Sessions}
 use Rattle.znodes.specs.NodesView.{NodesView, SameButRoom}
 use Rattle.zstore.specs.declared.undo.Undo.{Undo}
+use Rattle.zstore.specs.declared.undo.Undo.TheVariants as undo
 use Rattle.zstore.specs.declared.log.Log.{Log}
 use Rattle.zstore.specs.StoreView.{mark_left}
 use Rattle.zstore.specs.support.Undoing.{Held, Owners, Parts, parts_of, undone, all_undone, Fits, FitAll, returning, release_all, release, AllHeld, Notes, notes_of, undos_of, add_note, held_after, GivesUp}
@@ -30,9 +31,29 @@ pub freed_off : (u : Undo) (l : Log) (held : Held) → l.is_on ≡ false →
     held_after u (notes_of l) held ≡ release_all (undos_of (notes_of l)) (release u held)
 freed_off u l held off = rw off refl
 
+-- what undoes all that a log has noted
+pub undos_on : (l : Log) → l.is_on ≡ true → undos_of (notes_of l) ≡ l.undos.items
+undos_on l on = rw on refl
+
+pub undos_off : (l : Log) → l.is_on ≡ false → undos_of (notes_of l) ≡ []
+undos_off l off = rw off refl
+
 -- the same nodes where other nodes are held
 abbrev pub with_held : NodesView → Held → NodesView
 with_held v held = record v { held = held }
+
+-- what one change took away given up
+pub freed_one : (v w : NodesView) (u : Undo) (id above : Id) → u ≡ undo.Taken id above →
+    w ≡ with_held v (finite.remove v.held id) → w ≡ with_held v (release u v.held)
+freed_one v w u id above is freed = freed ∙ ap (λ x. with_held v (release x v.held)) (sym is)
+
+-- and nothing, where it took nothing away
+pub freed_none : (v : NodesView) (u : Undo) → ((id above : Id) → u ≡ undo.Taken id above → ⊥) →
+    v ≡ with_held v (release u v.held)
+freed_none v (undo.Added id) none = refl
+freed_none v (undo.Taken id above) none = absurd (none id above refl)
+freed_none v (undo.Marked id marks) none = refl
+freed_none v (undo.Written id content) none = refl
 
 -- with no mark and nothing held, all is stored
 pub stored_plain : (v : NodesView) (sessions : Sessions) (time zxid : ℕ) (held : Held) →

@@ -1,17 +1,12 @@
 -- The parts of a change of the tree, each by a function of its own.
 use Rattle.std.specs.Prelude.{◌≡◌, ℕ, ◌+◌, Bool, Some}
-use Rattle.std.specs.FinMap.{get, insert, remove}
+use Rattle.std.specs.FinMap.{get, remove}
 use Rattle.ztree.specs.declared.node.Node.{Node}
 use Rattle.ztree.specs.Tree.{Tree, Path, parent_of, with_change_at, with_child, without_child}
 use Rattle.zslots.specs.declared.id.Id.{Id}
-use Rattle.znodes.specs.declared.parts.Marks.{Marks}
 use Rattle.znodes.specs.declared.parts.Content.{Content}
-use Rattle.znodes.specs.NodesView.{node_with_marks, node_with_content}
+use Rattle.znodes.specs.NodesView.{node_with_content}
 use Rattle.zstore.specs.StoreView.{StoreView, AtPath, path_of}
-
--- one more node
-abbrev pub tree_with : Tree → Path → Node → Tree
-tree_with t path n = record t { nodes = insert t.nodes path n }
 
 -- the marks of the next change at a node beneath which a child came
 abbrev pub with_child_at : Tree → Path → Bool → Tree
@@ -43,13 +38,6 @@ IsUnder h id parent = AtPath h id (λ path. path_of h parent ≡ Some (parent_of
 -- one session fewer
 abbrev pub tree_without_session : Tree → ℕ → Tree
 tree_without_session t id = record t { sessions = remove t.sessions id }
-
--- the marks of the node that an Id names are written
-abbrev pub WritesMarks : StoreView → StoreView → Id → Marks → Type 0
-WritesMarks old new id marks =
-    AtPath old id
-    (λ path. new.tree ≡ record old.tree
-    { nodes = with_change_at old.tree.nodes path (node_with_marks marks) })
 
 -- the data of the node that an Id names is written
 abbrev pub WritesContent : StoreView → StoreView → Id → Content → Type 0
