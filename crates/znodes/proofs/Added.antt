@@ -1,20 +1,59 @@
 -- A row that was put in under a new Id can go beneath a live node, and then a node was added.
-use Rattle.std.proofs.Common.{◌≡◌, ◌≢◌, ◌⊎◌, ◌≤◌, ◌+◌, [], true, false, Some, None, IsSome, is_some, sym, ap, ◌∙◌, arith}
+use Rattle.std.proofs.Common.{◌≡◌, ◌≢◌, ◌⊎◌, ◌≤◌, ◌+◌, [], true, false, Some, None, IsSome, is_some, refl, sym, ap, ◌∙◌, arith}
 use mathlib.Core.Path.{subst}
+use Rattle.std.specs.Option.{option_and_then}
 use Rattle.std.specs.FinMap.{get, insert, remove}
 use Rattle.zslots.specs.declared.id.Id.{Id}
+use Rattle.zslots.specs.SlotsView.{SlotsView, Items, IsNew}
 use Rattle.zslots.proofs.Maps.{id_cmp_total, id_cmp_same}
 use Rattle.ztree.specs.declared.node.Node.{Node}
 use Rattle.ztree.specs.Tree.{Path, parent_of, has_node}
 use Rattle.ztree.proofs.Maps as maps
 use Rattle.znodes.specs.declared.nodes.Nodes.TheInside.{Inside}
 use Rattle.znodes.specs.NodesView.{NodesView, Taken, CanReturn, Returns, Adds, IsKnownOwner, SameButRoom, path_of}
-use Rattle.znodes.specs.support.Rows.{IsLinked}
+use Rattle.znodes.specs.declared.row.Row.{Row}
+use Rattle.znodes.specs.support.Rows.{Key, IsLinked, IsThreaded, lone_row, live_path, taken_row, nodes_of, places_of, held_of, known_of}
 use Rattle.znodes.specs.support.Fields.{view_of}
 use Rattle.znodes.specs.support.Linking.{Holds}
 use Rattle.znodes.proofs.Found.{has_node-index}
-use Rattle.znodes.proofs.Views.{remove-is}
+use Rattle.znodes.proofs.Views.{get-places, get-held, remove-is}
+use Rattle.znodes.proofs.OneRow.{linked-joined, mortal-joined, parents-joined, nodes-joined, places-joined, held-joined}
 use Rattle.znodes.proofs.Linked.{parent-named}
+
+-- a row that comes in under a new Id as if its node had been taken away
+module _ (s : Inside) (threaded : IsThreaded s.slots.items s.index.ids s.owners s.timed) (after : SlotsView Row) (id : Id) (path : Path) (node : Node)
+    (key : Key) (same : key ≡ path) (new : IsNew s.slots id) (items : after.items ≡ insert s.slots.items id (lone_row s.alloc path node (Some key))) where
+  abbrev m : Items Row
+  m = s.slots.items
+
+  abbrev x : Row
+  x = lone_row s.alloc path node (Some key)
+
+  pub threaded-joined : IsThreaded after.items s.index.ids s.owners s.timed
+  threaded-joined = subst (λ w. IsThreaded w s.index.ids s.owners s.timed) (sym items) (record {
+    linked = linked-joined m s.index.ids s.owners id x key threaded.linked new.1 refl same refl;
+    mortal = mortal-joined m s.index.ids s.owners id x key threaded.linked new.1 refl same refl s.timed threaded.mortal;
+    parents = parents-joined m s.index.ids s.owners id x key threaded.linked new.1 refl same refl threaded.parents;
+  })
+
+  pub joined : after.given ≡ s.slots.given + 1 → Holds (view_of s) (view_of (record s { slots = after })) id (path, node)
+  joined given =
+      let nodes = ap (λ w. nodes_of w s.index.ids) items ∙ nodes-joined m s.index.ids s.owners id x key threaded.linked new.1 refl same refl in
+      let places = ap places_of items ∙ places-joined m s.index.ids s.owners id x key threaded.linked new.1 refl same refl in
+      let held = ap held_of items ∙ held-joined m s.index.ids s.owners id x key threaded.linked new.1 refl same refl in
+      record {
+        free = get-places m id ∙ ap (option_and_then live_path) new.1;
+        unheld = get-held m id ∙ ap (option_and_then taken_row) new.1;
+        next = new.0;
+        new_is = λ i. record {
+          nodes = nodes i;
+          places = places i;
+          held = held i;
+          owners = known_of s.owners;
+          given = given i;
+          room = s.index.room;
+        };
+      }
 
 pub parent-has_node : (s : Inside) (v : NodesView) → view_of s ≡ v → IsLinked s.slots.items s.index.ids s.owners → (p : Id) (path : Path) → path_of v p ≡ Some path → has_node v.nodes path ≡ true
 parent-has_node s v view kept p path e =

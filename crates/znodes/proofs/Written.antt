@@ -1,7 +1,7 @@
 -- A live row's node is changed, but for its owner.
 use Rattle.std.proofs.Common.{◌≡◌, ◌≢◌, ◌⊎◌, inl, inr, ℕ, false, true, cond, Option, Some, None, refl, sym, ap, ◌∙◌}
 use Rattle.std.specs.Option.{option_map, option_map_or, option_and_then}
-use Rattle.std.specs.FinMap.{get, same_map}
+use Rattle.std.specs.FinMap.{get, insert, same_map}
 use Rattle.zslots.specs.declared.id.Id.{Id}
 use Rattle.zslots.specs.SlotsView.{Items}
 use Rattle.zslots.specs.Lists.{empty_list}
@@ -21,6 +21,10 @@ use Rattle.znodes.proofs.Faces.{by-part, part-there, at-here, at-elsewhere, at-k
 use Rattle.znodes.proofs.Heads.{list-kept}
 use Rattle.znodes.proofs.Views.{get-nodes, get-places, get-held, through, insert-is}
 use Rattle.znodes.proofs.Linked.{only-path, node-shown}
+
+-- a row that is there, written
+pub row-written : (m : Items Row) (id : Id) (f : Node → Node) (r : Row) → get m id ≡ Some r → insert m id (record r { node = f r.node }) ≡ with_node_at m id f
+row-written m id f r there = sym (ap (λ o. option_map_or (λ (x : Row). insert m id (record x { node = f x.node })) o m) there)
 
 -- what stays of the row
 abbrev Stay : Type 0

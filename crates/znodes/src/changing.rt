@@ -6,7 +6,6 @@ ghost use Rattle.zslots.specs.declared.limits.TheConstants.{GIVEN_BOUND};
 ghost use Rattle.ztree.specs.Tree.{parent_of, has_node, children};
 ghost use Rattle.znodes.specs.NodesView.{path_of, AtPath, AtNode, AtTaken, IsKnownOwner, SameButRoom};
 ghost use Rattle.znodes.specs.NodesView.{Adds, Takes, CanReturn, Returns};
-ghost use Rattle.znodes.specs.support.Linking.{Holds};
 
 use crate::linking::{
     cut_child, cut_owned, cut_timed, put_child, put_owned, put_timed, set_key, set_parent, take_key,
@@ -30,6 +29,11 @@ impl Nodes {
         ensures err { OnErr result (SameButRoom self.old self.new) }
         ensures kept { OnErr result (self.old.room ≤ self.new.room) }
     {
+        if self.slots.given() >= GIVEN_BOUND {
+            drop(path);
+            drop(node);
+            return Err(Memory);
+        }
         let Ok(key) = path.copied(self.alloc) else {
             drop(path);
             drop(node);
@@ -41,31 +45,18 @@ impl Nodes {
             drop(node);
             return Err(Memory);
         };
-        let id = self.insert_taken(path, node, key)?;
-        self.put_back(id, parent);
-        Ok(id)
-    }
-
-    // Puts a row in as if its node had been taken away.
-    fn insert_taken(&mut self, path: Path, node: Node, key: Path) -> Result<Id, Memory>
-        requires key { key ≡ path }
-        ensures held { IfOk result (λ id. Holds self.old self.new id (path, node)) }
-        ensures err { OnErr result (self.new ≡ self.old) }
-    {
-        if self.slots.given() >= GIVEN_BOUND {
-            drop(path);
-            drop(node);
-            drop(key);
-            return Err(Memory);
-        }
-        let row = Row::alone(self.alloc, path, node, Some(key));
-        let id = match self.slots.insert(row) {
+        // As if the node had been taken away.
+        let id = match self
+            .slots
+            .insert(Row::alone(self.alloc, path, node, Some(key)))
+        {
             Ok(id) => id,
             Err(row) => {
                 drop(row);
                 return Err(Memory);
             }
         };
+        self.put_back(id, parent);
         Ok(id)
     }
 

@@ -9,7 +9,6 @@ ghost use Rattle.znodes.specs.support.Rows.{sibling_links};
 ghost use Rattle.znodes.specs.support.Reading.{name_at, names_at, AreNamesOf};
 
 use crate::nodes::Nodes;
-use crate::reading::live;
 use crate::row::Row;
 use std::alloc::Global;
 use zpath::{Memory, Name};
@@ -21,7 +20,7 @@ impl Nodes {
         requires live { IsSome (path_of self.now id) }
         ensures { IfOk result (λ names. AreChildrenOf self.now id names.items) }
     {
-        let Some(row) = live(&self.slots, id) else {
+        let Some(row) = Row::live(&self.slots, id) else {
             unreachable!()
         };
         let mut names = last_names(self.alloc, &self.slots, row.children)?;

@@ -3,13 +3,12 @@
 ghost use Rattle.std.specs.Prelude.{◌≡◌, ◌≢◌, ◌<◌, [], Some, is_some, IfSome, IfNone, OnSome, IsSome};
 ghost use Rattle.std.specs.Option.{option_copied};
 ghost use Rattle.ztree.specs.Tree.{has_node, ephemerals};
-ghost use Rattle.znodes.specs.support.Reading.{live_at};
 ghost use Rattle.znodes.specs.NodesView.{path_of, node_of, AtPath, AtNode, IsUnder, child_count_of};
 
 use crate::nodes::Nodes;
 use crate::row::Row;
 use zpath::Path;
-use zslots::{Id, Slots};
+use zslots::Id;
 use ztree::Node;
 
 impl Nodes {
@@ -26,7 +25,7 @@ impl Nodes {
         ensures value { option_copied result ≡ node_of self.now id }
         ensures live { is_some result ≡ is_some (path_of self.now id) }
     {
-        let row = live(&self.slots, id)?;
+        let row = Row::live(&self.slots, id)?;
         Some(&row.node)
     }
 
@@ -37,14 +36,14 @@ impl Nodes {
         ensures below_root { OnSome result (AtPath self.now id (λ path. path ≢ [])) }
         ensures none { IfNone result (AtPath self.now id (λ path. path ≡ [])) }
     {
-        live(&self.slots, id)?.parent
+        Row::live(&self.slots, id)?.parent
     }
 
     /// How many children the node has that an Id names; none where it names none.
     pub fn child_count(&self, id: Id) -> Option<usize>
         ensures { result ≡ child_count_of self.now id }
     {
-        let row = live(&self.slots, id)?;
+        let row = Row::live(&self.slots, id)?;
         Some(row.children.len())
     }
 
@@ -56,15 +55,5 @@ impl Nodes {
         ensures none { IfNone result (ephemerals self.now.nodes owner ≡ []) }
     {
         self.owners.list(owner)?.first()
-    }
-}
-
-// The row that an Id names, where its node is in the tree.
-pub(crate) fn live(slots: &Slots<Row>, id: Id) -> Option<&Row>
-    ensures { option_copied result ≡ live_at slots.now.items id }
-{
-    match slots.get(id) {
-        Some(row) if row.key.is_none() => Some(row),
-        _ => None,
     }
 }

@@ -5,7 +5,7 @@ ghost use Rattle.std.specs.Prelude.{◌≡◌, IfOk};
 use std::alloc::Global;
 use std::mem::size_of;
 use zpath::{Memory, Path};
-use zslots::{Copied, Id, Linked, Links, List};
+use zslots::{Copied, Id, Linked, Links, List, Slots};
 use ztree::Node;
 
 /// A node, where it is, the node above it, its children, and its neighbours among its siblings, among the nodes of its
@@ -30,7 +30,9 @@ pub(crate) struct Row {
 const _: () = prove!(size_of::<Row>() <= 300);
 
 impl Row {
+    ghost use Rattle.std.specs.Option.{option_copied};
     ghost use Rattle.znodes.specs.support.Rows.{lone_row};
+    ghost use Rattle.znodes.specs.support.Reading.{live_at};
 
     // A row in no list.
     pub(crate) fn alone(alloc: Global, path: Path, node: Node, key: Option<Path>) -> Row
@@ -55,6 +57,16 @@ impl Row {
             },
             key,
             alloc,
+        }
+    }
+
+    // The row that an Id names, where its node is in the tree.
+    pub(crate) fn live(slots: &Slots<Row>, id: Id) -> Option<&Row>
+        ensures { option_copied result ≡ live_at slots.now.items id }
+    {
+        match slots.get(id) {
+            Some(row) if row.key.is_none() => Some(row),
+            _ => None,
         }
     }
 }

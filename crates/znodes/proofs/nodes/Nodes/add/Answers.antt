@@ -1,55 +1,113 @@
-use Rattle.std.proofs.Common.{◌≤◌, refl, ap, ◌∙◌}
+use Rattle.std.proofs.Common.{◌≡◌, ◌≤◌, refl, sym, ap, ◌∙◌}
 use mathlib.Core.Path.{subst}
+use Rattle.std.specs.FinMap.{insert}
 use Rattle.ztree.specs.Tree.{parent_of}
+use Rattle.znodes.specs.declared.nodes.Nodes.TheInside.{Inside}
+use Rattle.znodes.specs.index.IndexView.{IndexView}
 use Rattle.znodes.specs.NodesView.{NodesView, SameButRoom}
-use Rattle.znodes.specs.support.Rows.{nodes_of}
+use Rattle.znodes.specs.support.Rows.{IsThreaded, nodes_of}
 use Rattle.znodes.specs.support.Fields.{view_of}
-use Rattle.znodes.proofs.Added.{parent-has_node, held-at, fits, under, added}
+use Rattle.znodes.proofs.Added.{threaded-joined, joined, parent-has_node, held-at, fits, under, added}
 use Rattle.znodes.proofs.nodes.Nodes.add.Goals as goal
 
--- the view with more room in the index
-module _ (c : goal.After-put_back-arg-1) where
-  abbrev roomy : NodesView
-  roomy = view_of (record { slots = c.self.inside.slots; index = c.reserve.new.self; owners = c.self.inside.owners; timed = c.self.inside.timed; alloc = c.self.inside.alloc })
+-- the fields with more room in the index
+abbrev with_index : Inside → IndexView → Inside
+with_index s index = record s { index = index }
 
-  same : SameButRoom c.args.self.now roomy
-  same =
-      let nodes = ap (nodes_of c.self.inside.slots.items) c.in-Ok-reserve.ensures.same ∙ ap (λ (v : NodesView). v.nodes) c.self.view_is in
+-- what the nodes are then, and with the row in
+module _ (s : Inside) (v : NodesView) (view : view_of s ≡ v) (threaded : IsThreaded s.slots.items s.index.ids s.owners s.timed)
+    (index : IndexView) (ids : index.ids ≡ s.index.ids) where
+  roomy : SameButRoom v (view_of (with_index s index))
+  roomy =
+      let nodes = ap (nodes_of s.slots.items) ids ∙ ap (λ (w : NodesView). w.nodes) view in
       λ i. record {
         nodes = nodes i;
-        places = (c.self.view_is i).places;
-        held = (c.self.view_is i).held;
-        owners = (c.self.view_is i).owners;
-        given = (c.self.view_is i).given;
-        room = c.reserve.new.self.room;
+        places = (view i).places;
+        held = (view i).held;
+        owners = (view i).owners;
+        given = (view i).given;
+        room = index.room;
       }
+
+  threaded-still : IsThreaded s.slots.items index.ids s.owners s.timed
+  threaded-still = subst (λ m. IsThreaded s.slots.items m s.owners s.timed) (sym ids) threaded
+
+pub invariant_of-self-2 : goal.invariant_of-self-2
+invariant_of-self-2 c =
+    let s = c.self.inside in
+    let id = c.in-Ok-insert.id in
+    let index = c.reserve.new.self in
+    let same = c.in-Ok-reserve.ensures.same in
+    let threaded = threaded-still s c.args.self.now c.self.view_is c.self.invariant index same in
+    let items = c.in-Ok-insert.ensures.items ∙ ap (insert s.slots.items id) c.alone.ensures in
+    threaded-joined (with_index s index) threaded c.insert.new.self id c.args.path c.args.node c.in-Ok.key c.in-Ok.ensures c.in-Ok-insert.ensures.new items
 
 pub put_back-requires-clause-held : goal.put_back-requires-clause-held
 put_back-requires-clause-held c =
-    rw (held-at c.args.self.now (roomy c) c.insert_taken.new.self c.in_ok-id.id c.args.parent c.args.path c.args.node (same c) c.in_ok-id.ensures.held) refl
+    let s = c.self.inside in
+    let id = c.in-Ok-insert.id in
+    let index = c.reserve.new.self in
+    let same = c.in-Ok-reserve.ensures.same in
+    let threaded = threaded-still s c.args.self.now c.self.view_is c.self.invariant index same in
+    let items = c.in-Ok-insert.ensures.items ∙ ap (insert s.slots.items id) c.alone.ensures in
+    let v = c.args.self.now in
+    let w = view_of (with_index s index) in
+    let held = view_of (record (with_index s index) { slots = c.insert.new.self }) in
+    let more = roomy s v c.self.view_is c.self.invariant index same in
+    let holds =
+    joined (with_index s index) threaded c.insert.new.self id c.args.path c.args.node c.in-Ok.key c.in-Ok.ensures c.in-Ok-insert.ensures.new items
+    c.in-Ok-insert.ensures.given in
+    rw (held-at v w held id c.args.parent c.args.path c.args.node more holds) refl
 
 pub put_back-requires-clause-fits : goal.put_back-requires-clause-fits
 put_back-requires-clause-fits c =
-    let above = parent-has_node c.self.inside c.args.self.now c.self.view_is c.self.invariant.linked c.args.parent (parent_of c.args.path) c.requires.parent in
-    fits c.args.self.now (roomy c) c.insert_taken.new.self c.in_ok-id.id c.args.parent c.args.path c.args.node (same c) c.in_ok-id.ensures.held c.requires.below_root c.requires.free above c.requires.owner
+    let s = c.self.inside in
+    let id = c.in-Ok-insert.id in
+    let index = c.reserve.new.self in
+    let same = c.in-Ok-reserve.ensures.same in
+    let threaded = threaded-still s c.args.self.now c.self.view_is c.self.invariant index same in
+    let items = c.in-Ok-insert.ensures.items ∙ ap (insert s.slots.items id) c.alone.ensures in
+    let v = c.args.self.now in
+    let w = view_of (with_index s index) in
+    let held = view_of (record (with_index s index) { slots = c.insert.new.self }) in
+    let more = roomy s v c.self.view_is c.self.invariant index same in
+    let holds =
+    joined (with_index s index) threaded c.insert.new.self id c.args.path c.args.node c.in-Ok.key c.in-Ok.ensures c.in-Ok-insert.ensures.new items
+    c.in-Ok-insert.ensures.given in
+    let above = parent-has_node s v c.self.view_is c.self.invariant.linked c.args.parent (parent_of c.args.path) c.requires.parent in
+    fits v w held id c.args.parent c.args.path c.args.node more holds c.requires.below_root c.requires.free above c.requires.owner
 
 pub put_back-requires-clause-under : goal.put_back-requires-clause-under
 put_back-requires-clause-under c =
-    under c.args.self.now (roomy c) c.insert_taken.new.self c.in_ok-id.id c.args.parent c.args.path c.args.node (same c) c.in_ok-id.ensures.held c.requires.parent
+    let s = c.self.inside in
+    let id = c.in-Ok-insert.id in
+    let index = c.reserve.new.self in
+    let same = c.in-Ok-reserve.ensures.same in
+    let threaded = threaded-still s c.args.self.now c.self.view_is c.self.invariant index same in
+    let items = c.in-Ok-insert.ensures.items ∙ ap (insert s.slots.items id) c.alone.ensures in
+    let v = c.args.self.now in
+    let w = view_of (with_index s index) in
+    let held = view_of (record (with_index s index) { slots = c.insert.new.self }) in
+    let more = roomy s v c.self.view_is c.self.invariant index same in
+    let holds =
+    joined (with_index s index) threaded c.insert.new.self id c.args.path c.args.node c.in-Ok.key c.in-Ok.ensures c.in-Ok-insert.ensures.new items
+    c.in-Ok-insert.ensures.given in
+    under v w held id c.args.parent c.args.path c.args.node more holds c.requires.parent
 
 pub returns-clause-added : goal.returns-clause-added
 returns-clause-added c =
-    let view = c.self.view_is in
-    let roomy_end = view_of (record { slots = c.self.inside.slots; index = c.reserve.new.self; owners = c.self.inside.owners; timed = c.self.inside.timed; alloc = c.self.inside.alloc }) in
-    let nodes = ap (nodes_of c.self.inside.slots.items) c.in-Ok-reserve.ensures.same ∙ ap (λ (v : NodesView). v.nodes) view in
-    let alike : SameButRoom c.args.self.now roomy_end =
-    λ i. record {
-      nodes = nodes i;
-      places = (view i).places;
-      held = (view i).held;
-      owners = (view i).owners;
-      given = (view i).given;
-      room = c.reserve.new.self.room;
-    } in
-    let grows = subst (λ room. room ≤ c.reserve.new.self.room) (ap (λ (v : NodesView). v.room) view) c.in-Ok-reserve.ensures.grows in
-    added c.args.self.now roomy_end c.insert_taken.new.self c.in_ok-id.id c.args.parent c.args.path c.args.node alike c.in_ok-id.ensures.held c.put_back.new.self grows c.put_back.ensures
+    let s = c.self.inside in
+    let id = c.in-Ok-insert.id in
+    let index = c.reserve.new.self in
+    let same = c.in-Ok-reserve.ensures.same in
+    let threaded = threaded-still s c.args.self.now c.self.view_is c.self.invariant index same in
+    let items = c.in-Ok-insert.ensures.items ∙ ap (insert s.slots.items id) c.alone.ensures in
+    let v = c.args.self.now in
+    let w = view_of (with_index s index) in
+    let held = view_of (record (with_index s index) { slots = c.insert.new.self }) in
+    let more = roomy s v c.self.view_is c.self.invariant index same in
+    let holds =
+    joined (with_index s index) threaded c.insert.new.self id c.args.path c.args.node c.in-Ok.key c.in-Ok.ensures c.in-Ok-insert.ensures.new items
+    c.in-Ok-insert.ensures.given in
+    let grows = subst (λ room. room ≤ index.room) (ap (λ (u : NodesView). u.room) c.self.view_is) c.in-Ok-reserve.ensures.grows in
+    added v w held id c.args.parent c.args.path c.args.node more holds c.put_back.new.self grows c.put_back.ensures

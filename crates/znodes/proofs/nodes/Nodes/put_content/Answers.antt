@@ -1,7 +1,7 @@
 use Rattle.std.proofs.Common.{refl, sym, ap, ◌∙◌}
 use mathlib.Core.Path.{subst}
-use Rattle.std.specs.Option.{option_map}
-use Rattle.zslots.specs.SlotsView.{SlotsView}
+use Rattle.std.specs.Option.{option_copied_mut}
+use Rattle.std.specs.FinMap.{insert}
 use Rattle.ztree.specs.Tree.{with_change_at}
 use Rattle.ztree.proofs.Maps.{same_some, none_some}
 use Rattle.znodes.specs.declared.row.Row.{Row}
@@ -10,19 +10,23 @@ use Rattle.znodes.specs.support.Rows.{IsThreaded, nodes_of, places_of, held_of}
 use Rattle.znodes.proofs.Linked.{live-shown, node-is}
 use Rattle.znodes.proofs.Mortal.{mortal-written}
 use Rattle.znodes.proofs.Parents.{parents-written}
-use Rattle.znodes.proofs.Written.{linked-written, nodes-written, places-written, held-written}
+use Rattle.znodes.proofs.Written.{row-written, linked-written, nodes-written, places-written, held-written}
 use Rattle.znodes.proofs.nodes.Nodes.put_content.Goals as goal
 
 pub unreachable-requires : goal.unreachable-requires
 unreachable-requires c =
     let r = live-shown c.self.inside c.args.self.now c.self.view_is c.args.id c.requires.live in
-    none_some (content_of r.0.node) (sym c.in-None.is ∙ c.content_put.ensures.before ∙ ap (option_map content_of) (ap (option_map (λ (x : Row). x.node)) r.1))
+    none_some r.0 (sym (ap option_copied_mut c.in_default.is) ∙ c.get_mut.follows ∙ r.1)
 
 pub invariant_of-self : goal.invariant_of-self
 invariant_of-self c =
     let s = c.self.inside in
     let r = live-shown s c.args.self.now c.self.view_is c.args.id c.requires.live in
-    subst (λ m. IsThreaded m s.index.ids s.owners s.timed) (ap (λ (h : SlotsView Row). h.items) (sym c.content_put.ensures.rows)) (record {
+    let row = c.in-Some.row.now in
+    let rows =
+    ap (λ bytes. insert s.slots.items c.args.id (record row { node = node_with_content (record c.args.content { bytes = bytes }) row.node })) c.replace.ensures.after
+    ∙ row-written s.slots.items c.args.id (node_with_content c.args.content) row (sym c.get_mut.follows ∙ ap option_copied_mut c.in-Some.is) in
+    subst (λ m. IsThreaded m s.index.ids s.owners s.timed) (sym rows) (record {
       linked = linked-written s.slots.items s.index.ids s.owners c.args.id r.0 (node_with_content c.args.content) c.self.invariant.linked r.1 r.2 (λ _. refl);
       mortal = mortal-written s.slots.items s.timed c.args.id (node_with_content c.args.content) (λ _. refl) c.self.invariant.mortal;
       parents = parents-written s.slots.items s.index.ids c.args.id (node_with_content c.args.content) c.self.invariant.parents;
@@ -34,19 +38,21 @@ returns-clause-written c = λ path at.
     let view = c.self.view_is in
     let f = node_with_content c.args.content in
     let r = live-shown s c.args.self.now view c.args.id c.requires.live in
-    let rows = ap (λ (h : SlotsView Row). h.items) c.content_put.ensures.rows in
+    let row = c.in-Some.row.now in
+    let rows =
+    ap (λ bytes. insert s.slots.items c.args.id (record row { node = node_with_content (record c.args.content { bytes = bytes }) row.node })) c.replace.ensures.after
+    ∙ row-written s.slots.items c.args.id (node_with_content c.args.content) row (sym c.get_mut.follows ∙ ap option_copied_mut c.in-Some.is) in
     let nodes =
     ap (λ m. nodes_of m s.index.ids) rows ∙ nodes-written s.slots.items s.index.ids s.owners c.args.id r.0 f c.self.invariant.linked r.1 r.2 (λ _. refl)
     ∙ (λ i. with_change_at (view i).nodes (same_some r.0.path path (sym r.3 ∙ at) i) f) in
     let places = ap places_of rows ∙ places-written s.slots.items s.index.ids s.owners c.args.id r.0 f c.self.invariant.linked r.1 r.2 (λ _. refl) ∙ ap (λ (v : NodesView). v.places) view in
     let held = ap held_of rows ∙ held-written s.slots.items s.index.ids s.owners c.args.id r.0 f c.self.invariant.linked r.1 r.2 (λ _. refl) ∙ ap (λ (v : NodesView). v.held) view in
-    let given = ap (λ (h : SlotsView Row). h.given) c.content_put.ensures.rows ∙ ap (λ (v : NodesView). v.given) view in
     λ i. record {
       nodes = nodes i;
       places = places i;
       held = held i;
       owners = (view i).owners;
-      given = given i;
+      given = (view i).given;
       room = (view i).room;
     }
 
@@ -54,4 +60,6 @@ pub returns-clause-before : goal.returns-clause-before
 returns-clause-before c = λ n at.
     let r = live-shown c.self.inside c.args.self.now c.self.view_is c.args.id c.requires.live in
     let node = same_some r.0.node n (sym (node-is c.self.inside c.args.self.now c.self.view_is c.self.invariant.linked c.args.id r.0 r.1 r.2 r.3) ∙ at) in
-    same_some c.in-Some.before (content_of r.0.node) (sym c.in-Some.is ∙ c.content_put.ensures.before ∙ ap (option_map content_of) (ap (option_map (λ (x : Row). x.node)) r.1)) ∙ ap content_of node
+    let row = c.in-Some.row.now in
+    ap (λ bytes. record (content_of row.node) { bytes = bytes }) c.replace.ensures.value
+    ∙ ap (λ (x : Row). content_of x.node) (same_some row r.0 (sym (ap option_copied_mut c.in-Some.is) ∙ c.get_mut.follows ∙ r.1)) ∙ ap content_of node

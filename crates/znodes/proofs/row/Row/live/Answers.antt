@@ -1,5 +1,5 @@
 use Rattle.std.proofs.Common.{rules}
-use Rattle.znodes.proofs.reading.live.Goals as goal
+use Rattle.znodes.proofs.row.Row.live.Goals as goal
 
 pub returns-in-Some : goal.returns-in-Some
 returns-in-Some c = search rules
