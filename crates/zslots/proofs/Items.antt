@@ -192,10 +192,6 @@ module _ {T : Type 0} where
   pub get-empty_slot : (slots : List (Option (Slot T))) (id : Id) → get_or slots id.index None ≡ None → finite.get (items_of slots) id ≡ None
   get-empty_slot slots id none = get-items slots id ∙ ap (λ o. item_at o id.generation) none
 
-  pub is_some-cond : (b : Bool) (x : T) → is_some (cond b (Some x) None) ≡ b
-  is_some-cond true x = refl
-  is_some-cond false x = refl
-
   item_at-some : (o : Option (Slot T)) (g : Generation) (x : T) → item_at o g ≡ Some x → (s : Slot T) × (o ≡ Some s) × (s.generation ≡ g) × (s.item ≡ x)
   item_at-some None g x e = cc
   item_at-some (Some s) g x e = by (cases_generation s.generation g)

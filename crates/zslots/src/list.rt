@@ -6,7 +6,7 @@ ghost use Rattle.zslots.specs.Links.{links_at as item_links};
 
 use crate::id::Id;
 use crate::linked::{Linked, Links};
-use crate::neighbours::{first_if, links_at, set_links, set_next, set_prev};
+use crate::neighbours::{first_if, links_at, set_next, set_prev};
 use crate::slots::Slots;
 
 /// A list of items, linked by their links of list `L`. None of its calls takes memory.
@@ -57,11 +57,12 @@ impl<const L: usize> List<L> {
         ensures list { PutsFirst T.links slots.old.items self.old id slots.new.items self.new }
     {
         set_prev::<L, T>(slots, self.first, Some(id));
-        let links = Links {
-            next: self.first,
-            prev: None,
-        };
-        set_links::<L, T>(slots, id, links);
+        if let Some(item) = slots.get_mut(id) {
+            item.set_links(Links {
+                next: self.first,
+                prev: None,
+            });
+        }
         self.first = Some(id);
         self.len += 1;
     }

@@ -2,8 +2,7 @@
 
 ghost use Rattle.std.specs.Prelude.{◌≡◌};
 ghost use Rattle.zslots.specs.Ids.{first_if as first_where};
-ghost use Rattle.zslots.specs.SlotsView.{with_items};
-ghost use Rattle.zslots.specs.Links.{links_at as item_links, with_links_at};
+ghost use Rattle.zslots.specs.Links.{links_at as item_links};
 ghost use Rattle.zslots.specs.ListCalls.{slots_with_next, slots_with_prev};
 
 use crate::id::Id;
@@ -20,16 +19,6 @@ pub(crate) fn links_at<const L: usize, T: Linked<L>>(slots: &Slots<T>, id: Id) -
             next: None,
             prev: None,
         },
-    }
-}
-
-// Writes an item's links.
-pub(crate) fn set_links<const L: usize, T: Linked<L>>(slots: &mut Slots<T>, id: Id, to: Links)
-    ensures { slots.new ≡ with_items slots.old
-        (with_links_at T.with_links slots.old.items id to) }
-{
-    if let Some(item) = slots.get_mut(id) {
-        item.set_links(to);
     }
 }
 

@@ -1,6 +1,6 @@
 //! Items under Ids.
 
-ghost use Rattle.std.specs.Prelude.{◌≡◌, ◌+◌, ◌<◌, ◌≤◌, Some, IfOk, IfErr, OnOk, OnErr, OnSome, IfNone, IsOk, IsSome, option_copied};
+ghost use Rattle.std.specs.Prelude.{◌≡◌, ◌+◌, ◌<◌, ◌≤◌, Some, IfOk, IfErr, OnOk, OnErr, OnSome, IfNone, IsOk, option_copied};
 ghost use Rattle.std.specs.Option.{option_copied_mut};
 ghost use Rattle.std.specs.Borrow.{sem};
 ghost use Rattle.std.specs.FinMap as finite;
@@ -47,7 +47,7 @@ impl<T> Model for Slots<T> {
 
 impl<T> Slots<T> {
     ghost use Rattle.zslots.specs.SlotsView.{empty_slots, IsNew, HasIndexes, NamesGivenIds};
-    ghost use Rattle.zslots.specs.Lends.{lends_item, lends_get};
+    ghost use Rattle.zslots.specs.Lends.{lends_get};
 
     /// No item, and no Id given. It takes no memory.
     pub fn new(alloc: Global) -> Slots<T>
@@ -127,11 +127,11 @@ impl<T> Slots<T> {
         ensures* writes_back { sem 𝓛 (lends_get T.row self.entry id result) }
         ensures value { option_copied_mut result ≡ finite.get self.old.items id }
     {
-        if self.contains(id) {
-            Some(self.item_mut(id))
-        } else {
-            None
+        if self.get(id).is_none() {
+            return None;
         }
+        let slot = &mut self.slab[id.index as usize];
+        Some(&mut slot.item)
     }
 
     /// Takes out the item that the Id names. The Id names nothing from then on.
@@ -142,29 +142,7 @@ impl<T> Slots<T> {
         ensures room { OnSome result (self.new.room ≡ self.old.room + 1) }
         ensures absent { IfNone result (self.new ≡ self.old) }
     {
-        if !self.contains(id) {
-            return None;
-        }
+        self.get(id)?;
         Some(self.slab.remove(id.index as usize).item)
-    }
-
-    // Whether the Id names an item.
-    fn contains(&self, id: Id) -> bool
-        ensures { result ≡ finite.contains_key self.now.items id }
-    {
-        match self.slab.get(id.index as usize) {
-            Some(slot) => slot.generation.is(id.generation),
-            None => false,
-        }
-    }
-
-    // The item that a live Id names, for writing.
-    fn item_mut(&mut self, id: Id) -> &mut T
-        requires { IsSome (finite.get self.old.items id) }
-        ensures* writes_back { sem 𝓛 (lends_item T.row self.entry id result) }
-        ensures value { finite.get self.old.items id ≡ Some result.now }
-    {
-        let slot = &mut self.slab[id.index as usize];
-        &mut slot.item
     }
 }
