@@ -69,33 +69,25 @@ fn next_change<'a>(verb: &str, words: &mut Cursor<'a>) -> Option<ChangeWords<'a>
     match verb {
         // PATH KIND DATA
         "create" => {
-            let path = Word {
-                text: words.next()?,
-            };
+            let path = words.next()?;
             let kind = words.next()?;
-            let bytes = Word {
-                text: words.next()?,
-            };
-            Some(ChangeWords::Create(path, kind_in(kind)?, bytes))
+            let bytes = words.next()?;
+            let kind = kind_in(kind)?;
+            Some(ChangeWords::Create(Word { text: path }, kind, Word { text: bytes }))
         }
         // PATH VERSION
         "delete" => {
-            let path = Word {
-                text: words.next()?,
-            };
+            let path = words.next()?;
             let version = version_in(words.next()?)?;
-            Some(ChangeWords::Delete(path, version))
+            Some(ChangeWords::Delete(Word { text: path }, version))
         }
         // PATH VERSION DATA
         "set" => {
-            let path = Word {
-                text: words.next()?,
-            };
+            let path = words.next()?;
             let version = words.next()?;
-            let bytes = Word {
-                text: words.next()?,
-            };
-            Some(ChangeWords::SetData(path, version_in(version)?, bytes))
+            let bytes = words.next()?;
+            let version = version_in(version)?;
+            Some(ChangeWords::SetData(Word { text: path }, version, Word { text: bytes }))
         }
         _ => None,
     }
@@ -106,9 +98,7 @@ fn next_check<'a>(words: &mut Cursor<'a>) -> Option<PartWords<'a>>
     ensures part { IfSome result (λ part. check_shape words.old ≡ Some (part, words.new)) }
     ensures none { IfNone result (check_shape words.old ≡ None) }
 {
-    let path = Word {
-        text: words.next()?,
-    };
+    let path = words.next()?;
     let version = version_in(words.next()?)?;
-    Some(PartWords::Check(path, version))
+    Some(PartWords::Check(Word { text: path }, version))
 }
