@@ -14,6 +14,16 @@ pub run_after : (line : List ℕ) (seen from to : ℕ) (found : Bool) → from �
 run_after line seen from to true meets before odd = (odd.0, omega arith, odd.2, odd.3)
 run_after line seen from to false meets before none = λ place _ l. elim (cases_lt place seen) [ inl early ↦ before place early | inr late ↦ none place (omega arith) l ]
 
+-- two runs of one length, which meet or overlap, see all pairs
+pub both_runs : (line : List ℕ) (n pairs : ℕ) (found : Bool) → pairs < n + n → n ≤ pairs → IsOddAmong line 0 n false → IsOddAmong line (pairs - n) (pairs - n + n) found → IsOddAmong line 0 pairs found
+both_runs line n pairs found few many none last =
+    let back : pairs - n + n ≡ pairs = omega arith in
+    subst (λ to. IsOddAmong line 0 to found) back (run_after line n (pairs - n) (pairs - n + n) found (omega arith) (λ place l. none place (omega arith) l) last)
+
+-- what is odd in a run is odd in a longer one
+pub longer_run : (line : List ℕ) (to pairs : ℕ) → to ≤ pairs → IsOddAmong line 0 to true → IsOddAmong line 0 pairs true
+longer_run line to pairs fits odd = (odd.0, odd.1, omega arith, odd.3)
+
 -- a byte that leads a line stays in front of the places behind it
 next_behind : (before byte : ℕ) (line : List ℕ) (place : ℕ) → is_odd_behind (before ∷ byte ∷ line) (suc place) ≡ is_odd_behind (byte ∷ line) place
 next_behind before byte line place =

@@ -15,19 +15,12 @@ pub(crate) fn is_spaced(line: &[u8]) -> bool
     if !(0x21..=0x7e).contains(first) {
         return false;
     }
-    if line[line.len() - 1] == b' ' {
+    let pairs = line.len() - 1;
+    if line[pairs] == b' ' {
         return false;
     }
-    !has_odd(line)
-}
-
-// Whether a byte behind the first is odd: not plain, or a space behind a space.
-fn has_odd(line: &[u8]) -> bool
-    requires { 0 < length line.now }
-    ensures { IsOddAmong line.now 0 (length line.now - 1) result }
-{
-    let pairs = line.len() - 1;
-    if pairs >= 16 {
+    // A byte behind the first is odd if it is not plain, or a space behind a space.
+    let has_odd = if pairs >= 16 {
         has_odd_in_many(line, pairs)
     } else if pairs >= 8 {
         has_odd_in_lanes::<8>(line, 0) || has_odd_in_lanes::<8>(line, pairs - 8)
@@ -35,10 +28,11 @@ fn has_odd(line: &[u8]) -> bool
         has_odd_in_lanes::<4>(line, 0) || has_odd_in_lanes::<4>(line, pairs - 4)
     } else {
         has_odd_in_few(line, pairs)
-    }
+    };
+    !has_odd
 }
 
-// The same of 16 or more pairs of neighbours, the first and the second, and so on.
+// Whether the second of two neighbours is odd, of 16 or more pairs: the first and the second byte, and so on.
 fn has_odd_in_many(line: &[u8], pairs: usize) -> bool
     requires many { 16 ≤ pairs }
     requires are { pairs + 1 ≡ length line.now }
