@@ -62,8 +62,8 @@ pub(crate) fn hand_over(
         return Err(Memory);
     };
     out.put_reserved(
-        Process::Server(succ.id()),
-        Message::Snapshot(succ.epoch(), snapshot),
+        Process::Server(succ.id),
+        Message::Snapshot(succ.epoch, snapshot),
     );
     Ok(())
 }

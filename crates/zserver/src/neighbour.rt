@@ -9,8 +9,8 @@ use zprotocol::{Epoch, ServerId};
 /// A neighbour in the chain, with the epoch of the pair.
 #[derive(Drop)]
 pub(crate) struct Neighbour {
-    id: ServerId,
-    epoch: Epoch,
+    pub(crate) id: ServerId,
+    pub(crate) epoch: Epoch,
 }
 
 impl Model for Neighbour {
@@ -19,26 +19,6 @@ impl Model for Neighbour {
     ghost Value = { ℕ × ℕ };
 
     ghost view = { λ neighbour. (neighbour.id, neighbour.epoch) };
-}
-
-impl Neighbour {
-    pub(crate) fn new(id: ServerId, epoch: Epoch) -> Neighbour
-        ensures { result ≡ (id, epoch) }
-    {
-        Neighbour { id, epoch }
-    }
-
-    pub(crate) fn id(&self) -> ServerId
-        ensures { result ≡ self.now.0 }
-    {
-        self.id
-    }
-
-    pub(crate) fn epoch(&self) -> Epoch
-        ensures { result ≡ self.now.1 }
-    {
-        self.epoch
-    }
 }
 
 /// Whether the neighbour is this server, in this epoch.

@@ -8,7 +8,7 @@ ghost use Rattle.zserver.specs.support.Replicas.{GrowsBy};
 use crate::join::hand_over;
 use crate::neighbour::{Neighbour, is_neighbour};
 use crate::replica::{Replica, acknowledge};
-use crate::sent::{send_above, take_out};
+use crate::sent::send_above;
 use crate::snapshot::Snapshot;
 use zpath::Memory;
 use zprotocol::{Epoch, LogNumber, Message, Out, Process, ServerId};
@@ -32,7 +32,7 @@ impl Replica {
             return Ok(());
         }
         acknowledge(&self.pred, n, out)?;
-        take_out(&mut self.sent, n);
+        self.sent.retain(|e| n.number() < e.0.number());
         Ok(())
     }
 
@@ -51,7 +51,7 @@ impl Replica {
     {
         out.reserve(1)?;
         out.put_reserved(Process::Master, Message::Have(epoch, self.last()));
-        self.pred = Some(Neighbour::new(pred, epoch));
+        self.pred = Some(Neighbour { id: pred, epoch });
         Ok(())
     }
 
@@ -73,7 +73,7 @@ impl Replica {
         let Some(machine) = &self.machine else {
             return Ok(());
         };
-        let succ = Neighbour::new(succ, epoch);
+        let succ = Neighbour { id: succ, epoch };
         match last {
             Some(n) => send_above(self.alloc, &self.sent, n, &succ, out)?,
             None => hand_over(self.alloc, machine, &succ, out)?,

@@ -98,21 +98,11 @@ pub(crate) fn acknowledge(
     ensures silent { OnErr result (out.new.posts ≡ out.old.posts) }
     ensures told { OnErr result (is_some pred.now ≡ true) }
 {
-    if pred.is_some() {
+    if let Some(pred) = pred {
         out.reserve(1)?;
-        put_ack(pred, n, out);
+        out.put_reserved(Process::Server(pred.id), Message::Ack(pred.epoch, n));
     }
     Ok(())
-}
-
-/// Acknowledges the entries up to this number, where there is a predecessor.
-pub(crate) fn put_ack(pred: &Option<Neighbour>, n: LogNumber, out: &mut Out<Snapshot>)
-    requires { 0 < out.old.room }
-    ensures { Puts out.old out.new (ack_posts pred.now n) }
-{
-    if let Some(pred) = pred {
-        out.put_reserved(Process::Server(pred.id()), Message::Ack(pred.epoch(), n));
-    }
 }
 
 // A neighbour in the opening chain.
@@ -120,7 +110,10 @@ fn first_neighbour(server: Option<ServerId>) -> Option<Neighbour>
     ensures { result ≡ first_neighbour server }
 {
     match server {
-        Some(server) => Some(Neighbour::new(server, Epoch::opening())),
+        Some(id) => Some(Neighbour {
+            id,
+            epoch: Epoch::opening(),
+        }),
         None => None,
     }
 }

@@ -9,26 +9,19 @@ use crate::neighbour::Neighbour;
 use crate::snapshot::Snapshot;
 use std::alloc::Global;
 use std::collections::VecDeque;
-use zcalls::Entry;
+use zcalls::SharedEntry;
 use zpath::Memory;
 use zprotocol::{LogNumber, Message, Out, Process};
 
 /// The entries, each with its number in the log.
-pub(crate) type Sent = Vec<(LogNumber, Entry)>;
+pub(crate) type Sent = Vec<(LogNumber, SharedEntry)>;
 
-/// Takes out what the tail has processed: the entries up to this number.
-pub(crate) fn take_out(sent: &mut Sent, n: LogNumber)
-    ensures { sent.new.items ≡ entries_above n sent.old.items }
-{
-    sent.retain(|e| n.number() < e.0.number());
-}
-
-/// Copies of the entries above this number. It wants memory only where there are some.
+/// Each entry above this number, with one more owner. It wants memory only where there are some.
 fn copies_above(
     alloc: Global,
-    sent: &[(LogNumber, Entry)],
+    sent: &[(LogNumber, SharedEntry)],
     n: LogNumber,
-) -> Result<VecDeque<(LogNumber, Entry)>, Memory>
+) -> Result<VecDeque<(LogNumber, SharedEntry)>, Memory>
     ensures copies { IfOk result (λ copies. copies.items ≡ entries_above n sent.now) }
     ensures some { OnErr result (0 < length (entries_above n sent.now)) }
 {
@@ -43,14 +36,18 @@ fn copies_above(
 }
 
 /// Puts each entry to the successor, in their order.
-fn put_all(mut entries: VecDeque<(LogNumber, Entry)>, succ: &Neighbour, out: &mut Out<Snapshot>)
+fn put_all(
+    mut entries: VecDeque<(LogNumber, SharedEntry)>,
+    succ: &Neighbour,
+    out: &mut Out<Snapshot>,
+)
     requires { length entries.items ≤ out.old.room }
     ensures { Puts out.old out.new (map (forward_post succ.now) entries.items) }
 {
     while let Some((number, entry)) = entries.pop_front() {
         out.put_reserved(
-            Process::Server(succ.id()),
-            Message::Update(succ.epoch(), number, entry),
+            Process::Server(succ.id),
+            Message::Update(succ.epoch, number, entry),
         );
     }
 }
@@ -58,7 +55,7 @@ fn put_all(mut entries: VecDeque<(LogNumber, Entry)>, succ: &Neighbour, out: &mu
 /// Puts what the successor lacks, whose last entry has this number.
 pub(crate) fn send_above(
     alloc: Global,
-    sent: &[(LogNumber, Entry)],
+    sent: &[(LogNumber, SharedEntry)],
     n: LogNumber,
     succ: &Neighbour,
     out: &mut Out<Snapshot>,

@@ -86,7 +86,7 @@ impl Server {
                 return Err(why);
             }
         };
-        if is_retirement(&from, &message) {
+        if let (Process::Master, Message::Retire) = (&from, &message) {
             drop(message);
             return Err(self.stop(Stopped::Retired));
         }
@@ -104,15 +104,5 @@ impl Server {
     {
         self.replica = Err(why);
         why
-    }
-}
-
-// Whether the master orders the server to leave.
-fn is_retirement(from: &Process, message: &Message<Snapshot>) -> bool
-    ensures { result ≡ is_retirement from.now message.now }
-{
-    match from {
-        Process::Master => matches!(message, Message::Retire),
-        _ => false,
     }
 }

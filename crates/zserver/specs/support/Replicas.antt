@@ -1,24 +1,22 @@
 -- How a server's replica makes its state, and how the fields of the replica make its view; and the rows of its table, over
 -- the plain tree.
-use Rattle.std.specs.Prelude.{◌≡◌, ℕ, ◌+◌, true, false, Option, None, Some, List, [], ◌∷◌, map, Result, Ok, Err, if◌then◌else◌}
+use Rattle.std.specs.Prelude.{◌≡◌, ℕ, ◌+◌, true, false, Option, None, Some, List, map, Result, Ok, Err, if◌then◌else◌}
 use Rattle.ztree.specs.Tree.{Tree}
 use Rattle.zcalls.specs.declared.call.Entry.{Entry}
 use Rattle.zcalls.specs.declared.call.Query.{Query}
-use Rattle.zcalls.specs.declared.call.Update.{Update}
 use Rattle.zcalls.specs.declared.reply.Reply.{Reply}
 use Rattle.zcalls.specs.Kept.{KeptState}
 use Rattle.zops.specs.Machine.{MachineView}
 use Rattle.zprotocol.specs.declared.message.Message.TheVariants as message
 use Rattle.zprotocol.specs.declared.process.Process.{Process}
 use Rattle.zprotocol.specs.declared.process.Process.TheVariants.{Server}
-use Rattle.zprotocol.specs.Posts.{Puts}
 use Rattle.zprotocol.specs.server.Machine.{kept_tree}
 use Rattle.zprotocol.specs.server.Memory.{grows_by}
-use Rattle.zprotocol.specs.server.Table.{accept_result, answer_posts, entries_above, forward_post, has_room, if_initialised}
+use Rattle.zprotocol.specs.server.Table.{accept_result, entries_above, forward_post, has_room, if_initialised}
 use Rattle.zprotocol.specs.server.Table.{submit_row, query_row, update_row, server_step}
 use Rattle.zprotocol.specs.server.View.{Neighbour, Post, Transfer, spare}
 use Rattle.zserver.specs.declared.stopped.Stopped.{Stopped}
-use Rattle.zserver.specs.Server.{ServerState, TreeView, TreeMessage, TreeResult, TreeOut, running}
+use Rattle.zserver.specs.Server.{ServerState, TreeView, TreeMessage, TreeResult, running}
 
 -- a server that has stopped has no replica
 abbrev pub server_of : Result TreeView Stopped → ServerState
@@ -78,15 +76,6 @@ step_at v from m = server_step kept_tree v from m
 -- by this row a server grows
 abbrev pub GrowsBy : TreeView → TreeResult → Type 0
 GrowsBy v did = grows_by v did ≡ true
-
--- the reply was put, where there is one, to the client of an entry with this number
-abbrev pub PutsAnswer : TreeOut → TreeOut → ℕ → ℕ → Option Reply → Type 0
-PutsAnswer old new client number reply =
-    (update : Update) → Puts old new (answer_posts (record { client = client; number = number; update = update }) reply)
-
--- the entry was put to the successor, where there is one
-abbrev pub PutsUpdate : TreeOut → TreeOut → Option Neighbour → ℕ × Entry → Type 0
-PutsUpdate old new succ e = (neighbour : Neighbour) → succ ≡ Some neighbour → Puts old new (forward_post neighbour e ∷ [])
 
 -- the entries above a number, on their way to the successor
 abbrev pub posts_above : ℕ → List (ℕ × Entry) → Neighbour → List (Post (KeptState Tree))
