@@ -1,8 +1,7 @@
 //! The rows in which the machine applies an entry: `Submit` and `Update`.
 
-ghost use Rattle.std.specs.Prelude.{◌≡◌, ◌+◌, ◌<◌, ◌≤◌, ◌==◌, None, Some, ◌++◌, ◌∷◌, [], true, is_some, is_none, if◌then◌else◌, IfOk, OnErr, OnOk};
+ghost use Rattle.std.specs.Prelude.{◌≡◌, ◌<◌, None, Some, true, is_some, IfOk, OnErr, OnOk};
 ghost use Rattle.zprotocol.specs.declared.limits.TheConstants.{MAX_LOG_NUMBER};
-ghost use Rattle.zprotocol.specs.server.Table.{is_neighbour};
 ghost use Rattle.zprotocol.specs.Posts.{Puts};
 ghost use Rattle.zserver.specs.support.Replicas.{submit_at, update_at, accept_row, GrowsBy};
 ghost use Rattle.zserver.specs.support.Replicas.{applied_result, next_number};
@@ -141,8 +140,7 @@ impl Replica {
     #[tactic(auto, unfolding(crate::specs::support::Replicas::applied_result, zops::specs::Machine::entry_result))]
     fn apply(&mut self, entry: &Entry) -> Result<Option<Reply>, Memory>
         requires { self.old.last < MAX_LOG_NUMBER }
-        ensures { IfOk result
-            (λ reply. (self.new, reply) ≡ applied_result self.old entry.now) }
+        ensures { IfOk result (λ reply. (self.new, reply) ≡ applied_result self.old entry.now) }
     {
         let Some(machine) = &mut self.machine else {
             return Ok(None);

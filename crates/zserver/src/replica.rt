@@ -1,6 +1,6 @@
 //! What a server knows.
 
-ghost use Rattle.std.specs.Prelude.{◌≡◌, ◌<◌, true, is_some, IfOk, OnErr, OnOk};
+ghost use Rattle.std.specs.Prelude.{◌≡◌, true, is_some, IfOk, OnErr, OnOk};
 ghost use Rattle.zprotocol.specs.server.View.{spare};
 ghost use Rattle.zprotocol.specs.Posts.{Puts};
 ghost use Rattle.zprotocol.specs.server.Table.{ack_posts, last_number};
