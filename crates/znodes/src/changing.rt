@@ -7,9 +7,7 @@ ghost use Rattle.ztree.specs.Tree.{parent_of, has_node, children};
 ghost use Rattle.znodes.specs.NodesView.{path_of, AtPath, AtNode, AtTaken, IsKnownOwner, SameButRoom};
 ghost use Rattle.znodes.specs.NodesView.{Adds, Takes, CanReturn, Returns};
 
-use crate::linking::{
-    cut_child, cut_owned, cut_timed, put_child, put_owned, put_timed, set_key, set_parent, take_key,
-};
+use crate::linking::{cut_child, cut_owned, cut_timed, put_child, put_owned, set_key, take_key};
 use crate::nodes::Nodes;
 use crate::row::Row;
 use zpath::{Memory, Path};
@@ -104,8 +102,12 @@ impl Nodes {
             Some(key) => self.index.insert(key, id),
             None => unreachable!(),
         }
-        put_timed(&mut self.slots, &mut self.timed, ttl, id);
-        set_parent(&mut self.slots, id, parent);
+        if ttl != 0 {
+            self.timed.push_front(&mut self.slots, id);
+        }
+        if let Some(row) = self.slots.get_mut(id) {
+            row.parent = Some(parent);
+        }
     }
 
     /// Gives up what was taken away under an Id.

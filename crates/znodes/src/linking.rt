@@ -5,8 +5,8 @@ ghost use Rattle.zslots.specs.declared.limits.TheConstants.{MAX_LENGTH};
 ghost use Rattle.zslots.specs.SlotsView.{with_items};
 ghost use Rattle.zslots.specs.Lists.{length_of};
 ghost use Rattle.znodes.specs.support.OwnerLists.{list_of};
-ghost use Rattle.znodes.specs.support.Linking.{with_key, with_parent, kept_key, AtChildren, with_child, without_child, owners_with, owners_left, slots_with_owned, slots_without_owned};
-ghost use Rattle.znodes.specs.support.Linking.{with_timed, without_timed, timed_with, timed_without};
+ghost use Rattle.znodes.specs.support.Linking.{with_key, kept_key, AtChildren, with_child, without_child, owners_with, owners_left, slots_with_owned, slots_without_owned};
+ghost use Rattle.znodes.specs.support.Linking.{without_timed, timed_without};
 
 use crate::owners::Owners;
 use crate::row::Row;
@@ -71,18 +71,6 @@ pub(crate) fn cut_owned(slots: &mut Slots<Row>, owners: &mut Owners, owner: u64,
     }
 }
 
-// Puts a row before those with a time to live, where its node has one.
-pub(crate) fn put_timed(slots: &mut Slots<Row>, timed: &mut List<2>, ttl: u64, id: Id)
-    requires { ttl ≢ 0 → length_of timed.old < MAX_LENGTH }
-    ensures rows { slots.new ≡ with_items slots.old
-        (with_timed slots.old.items timed.old ttl id) }
-    ensures timed { timed.new ≡ timed_with timed.old ttl id }
-{
-    if ttl != 0 {
-        timed.push_front(slots, id);
-    }
-}
-
 // Takes a row out of those with a time to live, where its node has one.
 pub(crate) fn cut_timed(slots: &mut Slots<Row>, timed: &mut List<2>, ttl: u64, id: Id)
     requires { ttl ≢ 0 → 0 < length_of timed.old }
@@ -100,15 +88,6 @@ pub(crate) fn set_key(slots: &mut Slots<Row>, id: Id, key: Option<Path>)
 {
     if let Some(row) = slots.get_mut(id) {
         row.key = key;
-    }
-}
-
-// Writes which node is above a row's.
-pub(crate) fn set_parent(slots: &mut Slots<Row>, id: Id, parent: Id)
-    ensures { slots.new ≡ with_items slots.old (with_parent slots.old.items id parent) }
-{
-    if let Some(row) = slots.get_mut(id) {
-        row.parent = Some(parent);
     }
 }
 

@@ -122,10 +122,6 @@ timed_without m list ttl id = if ttl == 0 then list else list_without timed_link
 abbrev pub with_node_at : Items Row → Id → (Node → Node) → Items Row
 with_node_at m id f = with_row_at m id (λ r. record r { node = f r.node })
 
--- the slots with that
-abbrev pub slots_with_node : SlotsView Row → Id → (Node → Node) → SlotsView Row
-slots_with_node s id f = with_items s (with_node_at s.items id f)
-
 -- a node was put in under a new Id, and isn't in the tree yet
 pub record Holds (old new : NodesView) (id : Id) (t : Taken) : Type 0 where
   pub free : path_of old id ≡ None

@@ -1,21 +1,26 @@
-use Rattle.std.proofs.Common.{◌≡◌, ◌≤◌, ◌+◌, ◌⊎◌, Some, None, IsSome, sym, ap, ◌∙◌, arith}
+use Rattle.std.proofs.Common.{◌≡◌, ◌≤◌, ◌+◌, ◌⊎◌, ℕ, false, Option, Some, None, IsSome, refl, sym, ap, ◌∙◌, arith}
+use Rattle.std.specs.Prelude.{◌==◌, if◌then◌else◌}
+use Rattle.std.proofs.lemmas.Bool.Decides.{nat_tests}
 use mathlib.Core.Path.{subst}
-use Rattle.std.specs.Option.{option_copied}
+use Rattle.std.specs.Option.{option_copied, option_copied_mut, option_map_or}
 use Rattle.std.specs.FinMap as finite
 use Rattle.std.specs.FinMap.{get, insert, remove}
 use Rattle.zslots.specs.declared.id.Id.{Id}
 use Rattle.zslots.specs.declared.limits.TheConstants.{MAX_LENGTH}
 use Rattle.zslots.specs.declared.list.List.{List as IdList}
-use Rattle.zslots.specs.SlotsView.{SlotsView, Items}
+use Rattle.zslots.specs.SlotsView.{SlotsView, Items, with_items}
+use Rattle.zslots.specs.Links.{with_front}
+use Rattle.zslots.specs.Lists.{first_id, list_with_front}
 use Rattle.zslots.proofs.Items.{some_there}
 use Rattle.znodes.specs.index.IndexView.{IdsByPath}
 use Rattle.ztree.specs.Tree.{parent_of}
 use Rattle.ztree.proofs.Maps.{same_some, none_some}
 use Rattle.znodes.specs.declared.row.Row.{Row}
+use Rattle.znodes.specs.declared.nodes.Nodes.TheInside.{Inside}
 use Rattle.znodes.specs.NodesView.{NodesView, CanReturn}
 use Rattle.znodes.specs.support.OwnerLists.{OwnerLists, list_of}
-use Rattle.znodes.specs.support.Rows.{Key, IsThreaded, nodes_of, places_of, held_of, known_of}
-use Rattle.znodes.specs.support.Linking.{with_key, kept_key, with_child, with_owned, with_timed, timed_with, with_parent}
+use Rattle.znodes.specs.support.Rows.{Key, IsThreaded, timed_links, nodes_of, places_of, held_of, known_of}
+use Rattle.znodes.specs.support.Linking.{with_timed_links, with_key, kept_key, with_child, with_owned, with_timed, timed_with, with_parent}
 use Rattle.znodes.proofs.OwnerMaps.{listed}
 use Rattle.znodes.proofs.Linked.{taken-row, shown-taken, can-return, parent-named}
 use Rattle.znodes.proofs.Heads.{known-with}
@@ -23,6 +28,7 @@ use Rattle.znodes.proofs.Back.{put, back, more, owners_back, key-kept}
 use Rattle.znodes.proofs.Returned.{child-room, owned-room, linked-back, nodes-returned, places-returned, held-returned}
 use Rattle.znodes.proofs.Mortal.{nodes-same, places-same, held-same, mortal-back, timed-room, linked-listed, listed-faces}
 use Rattle.znodes.proofs.Parents.{named-faces, linked-named, mortal-named, parents-back}
+use Rattle.znodes.proofs.nodes.Nodes.put_back.Goals.{then-ttl-ne0, else-ttl-ne0, in-Some-get_mut, in_default-get_mut}
 use Rattle.znodes.proofs.nodes.Nodes.put_back.Goals as goal
 
 pub unreachable-requires : goal.unreachable-requires
@@ -51,14 +57,14 @@ put_owned-requires c =
     owned-room s.slots.items s.index.ids s.owners c.args.id r shown.0 c.self.invariant.linked there shown.1 MAX_LENGTH few
     (list_of s.owners r.node.owner) (λ list e. listed s.owners r.node.owner list e)
 
-pub put_timed-requires : goal.put_timed-requires
-put_timed-requires c = λ some.
+pub push_front-requires : goal.push_front-requires
+push_front-requires c =
     let s = c.self.inside in
     let r = c.in-Some.row.now in
     let there = sym c.in-Some.ensures in
     let shown = shown-taken s c.args.self.now c.self.view_is c.args.id r c.requires.held there in
     let few : finite.len s.slots.items ≤ MAX_LENGTH = omega (arith, c.len.ensures, c.len.type_inv) in
-    timed-room s.slots.items s.index.ids s.owners s.timed c.args.id r shown.0 c.self.invariant.mortal there shown.1 MAX_LENGTH few
+    (omega arith, timed-room s.slots.items s.index.ids s.owners s.timed c.args.id r shown.0 c.self.invariant.mortal there shown.1 MAX_LENGTH few)
 
 -- it has a key
 pub unreachable-requires-in-None : goal.unreachable-requires-in-None
@@ -75,8 +81,19 @@ unreachable-requires-in-None c =
     none_some shown.0
     (sym c.in-None.is ∙ c.take_key.ensures.key ∙ ap (λ w. kept_key w id) owned ∙ key-kept s.slots.items s.index.ids s.owners id r there list ∙ shown.1)
 
+-- of two that a number's being 0 tells apart
+some : {X : Type 0} (n : ℕ) (a b : X) → (n ≡ 0 → ⊥) → (if n == 0 then a else b) ≡ b
+some n a b other = let e : (n == 0) ≡ false = grind (arith, nat_tests, other) in rw e refl
+
+none : {X : Type 0} (n : ℕ) (a b : X) → n ≡ 0 → (if n == 0 then a else b) ≡ a
+none n a b is = rw is refl
+
+-- the fields with a row beneath another
+abbrev beneath : Id → Id → Inside → Inside
+beneath id parent s = record s { slots = with_items s.slots (with_parent s.slots.items id parent) }
+
 -- what is known at the end
-module _ (c : goal.After-set_parent) where
+module _ (c : goal.Joined-get_mut) where
   abbrev m : Items Row
   m = c.self.inside.slots.items
 
@@ -115,10 +132,51 @@ module _ (c : goal.After-set_parent) where
   abbrev listed_rows : Items Row
   listed_rows = with_timed (back m ids owners c.args.id r) c.self.inside.timed r.node.ttl c.args.id
 
-  rows : c.set_parent.new.slots.items ≡ with_parent listed_rows c.args.id c.args.parent
+  -- with the row in list 2, where its node has a time to live
+  listed_end : c.if-ttl-ne0.self-inside ≡ record {
+    slots = with_items c.take_key.new.slots (with_timed c.take_key.new.slots.items c.self.inside.timed r.node.ttl c.args.id);
+    index = c.insert.new.self;
+    owners = c.put_owned.new.owners;
+    timed = timed_with c.self.inside.timed r.node.ttl c.args.id;
+    alloc = c.self.inside.alloc;
+  }
+  listed_end =
+      let slots = c.take_key.new.slots in
+      let timed = c.self.inside.timed in
+      let ended : SlotsView Row → IdList 2 → Inside = λ kept list. record { slots = kept; index = c.insert.new.self; owners = c.put_owned.new.owners; timed = list; alloc = c.self.inside.alloc } in
+      elim c.if-ttl-ne0.branch [
+        | then-ttl-ne0 w ↦ w.self-inside-is
+            ∙ (λ i. ended (w.push_front.ensures.items i) (w.push_front.ensures.own i))
+            ∙ (λ i. ended (with_items slots (sym (some r.node.ttl slots.items (with_front timed_links with_timed_links slots.items (first_id timed) c.args.id) w.if-ttl-ne0.true) i))
+            (sym (some r.node.ttl timed (list_with_front timed c.args.id) w.if-ttl-ne0.true) i))
+        | else-ttl-ne0 w ↦ w.self-inside-is
+            ∙ (λ i. ended (with_items slots (sym (none r.node.ttl slots.items (with_front timed_links with_timed_links slots.items (first_id timed) c.args.id) w.if-ttl-ne0.false) i))
+            (sym (none r.node.ttl timed (list_with_front timed c.args.id) w.if-ttl-ne0.false) i))
+      ]
+
+  -- and with its parent
+  named_end : c.match-get_mut.self-inside ≡ beneath c.args.id c.args.parent c.if-ttl-ne0.self-inside
+  named_end =
+      let s = c.if-ttl-ne0.self-inside in
+      let written : Option Row → Inside = λ o. record s { slots = with_items s.slots (option_map_or (λ (x : Row). insert s.slots.items c.args.id (record x { parent = Some c.args.parent })) o s.slots.items) } in
+      elim c.match-get_mut.branch [
+        | in-Some-get_mut w ↦ w.self-inside-is ∙ ap written (sym (ap option_copied_mut w.in-Some-get_mut.is) ∙ c.get_mut.follows)
+        | in_default-get_mut w ↦ w.self-inside-is ∙ ap written (sym (ap option_copied_mut w.in_default-get_mut.is) ∙ c.get_mut.follows)
+      ]
+
+  ended : c.match-get_mut.self-inside ≡ beneath c.args.id c.args.parent (record {
+    slots = with_items c.take_key.new.slots (with_timed c.take_key.new.slots.items c.self.inside.timed r.node.ttl c.args.id);
+    index = c.insert.new.self;
+    owners = c.put_owned.new.owners;
+    timed = timed_with c.self.inside.timed r.node.ttl c.args.id;
+    alloc = c.self.inside.alloc;
+  })
+  ended = named_end ∙ ap (beneath c.args.id c.args.parent) listed_end
+
+  rows : c.match-get_mut.self-inside.slots.items ≡ with_parent listed_rows c.args.id c.args.parent
   rows =
-      ap (λ (h : SlotsView Row). h.items) c.set_parent.ensures
-      ∙ ap (λ w. with_parent w c.args.id c.args.parent) (ap (λ (h : SlotsView Row). h.items) c.put_timed.ensures.rows ∙ ap (λ w. with_timed w c.self.inside.timed r.node.ttl c.args.id) back-rows)
+      ap (λ (s : Inside). s.slots.items) ended
+      ∙ ap (λ w. with_parent (with_timed w c.self.inside.timed r.node.ttl c.args.id) c.args.id c.args.parent) back-rows
 
   over : get ids (parent_of r.path) ≡ Some c.args.parent
   over = parent-named c.self.inside c.args.self.now c.self.view_is c.self.invariant.linked c.args.parent (parent_of r.path) (c.requires.under (r.path, r.node) shown.2)
@@ -128,11 +186,11 @@ module _ (c : goal.After-set_parent) where
       same_some c.in-Some-take_key.key shown.0
       (sym c.in-Some-take_key.is ∙ c.take_key.ensures.key ∙ ap (λ w. kept_key w c.args.id) owned ∙ key-kept m ids owners c.args.id r there (list_of owners r.node.owner) ∙ shown.1)
 
-  index : c.insert.new.self.ids ≡ more m ids owners c.args.id r
-  index = c.insert.ensures.ids ∙ ap (λ (k : Key). insert ids k c.args.id) key ∙ ap (λ q. insert ids q c.args.id) (c.self.invariant.linked.keyed c.args.id r there shown.0 shown.1).0
+  index : c.match-get_mut.self-inside.index.ids ≡ more m ids owners c.args.id r
+  index = ap (λ (s : Inside). s.index.ids) ended ∙ c.insert.ensures.ids ∙ ap (λ (k : Key). insert ids k c.args.id) key ∙ ap (λ q. insert ids q c.args.id) (c.self.invariant.linked.keyed c.args.id r there shown.0 shown.1).0
 
-  lists : c.put_owned.new.owners ≡ owners_back m ids owners c.args.id r
-  lists = c.put_owned.ensures.owners
+  lists : c.match-get_mut.self-inside.owners ≡ owners_back m ids owners c.args.id r
+  lists = ap (λ (s : Inside). s.owners) ended ∙ c.put_owned.ensures.owners
 
 pub invariant_of-self : goal.invariant_of-self
 invariant_of-self c =
@@ -142,7 +200,7 @@ invariant_of-self c =
     let later = more (m c) (ids c) (owners c) c.args.id (r c) in
     let lists_later = owners_back (m c) (ids c) (owners c) c.args.id (r c) in
     let all : (Items Row × (IdsByPath × (OwnerLists × IdList 2))) → Type 0 = λ w. IsThreaded w.0 w.1.0 w.1.1.0 w.1.1.1 in
-    subst all (λ i. (sym (rows c) i, (sym (index c) i, (sym (lists c) i, sym c.put_timed.ensures.timed i)))) (record {
+    subst all (λ i. (sym (rows c) i, (sym (index c) i, (sym (lists c) i, sym (ap (λ (s : Inside). s.timed) (ended c)) i)))) (record {
       linked = linked-named (listed_rows c) later lists_later c.args.id c.args.parent (linked-listed here later lists_later c.self.inside.timed (r c).node.ttl c.args.id linked);
       mortal =
           mortal-named (listed_rows c) later lists_later c.args.id c.args.parent (timed_with c.self.inside.timed (r c).node.ttl c.args.id)
@@ -180,7 +238,9 @@ returns c = λ t at.
           ∙ ap (λ (v : NodesView). remove v.held id) view;
       owners = ap known_of (lists c) ∙ known-with (owners c) (r c).node.owner id ∙ ap (λ (v : NodesView). v.owners) view;
       given =
-          ap (λ (h : SlotsView Row). h.given) c.set_parent.ensures ∙ ap (λ (h : SlotsView Row). h.given) c.put_timed.ensures.rows ∙ ap (λ (h : SlotsView Row). h.given) c.take_key.ensures.rows ∙ ap (λ (h : SlotsView Row). h.given) c.put_owned.ensures.rows
+          ap (λ (s : Inside). s.slots.given) (ended c) ∙ ap (λ (h : SlotsView Row). h.given) c.take_key.ensures.rows ∙ ap (λ (h : SlotsView Row). h.given) c.put_owned.ensures.rows
           ∙ ap (λ (h : SlotsView Row). h.given) c.put_child.ensures ∙ ap (λ (v : NodesView). v.given) view;
-      room = subst (λ room. room ≤ c.insert.new.self.room + 1) (ap (λ (v : NodesView). v.room) view) c.insert.ensures.room;
+      room =
+          subst (λ room. room ≤ c.match-get_mut.self-inside.index.room + 1) (ap (λ (v : NodesView). v.room) view)
+          (subst (λ room. c.self.inside.index.room ≤ room + 1) (sym (ap (λ (s : Inside). s.index.room) (ended c))) c.insert.ensures.room);
     }
