@@ -2,7 +2,7 @@
 
 ghost use Rattle.std.specs.Prelude.{◌≡◌, ◌≢◌, ◌<◌, ◌+◌, [], Some, IsSome};
 ghost use Rattle.ztree.specs.declared.limits.TheConstants.{ZXID_BOUND};
-ghost use Rattle.ztree.specs.Tree.{children, parent_of};
+ghost use Rattle.ztree.specs.Tree.{children};
 ghost use Rattle.ztree.specs.Room.{HasRoomForLosses};
 ghost use Rattle.zstore.specs.StoreView.{path_of, AtPath, AtNode, AtParentOf, KeepsIds, mark_left};
 ghost use Rattle.zstore.specs.StoreView.{Forgets, ForgetsGone, DropsNode};
