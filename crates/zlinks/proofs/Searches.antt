@@ -1,5 +1,5 @@
 -- A search among links that the lone message's place ends.
-use Rattle.std.proofs.Common.{◌≡◌, ℕ, ◌<◌, ◌≤◌, Bool, true, false, if◌then◌else◌, Option, None, Some, List, [], ◌∷◌, refl, sym, ap, ◌∙◌, inl, inr, eqb-true, arith}
+use Rattle.std.proofs.Common.{◌≡◌, ℕ, ◌<◌, ◌≤◌, Bool, true, false, if◌then◌else◌, Option, None, Some, List, [], ◌∷◌, refl, sym, ap, ◌∙◌, inl, inr, eqb-true, eq-eqb, arith}
 use Rattle.std.proofs.lemmas.Bool.Decides.{nat_tests}
 use Rattle.std.specs.Prelude.{◌==◌, ◌&&◌, nat_lt, nat_le}
 use Rattle.zcalls.proofs.Among.{test}
@@ -41,6 +41,37 @@ module _ (place at : ℕ) where
       either : (b : Bool) → n ≡ (if b then place else PROCESSES) → n < PROCESSES → n ≡ place
       either true is small = is
       either false is small = absurd (omega (arith, is, small))
+
+  at_place : at ≤ place → place ≡ bound place at
+  at_place behind = let is : nat_le at place ≡ true = grind (arith, nat_tests, behind) in sym (ap (λ b. if b then place else PROCESSES) is)
+
+  at_none : place < at → PROCESSES ≡ bound place at
+  at_none before = let is : nat_le at place ≡ false = grind (arith, nat_tests, before) in sym (ap (λ b. if b then place else PROCESSES) is)
+
+module _ {T : Type 0} (slot : Option (Lone T)) (lone : Lone T) (at : ℕ) (some : slot ≡ Some lone) where
+  -- where a search for a sender ends
+  pub sender_ends : at ≤ lone.from → lone.from ≡ sender_bound slot at
+  sender_ends behind = at_place lone.from at behind ∙ ap (λ s. sender_bound s at) (sym some)
+
+  pub sender_passed : lone.from < at → PROCESSES ≡ sender_bound slot at
+  sender_passed before = at_none lone.from at before ∙ ap (λ s. sender_bound s at) (sym some)
+
+  -- and one for a receiver
+  module _ (from : ℕ) where
+    pub receiver_ends : lone.from ≡ from → at ≤ lone.to → lone.to ≡ receiver_bound slot from at
+    receiver_ends same behind =
+        at_place lone.to at behind ∙ sym (ap (λ b. if b && nat_le at lone.to then lone.to else PROCESSES) (eq-eqb lone.from from same))
+        ∙ ap (λ s. receiver_bound s from at) (sym some)
+
+    pub receiver_passed : lone.from ≡ from → lone.to < at → PROCESSES ≡ receiver_bound slot from at
+    receiver_passed same before =
+        at_none lone.to at before ∙ sym (ap (λ b. if b && nat_le at lone.to then lone.to else PROCESSES) (eq-eqb lone.from from same))
+        ∙ ap (λ s. receiver_bound s from at) (sym some)
+
+    pub receiver_elsewhere : (lone.from ≡ from → ⊥) → PROCESSES ≡ receiver_bound slot from at
+    receiver_elsewhere differ =
+        sym (ap (λ b. if b && nat_le at lone.to then lone.to else PROCESSES) (differs lone.from from differ))
+        ∙ ap (λ s. receiver_bound s from at) (sym some)
 
 module _ {T : Type 0} where
   -- the ends of searches are places, or one behind them all

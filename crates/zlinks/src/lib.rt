@@ -10,6 +10,5 @@ mod link;
 mod links;
 mod lone;
 mod row;
-mod slot;
 
 pub use links::Links;

@@ -1,15 +1,15 @@
 //! The links.
 
-ghost use Rattle.std.specs.Prelude.{◌≡◌, ◌≤◌, true, false, [], IfNone, IfOk, OnErr, OnOk};
+ghost use Rattle.std.specs.Prelude.{◌≡◌, ◌≤◌, true, false, [], IfNone, IfSome, IfOk, None, Some, OnErr, OnOk};
 ghost use Rattle.zprotocol.specs.declared.process.Process.{Process};
 ghost use Rattle.zprotocol.specs.declared.limits.TheConstants.{PROCESSES};
 ghost use Rattle.zlinks.specs.Places.{links_of, with_last, without_first, without_receiver, Keeps};
 ghost use Rattle.zlinks.specs.Places.{is_silent, holds, IsFrontOf, ShowsFront, Between, At};
+ghost use Rattle.zlinks.specs.support.Lone.{is_on, without_to};
 
 use crate::held::Held;
 use crate::lone::Lone;
 use crate::row::Row;
-use crate::slot::{clear_to, front_on, receiver_bound, sender_bound, take_on};
 use std::alloc::Global;
 use std::marker::Model;
 use zpath::Memory;
@@ -61,7 +61,11 @@ impl<T: Drop> Links<T> {
         ensures silent { Between at result (λ from. is_silent self.now from ≡ true) }
         ensures sends { At result (λ from. is_silent self.now from ≡ false) }
     {
-        let end = sender_bound(&self.lone, at);
+        // The lone message's sender, unless it was passed, ends the search among the others.
+        let end = match &self.lone {
+            Some(lone) if at <= lone.from => lone.from,
+            _ => PROCESSES,
+        };
         for place in at.max(self.held.first)..end.min(self.held.end) {
             if !self.rows[place].is_silent() {
                 return place;
@@ -78,7 +82,10 @@ impl<T: Drop> Links<T> {
         ensures held { At result (λ to. holds (links_of self.now from.now to) ≡ true) }
     {
         let sender = from.place();
-        let end = receiver_bound(&self.lone, sender, at);
+        let end = match &self.lone {
+            Some(lone) if lone.from == sender && at <= lone.to => lone.to,
+            _ => PROCESSES,
+        };
         self.rows[sender].next_held(at, end)
     }
 
@@ -150,5 +157,47 @@ impl<T: Drop> Links<T> {
                 self.held.remove();
             }
         }
+    }
+}
+
+// Shows the lone message, where it is on the link between these places.
+fn front_on<T: Drop>(slot: &Option<Lone<T>>, from: usize, to: usize) -> Option<&Message<T>>
+    ensures some { IfSome result
+        (λ front. slot.now ≡ Some (record { from = from; to = to; message = front.now })) }
+    ensures none { IfNone result (is_on slot.now from to ≡ false) }
+{
+    let Some(lone) = slot else {
+        return None;
+    };
+    if lone.from == from && lone.to == to {
+        return Some(&lone.message);
+    }
+    None
+}
+
+// Takes the lone message out, where it is on the link between these places.
+fn take_on<T: Drop>(slot: &mut Option<Lone<T>>, from: usize, to: usize) -> Option<Message<T>>
+    ensures some { IfSome result
+        (λ front. slot.old ≡ Some (record { from = from; to = to; message = front })) }
+    ensures taken { IfSome result (λ front. slot.new ≡ None) }
+    ensures none { IfNone result (is_on slot.old from to ≡ false) }
+    ensures same { IfNone result (slot.new ≡ slot.old) }
+{
+    front_on(slot, from, to)?;
+    match slot.take() {
+        Some(Lone { message, .. }) => Some(message),
+        None => None,
+    }
+}
+
+// Drops the lone message, where it is for the process in this place.
+fn clear_to<T: Drop>(slot: &mut Option<Lone<T>>, to: usize)
+    ensures { slot.new ≡ without_to slot.old to }
+{
+    let Some(lone) = slot else {
+        return;
+    };
+    if lone.to == to {
+        *slot = None;
     }
 }
