@@ -21,7 +21,7 @@ impl Calls {
         let client = ClientId::new(1).ok_or(Trouble::BadOrder)?;
         let path = Path::parse(alloc, "/a")?;
         let bytes = "sixteen bytes...".as_bytes().to_vec(alloc)?;
-        let Ok(bytes) = Data::new(bytes) else {
+        let Ok(bytes) = Data::new(alloc, bytes) else {
             return Err(Trouble::BadOrder);
         };
         Ok(Calls {

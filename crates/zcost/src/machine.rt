@@ -43,7 +43,9 @@ fn applies(machine: &mut Machine, entry: Entry) -> Result<bool, Trouble> {
         drop(entry);
         return Err(Trouble::BadOrder);
     }
-    match machine.apply(entry)? {
+    let reply = machine.apply(&entry);
+    drop(entry);
+    match reply? {
         Some(reply) => {
             drop(reply);
             Ok(true)

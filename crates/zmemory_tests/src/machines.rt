@@ -60,7 +60,9 @@ pub(crate) fn acts(machine: &mut Machine, entry: Entry) -> Result<bool, Memory> 
         drop(entry);
         return Ok(false);
     }
-    match machine.apply(entry) {
+    let reply = machine.apply(&entry);
+    drop(entry);
+    match reply {
         Ok(reply) => Ok(has_acted(reply)),
         Err(memory) => Err(memory),
     }

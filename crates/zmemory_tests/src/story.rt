@@ -4,7 +4,7 @@ use crate::machines::first_entry;
 use crate::taking::{acts, takes};
 use crate::values::create;
 use std::alloc::Global;
-use zcalls::Update;
+use zcalls::{SharedEntry, Update};
 use zliterals::{call_number, client, epoch, log_number, server};
 use zpath::Memory;
 use zprotocol::{Message, Out, Process, ServerId};
@@ -94,7 +94,7 @@ fn message(alloc: Global, word: Word) -> Result<Message<Snapshot>, Memory> {
     match word {
         Word::Submit => submit(alloc),
         Word::Update => update(alloc),
-        Word::Tick => Ok(first_update(Update::Tick)),
+        Word::Tick => first_update(alloc, Update::Tick),
         Word::Ack => Ok(Message::Ack(epoch(0), log_number(1))),
         Word::NewPred => Ok(Message::NewPred(epoch(1), server(2))),
         Word::NewSucc => Ok(Message::NewSucc(epoch(1), server(4), Some(log_number(0)))),
@@ -112,12 +112,13 @@ fn submit(alloc: Global) -> Result<Message<Snapshot>, Memory> {
 
 fn update(alloc: Global) -> Result<Message<Snapshot>, Memory> {
     match create(alloc, "/a") {
-        Ok(update) => Ok(first_update(update)),
+        Ok(update) => first_update(alloc, update),
         Err(memory) => Err(memory),
     }
 }
 
 // The update as the first entry of the log.
-fn first_update(update: Update) -> Message<Snapshot> {
-    Message::Update(epoch(0), log_number(1), first_entry(update))
+fn first_update(alloc: Global, update: Update) -> Result<Message<Snapshot>, Memory> {
+    let entry = SharedEntry::new(alloc, first_entry(update))?;
+    Ok(Message::Update(epoch(0), log_number(1), entry))
 }

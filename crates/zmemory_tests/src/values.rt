@@ -1,7 +1,7 @@
 //! Paths and updates.
 
 use std::alloc::Global;
-use zcalls::{Create, Data, Kind, Multi, Part, Ttl, Update};
+use zcalls::{Create, Data, DataFault, Kind, Multi, Part, Ttl, Update};
 use zpath::{Memory, Path};
 
 /// The path of this text, where there is memory for it.
@@ -52,12 +52,9 @@ fn two_bytes(alloc: Global) -> Result<Data, Memory> {
     let Ok(bytes) = "hi".as_bytes().to_vec(alloc) else {
         return Err(Memory);
     };
-    match Data::new(bytes) {
+    match Data::new(alloc, bytes) {
         Ok(data) => Ok(data),
-        Err(back) => {
-            drop(back);
-            Err(Memory)
-        }
+        Err(DataFault::Memory | DataFault::TooLong) => Err(Memory),
     }
 }
 

@@ -105,7 +105,7 @@ fn lap(client: &mut Client, alloc: Global, node: u64, halted: Option<ServerId>) 
 
 fn create(alloc: Global, node: u64) -> Option<Call> {
     let path = path_of(alloc, node)?;
-    let bytes = no_data(alloc)?;
+    let bytes = Data::empty(alloc);
     Some(Call::Update(Update::Create(Create {
         path,
         kind: Kind::Persistent,
@@ -115,7 +115,7 @@ fn create(alloc: Global, node: u64) -> Option<Call> {
 
 fn set(alloc: Global, node: u64) -> Option<Call> {
     let path = path_of(alloc, node)?;
-    let bytes = no_data(alloc)?;
+    let bytes = Data::empty(alloc);
     Some(Call::Update(Update::SetData(SetData {
         path,
         bytes,
@@ -126,8 +126,4 @@ fn set(alloc: Global, node: u64) -> Option<Call> {
 fn path_of(alloc: Global, node: u64) -> Option<Path> {
     let text = format!(in alloc; "/n{node}").ok()?;
     Path::parse(alloc, text.as_str()).ok()
-}
-
-fn no_data(alloc: Global) -> Option<Data> {
-    Data::new(Vec::new(alloc)).ok()
 }

@@ -3,7 +3,7 @@
 use crate::joining::handed_over;
 use std::alloc::Global;
 use std::process::Abort;
-use zcalls::{CallNumber, Entry, Query, Update};
+use zcalls::{CallNumber, Entry, Query, SharedEntry, Update};
 use zliterals::client;
 use zpath::Path;
 use zprotocol::{Epoch, LogNumber, Message, Process, ServerId};
@@ -51,7 +51,7 @@ pub(crate) fn message(rt: &impl Abort, alloc: Global, given: &Given) -> Message<
         Given::Update(_, at, n) => Message::Update(
             epoch(rt, *at),
             log_number(rt, *n),
-            tick(rt, *n),
+            tick(rt, alloc, *n),
         ),
         Given::Ack(_, at, n) => Message::Ack(epoch(rt, *at), log_number(rt, *n)),
         Given::Snapshot(_, at) => handed_over(rt, alloc, epoch(rt, *at)),
@@ -61,12 +61,13 @@ pub(crate) fn message(rt: &impl Abort, alloc: Global, given: &Given) -> Message<
     }
 }
 
-fn tick(rt: &impl Abort, number: u64) -> Entry {
-    Entry {
+fn tick(rt: &impl Abort, alloc: Global, number: u64) -> SharedEntry {
+    let entry = Entry {
         client: client(0),
         number: call_number(rt, number),
         update: Update::Tick,
-    }
+    };
+    SharedEntry::new(alloc, entry).expect(rt, "there is memory")
 }
 
 fn server(rt: &impl Abort, number: u8) -> ServerId {

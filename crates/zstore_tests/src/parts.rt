@@ -25,7 +25,9 @@ pub(crate) fn id_at(rt: &impl Abort, alloc: Global, store: &Store, text: &str) -
 /// Data with the bytes of a text.
 pub(crate) fn data(rt: &impl Abort, alloc: Global, text: &str) -> Data {
     let bytes = text.as_bytes().to_vec(alloc).expect(rt, "there is memory");
-    Data::new(bytes).ok().expect(rt, "the data isn't too long")
+    Data::new(alloc, bytes)
+        .ok()
+        .expect(rt, "there is memory, and the data isn't too long")
 }
 
 /// Client 3.

@@ -4,6 +4,7 @@ use crate::parts::data;
 use std::alloc::Global;
 use std::process::Abort;
 use zstore::{ClientId, Data, MAX_DATA};
+use ztree::DataFault;
 
 #[test]
 fn knows_its_clients(rt: HostRuntime) {
@@ -18,14 +19,15 @@ fn client_number(number: u8) -> Option<u8> {
 
 #[test]
 fn data_has_a_limit(rt: HostRuntime) {
-    assert!(rt; is_taken(&rt, rt.alloc(), 0) && is_taken(&rt, rt.alloc(), MAX_DATA));
-    assert!(rt; !is_taken(&rt, rt.alloc(), MAX_DATA + 1));
+    assert!(rt; fault_at(&rt, rt.alloc(), 0).is_none());
+    assert!(rt; fault_at(&rt, rt.alloc(), MAX_DATA).is_none());
+    assert!(rt; fault_at(&rt, rt.alloc(), MAX_DATA + 1) == Some(DataFault::TooLong));
 }
 
-// Whether so many bytes are taken as data.
-fn is_taken(rt: &impl Abort, alloc: Global, len: usize) -> bool {
+// Why so many bytes aren't taken as data, if they aren't.
+fn fault_at(rt: &impl Abort, alloc: Global, len: usize) -> Option<DataFault> {
     let text = "a".repeat(alloc, len).expect(rt, "there is memory");
-    Data::new(text.into_bytes()).is_ok()
+    Data::new(alloc, text.into_bytes()).err()
 }
 
 #[test]

@@ -107,7 +107,9 @@ fn apply(
         number: CallNumber::new(number).expect(rt, "there is such a number"),
         update,
     };
-    match machine.apply(entry).expect(rt, "there is memory") {
+    let reply = machine.apply(&entry).expect(rt, "there is memory");
+    drop(entry);
+    match reply {
         Some(reply) => text_of(rt, alloc, reply),
         None => String::new(alloc),
     }

@@ -3,9 +3,10 @@
 use std::alloc::Global;
 use std::process::Abort;
 use zcalls::{
-    Check, Create, Data, Delete, Expected, Kind, Multi, Names, Part, PartReply, Query, Replies,
-    Reply, SetData, Update,
+    Check, Create, Data, Delete, Entry, Expected, Kind, Multi, Names, Part, PartReply, Query,
+    Replies, Reply, SetData, SharedEntry, Update,
 };
+use zliterals::{call_number, client};
 use zpath::{Name, Path};
 
 #[test]
@@ -15,6 +16,7 @@ fn copies_calls(rt: HostRuntime) {
     assert!(rt; copies_a_multi(&rt, rt.alloc()));
     assert!(rt; copies_a_delete(&rt, rt.alloc()));
     assert!(rt; copies_a_set(&rt, rt.alloc()));
+    assert!(rt; shares_an_entry(&rt, rt.alloc()));
 }
 
 #[test]
@@ -39,6 +41,22 @@ fn copies_an_update(rt: &impl Abort, alloc: Global) -> bool {
         if wanted.path.names().len() == 2 && wanted.kind == Kind::PersistentSequential);
     drop(copy);
     is_so
+}
+
+// Two owners of an entry show the same, and the one is left when the other goes.
+fn shares_an_entry(rt: &impl Abort, alloc: Global) -> bool {
+    let entry = Entry {
+        client: client(3),
+        number: call_number(7),
+        update: Update::Open(9),
+    };
+    let first = SharedEntry::new(alloc, entry).expect(rt, "there is memory");
+    let second = first.copied(alloc).expect(rt, "there is memory");
+    drop(first);
+    let shown = second.entry();
+    shown.client == client(3)
+        && shown.number.number() == 7
+        && matches!(&shown.update, Update::Open(ticks) if *ticks == 9)
 }
 
 fn copies_a_query(rt: &impl Abort, alloc: Global) -> bool {
