@@ -159,8 +159,8 @@ impl Machine {
     }
 }
 
-// Does an entry by the entry step, where its number and its reply are kept if it acts. What is left where it finds no
-// memory isn't told.
+// Does an entry by the entry step: where it acts, its number and its reply are kept. What is left where it finds no memory
+// isn't told.
 #[tactic(auto, unfolding(zcalls::specs::Kept::entry_step))]
 fn enter(
     alloc: Global,

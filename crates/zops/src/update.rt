@@ -54,7 +54,7 @@ pub(crate) fn update(
     }
 }
 
-// Whether there is no next number for the update.
+// Whether there is no next number for the update, or no next tick.
 fn is_exhausted(store: &Store, update: &Update) -> bool
     requires { IsSteady store.now }
     ensures { result ≡ is_exhausted store.now.tree update.now }
