@@ -8,7 +8,7 @@ ghost use Rattle.ztree.specs.Tree.{parent_of, has_node, with_next_zxid};
 ghost use Rattle.ztree.specs.Room.{HasRoomForChild, HasRoomForData};
 ghost use Rattle.zstore.specs.StoreView.{path_of, node_of, AtNode};
 ghost use Rattle.zstore.specs.StoreView.{KeepsIds, GivesAtMostOne, NamesNew, MakesNode, WritesData, mark_left};
-ghost use Rattle.zstore.specs.support.Parts.{GainsChild, WritesContent};
+ghost use Rattle.zstore.specs.support.Parts.{WritesContent};
 ghost use Rattle.ztree.specs.Lawful.{IsPersistent, IsOwner};
 
 use crate::store::Store;
@@ -62,7 +62,16 @@ impl Store {
         let node = Node::new(bytes, owner, ttl, self.zxid.next(), self.time);
         let id = self.nodes.add(parent, path, node)?;
         self.log.note(&mut self.nodes, Undo::Added(id));
-        self.child_changed(parent, sequential);
+        let Some(above) = self.nodes.node(parent) else {
+            unreachable!()
+        };
+        let marks = Marks {
+            pzxid: self.zxid.next(),
+            cversion: above.cversion + 1,
+            seq: above.seq + u64::from(sequential),
+        };
+        let before = self.nodes.put_marks(parent, marks);
+        self.log.note(&mut self.nodes, Undo::Marked(parent, before));
         Ok(id)
     }
 
@@ -86,26 +95,6 @@ impl Store {
             self.put_content(id, content);
         }
         Ok(())
-    }
-
-    // The marks of the next change at a node beneath which a child came.
-    fn child_changed(&mut self, parent: Id, sequential: bool)
-        requires live { IsSome (path_of self.old parent) }
-        requires counters { AtNode self.old parent (HasRoomForChild sequential) }
-        requires zxid { self.old.tree.zxid + 1 < ZXID_BOUND }
-        ensures tree { GainsChild self.old self.new parent sequential }
-        ensures same { KeepsIds self.old self.new }
-        ensures marked { self.new.marked ≡ mark_left 1 self.old.marked }
-    {
-        if let Some(node) = self.nodes.node(parent) {
-            let marks = Marks {
-                pzxid: self.zxid.next(),
-                cversion: node.cversion + 1,
-                seq: node.seq + u64::from(sequential),
-            };
-            let before = self.nodes.put_marks(parent, marks);
-            self.log.note(&mut self.nodes, Undo::Marked(parent, before));
-        }
     }
 
     // The data of a live node written.

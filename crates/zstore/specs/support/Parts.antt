@@ -22,11 +22,6 @@ abbrev pub without_child_at : Tree → Path → Tree
 without_child_at t path =
     record t { nodes = with_change_at t.nodes path (without_child (t.zxid + 1)) }
 
--- a child came beneath the node that an Id names
-abbrev pub GainsChild : StoreView → StoreView → Id → Bool → Type 0
-GainsChild old new id sequential =
-    AtPath old id (λ path. new.tree ≡ with_child_at old.tree path sequential)
-
 -- a child went from beneath the node that an Id names
 abbrev pub LosesChild : StoreView → StoreView → Id → Type 0
 LosesChild old new id = AtPath old id (λ path. new.tree ≡ without_child_at old.tree path)
