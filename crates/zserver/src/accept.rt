@@ -16,6 +16,7 @@ use zprotocol::{Epoch, LogNumber, MAX_LOG_NUMBER, Message, Out, Process, ServerI
 
 impl Replica {
     /// Submit: a head accepts the update as its next entry.
+    #[inline(always)]
     #[tactic(auto, unfolding(zprotocol::specs::server::Table::submit_row, crate::specs::support::Replicas::accept_row, crate::specs::support::Replicas::next_number))]
     pub(crate) fn submit(&mut self, entry: Entry, out: &mut Out<Snapshot>) -> Result<(), Memory>
         ensures next { OnOk result (self.new ≡ (submit_at self.old entry).0) }
@@ -42,6 +43,7 @@ impl Replica {
     }
 
     /// Update: the next entry, from the predecessor.
+    #[inline(always)]
     #[tactic(auto, unfolding(zprotocol::specs::server::Table::update_row, crate::specs::support::Replicas::accept_row, crate::specs::support::Replicas::next_number))]
     pub(crate) fn update(
         &mut self,

@@ -13,6 +13,7 @@ use zprotocol::{Message, Out, Process};
 
 impl Replica {
     /// Query: a tail answers it; where there is no memory, it is as if it had been lost.
+    #[inline(always)]
     #[tactic(auto, unfolding(zprotocol::specs::server::Table::query_row))]
     pub(crate) fn query(
         &self,

@@ -14,7 +14,8 @@ use zprotocol::{Message, Out, Process};
 
 impl Replica {
     /// The server table. Where a growth is refused nothing is put, and the replica is of no use any
-    /// more.
+    /// more. Inlined, as the rows of calls and entries are, so that a message is matched where it lies.
+    #[inline(always)]
     #[tactic(auto, unfolding(zprotocol::specs::server::Table::server_step, zprotocol::specs::server::Table::become_head_row))]
     pub(crate) fn take(
         &mut self,
