@@ -107,6 +107,13 @@ first_pass events limit a =
     let all : limit - 0 ≡ limit = omega arith in
     subst (λ n. GoesOn (passes kept_tree events limit) (passes kept_tree events n) a a) (sym all) (goes_nowhere (passes kept_tree events limit) a)
 
+-- how it ended, by how many events are left
+pub ended_at_limit : (left : ℕ) → left ≡ 0 → Limit ≡ (if left == 0 then Limit else Quiet)
+ended_at_limit left none = ap (λ n. if n == 0 then Limit else Quiet) (sym none)
+
+pub ended_quiet : (left : ℕ) → 0 < left → Quiet ≡ (if left == 0 then Limit else Quiet)
+ended_quiet left some = let more : (left == 0) ≡ false = grind (arith, nat_tests, some) in rw more refl
+
 -- all of settling
 module _ (old new : Held) (limit left : ℕ) (seen all : History) where
   -- the whole, where there are so many clients

@@ -1,10 +1,10 @@
 -- A settling goes on where the processes do: ways from one point to another, and events that are tried.
-use Rattle.std.proofs.Common.{◌≡◌, ℕ, ◌-◌, ◌<◌, ◌+◌, suc, Bool, true, false, not, if◌then◌else◌, nat_lt, List, [], ◌∷◌, ◌++◌, length, take, drop, get_or, refl, sym, ap, subst, ◌∙◌, append-nil, append_assoc, lt-ltb, arith}
+use Rattle.std.proofs.Common.{◌≡◌, ℕ, ◌-◌, ◌<◌, ◌+◌, zero, suc, Bool, true, false, not, if◌then◌else◌, nat_lt, List, [], ◌∷◌, ◌++◌, length, take, drop, get_or, refl, sym, ap, subst, ◌∙◌, append-nil, append_assoc, lt-ltb, arith}
 use Rattle.std.specs.Prelude.{◌&&◌, ◌||◌, is_some}
 use Rattle.std.specs.List.{list_any}
 use Rattle.std.proofs.Math.Seq.{take-suc}
 use Rattle.std.proofs.lemmas.List.FromFn.{map-range_with_len_more}
-use Rattle.std.proofs.lemmas.List.{map-append}
+use Rattle.std.proofs.lemmas.List.{map-append, take-append-drop}
 use Rattle.std.proofs.lemmas.Grind.{flat_map-append}
 use mathlib.Core.Bool.{true≢false}
 use Rattle.zprotocol.specs.declared.process.Process.{Process}
@@ -22,9 +22,7 @@ use Rattle.zworld_model.proofs.Alike.{have_the_same_enabled, stay_alike, alike_i
 use Rattle.zworld_model.proofs.Settling.{none_is_done, none_may_be_done}
 use Rattle.zworld.specs.declared.did.Did.{Did}
 use Rattle.zworld.specs.declared.did.Did.TheVariants as became
-use Rattle.zworld.specs.Held.{Held, last_words, nobody, world_of}
-use Rattle.zlinks.specs.Places.{links_of, is_silent}
-use Rattle.zlinks.proofs.Places.{silent_links}
+use Rattle.zworld.specs.Held.{Held, nobody, world_of}
 use Rattle.zworld.specs.Did.{is_idle, outcome_of}
 use Rattle.zworld.specs.support.Stepped.{HasStepped}
 use Rattle.zworld.specs.support.Settling.{TreeSettling, StandsAt, Point, GoesOn, Does, Tries, GoOn, takes_from, takes}
@@ -108,6 +106,32 @@ tries_nothing events p nothing =
 -- where no more may be done, nothing is
 pub spent_tries : (events : List Event) (p : Point) → p.left ≡ 0 → Tries events p p
 spent_tries events p none = tries_nothing events p (λ history outcomes s stands. none_may_be_done kept_tree s events (stands.remaining ∙ none))
+
+-- so where no more may be done, the rest of a pass does nothing: neither the receivers behind so many, nor the senders
+spent_rest : (events more all : List Event) (a b : Point) → events ++ more ≡ all → b.left ≡ 0 → Tries events a b → Tries all a b
+spent_rest events more all a b is none tries = subst (λ es. Tries es a b) is (tries_then events more a b b tries (spent_tries more b none))
+
+pub spent_receivers : (receivers : List Process) (i : ℕ) (from : Process) (a b : Point) → b.left ≡ 0
+    → Tries (takes_from (take i receivers) from) a b → Tries (takes_from receivers from) a b
+spent_receivers receivers i from a b none tries =
+    spent_rest (takes_from (take i receivers) from) (takes_from (drop i receivers) from) (takes_from receivers from) a b
+    (sym (map-append (λ to. Take from to) (take i receivers) (drop i receivers)) ∙ ap (λ ps. takes_from ps from) (take-append-drop i receivers))
+    none tries
+
+pub spent_senders : (receivers senders : List Process) (i : ℕ) (a b : Point) → b.left ≡ 0
+    → Tries (takes receivers (take i senders)) a b → Tries (takes receivers senders) a b
+spent_senders receivers senders i a b none tries =
+    spent_rest (takes receivers (take i senders)) (takes receivers (drop i senders)) (takes receivers senders) a b
+    (sym (flat_map-append (takes_from receivers) (take i senders) (drop i senders)) ∙ ap (takes receivers) (take-append-drop i senders))
+    none tries
+
+-- nor do the clients behind so many
+pub spent_retries : (n k : ℕ) (a b : Point) → b.left ≡ 0 → Tries (retry_events n) a b → Tries (retry_events (n + k)) a b
+spent_retries n zero a b none tries = subst (λ m. Tries (retry_events m) a b) (let same : n ≡ n + 0 = omega arith in same) tries
+spent_retries n (suc k) a b none tries =
+    let next : (n + k) + 1 ≡ n + suc k = omega arith in
+    subst (λ m. Tries (retry_events m) a b) next
+    (one_more_retry (n + k) (n + k) a b b refl (spent_retries n k a b none tries) (spent_tries (Retry (n + k) ∷ []) b none))
 
 -- from a process that has put nothing, nothing is taken
 pub silent_tries : (from : Process) (receivers : List Process) (p : Point) → ((to : Process) → (world_of p.held []).links from to ≡ []) → Tries (takes_from receivers from) p p
@@ -219,18 +243,6 @@ module _ (old new : Held) (event : Event) (did : Did) (given : History) (stepped
                 let next = goes history left outcomes s active some stands in
                 (next.0, subst (λ n. StandsAt new (history ++ given) n outcomes next.0) (sym less) next.1, next.2),
           )
-
--- nothing that a silent process put is under way
-pub silent_process : (inside held : Held) (from : Process) (silent owes : Bool) → inside ≡ held → silent ≡ is_silent inside.links from → silent ≡ true
-    → ((to : Process) → owes ≡ false → last_words held.members from to ≡ []) → not owes ≡ true → (to : Process) → (world_of held []).links from to ≡ []
-silent_process inside held from silent owes same is so none not_owed to =
-    let quiet : links_of held.links from to ≡ [] = silent_links held.links from to (ap (λ (h : Held). is_silent h.links from) (sym same) ∙ sym is ∙ so) in
-    let paid : owes ≡ false = not_true owes not_owed in
-    rw (quiet, none to paid) refl
-  where
-    not_true : (b : Bool) → not b ≡ true → b ≡ false
-    not_true false is = refl
-    not_true true is = absurd (true≢false (sym is))
 
 -- what was added is added to what was there before
 pub both_added : (old mid new : History) → GoOn mid old → GoOn new mid → GoOn new old

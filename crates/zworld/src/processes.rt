@@ -1,7 +1,6 @@
 //! All processes and their links.
 
-ghost use Rattle.std.specs.Prelude.{◌≡◌, ◌≤◌, [], true, IfOk, OnErr};
-ghost use Rattle.ztree.specs.declared.limits.TheConstants.{MAX_CLIENTS};
+ghost use Rattle.std.specs.Prelude.{◌≡◌, [], true, IfOk, OnErr};
 ghost use Rattle.zworld.specs.Held.{world_of};
 ghost use Rattle.zworld.specs.Steps.{can_want_memory};
 ghost use Rattle.zworld.specs.support.Stepped.{Goes};
@@ -53,14 +52,6 @@ impl Model for Processes {
 }
 
 impl Processes {
-    /// How many clients there are.
-    pub(crate) fn clients(&self) -> u8
-        ensures same { result ≡ self.now.master.clients }
-        ensures few { result ≤ MAX_CLIENTS }
-    {
-        self.master.clients()
-    }
-
     /// One event, the one dispatch of them. What callers see at it is told behind what they saw before.
     pub(crate) fn step(&mut self, event: Event, seen: &mut Vec<CallEvent>) -> Result<Did, Memory>
         ensures goes { IfOk result (Goes self.old self.new event seen.old seen.new) }

@@ -1,17 +1,14 @@
 //! Settling: passes over all links, one retry of each client that waits, and passes again.
 
-ghost use Rattle.std.specs.Prelude.{◌≡◌, ◌==◌, ◌≤◌, ◌<◌, ◌-◌, ◌∷◌, [], length, IfOk, OnErr, if◌then◌else◌};
+ghost use Rattle.std.specs.Prelude.{◌≡◌, ◌≤◌, ◌<◌, ◌-◌, [], IfOk, OnErr, if◌then◌else◌};
 ghost use Rattle.ztree.specs.declared.limits.TheConstants.{MAX_CLIENTS};
 ghost use Rattle.zprotocol.specs.declared.limits.TheConstants.{PROCESSES};
-ghost use Rattle.zprotocol.specs.Places.{process_at};
 ghost use Rattle.zlinks.specs.Places.{Between};
-ghost use Rattle.zworld_model.specs.declared.event.Event.TheVariants.{Retry, Take};
-ghost use Rattle.zworld_model.specs.declared.settled.Settled.TheVariants.{Limit, Quiet};
-ghost use Rattle.zworld_model.specs.Settle.{processes, deliveries, retry_events};
+ghost use Rattle.zworld_model.specs.Settle.{deliveries, retry_events};
 ghost use Rattle.zworld.specs.Held.{SendsNothing, world_of};
 ghost use Rattle.zworld.specs.Did.{is_idle};
 ghost use Rattle.zworld.specs.support.Stepped.{Settles};
-ghost use Rattle.zworld.specs.support.Settling.{GoOn, PassesBy, TakesBy, TriesBy, TriesUnseen};
+ghost use Rattle.zworld.specs.support.Settling.{GoOn, PassesBy, TriesBy, TriesUnseen};
 
 use crate::did::Did;
 use crate::processes::Processes;
@@ -21,7 +18,7 @@ use zprotocol::{MAX_SERVERS, Process};
 use zworld_model::{CallEvent, Settled};
 
 impl Processes {
-    /// Settles, with at most so many events.
+    /// Settles, with at most so many events: passes, a retry of each client that waits, and passes again.
     pub(crate) fn settle(
         &mut self,
         limit: usize,
@@ -31,11 +28,16 @@ impl Processes {
             (Settles self.old self.new limit seen.old.items seen.new.items) }
         ensures partly { OnErr result (GoOn seen.new.items seen.old.items) }
     {
-        let clients = self.clients();
-        let left = self.passes(clients, limit, limit, seen)?;
-        let left = self.retry_all(clients, left)?;
-        let left = self.passes(clients, limit, left, seen)?;
-        Ok(settled(left))
+        let clients = self.master.clients();
+        let mut left = self.passes(clients, limit, limit, seen)?;
+        if self.waiting > 0 {
+            left = self.retry_all(clients, left)?;
+        }
+        left = self.passes(clients, limit, left, seen)?;
+        if left == 0 {
+            return Ok(Settled::Limit);
+        }
+        Ok(Settled::Quiet)
     }
 
     // Passes over all links until one does nothing, and how many events are left.
@@ -61,8 +63,9 @@ impl Processes {
         Ok(left)
     }
 
-    // One pass over all links, in order, and how many events are left. It goes from one process of which something is
-    // under way to the next, as they are when it comes there.
+    // One pass: a message from each link, by sender and then by receiver, while more events may be done; and how many are
+    // left. It goes from one sender of which something is under way to the next, as they are when it comes there, and so
+    // from one receiver to the next. Last words go to the master, so it is tried where any server owes them.
     fn pass(
         &mut self,
         clients: u8,
@@ -74,80 +77,48 @@ impl Processes {
             (TriesBy (deliveries clients) self.old self.new seen.old seen.new left) }
         ensures partly { OnErr result (GoOn seen.new.items seen.old.items) }
     {
-        let mut place = self.next_sender(0);
-        while place < count_of(clients) {
-            left = self.take_all(process_at(place), clients, left, seen)?;
-            place = self.next_sender(place + 1);
+        let count = 1 + MAX_SERVERS as usize + clients as usize;
+        let mut sender = self.next_sender(0);
+        while sender < count {
+            let Some(from) = Process::at(sender) else {
+                unreachable!();
+            };
+            let mut receiver = 0;
+            if self.owing == 0 {
+                receiver = self.links.next_receiver(&from, 0);
+            }
+            while receiver < count {
+                let Some(to) = Process::at(receiver) else {
+                    unreachable!();
+                };
+                if left == 0 {
+                    return Ok(left);
+                }
+                let did = self.take(from, to, seen)?;
+                left = left_after(left, did);
+                receiver = self.links.next_receiver(&from, receiver + 1);
+            }
+            sender = self.next_sender(sender + 1);
         }
         Ok(left)
     }
 
-    // A message from each link that a process has put something on, in order, and how many events are left.
-    fn take_all(
-        &mut self,
-        from: Process,
-        clients: u8,
-        mut left: usize,
-        seen: &mut Vec<CallEvent>,
-    ) -> Result<usize, Memory>
-        requires { clients ≤ MAX_CLIENTS }
-        ensures done { IfOk result
-            (TakesBy from clients self.old self.new seen.old seen.new left) }
-        ensures partly { OnErr result (GoOn seen.new.items seen.old.items) }
-    {
-        let mut place = self.next_receiver(&from, 0);
-        while place < count_of(clients) {
-            left = self.try_take(from, process_at(place), left, seen)?;
-            place = self.next_receiver(&from, place + 1);
-        }
-        Ok(left)
-    }
-
-    // A message from a link, if one more event may be done, and how many are left.
-    fn try_take(
-        &mut self,
-        from: Process,
-        to: Process,
-        left: usize,
-        seen: &mut Vec<CallEvent>,
-    ) -> Result<usize, Memory>
-        ensures done { IfOk result
-            (TriesBy (Take from to ∷ []) self.old self.new seen.old seen.new left) }
-        ensures partly { OnErr result (GoOn seen.new.items seen.old.items) }
-    {
-        if left == 0 {
-            return Ok(0);
-        }
-        let did = self.take(from, to, seen)?;
-        Ok(left_after(left, did))
-    }
-
-    // Each client that waits sends its call once more, and how many events are left.
+    // Each client that waits sends its call once more, while more events may be done; and how many are left.
     fn retry_all(&mut self, clients: u8, mut left: usize) -> Result<usize, Memory>
         requires { clients ≤ MAX_CLIENTS }
         ensures { IfOk result (TriesUnseen (retry_events clients) self.old self.new left) }
     {
-        if self.waiting == 0 {
-            return Ok(left);
-        }
         for number in 0..clients {
             let Some(client) = ClientId::new(number) else {
                 unreachable!();
             };
-            left = self.try_retry(client, left)?;
+            if left == 0 {
+                return Ok(left);
+            }
+            let did = self.retry(client)?;
+            left = left_after(left, did);
         }
         Ok(left)
-    }
-
-    // A client that waits sends its call once more, if one more event may be done, and how many are left.
-    fn try_retry(&mut self, client: ClientId, left: usize) -> Result<usize, Memory>
-        ensures { IfOk result (TriesUnseen (Retry client ∷ []) self.old self.new left) }
-    {
-        if left == 0 {
-            return Ok(0);
-        }
-        let did = self.retry(client)?;
-        Ok(left_after(left, did))
     }
 
     // The first place, from this one on, of a process of which something is under way, its last words among it.
@@ -167,23 +138,6 @@ impl Processes {
         }
         next
     }
-
-    // The first place, from this one on, of a process to which something of the first one may be under way. The master is
-    // tried where any server owes its last words.
-    fn next_receiver(&self, from: &Process, at: usize) -> usize
-        ensures few { result ≤ PROCESSES }
-        ensures ahead { at ≤ PROCESSES → at ≤ result }
-        ensures empty { Between at result
-            (λ to. (world_of self.now []).links from.now to ≡ []) }
-    {
-        if self.owing == 0 {
-            return self.links.next_receiver(from, at);
-        }
-        if at == 0 {
-            return 0;
-        }
-        self.links.next_receiver(from, at)
-    }
 }
 
 // How many more events may be done after one that was tried.
@@ -194,35 +148,5 @@ fn left_after(left: usize, did: Did) -> usize
     match did {
         Did::Idle(_) => left,
         Did::Done | Did::Unheard | Did::Stopped => left - 1,
-    }
-}
-
-// How it ended, with so many events left.
-fn settled(left: usize) -> Settled
-    ensures { result ≡ (if left == 0 then Limit else Quiet) }
-{
-    if left == 0 {
-        Settled::Limit
-    } else {
-        Settled::Quiet
-    }
-}
-
-// How many processes there are with so many clients.
-fn count_of(clients: u8) -> usize
-    requires { clients ≤ MAX_CLIENTS }
-    ensures { result ≡ length (processes clients) }
-{
-    1 + MAX_SERVERS as usize + clients as usize
-}
-
-// The process in a place.
-fn process_at(place: usize) -> Process
-    requires { place < PROCESSES }
-    ensures { result ≡ process_at place }
-{
-    match Process::at(place) {
-        Some(process) => process,
-        None => unreachable!(),
     }
 }

@@ -9,7 +9,7 @@ use Rattle.zworld_model.specs.declared.event.Event.{Event}
 use Rattle.zworld_model.specs.declared.event.Event.TheVariants.{Take}
 use Rattle.zworld_model.specs.declared.outcome.Outcome.{Outcome}
 use Rattle.zworld_model.specs.History.{History}
-use Rattle.zworld_model.specs.Settle.{Settling, with_tries, passes, deliveries, processes}
+use Rattle.zworld_model.specs.Settle.{Settling, with_tries, passes, deliveries}
 use Rattle.zworld_model.specs.Alike.{IsAlike}
 use Rattle.zworld.specs.Held.{Held, world_of}
 use Rattle.zworld.specs.support.Stepped.{Seen}
@@ -65,10 +65,6 @@ PassesBy clients limit old new before after left more =
 -- a delivery on each link from one process
 abbrev pub takes_from : List Process → Process → List Event
 takes_from receivers from = map (λ to. Take from to) receivers
-
--- so were those from it to all processes, where there are so many clients
-abbrev pub TakesBy : (from : Process) (clients : ℕ) → Held → Held → (before after : Seen) → (left more : ℕ) → Type 0
-TakesBy from clients = TriesBy (takes_from (processes clients) from)
 
 -- and on each link from some
 abbrev pub takes : List Process → List Process → List Event

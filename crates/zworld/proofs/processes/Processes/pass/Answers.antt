@@ -1,49 +1,95 @@
-use Rattle.std.proofs.Common.{◌≤◌, ◌<◌, ◌+◌, length, subst, arith}
+use Rattle.std.proofs.Common.{◌≡◌, ◌≤◌, ◌<◌, ◌+◌, length, take, sym, subst, ◌∙◌, arith}
 use Rattle.std.proofs.lemmas.List.{take_all}
 use Rattle.zprotocol.specs.declared.limits.TheConstants.{PROCESSES}
+use Rattle.zworld_model.specs.declared.event.Event.TheVariants.{Take}
 use Rattle.zworld_model.specs.Settle.{processes}
-use Rattle.zworld.specs.support.Settling.{Point, Tries, takes}
-use Rattle.zworld.proofs.Tries.{goes_nowhere, one_more_sender}
-use Rattle.zworld.proofs.Skips.{length-processes, listed_as, senders_to}
+use Rattle.zworld.specs.support.Settling.{Point, Tries, takes, takes_from}
+use Rattle.zworld.proofs.Counting.{paid_link}
+use Rattle.zworld.proofs.Skips.{length-processes, listed_as, empty_link, receivers_to, senders_to}
+use Rattle.zworld.proofs.Tries.{goes_nowhere, one_more_receiver, one_more_sender, spent_receivers, spent_senders, stepped_tries}
 use Rattle.zworld.proofs.processes.Processes.pass.Goals as goal
+use Rattle.zworld.proofs.processes.Processes.pass.Goals.{then-self-eq0, else-self-eq0}
 
-pub loop-place-init : goal.loop-place-init
-loop-place-init c =
+pub loop-sender-init : goal.loop-sender-init
+loop-sender-init c =
     let old : Point = record { held = c.args.self.now; left = c.args.left; seen = c.args.seen.now.items } in
-    let found = c.next_sender-place.ensures in
-    (found.few, senders_to c.args.clients old old 0 c.next_sender-place.result (omega arith) found.few found.silent (goes_nowhere (λ s. s) old))
+    let found = c.next_sender-sender.ensures in
+    (found.few, senders_to c.args.clients old old 0 c.next_sender-sender.result (omega arith) found.few found.silent (goes_nowhere (λ s. s) old))
 
-pub process_at-requires : goal.process_at-requires
-process_at-requires c =
-    let inside : c.loop-place.place < c.count_of.result = c.loop-place-test.true in
-    omega (arith, inside, c.count_of.ensures, length-processes c.args.clients, c.requires)
+pub loop-receiver-init : goal.loop-receiver-init
+loop-receiver-init c =
+    let here : Point = record { held = c.loop-sender.self; left = c.loop-sender.left; seen = c.loop-sender.seen.items } in
+    let from = c.in-Some.from in
+    let first : (c.if-self-eq0.receiver ≤ PROCESSES) × Tries (takes_from (take c.if-self-eq0.receiver (processes c.args.clients)) from) here here =
+    elim c.if-self-eq0.branch [
+      | then-self-eq0 w ↦
+          let found = w.next_receiver-receiver.ensures in
+          subst (λ n. (n ≤ PROCESSES) × Tries (takes_from (take n (processes c.args.clients)) from) here here) (sym w.receiver-is) (
+            found.few,
+            receivers_to c.args.clients here from here 0 w.next_receiver-receiver.result (omega arith) found.few
+                (λ to behind before. paid_link _ c.loop-sender.self from to c.self.view_is (sym c.self.invariant.3 ∙ w.if-self-eq0.true) (found.empty to behind before))
+                (goes_nowhere (λ s. s) here),
+          )
+      | else-self-eq0 w ↦
+          subst (λ n. (n ≤ PROCESSES) × Tries (takes_from (take n (processes c.args.clients)) from) here here) (sym w.receiver-is)
+          (omega arith, goes_nowhere (λ s. s) here)
+    ] in
+    (first.0, here, c.loop-sender.invariant.1, first.1)
 
-pub loop-place-smaller : goal.loop-place-smaller
-loop-place-smaller c =
-    let inside : c.loop-place.place < c.count_of.result = c.loop-place-test.true in
-    let small : c.loop-place.place < PROCESSES = omega (arith, inside, c.count_of.ensures, length-processes c.args.clients, c.requires) in
-    let ahead : c.loop-place.place + 1 ≤ c.next_sender-place-in-loop-place.result = c.next_sender-place-in-loop-place.ensures.ahead (omega (arith, small)) in
-    omega (arith, small, ahead)
-
-pub loop-place-preserved : goal.loop-place-preserved
-loop-place-preserved c =
+pub returns-then-left-eq0-clause-done : goal.returns-then-left-eq0-clause-done
+returns-then-left-eq0-clause-done c =
+    let all = processes c.args.clients in
     let old : Point = record { held = c.args.self.now; left = c.args.left; seen = c.args.seen.now.items } in
-    let before : Point = record { held = c.loop-place.self; left = c.loop-place.left; seen = c.loop-place.seen.items } in
-    let here : Point = record { held = c.take_all.new.self; left = c.in_ok-left.left; seen = c.take_all.new.seen.items } in
-    let inside : c.loop-place.place < c.count_of.result = c.loop-place-test.true in
-    let listed : c.loop-place.place < length (processes c.args.clients) = omega (arith, inside, c.count_of.ensures) in
-    let small : c.loop-place.place < PROCESSES = omega (arith, listed, length-processes c.args.clients, c.requires) in
-    let found = c.next_sender-place-in-loop-place.ensures in (
+    let here : Point = record { held = c.loop-receiver.self; left = c.loop-receiver.left; seen = c.loop-receiver.seen.items } in
+    let far = c.loop-receiver.invariant in
+    let listed : c.loop-sender.sender < length all = omega (arith, c.loop-sender-test.true, length-processes c.args.clients) in
+    spent_senders all all (c.loop-sender.sender + 1) old here c.if-left-eq0.true
+    (one_more_sender all all c.loop-sender.sender c.in-Some.from old far.1 here listed
+    (listed_as c.args.clients c.loop-sender.sender c.in-Some.from c.in-Some.ensures.some listed) far.2
+    (spent_receivers all c.loop-receiver.receiver c.in-Some.from far.1 here c.if-left-eq0.true far.3))
+
+pub loop-receiver-preserved : goal.loop-receiver-preserved
+loop-receiver-preserved c =
+    let all = processes c.args.clients in let from = c.in-Some.from in let to = c.in-Some-at.to in let receiver = c.loop-receiver.receiver in
+    let before : Point = record { held = c.loop-receiver.self; left = c.loop-receiver.left; seen = c.loop-receiver.seen.items } in
+    let here : Point = record { held = c.take.new.self; left = c.left_after-left.result; seen = c.take.new.seen.items } in
+    let far = c.loop-receiver.invariant in
+    let listed : receiver < length all = omega (arith, c.loop-receiver-test.true, length-processes c.args.clients) in
+    let small : receiver < PROCESSES = omega (arith, c.loop-receiver-test.true, c.requires) in
+    let found = c.next_receiver-receiver-in-loop-receiver.ensures in
+    let some : 0 < before.left = omega (arith, c.if-left-eq0.false) in
+    let stepped = c.in_ok-did.ensures.stepped in (
       found.few,
-      senders_to c.args.clients here old (c.loop-place.place + 1) c.next_sender-place-in-loop-place.result (found.ahead (omega (arith, small))) found.few found.silent
-          (one_more_sender (processes c.args.clients) (processes c.args.clients) c.loop-place.place c.process_at.result old before here listed
-          (listed_as c.args.clients c.loop-place.place c.process_at.result c.process_at.ensures listed) c.loop-place.invariant.1 c.in_ok-left.ensures.done),
+      far.1,
+      far.2,
+      receivers_to c.args.clients here from far.1 (receiver + 1) c.next_receiver-receiver-in-loop-receiver.result (found.ahead (omega (arith, small))) found.few
+          (λ q behind ahead. empty_link _ c.take.new.self from q c.self-in-loop-receiver.view_is (found.empty q behind ahead) (omega (arith, behind)))
+          (one_more_receiver all receiver from to far.1 before here listed (listed_as c.args.clients receiver to c.in-Some-at.ensures.some listed) far.3
+          (stepped_tries before.held here.held (Take from to) c.in_ok-did.did stepped.0 stepped.2 before.left here.left before.seen here.seen some
+          c.left_after-left.ensures stepped.1)),
+    )
+
+pub loop-sender-preserved : goal.loop-sender-preserved
+loop-sender-preserved c =
+    let all = processes c.args.clients in let from = c.in-Some.from in let sender = c.loop-sender.sender in
+    let old : Point = record { held = c.args.self.now; left = c.args.left; seen = c.args.seen.now.items } in
+    let here : Point = record { held = c.loop-receiver.self; left = c.loop-receiver.left; seen = c.loop-receiver.seen.items } in
+    let far = c.loop-receiver.invariant in
+    let listed : sender < length all = omega (arith, c.loop-sender-test.true, length-processes c.args.clients) in
+    let small : sender < PROCESSES = omega (arith, c.loop-sender-test.true, c.requires) in
+    let last : length all ≤ c.loop-receiver.receiver = omega (arith, c.loop-receiver-test.false, length-processes c.args.clients) in
+    let found = c.next_sender-sender-in-loop-sender.ensures in (
+      found.few,
+      senders_to c.args.clients here old (sender + 1) c.next_sender-sender-in-loop-sender.result (found.ahead (omega (arith, small))) found.few found.silent
+          (one_more_sender all all sender from old far.1 here listed (listed_as c.args.clients sender from c.in-Some.ensures.some listed) far.2
+          (subst (λ ps. Tries (takes_from ps from) far.1 here) (take_all c.loop-receiver.receiver all last) far.3)),
     )
 
 pub returns-clause-done : goal.returns-clause-done
 returns-clause-done c =
-    let all : length (processes c.args.clients) ≤ c.loop-place.place = omega (arith, c.loop-place-test.false, c.count_of.ensures) in
-    subst (λ ps. Tries (takes (processes c.args.clients) ps)
+    let all = processes c.args.clients in
+    let last : length all ≤ c.loop-sender.sender = omega (arith, c.loop-sender-test.false, length-processes c.args.clients) in
+    subst (λ ps. Tries (takes all ps)
     (record { held = c.args.self.now; left = c.args.left; seen = c.args.seen.now.items })
-    (record { held = c.loop-place.self; left = c.loop-place.left; seen = c.loop-place.seen.items }))
-    (take_all c.loop-place.place (processes c.args.clients) all) c.loop-place.invariant.1
+    (record { held = c.loop-sender.self; left = c.loop-sender.left; seen = c.loop-sender.seen.items }))
+    (take_all c.loop-sender.sender all last) c.loop-sender.invariant.1

@@ -1,15 +1,27 @@
 use Rattle.std.proofs.Common.{◌≤◌, ◌-◌, take}
 use Rattle.zworld_model.specs.Settle.{processes}
 use Rattle.zprotocol.specs.declared.limits.TheConstants.{PROCESSES}
-use Rattle.zworld.specs.support.Settling.{Tries, takes}
+use Rattle.zworld.specs.support.Settling.{Point, Tries, takes, takes_from}
 use Rattle.zworld.proofs.processes.Processes.pass.Given as goal
 
-abbrev pub decreases-loop-place : goal.decreases-loop-place
-decreases-loop-place l = PROCESSES - l.place
+abbrev pub decreases-loop-sender : goal.decreases-loop-sender
+decreases-loop-sender l = PROCESSES - l.sender
 
-abbrev pub invariant-loop-place : goal.invariant-loop-place
-invariant-loop-place l =
-    (l.place ≤ PROCESSES)
-    × Tries (takes (processes l.clients) (take l.place (processes l.clients)))
+-- so far the senders before this one had their turn
+abbrev pub invariant-loop-sender : goal.invariant-loop-sender
+invariant-loop-sender l =
+    (l.sender ≤ PROCESSES)
+    × Tries (takes (processes l.clients) (take l.sender (processes l.clients)))
     (record { held = l.fn.self; left = l.fn.left; seen = l.fn.seen.items })
     (record { held = l.self; left = l.left; seen = l.seen.items })
+
+abbrev pub decreases-loop-receiver : goal.decreases-loop-receiver
+decreases-loop-receiver l = PROCESSES - l.receiver
+
+-- and then, from where that led, the receivers before this one
+abbrev pub invariant-loop-receiver : goal.invariant-loop-receiver
+invariant-loop-receiver l =
+    (l.receiver ≤ PROCESSES)
+    × (p : Point)
+    × Tries (takes (processes l.clients) (take l.sender (processes l.clients))) (record { held = l.fn.self; left = l.fn.left; seen = l.fn.seen.items }) p
+    × Tries (takes_from (take l.receiver (processes l.clients)) l.from) p (record { held = l.self; left = l.left; seen = l.seen.items })

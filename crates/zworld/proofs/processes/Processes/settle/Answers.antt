@@ -1,16 +1,46 @@
-use Rattle.zworld.specs.support.Settling.{Point}
-use Rattle.zworld.proofs.Passes.{settles}
+use Rattle.std.proofs.Common.{◌≡◌, ◌<◌, sym, ap, subst, ◌∙◌, arith}
+use Rattle.zlinks.specs.support.Rows.{passing}
+use Rattle.zworld_model.specs.declared.settled.Settled.TheVariants.{Limit, Quiet}
+use Rattle.zworld_model.specs.Settle.{retry_events}
+use Rattle.zworld.specs.Held.{Held}
+use Rattle.zworld.specs.support.Members.{waits}
+use Rattle.zworld.specs.support.Settling.{Point, Tries}
+use Rattle.zworld.proofs.Counting.{no_retries}
+use Rattle.zworld.proofs.Passes.{settles, ended_at_limit, ended_quiet}
 use Rattle.zworld.proofs.processes.Processes.settle.Goals as goal
+use Rattle.zworld.proofs.processes.Processes.settle.Goals.{Joined-self-gt0, then-self-gt0+in_ok-left-2, else-self-gt0}
+
+-- where nobody waits, nothing is sent once more
+asked : (c : Joined-self-gt0) → Tries (retry_events c.clients-clients.result)
+    (record { held = c.passes.new.self; left = c.in_ok-left.left; seen = c.passes.new.seen.items })
+    (record { held = c.if-self-gt0.self; left = c.if-self-gt0.left; seen = c.passes.new.seen.items })
+asked c =
+    let events = retry_events c.clients-clients.result in
+    let passed : Point = record { held = c.passes.new.self; left = c.in_ok-left.left; seen = c.passes.new.seen.items } in
+    elim c.if-self-gt0.branch [
+      | then-self-gt0+in_ok-left-2 w ↦
+          subst (λ (h : Held). Tries events passed (record { held = h; left = c.if-self-gt0.left; seen = passed.seen })) (sym w.self-is)
+          (subst (λ n. Tries events passed (record { held = w.retry_all.new.self; left = n; seen = passed.seen })) (sym w.left-is) (w.in_ok-left-2.ensures passed.seen))
+      | else-self-gt0 w ↦
+          let none : c.self-2.inside.waiting ≡ 0 = omega (arith, w.if-self-gt0.false) in
+          subst (λ (h : Held). Tries events passed (record { held = h; left = c.if-self-gt0.left; seen = passed.seen })) (sym w.self-is)
+          (subst (λ n. Tries events passed (record { held = passed.held; left = n; seen = passed.seen })) (sym w.left-is)
+          (no_retries c.clients-clients.result passed (ap (λ (h : Held). passing waits h.clients) (sym c.self-2.view_is) ∙ sym c.self-2.invariant.4 ∙ none)))
+    ]
+
+pub returns-then-left-eq0-clause-settled : goal.returns-then-left-eq0-clause-settled
+returns-then-left-eq0-clause-settled c =
+    settles c.args.self.now c.passes-2.new.self c.args.limit c.in_ok-left-3.left c.args.seen.now.items c.passes-2.new.seen.items c.clients-clients.result
+    c.in_ok-left.left c.if-self-gt0.left c.passes.new.self c.if-self-gt0.self c.passes.new.seen.items Limit
+    (c.clients-clients.ensures.same ∙ ap (λ (h : Held). h.master.clients) c.self.view_is)
+    (ended_at_limit c.in_ok-left-3.left c.if-left-eq0.true)
+    c.in_ok-left.ensures.done (asked (goal.at.returns-then-left-eq0-clause-settled c).Joined-self-gt0) c.in_ok-left-3.ensures.done
 
 pub returns-clause-settled : goal.returns-clause-settled
 returns-clause-settled c =
-    let clients = c.clients-clients.result in
-    let old : Point = record { held = c.args.self.now; left = c.args.limit; seen = c.args.seen.now.items } in
-    let passed : Point = record { held = c.passes.new.self; left = c.in_ok-left.left; seen = c.passes.new.seen.items } in
-    let asked : Point = record { held = c.retry_all.new.self; left = c.in_ok-left-2.left; seen = c.passes.new.seen.items } in
-    let new : Point = record { held = c.passes-2.new.self; left = c.in_ok-left-3.left; seen = c.passes-2.new.seen.items } in
-    settles old.held new.held c.args.limit new.left old.seen new.seen clients passed.left asked.left passed.held asked.held passed.seen c.settled.result
-    c.clients-clients.ensures.same c.settled.ensures
-    c.in_ok-left.ensures.done
-    (c.in_ok-left-2.ensures passed.seen)
-    c.in_ok-left-3.ensures.done
+    let more : 0 < c.in_ok-left-3.left = omega (arith, c.if-left-eq0.false) in
+    settles c.args.self.now c.passes-2.new.self c.args.limit c.in_ok-left-3.left c.args.seen.now.items c.passes-2.new.seen.items c.clients-clients.result
+    c.in_ok-left.left c.if-self-gt0.left c.passes.new.self c.if-self-gt0.self c.passes.new.seen.items Quiet
+    (c.clients-clients.ensures.same ∙ ap (λ (h : Held). h.master.clients) c.self.view_is)
+    (ended_quiet c.in_ok-left-3.left more)
+    c.in_ok-left.ensures.done (asked (goal.at.returns-clause-settled c).Joined-self-gt0) c.in_ok-left-3.ensures.done
