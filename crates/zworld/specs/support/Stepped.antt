@@ -1,14 +1,11 @@
 -- What the processes do, by what they held before and hold after: an event is that of the definition, by what became of it, but
 -- for what failed servers held and what was put to them (Alike.antt of the world's model).
-use Rattle.std.specs.Prelude.{◌≡◌, ℕ, true, not, List, [], ◌∷◌, ◌++◌}
+use Rattle.std.specs.Prelude.{◌≡◌, ℕ, true, not, List, [], ◌++◌}
 use Rattle.std.specs.declared.alloc.Global.{Global}
 use Rattle.std.specs.declared.vec.Vec.{Vec}
-use Rattle.zcalls.specs.declared.call.Call.{Call}
 use Rattle.zprotocol.specs.server.Machine.{kept_tree}
 use Rattle.zworld_model.specs.declared.event.Event.{Event}
-use Rattle.zworld_model.specs.declared.event.Event.TheVariants.{Begin}
 use Rattle.zworld_model.specs.declared.history.CallEvent.{CallEvent}
-use Rattle.zworld_model.specs.declared.history.CallEvent.TheVariants as call_event
 use Rattle.zworld_model.specs.declared.outcome.Outcome.{Outcome}
 use Rattle.zworld_model.specs.declared.settled.Settled.{Settled}
 use Rattle.zworld_model.specs.History.{History}
@@ -49,11 +46,6 @@ pub record HasStepped (old new : Held) (event : Event) (did : Did) (told : Histo
 -- it can't be done, for this reason
 abbrev pub IsIdle : Held → Event → IdleCause → Type 0
 IsIdle held event why = HasStepped held held event (became.Idle why) []
-
--- a client began a call, under this number
-abbrev pub HasBegun : Held → Held → ℕ → Call → ℕ → Type 0
-HasBegun old new client call number =
-    HasStepped old new (Begin client call) became.Done (call_event.Begin client number call ∷ [])
 
 -- the event was done, and what callers saw goes on with what it told
 abbrev pub GoesBy : Held → Held → Event → (before after : History) → Did → Type 0
