@@ -134,6 +134,13 @@ module _ {T : Type 0} (clients : List ClientView) (n now place : ℕ) (was view 
   pub waits_no_more : now + share (is_some reply) ≡ n → now ≡ passing waits (set clients place view)
   waits_no_more left = omega (arith, left, is, shares, both waits clients n place was view is inside read)
 
+-- what is counted is one fewer where somebody was handed a reply
+pub one_let_go : (reply : Option Reply) (n : ℕ) → share (is_some reply) ≤ n → is_some reply ≡ true → (n - 1) + share (is_some reply) ≡ n
+one_let_go reply n counted some = omega (arith, counted, ap share some)
+
+pub none_let_go : (reply : Option Reply) (n : ℕ) → is_some reply ≡ false → n + share (is_some reply) ≡ n
+none_let_go reply n none = omega (arith, ap share none)
+
 -- a member that has a view owes nothing once it has taken a message, and owes its last words once it has ended at it
 module _ (old held : Held) (from : Process) (s place : ℕ) (m : MessageOf (KeptState Tree)) (was member : MemberView) (before after : List (Post (KeptState Tree)))
     (same : held ≡ old) (is : s ≡ place + 1) (inside : place < length held.members) (read : was ≡ get_or held.members place was) (alive : is_lost old.members (Server s) ≡ false) where

@@ -1,7 +1,9 @@
 -- A delivery as a whole: what was popped, and what the taker made of it.
-use Rattle.std.proofs.Common.{◌≡◌, ℕ, Bool, false, true, Some, None, List, [], ◌++◌, sym, ap, subst, ◌∙◌, append-nil}
+use Rattle.std.proofs.Common.{◌≡◌, ℕ, Bool, false, true, Option, Some, None, List, [], ◌++◌, refl, sym, ap, subst, ◌∙◌, append-nil}
 use Rattle.ztree.specs.Tree.{Tree}
 use Rattle.zcalls.specs.Kept.{KeptState}
+use Rattle.zcalls.specs.declared.reply.Reply.{Reply}
+use Rattle.zprotocol.specs.declared.message.Message.TheVariants as message
 use Rattle.zprotocol.specs.declared.process.Process.{Process}
 use Rattle.zprotocol.specs.declared.process.Process.TheVariants.{Server}
 use Rattle.zprotocol.specs.server.Machine.{kept_tree}
@@ -19,7 +21,7 @@ use Rattle.zworld.specs.Held.{Held, MemberView, world_of}
 use Rattle.zworld.proofs.Posting.{lost_is}
 use Rattle.zworld.specs.support.Stepped.{HasStepped}
 use Rattle.zworld.specs.support.Posting.{is_lost}
-use Rattle.zworld.specs.support.Fronts.{HasPopped, IsGiven, IsGivenToServer}
+use Rattle.zworld.specs.support.Fronts.{HasPopped, IsGiven, IsGivenToServer, answered_number, answers_of}
 use Rattle.zworld.proofs.DeliverySteps.{taken, unheard, stopped, not_taken, not_taken_lost}
 
 -- what a delivery says, with the answers before and after
@@ -71,3 +73,16 @@ pub lost_by : (old held : Held) (members : List MemberView) (to : Process) (answ
     → answer ≡ is_lost members to → answer ≡ b → is_lost old.members to ≡ b
 lost_by old held members to answer b same value is was =
     ap (λ (h : Held). is_lost h.members to) (sym same) ∙ ap (λ ms. is_lost ms to) (sym value) ∙ sym is ∙ was
+
+-- what is no answer has no number
+pub unanswered : (m : MessageOf (KeptState Tree)) → ((number : ℕ) (reply : Reply) → m ≡ message.Answer number reply → ⊥) → None ≡ answered_number m
+unanswered (message.Answer number reply) never = absurd (never number reply refl)
+unanswered m never = refl
+
+-- where nothing is handed out, or what has no number, nothing is told
+pub untold : (client : ℕ) (number : Option ℕ) (reply : Option Reply) (seen : History) → reply ≡ None → seen ≡ seen ++ answers_of client number reply
+untold client None reply seen none = sym (append-nil seen)
+untold client (Some number) reply seen none = sym (append-nil seen) ∙ ap (λ (r : Option Reply). seen ++ answers_of client (Some number) r) (sym none)
+
+pub untold_unnumbered : (client : ℕ) (number : Option ℕ) (reply : Option Reply) (seen : History) → number ≡ None → seen ≡ seen ++ answers_of client number reply
+untold_unnumbered client number reply seen none = sym (append-nil seen) ∙ ap (λ (n : Option ℕ). seen ++ answers_of client n reply) (sym none)

@@ -1,7 +1,6 @@
 //! Messages that are delivered, and requests that are lost.
 
-ghost use Rattle.std.specs.Prelude.{◌≡◌, ◌≤◌, ◌+◌, ◌++◌, [], false, IfOk, OnErr, OnOk, is_some};
-ghost use Rattle.zlinks.specs.support.Rows.{share};
+ghost use Rattle.std.specs.Prelude.{◌≡◌, [], false, IfOk, OnErr, OnOk};
 ghost use Rattle.zworld_model.specs.declared.event.Event.TheVariants.{Take, Ignore};
 ghost use Rattle.zprotocol.specs.declared.process.Process.TheVariants.{Master, Server};
 ghost use Rattle.zworld.specs.support.Stepped.{CanHappen, Goes, HasStepped};
@@ -10,12 +9,12 @@ ghost use Rattle.zworld.specs.declared.did.Did.TheVariants.{Done};
 ghost use Rattle.zworld.specs.Held.{world_of};
 ghost use Rattle.zworld.specs.support.Posting.{is_lost};
 ghost use Rattle.zworld.specs.support.Fronts.{HasHeard, HasPopped, IsGiven, IsGivenToServer};
-ghost use Rattle.zworld.specs.support.Fronts.{did_of, answered_number, answers_of};
+ghost use Rattle.zworld.specs.support.Fronts.{did_of};
 
 use crate::did::{Did, IdleCause};
 use crate::post::{is_lost, post};
 use crate::processes::Processes;
-use zcalls::{CallNumber, ClientId, Reply};
+use zcalls::ClientId;
 use zmaster::MAX_POSTS;
 use zpath::Memory;
 use zprotocol::{Message, Process, ServerId};
@@ -88,7 +87,9 @@ impl Processes {
         Ok(Did::Done)
     }
 
-    // A server that has not failed acts on a message, stops or leaves at it, or doesn't hear it.
+    // A server that has not failed acts on a message, stops or leaves at it, or doesn't hear it. Inlined, as are the
+    // others that hand the message on, so that it is not moved from one to the next.
+    #[inline(always)]
     fn give_to_server(
         &mut self,
         from: Process,
@@ -120,6 +121,7 @@ impl Processes {
     }
 
     // A client acts on a message; the answer that it waited for is handed out.
+    #[inline(always)]
     fn give_to_client(
         &mut self,
         from: Process,
@@ -132,7 +134,10 @@ impl Processes {
             (HasHeard self.old self.new from client message seen.old seen.new) }
         ensures silent { OnErr result (seen.new.items ≡ seen.old.items) }
     {
-        let number = answered_number(&message);
+        let number = match &message {
+            Message::Answer(number, _) => Some(*number),
+            _ => None,
+        };
         let core = &mut self.clients[client.number() as usize];
         let reply = match core.take(from, message, &mut self.out) {
             Ok(reply) => reply,
@@ -141,7 +146,9 @@ impl Processes {
                 return Err(Memory);
             }
         };
-        self.waiting = left_waiting(self.waiting, &reply);
+        if reply.is_some() {
+            self.waiting -= 1;
+        }
         let Ok(()) = post(
             self.alloc,
             &mut self.links,
@@ -152,7 +159,15 @@ impl Processes {
             drop(reply);
             return Err(Memory);
         };
-        tell(seen, client, number, reply)?;
+        let Some(reply) = reply else {
+            return Ok(Did::Done);
+        };
+        let Some(number) = number else {
+            // (an answer has a number, and nothing else is handed out)
+            drop(reply);
+            return Ok(Did::Done);
+        };
+        seen.push(CallEvent::Answer(client, number, reply))?;
         Ok(Did::Done)
     }
 
@@ -179,17 +194,6 @@ impl Processes {
     }
 }
 
-// How many clients still wait, once one of them was handed this.
-fn left_waiting(waiting: usize, handed: &Option<Reply>) -> usize
-    requires { share (is_some handed.now) ≤ waiting }
-    ensures { result + share (is_some handed.now) ≡ waiting }
-{
-    match handed {
-        Some(_) => waiting - 1,
-        None => waiting,
-    }
-}
-
 // What became of a delivery at which a server stopped.
 fn did_of(why: Stopped) -> Did
     ensures { result ≡ did_of why }
@@ -197,37 +201,5 @@ fn did_of(why: Stopped) -> Did
     match why {
         Stopped::Memory => Did::Stopped,
         Stopped::Retired => Did::Done,
-    }
-}
-
-// Adds the answer to what clients hand out, where there is one.
-fn tell(
-    seen: &mut Vec<CallEvent>,
-    client: ClientId,
-    number: Option<CallNumber>,
-    reply: Option<Reply>,
-) -> Result<(), Memory>
-    ensures told { OnOk result (seen.new.items
-        ≡ seen.old.items ++ answers_of client number reply) }
-    ensures same { OnErr result (seen.new.items ≡ seen.old.items) }
-{
-    let Some(number) = number else {
-        drop(reply);
-        return Ok(());
-    };
-    let Some(reply) = reply else {
-        return Ok(());
-    };
-    seen.push(CallEvent::Answer(client, number, reply))?;
-    Ok(())
-}
-
-// The number of the call that a message answers.
-fn answered_number(message: &Message<Snapshot>) -> Option<CallNumber>
-    ensures { result ≡ answered_number message.now }
-{
-    match message {
-        Message::Answer(number, _) => Some(*number),
-        _ => None,
     }
 }

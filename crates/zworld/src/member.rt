@@ -98,6 +98,7 @@ impl Member {
 
     /// Takes a message. It fails where it finds no memory, but at a query, which it doesn't hear then; and it fails at the
     /// master's order to leave.
+    #[inline(always)]
     pub(crate) fn take(
         &mut self,
         from: Process,
