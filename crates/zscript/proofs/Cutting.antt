@@ -1,5 +1,6 @@
 -- A player's fault, as the fault of the whole run.
 use Rattle.std.proofs.Common.{◌≡◌, ◌<◌, ◌+◌, inl, inr, ℕ, List, [], ◌++◌, length, refl, sym, ap, ◌∙◌, subst, arith}
+use Rattle.std.specs.Prelude.{Result, Ok, Err, OnOk, OnErr, IfErr}
 use Rattle.std.proofs.lemmas.List.{append-nil}
 use Rattle.zscript.specs.Line.{ServiceWorld, opening_script, answers}
 use Rattle.zdevices.specs.Device.{SourceRun, SinkRun, Failed}
@@ -8,6 +9,7 @@ use Rattle.zscript.specs.support.Lines.{whole_lines_after, line_left, last_line,
 use Rattle.zscript.specs.support.PlayerView.{PlayerView, world_now}
 use Rattle.zscript.specs.Outcome.{IsPlayed, IsCut, IsCutBeforeLine, IsCutBy}
 use Rattle.zscript.specs.support.Stops.{IsBlockStoppedBy, IsEndStoppedBy}
+use Rattle.zscript.specs.support.Ends.{EndsSo}
 use Rattle.zscript.specs.declared.fault.PlayFault.{PlayFault}
 use Rattle.zscript.specs.declared.fault.PlayFault.TheVariants.{Read, Write, Memory}
 use Rattle.zscript.proofs.ScriptLines.{lines_of-carried, whole_lines_of-carried, last_line-one, whole_played}
@@ -31,7 +33,7 @@ IsCut-before_line servers source sink h =
     }
 
 -- each fault leaves a beginning of what the lines that were played are answered with
-IsCut-from_fault : (servers : ℕ) (source : SourceRun) (sink : SinkRun) (fault : PlayFault) → IsCutBy servers source sink fault → IsCut servers source sink
+pub IsCut-from_fault : (servers : ℕ) (source : SourceRun) (sink : SinkRun) (fault : PlayFault) → IsCutBy servers source sink fault → IsCut servers source sink
 IsCut-from_fault servers source sink Read h = record {
   bytes = h.0.bytes;
   given = h.0.given;
@@ -58,25 +60,31 @@ IsCut-from_fault servers source sink Memory h =
       }
     ]
 
--- a fault of the run, and what any fault leaves
-pub record Ended (servers : ℕ) (source : SourceRun) (sink : SinkRun) (fault : PlayFault) : Type 0 where
-  pub by : IsCutBy servers source sink fault
-  pub cut : IsCut servers source sink
+-- what the end of a run says where it was played, and where a fault cut it
+module _ {X : Type 0} (servers : ℕ) (source : SourceRun) (sink : SinkRun) where
+  pub ends-played : (result : Result X PlayFault) → EndsSo result servers source sink → OnOk result (IsPlayed servers source sink)
+  ends-played (Ok x) h = h
+  ends-played (Err fault) h = tt
 
-ended : (servers : ℕ) (source : SourceRun) (sink : SinkRun) (fault : PlayFault) → IsCutBy servers source sink fault → Ended servers source sink fault
-ended servers source sink fault h = record { by = h; cut = IsCut-from_fault servers source sink fault h }
+  pub ends-cut : (result : Result X PlayFault) → EndsSo result servers source sink → OnErr result (IsCut servers source sink)
+  ends-cut (Ok x) h = tt
+  ends-cut (Err fault) h = IsCut-from_fault servers source sink fault h
+
+  pub ends-fault : (result : Result X PlayFault) → EndsSo result servers source sink → IfErr result (IsCutBy servers source sink)
+  ends-fault (Ok x) h = tt
+  ends-fault (Err fault) h = h
 
 -- memory ran out before anything was read
-pub ended_unread : (servers : ℕ) (source : SourceRun) (sink : SinkRun) → source.gave [] → sink.took [] → source.failed 0 → sink.failed 0 → Ended servers source sink Memory
-ended_unread servers source sink unread unwritten sound sink_sound = ended servers source sink Memory (inr (unread, unwritten), sound, sink_sound)
+pub cut_unread : (servers : ℕ) (source : SourceRun) (sink : SinkRun) → source.gave [] → sink.took [] → source.failed 0 → sink.failed 0 → IsCutBy servers source sink Memory
+cut_unread servers source sink unread unwritten sound sink_sound = (inr (unread, unwritten), sound, sink_sound)
 
 -- the source failed
-pub ended_read : (servers : ℕ) (source : SourceRun) (sink : SinkRun) (player : PlayerView) (bytes : List ℕ) → source.gave bytes → Heard (opening_of servers) sink.took bytes player → source.failed 1 → sink.failed 0 → Ended servers source sink Read
-ended_read servers source sink player bytes given heard failed sound =
+pub cut_at_read : (servers : ℕ) (source : SourceRun) (sink : SinkRun) (player : PlayerView) (bytes : List ℕ) → source.gave bytes → Heard (opening_of servers) sink.took bytes player → source.failed 1 → sink.failed 0 → IsCutBy servers source sink Read
+cut_at_read servers source sink player bytes given heard failed sound =
     let outcomes = heard.done.told ++ [] in
     let text = ap (answers (opening_script servers outcomes)) (sym (whole_lines_of-carried bytes)) in
     let taken = done-text sink.took (opening_of servers) (world_now player) (whole_lines_after [] bytes) heard.done in
-    ended servers source sink Read (record { bytes = bytes; given = given; outcomes = outcomes; taken = subst sink.took text taken }, (1, omega arith, failed), sound)
+    (record { bytes = bytes; given = given; outcomes = outcomes; taken = subst sink.took text taken }, (1, omega arith, failed), sound)
 
 -- every line was played
 pub played_whole : (servers : ℕ) (source : SourceRun) (sink : SinkRun) (new : ServiceWorld) (bytes : List ℕ) → source.gave bytes → AreLinesDone (opening_of servers) (lines_after [] bytes) new sink.took → source.ended → source.failed 0 → sink.failed 0 → IsPlayed servers source sink
@@ -135,24 +143,18 @@ module _ (servers : ℕ) (source : SourceRun) (took : List ℕ → Type 0) (step
     failed_after step.failed all.failed before.counts h,
   )
 
-  last : source.gave bytes → source.ended → source.failed 0 → (fault : PlayFault) → IsEndStoppedBy player step fault → IsCutBy servers source all fault
-  last given end sound Read h = absurd h
-  last given end sound Write h =
+  -- a fault at the line that the end of the script ends
+  pub cut_at_last : source.gave bytes → source.ended → source.failed 0 → (fault : PlayFault) → IsEndStoppedBy player step fault → IsCutBy servers source all fault
+  cut_at_last given end sound Read h = absurd h
+  cut_at_last given end sound Write h =
       by_last_write (length h.0.rest) given end sound (stopped-last (opening_of servers) took step.took all.took before.both player bytes before.heard h.0) h.1
-  last given end sound Memory h =
+  cut_at_last given end sound Memory h =
       by_line bytes (length h.0.rest) given sound (stopped-last (opening_of servers) took step.took all.took before.both player bytes before.heard h.0) (h.1, h.2)
 
-  chunk : (more : List ℕ) → source.gave (bytes ++ more) → source.failed 0 → (fault : PlayFault) → IsBlockStoppedBy player more step fault → IsCutBy servers source all fault
-  chunk more given sound Read h = absurd h
-  chunk more given sound Write h =
-      by_write (bytes ++ more) (length h.0.rest) given sound (stopped-append_whole (opening_of servers) took step.took all.took before.both player bytes more before.heard h.0) h.1
-  chunk more given sound Memory h =
-      by_line (bytes ++ more) (length h.0.rest) given sound (stopped-append (opening_of servers) took step.took all.took before.both player bytes more before.heard h.0) (h.1, h.2)
-
-  -- a fault at the line that the end of the script ends
-  pub cut_at_last : source.gave bytes → source.ended → source.failed 0 → (fault : PlayFault) → IsEndStoppedBy player step fault → Ended servers source all fault
-  cut_at_last given end sound fault h = ended servers source all fault (last given end sound fault h)
-
   -- a fault among the lines that end in one more block
-  pub cut_in_block : (more : List ℕ) → source.gave (bytes ++ more) → source.failed 0 → (fault : PlayFault) → IsBlockStoppedBy player more step fault → Ended servers source all fault
-  cut_in_block more given sound fault h = ended servers source all fault (chunk more given sound fault h)
+  pub cut_in_block : (more : List ℕ) → source.gave (bytes ++ more) → source.failed 0 → (fault : PlayFault) → IsBlockStoppedBy player more step fault → IsCutBy servers source all fault
+  cut_in_block more given sound Read h = absurd h
+  cut_in_block more given sound Write h =
+      by_write (bytes ++ more) (length h.0.rest) given sound (stopped-append_whole (opening_of servers) took step.took all.took before.both player bytes more before.heard h.0) h.1
+  cut_in_block more given sound Memory h =
+      by_line (bytes ++ more) (length h.0.rest) given sound (stopped-append (opening_of servers) took step.took all.took before.both player bytes more before.heard h.0) (h.1, h.2)

@@ -3,5 +3,6 @@ pub mod Lines
 pub mod PlayerView
 pub mod Played
 pub mod Stops
+pub mod Ends
 pub mod Effects
 pub mod Rows

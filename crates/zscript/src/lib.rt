@@ -18,7 +18,6 @@ mod fault;
 pub mod laws;
 pub mod limits;
 mod line;
-mod output;
 mod player;
 mod rows;
 mod script;

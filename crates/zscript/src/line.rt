@@ -2,7 +2,7 @@
 
 ghost use Rattle.std.specs.Prelude.{◌≡◌, [], IfOk, OnOk};
 ghost use Rattle.zlines.specs.Texts.{Writes};
-ghost use Rattle.zscript.specs.Line.{effect_of, line_effect, call_effect, begin_effect};
+ghost use Rattle.zscript.specs.Line.{effect_of, call_effect, begin_effect};
 ghost use Rattle.zscript.specs.Line.{settle_effect};
 ghost use Rattle.zscript.specs.Done.{AnswersLine, world_between};
 ghost use Rattle.zscript.specs.Script.{opening_of};
@@ -32,37 +32,29 @@ pub fn answer_line(world: &mut World, line: &[u8], out: &mut String) -> Result<(
     ensures done { OnOk result (AnswersLine line.now world.old world.new out.old out.new) }
 {
     world.forget();
-    answer_read(world, line, out)?;
+    play_line(world, line, out)?;
     out.push('\n')?;
     Ok(())
 }
 
-// The same, where the world has told nothing yet, and without the LF.
-fn answer_read(world: &mut World, line: &[u8], out: &mut String) -> Result<(), Memory>
+// The same on a world that has told nothing yet, and without the LF.
+fn play_line(world: &mut World, line: &[u8], out: &mut String) -> Result<(), Memory>
     requires { world.old.history ≡ [] }
     ensures { OnOk result (Plays (λ s. effect_of s line.now) world.old world.new out.old out.new) }
 {
     match read_line(world.allocator(), line) {
-        Ok(asked) => play_line(world, asked, out),
+        Ok(asked) => match asked {
+            Line::Call(request) => call(world, request, out),
+            Line::Begin(request) => begin(world, request, out),
+            Line::Take(from, to) => do_event(world, Event::Take(from, to), out),
+            Line::Ignore(from, to) => do_event(world, Event::Ignore(from, to), out),
+            Line::Fail(server) => do_event(world, Event::Fail(server), out),
+            Line::Join(server) => do_event(world, Event::Join(server), out),
+            Line::Retire(server) => do_event(world, Event::Retire(server), out),
+            Line::Retry(client) => do_event(world, Event::Retry(client), out),
+            Line::Settle => settle(world, out),
+        },
         Err(fault) => write_fault(fault, out),
-    }
-}
-
-// Does what a line asks for, and writes its answer.
-fn play_line(world: &mut World, asked: Line, out: &mut String) -> Result<(), Memory>
-    requires { world.old.history ≡ [] }
-    ensures { OnOk result (Plays (λ s. line_effect s asked) world.old world.new out.old out.new) }
-{
-    match asked {
-        Line::Call(request) => call(world, request, out),
-        Line::Begin(request) => begin(world, request, out),
-        Line::Take(from, to) => do_event(world, Event::Take(from, to), out),
-        Line::Ignore(from, to) => do_event(world, Event::Ignore(from, to), out),
-        Line::Fail(server) => do_event(world, Event::Fail(server), out),
-        Line::Join(server) => do_event(world, Event::Join(server), out),
-        Line::Retire(server) => do_event(world, Event::Retire(server), out),
-        Line::Retry(client) => do_event(world, Event::Retry(client), out),
-        Line::Settle => settle(world, out),
     }
 }
 

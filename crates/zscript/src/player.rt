@@ -1,22 +1,20 @@
 //! What plays a script: fed with its bytes block by block, it answers each line as soon as its LF is there.
 
-ghost use Rattle.std.specs.Prelude.{◌≡◌, ◌<◌, ◌≤◌, [], ◌++◌, length, IfOk, IfErr, IfSome, IfNone, OnOk, OnErr};
+ghost use Rattle.std.specs.Prelude.{◌≡◌, ◌<◌, ◌≤◌, [], ◌++◌, length, IfOk, IfErr, OnOk, OnErr};
 ghost use Rattle.zdevices.specs.Device.{Between, TookBeginning, Failed};
 ghost use Rattle.zscript.specs.Script.{opening_of};
-ghost use Rattle.zscript.specs.support.Lines.{IsPart, IsCutAtEnd};
 ghost use Rattle.zscript.specs.support.PlayerView.{IsFresh, world_now, kept_front};
-ghost use Rattle.zscript.specs.support.Played.{line_at, PlaysLines, PlaysLastLine, TellsLines, TellsLine, HoldsAnswer};
+ghost use Rattle.zscript.specs.support.Played.{line_at, PlaysLines, PlaysLastLine, TellsLines, TellsLine};
 ghost use Rattle.zscript.specs.support.Stops.{StopsInBlock, StopsAtEnd, StopsInLines, StopsInLine};
 
 use crate::fault::PlayFault;
-use crate::limits::KEPT;
+use crate::limits::{BLOCK, KEPT};
 use crate::line::{answer_line, script_world};
-use crate::output::Output;
 use crate::servers::Servers;
 use memchr::memchr;
 use std::alloc::Global;
 use std::marker::Model;
-use zdevices::{DeviceFault, Sink};
+use zdevices::{Sink, write_all};
 use zpath::Memory;
 use zworld::World;
 
@@ -25,23 +23,20 @@ use zworld::World;
 pub(crate) struct Player {
     world: World,
     line: Vec<u8>,
-    output: Output,
+    // What was not written yet.
+    replies: String,
 }
 
 impl Model for Player {
-    ghost use Rattle.std.specs.Prelude.{◌≤◌, length};
+    ghost use Rattle.std.specs.Prelude.{◌≤◌, length, string_bytes};
     ghost use Rattle.zscript.specs.declared.limits.TheConstants.{KEPT};
-    ghost use Rattle.zscript.specs.support.PlayerView.{PlayerView, coded_player_view, held_in};
+    ghost use Rattle.zscript.specs.support.PlayerView.{PlayerView, coded_player_view, player_view};
 
     ghost Value = { PlayerView };
 
     ghost coded = { coded_player_view };
 
-    ghost view = { λ p. record {
-      world = p.world.held;
-      line = p.line.items;
-      held = held_in p.output;
-    } };
+    ghost view = { λ p. player_view p.world.held p.line.items (string_bytes p.replies) };
 
     ghost invariant = { λ p. length p.line.items ≤ KEPT };
 }
@@ -55,7 +50,7 @@ impl Player {
         Ok(Player {
             world: script_world(alloc, servers.last())?,
             line: Vec::new(alloc),
-            output: Output::new(alloc),
+            replies: String::new(alloc),
         })
     }
 
@@ -71,9 +66,7 @@ impl Player {
     {
         let rest = self.play_lines(sink, bytes)?;
         self.keep(rest)?;
-        let Ok(()) = self.write_replies(sink) else {
-            return Err(PlayFault::Write);
-        };
+        self.write_replies(sink)?;
         Ok(())
     }
 
@@ -88,9 +81,7 @@ impl Player {
             return Ok(());
         }
         self.end_line(sink, &[])?;
-        let Ok(()) = self.write_replies(sink) else {
-            return Err(PlayFault::Write);
-        };
+        self.write_replies(sink)?;
         Ok(())
     }
 
@@ -110,38 +101,32 @@ impl Player {
             (StopsInLines self.old bytes.entry.now K.Sink sink.old sink.new) }
     {
         let mut rest = bytes;
-        while let Some((end, more)) = split_line(rest) {
-            self.end_line(sink, end)?;
-            rest = more;
+        while let Some(place) = memchr(b'\n', rest) {
+            self.end_line(sink, &rest[..place])?;
+            rest = &rest[place + 1..];
         }
         Ok(rest)
     }
 
-    // Ends the line with these bytes, and plays it. Where nothing is kept of it, it is not copied.
+    // Ends the line with these bytes, plays it, and writes the replies that are held once they fill a block. Where nothing is
+    // kept of the line, it is not copied.
     fn end_line<K: Sink>(&mut self, sink: &mut K, end: &[u8]) -> Result<(), PlayFault>
         ensures done { OnOk result (TellsLine self.old end.now self.new K.took sink.old sink.new) }
         ensures line { OnOk result (self.new.line ≡ []) }
         ensures sound { OnOk result (K.failed sink.old 0 sink.new) }
         ensures stopped { IfErr result (StopsInLine self.old end.now K.Sink sink.old sink.new) }
     {
-        self.answer(end)?;
-        let Ok(()) = self.output.flush_full(sink) else {
-            return Err(PlayFault::Write);
-        };
-        Ok(())
-    }
-
-    // The same, but the reply is held.
-    fn answer(&mut self, end: &[u8]) -> Result<(), Memory>
-        ensures done { OnOk result (HoldsAnswer self.old end.now self.new) }
-        ensures line { OnOk result (self.new.line ≡ []) }
-    {
         if self.line.is_empty() {
-            return answer_line(&mut self.world, end, &mut self.output.block);
+            answer_line(&mut self.world, end, &mut self.replies)?;
+        } else {
+            self.keep(end)?;
+            answer_line(&mut self.world, &self.line, &mut self.replies)?;
+            self.line.clear();
         }
-        self.keep(end)?;
-        answer_line(&mut self.world, &self.line, &mut self.output.block)?;
-        self.line.clear();
+        if self.replies.len() < BLOCK {
+            return Ok(());
+        }
+        self.write_replies(sink)?;
         Ok(())
     }
 
@@ -161,24 +146,18 @@ impl Player {
     }
 
     // Writes the replies that are held.
-    fn write_replies<K: Sink>(&mut self, sink: &mut K) -> Result<(), DeviceFault>
+    fn write_replies<K: Sink>(&mut self, sink: &mut K) -> Result<(), PlayFault>
         ensures written { OnOk result (self.new ≡ record self.old { held = [] }) }
         ensures took { OnOk result (K.took sink.old self.old.held sink.new) }
         ensures sound { OnOk result (K.failed sink.old 0 sink.new) }
         ensures beginning { TookBeginning (Between K.took sink.old sink.new) self.old.held }
         ensures failed { OnErr result (Failed (Between K.failed sink.old sink.new)) }
+        ensures fault { IfErr result (λ fault. fault ≡ PlayFault.Write) }
     {
-        self.output.flush(sink)
-    }
-}
-
-// Splits bytes at their first LF: the end of a line, and what follows it.
-fn split_line(bytes: &[u8]) -> Option<(&[u8], &[u8])>
-    ensures some { IfSome result (λ parts. IsCutAtEnd bytes.now parts.0.now parts.1.now) }
-    ensures none { IfNone result (IsPart bytes.now) }
-{
-    match memchr(b'\n', bytes) {
-        Some(place) => Some((&bytes[..place], &bytes[place + 1..])),
-        None => None,
+        let Ok(()) = write_all(sink, self.replies.as_bytes()) else {
+            return Err(PlayFault::Write);
+        };
+        self.replies.clear();
+        Ok(())
     }
 }

@@ -1,16 +1,16 @@
 //! Plays a script from a source to a sink.
 
-ghost use Rattle.std.specs.Prelude.{◌≡◌, ℕ, ◌<◌, length, IfOk, OnOk, OnErr, IfErr, vec_len};
+ghost use Rattle.std.specs.Prelude.{◌≡◌, ◌<◌, length, OnOk, OnErr, IfErr};
 ghost use Rattle.zscript.specs.Devices.{source_did, sink_did};
-ghost use Rattle.zscript.specs.Script.{opening_of};
 ghost use Rattle.zscript.specs.Outcome.{IsPlayed, IsCut, IsCutBy};
-ghost use Rattle.zscript.specs.support.PlayerView.{IsFresh, world_now};
+ghost use Rattle.zscript.specs.support.PlayerView.{IsFresh};
+ghost use Rattle.zscript.specs.support.Ends.{PlaysBlocks};
 
 use crate::fault::PlayFault;
 use crate::limits::BLOCK;
 use crate::player::Player;
 use crate::servers::Servers;
-use std::alloc::{AllocError, Global};
+use std::alloc::Global;
 use zdevices::{Sink, Source};
 
 /// Plays a script to the end that its source tells: each line as soon as its LF is read, and a last line
@@ -32,7 +32,7 @@ pub fn play<S: Source, K: Sink>(
     ensures fault { IfErr result (IsCutBy servers
         (source_did S.Source source.old source.new) (sink_did K.Sink sink.old sink.new)) }
 {
-    let mut block = zeros(alloc, BLOCK)?;
+    let mut block = vec![in alloc; 0; BLOCK]?;
     let mut player = Player::new(alloc, servers)?;
     play_blocks(&mut player, source, sink, &mut block)
 }
@@ -46,15 +46,8 @@ fn play_blocks<S: Source, K: Sink>(
 ) -> Result<(), PlayFault>
     requires fresh { IsFresh player.old }
     requires room { 0 < length block.old }
-    ensures played { OnOk result ((servers : ℕ) → world_now player.old ≡ opening_of servers
-        → IsPlayed servers
-        (source_did S.Source source.old source.new) (sink_did K.Sink sink.old sink.new)) }
-    ensures cut { OnErr result ((servers : ℕ) → world_now player.old ≡ opening_of servers
-        → IsCut servers
-        (source_did S.Source source.old source.new) (sink_did K.Sink sink.old sink.new)) }
-    ensures fault { IfErr result (λ fault. (servers : ℕ)
-        → world_now player.old ≡ opening_of servers → IsCutBy servers
-        (source_did S.Source source.old source.new) (sink_did K.Sink sink.old sink.new) fault) }
+    ensures { PlaysBlocks result player.old
+        S.Source source.old source.new K.Sink sink.old sink.new }
 {
     loop {
         let Ok(count) = source.read(block) else {
@@ -66,11 +59,4 @@ fn play_blocks<S: Source, K: Sink>(
         }
         player.hear(sink, &block[..count])?;
     }
-}
-
-// Room for so many bytes.
-fn zeros(alloc: Global, len: usize) -> Result<Vec<u8>, AllocError>
-    ensures { IfOk result (λ block. vec_len block ≡ len) }
-{
-    vec![in alloc; 0; len]
 }

@@ -4,7 +4,7 @@ ghost use Rattle.std.specs.Prelude.{◌≡◌, ◌++◌, OnOk};
 ghost use Rattle.std.specs.List.{flat_map};
 ghost use Rattle.zlines.specs.Texts.{Writes};
 ghost use Rattle.zscript.specs.Line.{join_fault_name, retire_fault_name, settled_text};
-ghost use Rattle.zscript.specs.Line.{taken_text, is_answer_to, own_reply_text};
+ghost use Rattle.zscript.specs.Line.{taken_text, is_answer_to};
 ghost use Rattle.zscript.specs.support.Effects.{cause_text, did_text, begun_text, called_text};
 ghost use Rattle.zscript.specs.support.Effects.{WritesFault, taken_lines, own_call};
 
@@ -72,13 +72,22 @@ pub(crate) fn write_settled(
 }
 
 /// Writes the answers that clients took after a call began, and behind them the reply to that call, the first of the
-/// history.
+/// history, or that there is none.
 pub(crate) fn write_called(history: &[CallEvent], out: &mut String) -> Result<(), Memory>
     ensures { OnOk result (Writes out.old out.new (called_text history.now)) }
 {
     let own = own_call(history);
     write_taken(history, &own, out)?;
-    write_own_reply(history, &own, out)
+    for event in history {
+        let CallEvent::Answer(client, number, reply) = event else {
+            continue;
+        };
+        if is_answer_to(&own, client, number) {
+            return write_reply(reply, out);
+        }
+    }
+    out.push_str("unanswered")?;
+    Ok(())
 }
 
 /// Writes why an event didn't happen.
@@ -137,29 +146,22 @@ fn own_call(history: &[CallEvent]) -> Own
     }
 }
 
-// Writes answers that clients took, each as a line, but for the one to the line's own call.
+// Writes the answers that clients took, each as a line, but for the one to the line's own call. That a call began is not
+// written.
 fn write_taken(history: &[CallEvent], own: &Own, out: &mut String) -> Result<(), Memory>
     ensures { OnOk result (Writes out.old out.new (flat_map (taken_text own.now) history.now)) }
 {
     for event in history {
-        write_event(event, own, out)?;
+        let CallEvent::Answer(client, number, reply) = event else {
+            continue;
+        };
+        if is_answer_to(own, client, number) {
+            continue;
+        }
+        write!(out, "c{} ", client.number())?;
+        write_reply(reply, out)?;
+        out.push('\n')?;
     }
-    Ok(())
-}
-
-// Writes one of them; that a call began is not written.
-fn write_event(event: &CallEvent, own: &Own, out: &mut String) -> Result<(), Memory>
-    ensures { OnOk result (Writes out.old out.new (taken_text own.now event.now)) }
-{
-    let CallEvent::Answer(client, number, reply) = event else {
-        return Ok(());
-    };
-    if is_answer_to(own, client, number) {
-        return Ok(());
-    }
-    write!(out, "c{} ", client.number())?;
-    write_reply(reply, out)?;
-    out.push('\n')?;
     Ok(())
 }
 
@@ -171,20 +173,4 @@ fn is_answer_to(own: &Own, client: &ClientId, number: &CallNumber) -> bool
         Some((own_client, own_number)) => own_client == client && own_number == number,
         None => false,
     }
-}
-
-// Writes the reply to a call, where the history has one.
-fn write_own_reply(history: &[CallEvent], own: &Own, out: &mut String) -> Result<(), Memory>
-    ensures { OnOk result (Writes out.old out.new (own_reply_text own.now history.now)) }
-{
-    for event in history {
-        let CallEvent::Answer(client, number, reply) = event else {
-            continue;
-        };
-        if is_answer_to(own, client, number) {
-            return write_reply(reply, out);
-        }
-    }
-    out.push_str("unanswered")?;
-    Ok(())
 }

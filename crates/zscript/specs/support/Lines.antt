@@ -40,7 +40,3 @@ pub record AreLinesDone (old : ServiceWorld) (lines : List (List ℕ)) (new : Se
 abbrev pub IsPart : List ℕ → Type 0
 IsPart [] = Unit {0}
 IsPart (b ∷ bs) = ((b == 10) ≡ false) × IsPart bs
-
--- Bytes are cut at their first LF: the end of a line, and what follows it.
-abbrev pub IsCutAtEnd : List ℕ → List ℕ → List ℕ → Type 0
-IsCutAtEnd bytes end more = IsPart end × (bytes ≡ end ++ 10 ∷ more)

@@ -1,5 +1,5 @@
 -- What a player does with bytes: with those of a block, or with those that end a line.
-use Rattle.std.specs.Prelude.{◌≡◌, ℕ, List, ◌++◌}
+use Rattle.std.specs.Prelude.{ℕ, List, ◌++◌}
 use Rattle.zdevices.specs.Device.{Between}
 use Rattle.zscript.specs.Done.{IsLineDone}
 use Rattle.zscript.specs.support.Lines.{whole_lines_after, line_left, last_line, AreLinesDone}
@@ -30,8 +30,3 @@ abbrev pub TellsLine : {K : Type 0} → PlayerView → List ℕ → PlayerView �
 TellsLine old end new took before after =
     IsLineDone (world_now old) (old.line ++ end) (world_now new)
     (λ text. Tells (Between took before after) (old.held ++ text) new.held)
-
--- It plays the line that ends so, and its answer is held.
-abbrev pub HoldsAnswer : PlayerView → List ℕ → PlayerView → Type 0
-HoldsAnswer old end new =
-    IsLineDone (world_now old) (old.line ++ end) (world_now new) (λ text. new.held ≡ old.held ++ text)

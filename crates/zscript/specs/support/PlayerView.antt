@@ -1,20 +1,22 @@
 -- What a player keeps between two blocks of a script.
-use Rattle.std.specs.Prelude.{◌≡◌, ℕ, List, [], ◌++◌, take, string_bytes}
+use Rattle.std.specs.Prelude.{◌≡◌, ℕ, List, [], ◌++◌, take}
 use Rattle.std.specs.Coded.{Coded, code_by, coded×, coded_ℕ, coded_list}
 use Rattle.std.proofs.Common.{refl}
-use Rattle.zdevices.specs.Device.{Between}
 use Rattle.zworld.specs.Held.{Held}
 use Rattle.zworld.specs.support.Codes.{coded_held}
 use Rattle.zscript.specs.Line.{ServiceWorld}
 use Rattle.zscript.specs.Done.{world_between}
 use Rattle.zscript.specs.declared.limits.TheConstants.{KEPT}
-use Rattle.zscript.specs.declared.output.Output.{Output}
 
 -- What its world holds, what is kept of the line that has begun, and the replies that were not written yet.
 pub record PlayerView : Type 0 where
   pub world : Held
   pub line : List ℕ
   pub held : List ℕ
+
+-- A player of these.
+abbrev pub player_view : Held → List ℕ → List ℕ → PlayerView
+player_view world line held = record { world = world; line = line; held = held }
 
 -- How it is stored.
 abbrev pub coded_player_view : Coded PlayerView
@@ -39,11 +41,3 @@ pub record Tells (took : List ℕ → Type 0) (text held : List ℕ) : Type 0 wh
   pub front : List ℕ
   pub taken : took front
   pub split : text ≡ front ++ held
-
--- The replies that were not written yet.
-abbrev pub held_in : Output → List ℕ
-held_in output = string_bytes output.block
-
--- What was held was told to a sink.
-abbrev pub WritesOut : {K : Type 0} → Output → Output → (K → List ℕ → K → Type 0) → K → K → Type 0
-WritesOut old new took before after = Tells (Between took before after) (held_in old) (held_in new)

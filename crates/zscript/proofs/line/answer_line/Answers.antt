@@ -9,10 +9,10 @@ use Rattle.zscript.proofs.line.answer_line.Goals as goal
 pub returns : goal.returns
 unfolding encode
 returns c =
-    let new = c.answer_read.new.world in
+    let new = c.play_line.new.world in
     record {
       done = subst (λ (w : WorldView). IsLineDone (world_between w.held) c.args.line.now (world_between new.held) (Writes c.args.out.now c.push.new.self)) c.forget.ensures
           (line_done c.forget.new.self new c.args.line.now _ _
-          (λ text wrote. writes_more c.args.out.now c.answer_read.new.out c.push.new.self text (10 ∷ []) wrote c.in_ok-push.ensures.bytes)
-          (ap (λ (w : WorldView). w.history) c.forget.ensures) c.in_ok-answer_read.ensures);
+          (λ text wrote. writes_more c.args.out.now c.play_line.new.out c.push.new.self text (10 ∷ []) wrote c.in_ok-push.ensures.bytes)
+          (ap (λ (w : WorldView). w.history) c.forget.ensures) c.in_ok-play_line.ensures);
     }

@@ -1,12 +1,11 @@
-use Rattle.std.proofs.Common.{◌≡◌, ℕ, [], ◌++◌, take}
+use Rattle.std.proofs.Common.{[], ◌++◌, take}
 use Rattle.std.proofs.lemmas.List.{append-nil}
 use Rattle.std.proofs.lemmas.Result.{err_from_is_err_and}
 use Rattle.zdevices.specs.Device.{Between, source_run, sink_run}
 use Rattle.zscript.specs.Script.{opening_of}
 use Rattle.zscript.specs.support.PlayerView.{world_now}
 use Rattle.zscript.proofs.Runs.{heard-nil, heard-append, heard-last}
-use Rattle.zscript.proofs.Cutting.{Ended, ended_read, played_whole, cut_at_last, cut_in_block}
-use Rattle.zscript.proofs.script.play_blocks.Given.{Over}
+use Rattle.zscript.proofs.Cutting.{cut_at_read, played_whole, cut_at_last, cut_in_block}
 use Rattle.zscript.proofs.script.play_blocks.Goals as goal
 
 pub loop-count-init : goal.loop-count-init
@@ -16,41 +15,28 @@ loop-count-init g c = record {
   sink_sound = g.met.K.Sink.failed_never _;
 }
 
--- a source that failed told no end
-pub returns-in_default-clause-played : goal.returns-in_default-clause-played
-returns-in_default-clause-played g c = tt
-
-pub returns-in_default-clause-fault : goal.returns-in_default-clause-fault
-returns-in_default-clause-fault g c = λ servers opening.
+pub returns-in_default : goal.returns-in_default
+returns-in_default g c = λ servers opening.
     let so_far = c.loop-count.invariant.so_far in
-    (ended_read servers
+    cut_at_read servers
     (source_run g.S.Source.gave g.S.Source.failed g.S.Source.has_ended c.args.source.now c.read.new.self)
     (sink_run g.K.Sink.took g.K.Sink.failed c.args.sink.now c.loop-count.sink)
     c.loop-count.player so_far.0
     (rw append-nil at (g.met.S.Source.gave_both _ _ _ _ _ so_far.1 c.in_default.ensures.nothing))
     (rw opening at so_far.2)
     (g.met.S.Source.failed_both _ _ _ 0 1 c.loop-count.invariant.source_sound c.in_default.ensures.failed)
-    c.loop-count.invariant.sink_sound).by
+    c.loop-count.invariant.sink_sound
 
-pub returns-in_default-clause-cut : goal.returns-in_default-clause-cut
-returns-in_default-clause-cut g c = λ servers opening.
-    let so_far = c.loop-count.invariant.so_far in
-    (ended_read servers
-    (source_run g.S.Source.gave g.S.Source.failed g.S.Source.has_ended c.args.source.now c.read.new.self)
-    (sink_run g.K.Sink.took g.K.Sink.failed c.args.sink.now c.loop-count.sink)
-    c.loop-count.player so_far.0
-    (rw append-nil at (g.met.S.Source.gave_both _ _ _ _ _ so_far.1 c.in_default.ensures.nothing))
-    (rw opening at so_far.2)
-    (g.met.S.Source.failed_both _ _ _ 0 1 c.loop-count.invariant.source_sound c.in_default.ensures.failed)
-    c.loop-count.invariant.sink_sound).cut
-
-at_last : (g : Over) (c : goal.After-from_residual g) (servers : ℕ) → world_now c.args.player.now ≡ opening_of servers → Ended servers (source_run g.S.Source.gave g.S.Source.failed g.S.Source.has_ended c.args.source.now c.read.new.self) (sink_run g.K.Sink.took g.K.Sink.failed c.args.sink.now c.finish.new.sink) c.in_err-finish.field-0.0
-at_last g c servers opening =
+pub returns-in_err-finish : goal.returns-in_err-finish
+returns-in_err-finish g c =
+    let p = err_from_is_err_and c.from_residual.result c.from_residual.ensures.1 in
     let so_far = c.loop-count.invariant.so_far in
     let none = c.if-count-eq0.true in
-    cut_at_last servers _
+    rw (p.1, p.2) (λ servers opening. cut_at_last servers
+    (source_run g.S.Source.gave g.S.Source.failed g.S.Source.has_ended c.args.source.now c.read.new.self)
     (Between g.K.Sink.took c.args.sink.now c.loop-count.sink)
-    (sink_run g.K.Sink.took g.K.Sink.failed c.loop-count.sink c.finish.new.sink) _
+    (sink_run g.K.Sink.took g.K.Sink.failed c.loop-count.sink c.finish.new.sink)
+    (sink_run g.K.Sink.took g.K.Sink.failed c.args.sink.now c.finish.new.sink)
     c.loop-count.player so_far.0
     (record {
       both = λ a b. g.met.K.Sink.took_both _ _ _ a b;
@@ -61,16 +47,10 @@ at_last g c servers opening =
     (c.in-Ok.ensures.end none)
     (g.met.S.Source.failed_both _ _ _ 0 0 c.loop-count.invariant.source_sound c.in-Ok.ensures.sound)
     c.in_err-finish.field-0.0
-    c.in_err-finish.ensures.stopped
+    c.in_err-finish.ensures.stopped)
 
-pub returns-in_err-finish-clause-fault : goal.returns-in_err-finish-clause-fault
-returns-in_err-finish-clause-fault g c = let p = err_from_is_err_and c.from_residual.result c.from_residual.ensures.1 in rw (p.1, p.2) (λ servers opening. (at_last g c servers opening).by)
-
-pub returns-in_err-finish-clause-cut : goal.returns-in_err-finish-clause-cut
-returns-in_err-finish-clause-cut g c = let p = err_from_is_err_and c.from_residual.result c.from_residual.ensures.1 in rw p.1 (λ servers opening. (at_last g c servers opening).cut)
-
-pub returns-then-count-eq0-clause-played : goal.returns-then-count-eq0-clause-played
-returns-then-count-eq0-clause-played g c = λ servers opening.
+pub returns-then-count-eq0 : goal.returns-then-count-eq0
+returns-then-count-eq0 g c = λ servers opening.
     let so_far = c.loop-count.invariant.so_far in
     let none = c.if-count-eq0.true in
     played_whole servers
@@ -109,13 +89,16 @@ loop-count-preserved g c =
       sink_sound = g.met.K.Sink.failed_both _ _ _ 0 0 c.loop-count.invariant.sink_sound c.in_ok-hear.ensures.sound;
     }
 
-in_block : (g : Over) (c : goal.After-from_residual-in_err-hear g) (servers : ℕ) → world_now c.args.player.now ≡ opening_of servers → Ended servers (source_run g.S.Source.gave g.S.Source.failed g.S.Source.has_ended c.args.source.now c.read.new.self) (sink_run g.K.Sink.took g.K.Sink.failed c.args.sink.now c.hear.new.sink) c.in_err-hear.field-0.0
-in_block g c servers opening =
+pub returns-in_err-hear : goal.returns-in_err-hear
+returns-in_err-hear g c =
+    let p = err_from_is_err_and c.from_residual-in_err-hear.result c.from_residual-in_err-hear.ensures.1 in
     let so_far = c.loop-count.invariant.so_far in
     let chunk = take c.in-Ok.count c.read.new.buffer in
-    cut_in_block servers _
+    rw (p.1, p.2) (λ servers opening. cut_in_block servers
+    (source_run g.S.Source.gave g.S.Source.failed g.S.Source.has_ended c.args.source.now c.read.new.self)
     (Between g.K.Sink.took c.args.sink.now c.loop-count.sink)
-    (sink_run g.K.Sink.took g.K.Sink.failed c.loop-count.sink c.hear.new.sink) _
+    (sink_run g.K.Sink.took g.K.Sink.failed c.loop-count.sink c.hear.new.sink)
+    (sink_run g.K.Sink.took g.K.Sink.failed c.args.sink.now c.hear.new.sink)
     c.loop-count.player so_far.0
     (record {
       both = λ a b. g.met.K.Sink.took_both _ _ _ a b;
@@ -126,10 +109,4 @@ in_block g c servers opening =
     (g.met.S.Source.gave_both _ _ _ _ _ so_far.1 c.in-Ok.ensures.gave)
     (g.met.S.Source.failed_both _ _ _ 0 0 c.loop-count.invariant.source_sound c.in-Ok.ensures.sound)
     c.in_err-hear.field-0.0
-    c.in_err-hear.ensures.stopped
-
-pub returns-in_err-hear-clause-fault : goal.returns-in_err-hear-clause-fault
-returns-in_err-hear-clause-fault g c = let p = err_from_is_err_and c.from_residual-in_err-hear.result c.from_residual-in_err-hear.ensures.1 in rw (p.1, p.2) (λ servers opening. (in_block g c servers opening).by)
-
-pub returns-in_err-hear-clause-cut : goal.returns-in_err-hear-clause-cut
-returns-in_err-hear-clause-cut g c = let p = err_from_is_err_and c.from_residual-in_err-hear.result c.from_residual-in_err-hear.ensures.1 in rw p.1 (λ servers opening. (in_block g c servers opening).cut)
+    c.in_err-hear.ensures.stopped)

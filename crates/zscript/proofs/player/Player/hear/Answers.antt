@@ -21,32 +21,34 @@ returns-in_err-keep-clause-stopped g c =
     let stopped = left-stopped _ (world_now self) (world_now c.play_lines.new.self) self.line c.args.bytes.now c.play_lines.new.self.held some c.in_ok-rest.ensures.done in
     rw (p.1, p.2) (stopped.0, stopped.1, c.in_ok-rest.ensures.sound)
 
-pub returns-in_default-clause-stopped : goal.returns-in_default-clause-stopped
-returns-in_default-clause-stopped g c =
+pub returns-in_err-write_replies-clause-stopped : goal.returns-in_err-write_replies-clause-stopped
+returns-in_err-write_replies-clause-stopped g c =
+    let p = err_from_is_err_and c.from_residual-in_err-write_replies.result c.from_residual-in_err-write_replies.ensures.1 in
     let self = c.args.self.now in
-    let held = c.in_ok-keep.ensures.held in (
+    let held = c.in_ok-keep.ensures.held in
+    rw (p.1, p.2, c.in_err-write_replies.ensures.fault) (
       replies-stopped
           (Between g.K.Sink.took c.args.sink.now c.play_lines.new.sink)
           (Between g.K.Sink.took c.play_lines.new.sink c.write_replies.new.sink)
           (Between g.K.Sink.took c.args.sink.now c.write_replies.new.sink)
           (λ a b. g.met.K.Sink.took_both _ _ _ a b)
           (world_now self) (world_now c.play_lines.new.self) self.line c.args.bytes.now c.play_lines.new.self.held
-          c.in_ok-rest.ensures.done (rw held at c.in_default.ensures.beginning),
-      failed_after _ (Between g.K.Sink.failed c.args.sink.now c.write_replies.new.sink) (λ n. g.met.K.Sink.failed_both _ _ _ 0 n c.in_ok-rest.ensures.sound) c.in_default.ensures.failed,
+          c.in_ok-rest.ensures.done (rw held at c.in_err-write_replies.ensures.beginning),
+      failed_after _ (Between g.K.Sink.failed c.args.sink.now c.write_replies.new.sink) (λ n. g.met.K.Sink.failed_both _ _ _ 0 n c.in_ok-rest.ensures.sound) c.in_err-write_replies.ensures.failed,
     )
 
 pub returns-clause-done : goal.returns-clause-done
 returns-clause-done g c =
     let self = c.args.self.now in
     let held = c.in_ok-keep.ensures.held in
-    let world = ap world_now c.in-Ok.ensures.written ∙ c.in_ok-keep.ensures.world in
+    let world = ap world_now c.in_ok-write_replies.ensures.written ∙ c.in_ok-keep.ensures.world in
     rw world (replies-written
     (Between g.K.Sink.took c.args.sink.now c.play_lines.new.sink)
     (Between g.K.Sink.took c.play_lines.new.sink c.write_replies.new.sink)
     (Between g.K.Sink.took c.args.sink.now c.write_replies.new.sink)
     (λ a b. g.met.K.Sink.took_both _ _ _ a b)
     (world_now self) (world_now c.play_lines.new.self) (whole_lines_after self.line c.args.bytes.now) c.play_lines.new.self.held
-    c.in_ok-rest.ensures.done (rw held at c.in-Ok.ensures.took))
+    c.in_ok-rest.ensures.done (rw held at c.in_ok-write_replies.ensures.took))
 
 pub returns-clause-sound : goal.returns-clause-sound
-returns-clause-sound g c = g.met.K.Sink.failed_both _ _ _ 0 0 c.in_ok-rest.ensures.sound c.in-Ok.ensures.sound
+returns-clause-sound g c = g.met.K.Sink.failed_both _ _ _ 0 0 c.in_ok-rest.ensures.sound c.in_ok-write_replies.ensures.sound
