@@ -1,11 +1,12 @@
 -- What a program's words ask for, by the number that they give: this project's own profile.
-use Rattle.std.specs.Prelude.{ℕ, ◌&&◌, nat_le, if◌then◌else◌, List, [], ◌∷◌, codes, Option, Some, Result, Ok, Err}
+use Rattle.std.specs.Prelude.{◌≡◌, ◌⊎◌, ℕ, ◌&&◌, nat_le, if◌then◌else◌, List, [], ◌∷◌, codes, Option, Some, Result, Ok, Err}
 use Rattle.zprotocol.specs.declared.limits.TheConstants.{MAX_SERVERS}
 use Rattle.zoptions.specs.Asked.{asked_of}
+use Rattle.zscript.specs.Servers.{IsServers}
 use Rattle.zcommand.specs.declared.order.Settings.{Settings}
 use Rattle.zcommand.specs.declared.order.Settings.TheVariants.{Script}
 use Rattle.zcommand.specs.declared.fault.WordsFault.{WordsFault}
-use Rattle.zcommand.specs.declared.fault.WordsFault.TheVariants.{BadWords}
+use Rattle.zcommand.specs.declared.fault.WordsFault.TheVariants.{Memory, BadWords}
 
 -- A number that was given asks for a script over exactly so many servers, where a chain may begin with so many.
 abbrev pub settings_of : Option (List ℕ) → Result Settings WordsFault
@@ -16,3 +17,11 @@ settings_of _ = Err BadWords
 -- What the words ask for: `script`, over the number of servers that they give, or over 1.
 unfoldable pub settings_asked : List (List ℕ) → Result Settings WordsFault
 settings_asked words = settings_of (asked_of (codes "script") ((codes "servers", codes "1") ∷ []) words)
+
+-- Why no settings were had: the words come to this fault, or there was no memory to read them.
+abbrev pub IsFaultOf : List (List ℕ) → WordsFault → Type 0
+IsFaultOf words fault = (fault ≡ Memory) ⊎ (settings_asked words ≡ Err fault)
+
+-- A script, over as many servers as a chain may begin with.
+abbrev pub IsScript : Settings → Type 0
+IsScript settings = (servers : ℕ) × IsServers servers × (settings ≡ Script servers)

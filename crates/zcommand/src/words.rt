@@ -1,9 +1,8 @@
 //! A program's words.
 
-ghost use Rattle.std.specs.Prelude.{◌≡◌, ◌⊎◌, ℕ, Err, IfErr, IfOk, Ok, Some};
+ghost use Rattle.std.specs.Prelude.{◌≡◌, IfErr, IfOk, Ok, Some};
 ghost use Rattle.zoptions.specs.Asked.{texts_of};
-ghost use Rattle.zscript.specs.Servers.{IsServers};
-ghost use Rattle.zcommand.specs.Asked.{settings_asked, settings_of};
+ghost use Rattle.zcommand.specs.Asked.{settings_asked, settings_of, IsFaultOf, IsScript};
 
 use crate::fault::WordsFault;
 use crate::order::Settings;
@@ -23,10 +22,8 @@ static SCRIPT_OPTIONS: [NumberOption; 1] = [NumberOption {
 /// All else is `BadWords`, a request for help too. `Memory` comes only where memory runs out.
 pub fn settings<'a>(alloc: Global, words: &'a [&'a str]) -> Result<Settings, WordsFault>
     ensures ok { IfOk result (λ settings. settings_asked (texts_of words.now) ≡ Ok settings) }
-    ensures err { IfErr result (λ fault. (fault ≡ WordsFault.Memory)
-        ⊎ (settings_asked (texts_of words.now) ≡ Err fault)) }
-    ensures few { IfOk result (λ settings. (servers : ℕ) × IsServers servers
-        × (settings ≡ Settings.Script servers)) }
+    ensures err { IfErr result (IsFaultOf (texts_of words.now)) }
+    ensures few { IfOk result IsScript }
 {
     match numbers_asked(alloc, "script", SCRIPT_OPTIONS.as_slice(), words)? {
         Some(numbers) => asked(&numbers),
@@ -37,8 +34,7 @@ pub fn settings<'a>(alloc: Global, words: &'a [&'a str]) -> Result<Settings, Wor
 // What a script of these numbers asks for.
 fn asked(numbers: &[u16]) -> Result<Settings, WordsFault>
     ensures exact { result ≡ settings_of (Some numbers.now) }
-    ensures few { IfOk result (λ settings. (servers : ℕ) × IsServers servers
-        × (settings ≡ Settings.Script servers)) }
+    ensures few { IfOk result IsScript }
 {
     let [number] = numbers else {
         return Err(WordsFault::BadWords);
