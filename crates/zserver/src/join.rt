@@ -14,7 +14,9 @@ use zpath::Memory;
 use zprotocol::{Epoch, Message, Out, Process, ServerId};
 
 impl Replica {
-    /// Snapshot: from the predecessor, at a server without state.
+    /// Snapshot: from the predecessor, at a server without state. It comes once, so it stays out of the way of the entries.
+    #[cold]
+    #[inline(never)]
     #[tactic(auto, unfolding(zprotocol::specs::server::Table::snapshot_row))]
     pub(crate) fn snapshot(
         &mut self,

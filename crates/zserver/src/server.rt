@@ -97,7 +97,9 @@ impl Server {
         }
     }
 
-    // Stops for good, and lets the state go.
+    // Stops for good, and lets the state go. It happens once, so it stays out of the way of the messages that are taken.
+    #[cold]
+    #[inline(never)]
     fn stop(&mut self, why: Stopped) -> Stopped
         ensures stopped { self.new.stopped ≡ Some why }
         ensures told { result ≡ why }

@@ -2,6 +2,7 @@
 
 ghost use Rattle.std.specs.Prelude.{◌≡◌, true, false, None, IfOk};
 ghost use Rattle.zworld.specs.Held.{bystander, gone_member, owes, is_gone};
+ghost use Rattle.zworld.specs.declared.life.Life.TheVariants.{Owing};
 ghost use Rattle.zworld.specs.support.Members.{Takes};
 ghost use Rattle.zworld.specs.support.Opening.{first_member};
 
@@ -80,7 +81,7 @@ impl Member {
     pub(crate) fn fail(&mut self)
         ensures { self.new ≡ gone_member }
     {
-        self.life = Life::Owing;
+        end(&mut self.life);
     }
 
     /// Whether the master was still to hear that it has failed; now it has.
@@ -114,9 +115,18 @@ impl Member {
         match server.take(from, message, out) {
             Ok(taken) => Ok(taken),
             Err(why) => {
-                self.life = Life::Owing;
+                end(&mut self.life);
                 Err(why)
             }
         }
     }
+}
+
+// Ends a life. It happens once, so it stays out of the way of the messages that are taken.
+#[cold]
+#[inline(never)]
+fn end(life: &mut Life)
+    ensures { life.new ≡ Owing }
+{
+    *life = Life::Owing;
 }
