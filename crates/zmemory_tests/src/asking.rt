@@ -1,38 +1,23 @@
 //! A machine that meets want of memory in `ask` or `copy` is what it was.
 
 use crate::machines::{can_be_copied, machine};
-use crate::values::path;
 use std::alloc::Global;
 use zcalls::{Query, Reply};
 use zops::Machine;
 use zpath::{Memory, Path};
 use zstories::Ended;
 
-/// It is asked for data.
-pub(crate) fn data_is_told(alloc: Global) -> Ended {
-    match path(alloc, "/a") {
-        Ok(path) => is_told(alloc, Query::GetData(path)),
-        Err(Memory) => Ended::NotBegun,
-    }
-}
-
 /// It is asked for the names beneath the root.
 pub(crate) fn children_are_told(alloc: Global) -> Ended {
-    is_told(alloc, Query::GetChildren(Path::root(alloc)))
-}
-
-fn is_told(alloc: Global, query: Query) -> Ended {
     match machine(alloc) {
         Ok(machine) => {
+            let query = Query::GetChildren(Path::root(alloc));
             let ended = tells(&machine, &query);
             drop(machine);
             drop(query);
             ended
         }
-        Err(Memory) => {
-            drop(query);
-            Ended::NotBegun
-        }
+        Err(Memory) => Ended::NotBegun,
     }
 }
 
@@ -43,7 +28,7 @@ fn tells(machine: &Machine, query: &Query) -> Ended {
     }
 }
 
-// Whether the reply has the two bytes of `/a`, or its name alone.
+// Whether the reply has the name of `/a` alone.
 fn tells_of_a(machine: &Machine, query: &Query) -> Result<bool, Memory> {
     match machine.ask(query) {
         Ok(reply) => Ok(is_of_a(reply)),
@@ -53,7 +38,6 @@ fn tells_of_a(machine: &Machine, query: &Query) -> Result<bool, Memory> {
 
 fn is_of_a(reply: Reply) -> bool {
     let is_so = match &reply {
-        Reply::Data(data, _) => data.as_slice().len() == 2,
         Reply::Children(names) => names.as_slice().len() == 1,
         _ => false,
     };

@@ -11,6 +11,7 @@ mod machines;
 mod marking;
 mod parsing;
 mod serving;
+mod sharing;
 mod stories;
 mod story;
 mod taking;

@@ -3,12 +3,13 @@
 use crate::applying::{
     create_is_applied, multi_is_applied, open_is_applied, removal_is_applied, retry_is_applied,
 };
-use crate::asking::{children_are_told, data_is_told, machine_is_copied};
+use crate::asking::{children_are_told, machine_is_copied};
 use crate::calling::{call_is_retried, config_is_taken, query_begins, update_begins};
 use crate::joining::snapshot_is_taken;
 use crate::marking::mark_is_set;
 use crate::parsing::path_is_parsed;
 use crate::serving::query_is_taken;
+use crate::sharing::data_is_made;
 use crate::story::{Taking, Word, told};
 use std::alloc::Global;
 use std::io;
@@ -19,13 +20,13 @@ use zstories::{Ended, tell, tell_end};
 #[derive(Clone, Copy)]
 enum Story {
     Parse,
+    Data,
     Mark,
     ApplyCreate,
     ApplyMulti,
     ApplyOpen,
     ApplyRetry,
     ApplyRemoval,
-    AskData,
     AskChildren,
     Copy,
     Take(Taking),
@@ -40,13 +41,13 @@ enum Story {
 // A server's neighbours, what it took before, and what it takes.
 const STORIES: &[(&str, Story)] = &[
     ("a path is parsed", Story::Parse),
+    ("bytes become data", Story::Data),
     ("a store sets a mark", Story::Mark),
     ("a machine applies a create", Story::ApplyCreate),
     ("a machine applies a multi", Story::ApplyMulti),
     ("a machine applies an open", Story::ApplyOpen),
     ("a machine applies a call again", Story::ApplyRetry),
     ("a machine removes a node at a tick", Story::ApplyRemoval),
-    ("a machine is asked for data", Story::AskData),
     ("a machine is asked for children", Story::AskChildren),
     ("a machine is copied", Story::Copy),
     (
@@ -104,13 +105,13 @@ pub(crate) fn tell_all(rt: &impl Print, alloc: Global) -> io::Result<()> {
 fn ended(alloc: Global, story: Story) -> Ended {
     match story {
         Story::Parse => path_is_parsed(alloc),
+        Story::Data => data_is_made(alloc),
         Story::Mark => mark_is_set(alloc),
         Story::ApplyCreate => create_is_applied(alloc),
         Story::ApplyMulti => multi_is_applied(alloc),
         Story::ApplyOpen => open_is_applied(alloc),
         Story::ApplyRetry => retry_is_applied(alloc),
         Story::ApplyRemoval => removal_is_applied(alloc),
-        Story::AskData => data_is_told(alloc),
         Story::AskChildren => children_are_told(alloc),
         Story::Copy => machine_is_copied(alloc),
         Story::Take(taking) => told(alloc, &taking),

@@ -48,7 +48,8 @@ fn creation(alloc: Global, text: &str, kind: Kind) -> Result<Create, Memory> {
     Ok(Create { path, kind, bytes })
 }
 
-fn two_bytes(alloc: Global) -> Result<Data, Memory> {
+/// Data of two bytes.
+pub(crate) fn two_bytes(alloc: Global) -> Result<Data, Memory> {
     let Ok(bytes) = "hi".as_bytes().to_vec(alloc) else {
         return Err(Memory);
     };
