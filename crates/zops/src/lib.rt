@@ -22,6 +22,6 @@ pub use limits::MAX_APPLIED;
 pub use machine::Machine;
 pub use zcalls::{
     Call, CallNumber, Change, ChangeReply, Check, Create, Delete, Entry, Expected, Kind, MAX_PARTS,
-    Multi, Names, Part, PartReply, Query, Refusal, Replies, Reply, SetData, Update,
+    Multi, Names, Part, PartReply, Query, Refusal, Replies, Reply, SetData, SharedEntry, Update,
 };
-pub use ztree::{ClientId, Data, SessionId, Stat, Ttl, Zxid};
+pub use ztree::{ClientId, Data, DataFault, SessionId, Stat, Ttl, Zxid};
