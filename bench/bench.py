@@ -143,12 +143,16 @@ def instructions(called, script):
 
 
 def programs_named(words):
-    """The paths by name of the programs that words name as NAME=PROGRAM; where none is zk, it is built and stands first."""
+    """The paths by name of the programs that words name as NAME=PROGRAM.
+
+    Where none is zk, it is proved and stands first.
+    """
     named = dict(word.split('=', 1) for word in words)
     if 'zk' in named:
         return named
-    subprocess.run([os.path.join(HERE, '..', 'zk'), 'script'], stdin=subprocess.DEVNULL, check=True)
-    return {'zk': os.path.join(HERE, '..', 'crates', 'zk', 'out', 'zk'), **named}
+    prove = [os.path.join(HERE, '..', 'zk'), 'prove']
+    proved = subprocess.run(prove, stdout=subprocess.PIPE, text=True, check=True).stdout
+    return {'zk': proved.strip(), **named}
 
 
 def command(program, servers):

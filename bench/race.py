@@ -17,7 +17,9 @@ import sys
 import time
 
 HERE = os.path.dirname(os.path.abspath(__file__))
-ZK = os.path.join(HERE, "..", "crates", "zk_race", "out", "zk_race")
+PROVE = [f"{HERE}/../zk", "prove", "race"]
+# (the proved program's path is all that this prints)
+ZK = subprocess.run(PROVE, stdout=subprocess.PIPE, text=True, check=True).stdout.strip()
 TIMES, ROUNDS, CALLS = 9, 1000, 3
 
 

@@ -1,8 +1,14 @@
-/* A lock that two clients take in turn, over three servers, of which the one in the middle fails while the second client asks for it.
+/* A lock that two clients take in turn, and a setting that only its holder can write.
 
        ./library
        cc -I out/library -o lock examples/lock.c out/library/libjellqupas.a && ./lock
-*/
+
+   Each client makes an ephemeral sequential node beneath /lock, and the first in the queue holds
+   the lock. Over three servers, of which the one in the middle crashes while the second client
+   asks.
+
+   A holder may have lost its session without knowing. So it writes in a multi that checks its own
+   node: the name of a sequential node never comes twice, so it is a fencing token. */
 #include <stdarg.h>
 #include <stdio.h>
 #include <stdlib.h>
@@ -14,27 +20,31 @@ static void stop(const char *why) {
     exit(1);
 }
 
-/* Lets a line be heard, and returns its answer, which stands until the next call. */
+static void want(int holds, const char *what) {
+    if (!holds) stop(what);
+}
+
+/* Plays a line, and returns its answer, which stands until the next call. */
 static const char *ask(jellqupas *service, const char *format, ...) {
-    static uint8_t *answer;
+    static char *answer;
     static size_t room;
     char line[256];
     va_list words;
     va_start(words, format);
     int length = vsnprintf(line, sizeof line, format, words);
     va_end(words);
-    if (length < 0 || (size_t)length >= sizeof line) stop("the line is too long");
-    uint32_t status = jellqupas_hear(service, (const uint8_t *)line, length);
-    if (status != JELLQUPAS_DONE) stop(status == JELLQUPAS_MEMORY ? "no memory" : "the service isn't open");
-    if (!room && !(answer = malloc(room = 64))) stop("no memory");
-    /* (one byte of the room is for the NUL that a string of C has) */
-    size_t count = jellqupas_tell(service, answer, room - 1);
-    if (count > room - 1) {
-        if (!(answer = realloc(answer, room = count + 1))) stop("no memory");
-        jellqupas_tell(service, answer, count);
+    want(length >= 0 && (size_t)length < sizeof line, "the line is too long");
+    if (!room) want((answer = calloc(1, room = 64)) != NULL, "out of memory");
+    uint32_t status = jellqupas_call(service, line, length, answer, room);
+    if (status == JELLQUPAS_LONGER) {
+        size_t count = jellqupas_tell(service, (uint8_t *)answer, 0);
+        free(answer);
+        want((answer = calloc(1, room = count + 1)) != NULL, "out of memory");
+        jellqupas_tell(service, (uint8_t *)answer, count);
+    } else if (status != JELLQUPAS_DONE) {
+        stop(jellqupas_status_text(status));
     }
-    answer[count] = 0;
-    return (const char *)answer;
+    return answer;
 }
 
 /* A client's session, and the node that stands for it in the queue. */
@@ -44,41 +54,73 @@ struct client {
     char node[32];
 };
 
-static void open_session(jellqupas *service, struct client *client) {
-    if (sscanf(ask(service, "%d open 20", client->number), "ok session %llu", &client->session) != 1) stop("no session");
+static void open_session(jellqupas *service, struct client *client, int ticks) {
+    const char *told = ask(service, "%d open %d", client->number, ticks);
+    want(sscanf(told, "ok session %llu", &client->session) == 1, "no session");
 }
 
-/* The first in the queue has the lock. */
+/* Whether the client's node is the first in the queue. */
 static int has_lock(jellqupas *service, const struct client *client) {
     char first[32];
-    return sscanf(ask(service, "%d ls /lock", client->number), "ok %*d %31s", first) == 1 && strcmp(first, client->node) == 0;
+    const char *told = ask(service, "%d ls /lock", client->number);
+    return sscanf(told, "ok %*d %31s", first) == 1 && strcmp(first, client->node) == 0;
+}
+
+/* Writes the setting if the client's node is still there; returns whether it did. */
+static int write_setting(jellqupas *service, const struct client *client, const char *data) {
+    const char *told = ask(service, "%d multi check /lock/%s any ; set /setting any %s",
+                           client->number, client->node, data);
+    int is_done = strncmp(told, "ok multi checked ; stat ", 24) == 0;
+    want(is_done || strcmp(told, "no multi 1 NoNode\n") == 0, "the setting itself is there");
+    return is_done;
 }
 
 static void tell_turns(jellqupas *service, const struct client *clients) {
-    for (int place = 0; place < 2; place++)
-        printf("client %d %s\n", clients[place].number, has_lock(service, &clients[place]) ? "has the lock" : "waits");
+    for (int place = 0; place < 2; place++) {
+        int is_first = has_lock(service, &clients[place]);
+        printf("client %d %s\n", clients[place].number, is_first ? "has the lock" : "waits");
+    }
+}
+
+static void queue_up(jellqupas *service, struct client *clients) {
+    const char *told;
+    ask(service, "1 create /setting p -");
+    ask(service, "1 create /lock p -");
+    open_session(service, &clients[0], 2);
+    open_session(service, &clients[1], 20);
+    told = ask(service, "1 create /lock/n- es:%llu -", clients[0].session);
+    want(sscanf(told, "ok /lock/%31s", clients[0].node) == 1, "no node");
+
+    /* The second client's create is on its way through the chain when server 2 crashes: it is done
+       all the same, and once. */
+    ask(service, "2 begin create /lock/n- es:%llu -", clients[1].session);
+    ask(service, "take c2 s1");
+    ask(service, "fail s2");
+    puts("server 2 has failed");
+    told = ask(service, "settle");
+    want(sscanf(told, "c2 ok /lock/%31s", clients[1].node) == 1, "no node");
 }
 
 int main(void) {
     struct client clients[2] = {{.number = 1}, {.number = 2}};
     jellqupas *service = malloc(jellqupas_size());
-    if (!service) stop("no memory");
-    if (jellqupas_open(3, service) != JELLQUPAS_DONE) stop("no memory");
-    ask(service, "1 create /lock p -");
-    for (int place = 0; place < 2; place++) open_session(service, &clients[place]);
-    if (sscanf(ask(service, "1 create /lock/n- es:%llu -", clients[0].session), "ok /lock/%31s", clients[0].node) != 1) stop("no node");
-
-    /* The second client's create is on its way through the chain when server 2 fails: it is done all the same, and once. */
-    ask(service, "2 begin create /lock/n- es:%llu -", clients[1].session);
-    ask(service, "take c2 s1");
-    ask(service, "fail s2");
-    puts("server 2 has failed");
-    if (sscanf(ask(service, "settle"), "c2 ok /lock/%31s", clients[1].node) != 1) stop("no node");
-
+    want(service != NULL, "out of memory");
+    want(jellqupas_open(3, service) == JELLQUPAS_DONE, "out of memory");
+    queue_up(service, clients);
     tell_turns(service, clients);
-    ask(service, "1 delete /lock/%s any", clients[0].node);
-    puts("client 1 lets it go");
-    tell_turns(service, clients);
+    want(write_setting(service, &clients[0], "Ynkx"), "the holder can't write");
+    puts("client 1 writes");
+
+    /* The first client is heard of no more, and its session ends. */
+    ask(service, "0 tick");
+    want(strcmp(ask(service, "0 tick"), "ok tick 2 ended 1\n") == 0, "the session hasn't ended");
+    puts("client 1's session ends");
+    want(has_lock(service, &clients[1]), "client 2 hasn't the lock");
+    puts("client 2 has the lock");
+    want(!write_setting(service, &clients[0], "bGF0ZQ=="), "who has lost the lock can write");
+    puts("client 1 writes too late: refused");
+    want(write_setting(service, &clients[1], "Ynky"), "the holder can't write");
+    puts("client 2 writes");
     jellqupas_close(service);
     free(service);
     return 0;

@@ -1,33 +1,39 @@
 /* Jellqupas, a coordination service, in a program of another language.
 
-   A service is all servers of a chain, their master and their clients, in one thread: it hears a line, as the program `zk script`
-   does (docs/GUIDE.md has the lines and their answers), and tells what it is answered with.
+   A service is all servers of a chain, their master and their clients, in one thread. It plays a
+   line, as the program `zk script` does, and answers it. docs/GUIDE.md has the lines and answers.
 
+       char answer[8192] = "";
        jellqupas *service = malloc(jellqupas_size());
-       jellqupas_open(3, service);                                   // three servers
-       jellqupas_hear(service, (const uint8_t *)"1 get /", 7);       // client 1 asks for the root
-       uint8_t answer[8192];
-       size_t count = jellqupas_tell(service, answer, sizeof answer);
-       fwrite(answer, 1, count, stdout);                             // ok data - stat 0 0 0 0 0 0 0 0 0 0
+       jellqupas_open(3, service);                                    // three servers
+       jellqupas_call(service, "1 get /", 7, answer, sizeof answer);  // client 1 reads the root
+       fputs(answer, stdout);                                         // ok data - stat 0 0 0 ..
        jellqupas_close(service);
        free(service);
 
-   Link libjellqupas.a, or libjellqupas.so. Both need nothing but the C library. examples/ has whole programs.
+   Link libjellqupas.a, or libjellqupas.so. Both need nothing but the C library. examples/ has
+   whole programs.
 
-   What each call does is proved of its code, for every line and every sequence of calls, as long as the caller upholds this, which
-   nothing can check:
+   The library has five functions: jellqupas_size, _open, _hear, _tell and _close. What each does
+   is proved of its code, for every line and every sequence of calls, as long as the caller upholds
+   what follows. Nothing can check it. The other three functions stand below, in C, and aren't
+   proved: jellqupas_call is jellqupas_hear and then jellqupas_tell.
 
-   - Room. Where a service is, there are jellqupas_size() bytes, aligned as malloc aligns them (to 16). They belong to the caller, who
-     neither reads nor writes them between jellqupas_open and jellqupas_close, and neither moves nor copies them. jellqupas_open is
-     given room without a service in it; the other calls are given an open one, that is one which jellqupas_open was given (whatever
-     it returned) and jellqupas_close wasn't since.
-   - Buffers. Behind the pointer of a line there are `length` bytes, and behind the pointer of a buffer `room` bytes, which have values
-     and stay as they are during the call but for what it writes. Neither overlaps a service. No pointer is null, not even at a length
-     of 0. Lengths are below 2^63.
-   - Threads. A service stays on the thread that opened it. Several services may be used at the same time, each on its own thread.
-     No call is made in a signal handler, nor in the child of a fork of a process with threads.
-   - Memory. malloc, realloc and free are one allocator's, and malloc aligns a block to each power of two up to 16 that divides its
-     size. A service takes memory in jellqupas_open and jellqupas_hear, and gives all of it back in jellqupas_close. */
+   - Room. Where a service is, there are jellqupas_size() bytes, aligned as malloc aligns them (to
+     16). They belong to the caller, who neither reads nor writes them between jellqupas_open and
+     jellqupas_close, and neither moves nor copies them. jellqupas_open is given room without a
+     service in it. The other calls are given an open one: jellqupas_open was given it (whatever
+     it returned), and jellqupas_close wasn't since.
+   - Buffers. Behind the pointer of a line there are `length` bytes, and behind the pointer of a
+     buffer `room` bytes. They have values, and nothing changes them during the call but the call.
+     Neither overlaps a service. No pointer is null, not even at a length of 0. Lengths are below
+     2^63.
+   - Threads. A service stays on the thread that opened it. Several services may be used at the
+     same time, each on its own thread. No call is made in a signal handler, nor in the child of a
+     fork of a process with threads.
+   - Memory. malloc, realloc and free are one allocator's, and malloc aligns a block to each power
+     of two up to 16 that divides its size. A service takes memory in jellqupas_open and
+     jellqupas_hear, and frees all of it in jellqupas_close. */
 
 #ifndef JELLQUPAS_H
 #define JELLQUPAS_H
@@ -39,6 +45,9 @@
 extern "C" {
 #endif
 
+/* The version of this header and of the library that was built with it. It stands here alone. */
+#define JELLQUPAS_VERSION "0.1.0"
+
 /* A service. It has no fields for a caller: make room for it by jellqupas_size(). */
 typedef struct jellqupas jellqupas;
 
@@ -46,39 +55,84 @@ typedef struct jellqupas jellqupas;
 enum jellqupas_status {
     /* It was done. */
     JELLQUPAS_DONE = 0,
-    /* An answer is still to be told, and nothing was done. Tell it, and then let the line be heard again. */
+    /* An earlier answer is still to be told, and nothing was done. Tell it, and then call again. */
     JELLQUPAS_PENDING = 1,
-    /* No memory was found, and nothing is promised of the line. That is for good: the service has let go of its servers, every later
-       line comes to this too, and nothing is to be told. What is left to do is to close it. */
+    /* Out of memory, and nothing is promised of the line. It is so for good: the service has freed
+       its servers, every later line comes to this too, and nothing is to be told. What is left to
+       do is to close it. */
     JELLQUPAS_MEMORY = 2,
-    /* The service was opened with a number that isn't 1 to 16. Every line comes to this, and nothing is to be told. Close it, too. */
-    JELLQUPAS_NO_SERVERS = 3
+    /* The service was opened with a number that isn't 1 to 16. Every line comes to this, and
+       nothing is to be told. Close it, too. */
+    JELLQUPAS_NO_SERVERS = 3,
+    /* Of jellqupas_call alone: the line was played, and there was no room for its answer. */
+    JELLQUPAS_LONGER = 4
 };
 
 /* How many bytes a service takes. It is the same at every call. */
 size_t jellqupas_size(void);
 
-/* Makes a service of which the chain begins with so many servers, 1 to 16, and with an empty tree. The other servers, up to 16, are
-   spare: a line lets them join.
-   JELLQUPAS_DONE: it is open, and nothing is to be told. JELLQUPAS_MEMORY, JELLQUPAS_NO_SERVERS: as above.
-   Whatever it returns, there is a service now, which is closed by jellqupas_close. */
+/* Makes a service with an empty tree, of which the chain begins with so many servers, 1 to 16. The
+   other servers, up to 16, are spare: a line lets them join.
+   JELLQUPAS_DONE: it is open, and nothing is to be told. JELLQUPAS_MEMORY, JELLQUPAS_NO_SERVERS:
+   as above. Whatever it returns, there is a service now, which jellqupas_close closes. */
 uint32_t jellqupas_open(uint8_t servers, jellqupas *service);
 
-/* Plays one line, given without its LF. Any bytes are a line: an LF or a NUL in it is a byte like others, and a line that isn't
-   understood, or has over 524,288 bytes, is answered so (`bad line`).
-   JELLQUPAS_DONE: it was played, and its answer is now to be told. JELLQUPAS_PENDING, JELLQUPAS_MEMORY, JELLQUPAS_NO_SERVERS: as
-   above. The line is read during the call alone. */
+/* Plays one line, given without its LF. Any bytes are a line: an LF or a NUL in it is a byte like
+   others. A line that isn't understood, or has over 524,288 bytes, is answered with `bad line`.
+   JELLQUPAS_DONE: it was played, and its answer is now to be told. JELLQUPAS_PENDING,
+   JELLQUPAS_MEMORY, JELLQUPAS_NO_SERVERS: as above. The line is read during the call alone. */
 uint32_t jellqupas_hear(jellqupas *service, const uint8_t *line, size_t length);
 
-/* Tells the answer to the last line that was played: one or more lines, of which each ends in an LF, without a NUL behind them.
-   Returns how many bytes that is, or 0 if nothing is to be told. If this is at most `room`, the answer was written to `to`, and what
-   stands behind it there wasn't touched; it is told now, and isn't told again. If it is more, nothing was done: call it again with
-   that much room. So nothing is lost in a buffer that is too small. */
+/* Tells the answer to the last line that was played. It is one or more lines of visible ASCII and
+   spaces, each with an LF at its end. No NUL stands behind them.
+   Returns how many bytes the answer has, or 0 if nothing is to be told. THIS MAY BE MORE THAN
+   `room`: then nothing was done, and `to` is as it was. Call it again with that much room. If it
+   is at most `room`, the answer stands in `to` and isn't told again. What is behind it in `to` is
+   as it was. */
 size_t jellqupas_tell(jellqupas *service, uint8_t *to, size_t room);
 
-/* Ends a service and gives back all memory that it took. Its room is left, which is the caller's to free, or to open again. An answer
-   that wasn't told is dropped. */
+/* Ends a service and frees all memory that it took. Its room is left, which is the caller's to
+   free, or to open again. An answer that wasn't told is dropped. */
 void jellqupas_close(jellqupas *service);
+
+/* Plays one line, and tells its answer as a string of C: with its LFs, and a NUL behind it. So an
+   answer of n bytes wants a room of n + 1. Where there is room, `to` is a string after every call,
+   and printing it reads nothing else.
+   JELLQUPAS_DONE: the line was played, and `to` is its whole answer.
+   JELLQUPAS_LONGER: the line was played, and its answer wants more room. `to` is empty, and the
+   answer is still to be told: jellqupas_tell(service, (uint8_t *)to, 0) returns its bytes, without
+   the NUL, and jellqupas_tell with that much room tells it. Until then each line is
+   JELLQUPAS_PENDING.
+   JELLQUPAS_PENDING, JELLQUPAS_MEMORY, JELLQUPAS_NO_SERVERS: as above, and `to` is empty. */
+static inline uint32_t jellqupas_call(jellqupas *service, const char *line, size_t length,
+                                      char *to, size_t room) {
+    size_t count = 0;
+    uint32_t status = jellqupas_hear(service, (const uint8_t *)line, length);
+    if (status == JELLQUPAS_DONE) {
+        count = jellqupas_tell(service, (uint8_t *)to, room ? room - 1 : 0);
+        if (count >= room) {
+            count = 0;
+            status = JELLQUPAS_LONGER;
+        }
+    }
+    if (room) to[count] = 0;
+    return status;
+}
+
+/* The version of the header that the program was compiled with. */
+static inline const char *jellqupas_version(void) { return JELLQUPAS_VERSION; }
+
+/* What a status says, in a few words without an LF. */
+static inline const char *jellqupas_status_text(uint32_t status) {
+    switch (status) {
+    case JELLQUPAS_DONE: return "done";
+    case JELLQUPAS_PENDING: return "an earlier answer is still to be told";
+    case JELLQUPAS_MEMORY: return "out of memory";
+    case JELLQUPAS_NO_SERVERS: return "a chain begins with 1 to 16 servers";
+    case JELLQUPAS_LONGER: return "the answer is longer than the buffer";
+    default: return "there is no such status";
+    }
+}
 
 #ifdef __cplusplus
 }

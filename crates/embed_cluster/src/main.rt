@@ -1,5 +1,5 @@
-//! A cluster in a program: two threads with a client each, of which the second can't miss what the first one wrote, while a
-//! server joins and another one is halted.
+//! A cluster in a program, used by two threads with a client each. The second one can't miss what
+//! the first one wrote, while a server joins and another one is halted.
 #![tactic(auto)]
 
 ghost use Rattle.std.specs.Prelude.{◌≡◌};
@@ -18,7 +18,7 @@ use zpath::Path;
 use zprotocol::ServerId;
 use zrun::{Client, Clients, Cluster, HandsBack, Patience, open_gates};
 
-// How long an answer is waited for.
+// How long to wait for a response.
 const PATIENCE: Patience = Patience {
     turns: 100_000,
     retries: 1_000,
@@ -38,7 +38,7 @@ fn main(rt: HostRuntime) -> ExitCode {
     }
 }
 
-// Starts a chain of two servers, uses it, ends it, and answers how many events the audit found.
+// Starts a chain of two servers, uses it and ends it. Returns how many events the audit found.
 fn run<R: Threads + Wait + Copy + Send + 'static>(rt: R, alloc: Global) -> Option<usize> {
     let last = ServerId::new(2)?;
     let gates = open_gates(alloc).ok()?;
@@ -56,7 +56,8 @@ fn run<R: Threads + Wait + Copy + Send + 'static>(rt: R, alloc: Global) -> Optio
     Some(history.len())
 }
 
-// The first client writes on a thread of its own. The second one learns of its stamp, and reads: whether it finds what was written.
+// The first client writes on a thread of its own. The second one learns its timestamp, and reads.
+// Returns whether it found what was written.
 #[tactic(auto, using(zrun::proofs::Still::still_belongs))]
 fn write_and_read<R: Threads>(rt: &R, alloc: Global, clients: &mut Clients) -> Option<bool>
     ensures { clients_run clients.new ≡ clients_run clients.old }
@@ -96,7 +97,7 @@ fn write(mut client: Client, alloc: Global) -> (Client, bool)
     (client, is_written)
 }
 
-// Whether there is the node.
+// Returns whether the node exists.
 fn read(client: &mut Client, alloc: Global) -> bool
     ensures { SameClient client.old client.new }
 {

@@ -1,4 +1,4 @@
--- What an audit asks of traces first.
+-- What an audit requires of traces first.
 use Rattle.std.specs.Prelude.{◌≡◌, false}
 use Rattle.ztraces.specs.declared.trace.Traces.{Traces}
 use Rattle.ztraces.specs.Audit.{is_any_cut}

@@ -1,9 +1,9 @@
--- The words for what an audit finds wrong: this project's own profile.
+-- The texts of what an audit finds wrong: this project's own profile.
 use Rattle.std.specs.Prelude.{ℕ, List, codes}
 use Rattle.zaudit.specs.declared.faults.AuditFault.{AuditFault}
 use Rattle.zaudit.specs.declared.faults.AuditFault.TheVariants.{Cut, Disorder, Mismatch, Memory}
 
--- the word for a fault
+-- the name of a fault
 abbrev pub fault_name : AuditFault → List ℕ
 fault_name Cut = codes "Cut"
 fault_name Disorder = codes "Disorder"

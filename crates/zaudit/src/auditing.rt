@@ -1,4 +1,4 @@
-//! The audit.
+//! The audit of a run.
 
 ghost use Rattle.std.specs.Prelude.{◌≡◌, true, false, Err, IfOk, IfErr, IsOkUnless};
 ghost use Rattle.zworld_model.specs.Alike.{IsAlike};
@@ -19,7 +19,7 @@ use ztraces::Traces;
 use zworld::World;
 use zworld_model::CallEvent;
 
-// The world at the opening.
+// Returns the initial world of the run.
 fn opened(alloc: Global, traces: &Traces) -> Result<World, zpath::Memory>
     ensures opening { IfOk result (λ world. IsAlike (opening_of traces.now) (world_in world)) }
     ensures whole { IfOk result (λ world. world.has_forgotten ≡ false) }
@@ -27,7 +27,7 @@ fn opened(alloc: Global, traces: &Traces) -> Result<World, zpath::Memory>
     World::new(alloc, traces.last, traces.clients.len() as u8)
 }
 
-// The audit, but for what lawful traces give: the world at the end of the run.
+// Makes the audit, except what lawful traces guarantee; returns the world at the end of the run.
 fn examined(alloc: Global, traces: &Traces) -> Result<World, AuditFault>
     ensures found { IfOk result (λ world. IsFound traces.now world.history) }
     ensures whole { IfOk result (λ world. world.has_forgotten ≡ false) }
@@ -57,10 +57,12 @@ fn examined(alloc: Global, traces: &Traces) -> Result<World, AuditFault>
     Ok(world)
 }
 
-/// Replays the traces, merged by their stamps, on one world, and compares its history with what the clients saw. The
-/// answer is that history. The tests are made in the order of the faults: where a trace is cut the answer is `Cut`, and
-/// else where the stamps of one don't rise it is `Disorder`: memory is asked for only behind both.
-/// Of lawful traces that aren't cut nothing but want of memory is found.
+/// Replays the traces, merged by their timestamps, on one world, and compares its history with what
+/// the clients saw. Returns that history, which is linearizable.
+///
+/// The tests are made in the order of the faults. A cut trace is `Cut`; else timestamps of a trace
+/// that don't rise are `Disorder`. Both are tested before anything is allocated. The audit of
+/// lawful traces of which none is cut can only fail with `Memory`.
 pub fn audit(alloc: Global, traces: &Traces) -> Result<Vec<CallEvent>, AuditFault>
     ensures found { IfOk result (λ history. IsFound traces.now history.items) }
     ensures explained { IfOk result (λ history. IsExplained history.items) }

@@ -1,4 +1,4 @@
-//! One event of a trace, on the world.
+//! One step of a trace, on the world.
 
 ghost use Rattle.std.specs.Prelude.{◌≡◌, ◌⊎◌, IfOk, IfErr, OnOk};
 ghost use Rattle.ztraces.specs.Traces.{event_of};
@@ -13,7 +13,7 @@ use ztraces::Act;
 use zworld::{Did, World};
 use zworld_model::{Event, Outcome};
 
-// The event of the world that an act stands for.
+// Returns the event of the world that a step stands for, if it stands for one.
 fn event_for(alloc: Global, process: Process, act: &Act) -> Result<Option<Event>, zpath::Memory>
     ensures { IfOk result (λ event. event ≡ event_of process act.now) }
 {
@@ -35,15 +35,16 @@ fn event_for(alloc: Global, process: Process, act: &Act) -> Result<Option<Event>
     }
 }
 
-// Whether it is asked of the master, which may refuse it: a join, or an order to leave.
+// Returns whether the master is asked for it, which may refuse: a join, or an order to leave.
 fn asks_the_master(event: &Event) -> bool
     ensures { result ≡ asks_the_master event.now }
 {
     matches!(event, Event::Join(_) | Event::Retire(_))
 }
 
-// What an answer of the world means: an event that isn't enabled is in disorder, but for what is asked of the master; and
-// a server that wants memory now, though it found some in its trace, is want of memory here.
+// Returns what the world's answer means. An event that isn't enabled is `Disorder`, unless the
+// master may refuse it. A server that runs out of memory now, though it didn't in its trace, is
+// `Memory`.
 fn judge(may_be_refused: bool, did: Did) -> Result<(), AuditFault>
     ensures { result ≡ verdict may_be_refused did }
 {
@@ -61,7 +62,7 @@ fn judge(may_be_refused: bool, did: Did) -> Result<(), AuditFault>
     }
 }
 
-// Does an event, where it is in its place.
+// Does an event, if it is in its place.
 fn place(world: &mut World, event: Event) -> Result<(), AuditFault>
     ensures ok { OnOk result (HappensInPlace world.old event world.new) }
     ensures disorder { IfErr result (λ fault. fault ≡ Disorder → CannotHappen world.old event) }
@@ -75,7 +76,7 @@ fn place(world: &mut World, event: Event) -> Result<(), AuditFault>
     }
 }
 
-/// Does the event of the world that an act stands for, where it is in its place.
+/// Does the event of the world that a step stands for, if it is in its place.
 pub(crate) fn replay_act(
     alloc: Global,
     world: &mut World,

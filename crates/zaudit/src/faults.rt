@@ -1,4 +1,4 @@
-//! Why traces aren't audited.
+//! Why an audit fails.
 
 ghost use Rattle.std.specs.Prelude.{◌≡◌};
 ghost use Rattle.zaudit.specs.declared.faults.AuditFault.TheVariants.{Memory};
@@ -6,16 +6,16 @@ ghost use Rattle.zaudit.specs.declared.faults.AuditFault.TheVariants.{Memory};
 use std::fmt;
 use thiserror::Error;
 
-/// Why an audit doesn't end well: the first that holds, in this order, but for `Memory`.
+/// Why an audit fails: the first that holds, in this order, except `Memory`.
 #[derive(Clone, Copy, Debug, PartialEq, Eq, Error)]
 pub enum AuditFault {
-    /// A trace is cut: nothing can be said of the run.
+    /// A trace is cut: the audit can say nothing of the run.
     Cut,
-    /// The stamps of a trace don't rise, or an event isn't enabled in its place.
+    /// The timestamps of a trace don't rise, or an event isn't enabled in its place.
     Disorder,
-    /// A client's record isn't what the run's history tells of it.
+    /// A client's record differs from what the run's history tells of that client.
     Mismatch,
-    /// There wasn't enough memory.
+    /// Memory ran out.
     Memory,
 }
 

@@ -1,4 +1,4 @@
-//! The next events of all traces, the one that comes first on top.
+//! The next events of all traces, in a heap with the earliest on top.
 
 ghost use Rattle.std.specs.Prelude.{◌≡◌, ◌<◌, ◌+◌, ◌^◌, [], None, length, get_or, IfOk, IfNone, IfSome, OnOk};
 ghost use Rattle.std.specs.BinaryHeap.{heap_items, IsHeap, KeepsHeap};
@@ -12,10 +12,11 @@ use std::collections::BinaryHeap;
 use zpath::Memory;
 use ztraces::{TraceEvent, Traces};
 
-/// The next event of a trace: its stamp, and the place of the trace. Of a heap of them the least is on top.
+/// The next event of a trace: its timestamp, and the place of the trace. A heap of them has the
+/// least on top.
 pub(crate) type Head = Reverse<(u64, usize)>;
 
-/// Puts in the next event of that trace, if it has one.
+/// Adds the next event of that trace, if it has one.
 pub(crate) fn put_head(
     heads: &mut BinaryHeap<Head>,
     traces: &Traces,
@@ -33,7 +34,7 @@ pub(crate) fn put_head(
     Ok(())
 }
 
-/// The next events of all traces.
+/// Returns the next events of all traces.
 pub(crate) fn heads_of(
     alloc: Global,
     traces: &Traces,
@@ -50,7 +51,7 @@ pub(crate) fn heads_of(
     Ok(heads)
 }
 
-// Takes out the one that comes first: its stamp and its place.
+// Removes the earliest and returns its timestamp and place.
 fn take_first(heads: &mut BinaryHeap<Head>) -> Option<(u64, usize)>
     requires { IsHeap head_cmp (heap_items heads.old) }
     ensures heap { IsHeap head_cmp (heap_items heads.new) }
@@ -63,7 +64,7 @@ fn take_first(heads: &mut BinaryHeap<Head>) -> Option<(u64, usize)>
     }
 }
 
-/// Takes out the place whose next event comes first, with that event.
+/// Removes the place whose next event is the earliest, and returns it with that event.
 pub(crate) fn next_event<'a>(
     heads: &mut BinaryHeap<Head>,
     traces: &'a Traces,

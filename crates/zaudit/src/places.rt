@@ -9,7 +9,7 @@ use zcalls::ClientId;
 use zprotocol::{Process, ServerId};
 use ztraces::{TraceEvent, Traces};
 
-/// How many traces there are.
+/// Returns how many traces there are.
 pub(crate) fn count_of(traces: &Traces) -> usize
     ensures count { result ≡ place_count traces.now }
     ensures small { result ≤ PROCESSES }
@@ -17,7 +17,7 @@ pub(crate) fn count_of(traces: &Traces) -> usize
     1 + traces.servers.len() + traces.clients.len()
 }
 
-/// Whose trace it is.
+/// Returns whose trace it is.
 pub(crate) fn process_in(traces: &Traces, place: usize) -> Process
     requires { place < place_count traces.now }
     ensures { result ≡ process_at traces.now place }
@@ -37,7 +37,7 @@ pub(crate) fn process_in(traces: &Traces, place: usize) -> Process
     }
 }
 
-/// The events of that trace.
+/// Returns the events of that trace.
 pub(crate) fn events_at(traces: &Traces, place: usize) -> &[TraceEvent]
     requires { place < place_count traces.now }
     ensures { result.now ≡ trace_at traces.now place }
@@ -53,7 +53,7 @@ pub(crate) fn events_at(traces: &Traces, place: usize) -> &[TraceEvent]
         .events
 }
 
-/// The stamp of its next event, if there is one.
+/// Returns the timestamp of its next event, if there is one.
 pub(crate) fn head_of(traces: &Traces, read: &[usize], place: usize) -> Option<u64>
     requires place { place < place_count traces.now }
     requires read { length read.now ≡ place_count traces.now }
@@ -65,7 +65,7 @@ pub(crate) fn head_of(traces: &Traces, read: &[usize], place: usize) -> Option<u
     }
 }
 
-/// The next event of that trace, which has one.
+/// Returns the next event of that trace, which has one.
 pub(crate) fn event_at<'a>(traces: &'a Traces, read: &[usize], place: usize) -> &'a TraceEvent
     requires place { place < place_count traces.now }
     requires read { length read.now ≡ place_count traces.now }

@@ -1,4 +1,4 @@
-//! Clients' records against a history.
+//! Clients' records compared with a history.
 
 ghost use Rattle.std.specs.Prelude.{◌≡◌, true, false};
 ghost use Rattle.ztraces.specs.Traces.{told_of, AgreesWithRecords};
@@ -9,7 +9,7 @@ use crate::sameness::is_same_event;
 use ztraces::Traces;
 use zworld_model::CallEvent;
 
-// Whose event it is.
+// Returns whose event it is.
 fn client_of(event: &CallEvent) -> u8
     ensures { result ≡ traces_of.client_of event.now }
 {
@@ -19,7 +19,7 @@ fn client_of(event: &CallEvent) -> u8
     }
 }
 
-// Whether the history tells of the client just what the record does.
+// Returns whether the history tells of the client exactly what the record does.
 fn tells(history: &[CallEvent], client: u8, seen: &[CallEvent]) -> bool
     ensures yes { result ≡ true → told_of client history.now ≡ seen.now }
     ensures no { result ≡ false → told_of client history.now ≡ seen.now → ⊥ }
@@ -39,7 +39,7 @@ fn tells(history: &[CallEvent], client: u8, seen: &[CallEvent]) -> bool
     at == seen.len()
 }
 
-/// Whether the history tells of each client what its record does.
+/// Returns whether the history tells of each client exactly what its record does.
 pub(crate) fn agree(traces: &Traces, history: &[CallEvent]) -> bool
     ensures yes { result ≡ true → AgreesWithRecords traces.now history.now }
     ensures no { result ≡ false → DiffersFromRecord traces.now history.now }

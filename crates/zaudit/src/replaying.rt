@@ -20,7 +20,7 @@ use std::collections::BinaryHeap;
 use ztraces::Traces;
 use zworld::World;
 
-// Replays the next event; false where none is left.
+// Replays the next event; returns false where none is left.
 fn replay_next(
     alloc: Global,
     traces: &Traces,
@@ -51,7 +51,7 @@ fn replay_next(
     Ok(true)
 }
 
-// Replays all that are left.
+// Replays all events that are left.
 fn replay_rest(
     alloc: Global,
     traces: &Traces,
@@ -72,7 +72,7 @@ fn replay_rest(
     Ok(())
 }
 
-/// Replays all events, by their stamps.
+/// Replays all events, by their timestamps.
 pub(crate) fn replay(alloc: Global, traces: &Traces, world: &mut World) -> Result<(), AuditFault>
     requires opening { IsAlike (opening_of traces.now) (world_in world.old) }
     ensures replayed { OnOk result (HasReplayedAll traces.now world.new) }
@@ -85,7 +85,7 @@ pub(crate) fn replay(alloc: Global, traces: &Traces, world: &mut World) -> Resul
     replay_rest(alloc, traces, &mut heads, &mut read, world)
 }
 
-// So many zeros.
+// Returns a vector of n zeros.
 fn zeros(alloc: Global, n: usize) -> Result<Vec<usize>, zpath::Memory>
     requires { n ≤ PROCESSES }
     ensures { IfOk result (λ read. read.items ≡ replicate n 0) }

@@ -1,4 +1,4 @@
-//! Whether two things that callers saw are the same: of calls, replies and what they are made of.
+//! Whether two things that callers saw are equal: calls, replies and their parts.
 
 ghost use Rattle.std.specs.Prelude.{◌≡◌, true, false};
 
@@ -184,7 +184,7 @@ fn is_same_reply(a: &Reply, b: &Reply) -> bool
     }
 }
 
-/// Whether two events of a history are the same.
+/// Returns whether two events of a history are equal.
 pub(crate) fn is_same_event(a: &CallEvent, b: &CallEvent) -> bool
     ensures yes { result ≡ true → a.now ≡ b.now }
     ensures no { result ≡ false → a.now ≡ b.now → ⊥ }

@@ -13,6 +13,7 @@ use Rattle.ztraces.specs.Stamps.{next_stamp}
 use Rattle.zdesks.specs.declared.desk.Desk.{Desk}
 use Rattle.zdesks.specs.declared.limits.TheConstants.{MAX_EVENTS}
 use Rattle.zdesks.specs.Desks.{HasEntered, IsCutForNeed, IsEntered, SameBooks, SameRest, TreeStamped}
+use Rattle.zdesks.proofs.Entered.{entered_too}
 use Rattle.zdesks.proofs.Pending.{is_next}
 use Rattle.zdesks.proofs.Wires.{same_books, same_desk}
 use Rattle.zcaller.specs.Steps.{Begins, Heard, HeardNothing, SendsAgain}
@@ -26,46 +27,20 @@ same_rest a b c x y =
       out = y.out ∙ x.out;
     }
 
--- an event was entered as this act, and the caller told of this
-pub is_entered : (a b : Desk) (stamp : ℕ) (x y : Act) (told seen : History)
-    → HasEntered a b (record { stamp = stamp; act = x }) told → x ≡ y → told ≡ seen
-    → HasEntered a b (record { stamp = b.stamp; act = y }) seen
-is_entered a b stamp x y told seen e act same =
-    let event : TraceEvent = record { stamp = stamp; act = x } in
-    record {
-      trace = e.trace ∙ ap (λ (n : ℕ). a.trace.items ++ record { stamp = n; act = x } ∷ []) (sym e.stamp)
-          ∙ ap (λ (z : Act). a.trace.items ++ record { stamp = b.stamp; act = z } ∷ []) act;
-      seen = e.seen ∙ ap (λ l. a.seen.items ++ l) same;
-      stamp = refl;
-      early = subst (λ n. n < MAX_STAMP) (sym e.stamp) e.early;
-    }
-
 module _ (a z b : Desk) (same : SameBooks a z) where
-  pub entered_before : (event : TraceEvent) (told : History) → HasEntered z b event told → HasEntered a b event told
-  entered_before event told e =
-      record {
-        trace = e.trace ∙ ap (λ l. l ++ event ∷ []) same.trace;
-        seen = e.seen ∙ ap (λ l. l ++ told) same.told;
-        stamp = e.stamp;
-        early = e.early;
-      }
-
-  entered_too : (act : Act) (told : History) → IsEntered z b b.stamp act told → IsEntered a b b.stamp act told
-  entered_too act told e whole = entered_before (record { stamp = b.stamp; act = act }) told (e whole)
-
   pub nothing_before : (v w : ClientView) (reply : Option Reply) → HeardNothing z v b w reply → HeardNothing a v b w reply
   nothing_before v w reply h = (same_books a z b same h.0, h.1, h.2)
 
   pub heard_before : (c : ℕ) (v w : ClientView) (from : Process) (m : TreeStamped) (reply : Option Reply) → Heard c z v b w from m reply → Heard c a v b w from m reply
   heard_before c v w from m reply h =
-      record { view = h.view; given = h.given; posts = h.posts; entered = entered_too _ _ h.entered }
+      record { view = h.view; given = h.given; posts = h.posts; entered = entered_too a z b same _ _ h.entered }
 
   pub begins_before : (c : ℕ) (v w : ClientView) (call : Call) (number : ℕ) → Begins c z v b w call number → Begins c a v b w call number
   begins_before c v w call number e =
-      record { numbered = e.numbered; view = e.view; posts = e.posts; entered = entered_too _ _ e.entered }
+      record { numbered = e.numbered; view = e.view; posts = e.posts; entered = entered_too a z b same _ _ e.entered }
 
   pub sends_before : (v w : ClientView) → SendsAgain z v b w → SendsAgain a v b w
-  sends_before v w e = record { waits = e.waits; view = e.view; posts = e.posts; entered = entered_too _ _ e.entered }
+  sends_before v w e = record { waits = e.waits; view = e.view; posts = e.posts; entered = entered_too a z b same _ _ e.entered }
 
   pub need_before : IsCutForNeed z b b.stamp → IsCutForNeed a b b.stamp
   need_before need few early = need (subst (λ (l : List TraceEvent). length l < MAX_EVENTS) (sym same.trace) few) early ∙ same.is_cut

@@ -26,6 +26,14 @@ caller_view c = c.core
 abbrev pub caller_stamp : Caller → ℕ
 caller_stamp c = max (stamp_of_desk c.desk) c.learnt
 
+-- the last stamp that it was told of
+abbrev pub learnt_of : Caller → ℕ
+learnt_of c = c.learnt
+
+-- it was told of no other stamp, and forgot none
+abbrev pub SameLearnt : Caller → Caller → Type 0
+SameLearnt a b = learnt_of b ≡ learnt_of a
+
 -- nothing was done
 abbrev pub SameCaller : Caller → Caller → Type 0
 SameCaller a b = SameBooks a.desk b.desk × (b.core ≡ a.core)

@@ -37,7 +37,7 @@ pub struct Caller {
 impl Caller {
     ghost use Rattle.zcaller.specs.Callers.{Began, IsUncut, Retried, SameCaller, Turned};
     ghost use Rattle.zcaller.specs.Callers.{caller_desk, caller_id, caller_stamp, caller_view};
-    ghost use Rattle.zcaller.specs.Callers.{MayRefuse};
+    ghost use Rattle.zcaller.specs.Callers.{learnt_of, MayRefuse, SameLearnt};
 
     /// The client with a desk that has done nothing.
     pub fn new(alloc: Global, id: ClientId, desk: Desk, core: ClientCore) -> Caller
@@ -73,17 +73,18 @@ impl Caller {
         self.desk.stamp().later(self.learnt)
     }
 
-    /// From now on its events have later stamps than this one: so they stand behind what had it.
+    /// From now on its events have later stamps than this one. No later call forgets that.
     pub fn learn(&mut self, stamp: Stamp)
         ensures stamp { caller_stamp self.new ≡ max (caller_stamp self.old) stamp }
+        ensures learnt { learnt_of self.new ≡ max (learnt_of self.old) stamp }
         ensures same { SameCaller self.old self.new }
         ensures desk { caller_desk self.new ≡ caller_desk self.old }
     {
         self.learnt = self.learnt.later(stamp);
     }
 
-    /// Begins a call, and answers its number. Busy where one has no answer yet, Exhausted where there are no numbers left, and
-    /// Memory where none is found: then nothing is begun.
+    /// Invokes a call, and returns its number. Busy where a call is outstanding, Exhausted where no
+    /// numbers are left, Memory where there is none: then nothing is begun.
     #[tactic(auto, unfolding(zprotocol::specs::client::Table::begin_fault))]
     pub fn begin(&mut self, call: Call) -> Result<CallNumber, BeginFault>
         ensures same { SameDesk (caller_desk self.old) (caller_desk self.new) }
@@ -91,6 +92,7 @@ impl Caller {
         ensures fault { IfErr result (MayRefuse (caller_view self.old)) }
         ensures refused { OnErr result (SameCaller self.old self.new) }
         ensures whole { OnOk result (IsUncut self.old self.new) }
+        ensures learnt { SameLearnt self.old self.new }
     {
         if self.core.outstanding().is_some() {
             drop(call);
@@ -115,12 +117,13 @@ impl Caller {
         )
     }
 
-    /// Sends the call that has no answer yet once more. False where there is none.
+    /// Sends the outstanding call once more. False where there is none.
     pub fn retry(&mut self) -> Result<bool, Memory>
         ensures same { SameDesk (caller_desk self.old) (caller_desk self.new) }
         ensures retried { IfOk result (Retried self.old self.new) }
         ensures refused { OnErr result (SameCaller self.old self.new) }
         ensures whole { OnOk result (IsUncut self.old self.new) }
+        ensures learnt { SameLearnt self.old self.new }
     {
         if self.core.outstanding().is_none() {
             return Ok(false);
@@ -135,12 +138,14 @@ impl Caller {
         retry_at(&mut self.desk, &self.core, again)
     }
 
-    /// Moves what waits into the rings, then takes at most one message, and answers the reply that it waited for, if the message
-    /// brings it. A message for which there is no memory counts as still in its ring, and comes first at the next turn.
+    /// Moves what waits into the rings and receives at most one message. Returns the reply of the
+    /// outstanding call, if the message brings it. A message for which there is no memory counts as
+    /// still in its ring, and comes first at the next turn.
     pub fn turn(&mut self) -> Option<Reply>
         ensures same { SameDesk (caller_desk self.old) (caller_desk self.new) }
         ensures turned { Turned self.old self.new result }
         ensures whole { IsUncut self.old self.new }
+        ensures learnt { SameLearnt self.old self.new }
     {
         if !self.desk.settle() {
             return None;

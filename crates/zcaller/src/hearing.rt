@@ -1,6 +1,6 @@
 //! A client hears a message.
 
-ghost use Rattle.std.specs.Prelude.{◌≡◌, ◌<◌, [], None, Some, IfErr, IfOk, OnErr, OnOk, max, if◌then◌else◌};
+ghost use Rattle.std.specs.Prelude.{◌≡◌, ◌+◌, ◌<◌, [], None, Some, IfErr, IfOk, OnErr, OnOk, max, if◌then◌else◌};
 ghost use Rattle.zprotocol.specs.declared.process.Process.TheVariants.{Client};
 ghost use Rattle.zworld_model.specs.declared.outcome.Outcome.TheVariants.{Acted};
 ghost use Rattle.ztraces.specs.declared.stamp.TheConstants.{MAX_STAMP};
@@ -10,6 +10,7 @@ ghost use Rattle.zdesks.specs.Desks.{process_of, SameBooks, SameDesk, SameRest, 
 ghost use Rattle.zcaller.specs.Steps.{answer_event, Heard, MayHear, Moves, MovesAt};
 
 use std::alloc::Global;
+use std::mem::replace;
 use zcalls::{ClientId, Reply};
 use zclient::ClientCore;
 use zdesks::{Desk, Stamped};
@@ -34,7 +35,8 @@ pub(crate) fn front_of(
     }
 }
 
-// The next message of its links, each in turn, from the one behind the last one.
+// The next message of its links, each in turn. It begins behind the link that it took from last,
+// and comes to that one at the end.
 fn look(desk: &mut Desk, last: &mut usize) -> Option<(Process, Stamped)>
     ensures taken { HasTaken desk.old desk.new None result }
     ensures same { SameRest desk.old desk.new }
@@ -50,9 +52,16 @@ fn look(desk: &mut Desk, last: &mut usize) -> Option<(Process, Stamped)>
     None
 }
 
-// The link behind this one, in a round.
-fn behind(link: usize, links: usize) -> usize {
-    if link < links { link + 1 } else { 0 }
+// The link behind this one, in a round of so many.
+fn behind(link: usize, links: usize) -> usize
+    ensures one { 0 < links → result < links }
+    ensures next { link + 1 < links → result ≡ link + 1 }
+{
+    if links > 0 && link < links - 1 {
+        link + 1
+    } else {
+        0
+    }
 }
 
 // The next message of that link, where there is one.
@@ -94,7 +103,7 @@ pub(crate) fn hear_or_keep(
     match hear(alloc, id, desk, core, sender, stamp, message, next) {
         Ok(reply) => reply,
         Err(message) => {
-            *front = handed_back(&from, message);
+            drop(replace(front, handed_back(&from, message)));
             None
         }
     }

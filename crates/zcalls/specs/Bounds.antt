@@ -1,4 +1,4 @@
--- The bounds on the numbers of a tree, so that none of them can grow too large.
+-- Bounds on the numbers in a tree: none of them can grow too large.
 use Rattle.std.specs.Prelude.{ℕ, ◌+◌, ◌*◌, ◌<◌, ◌≤◌}
 use Rattle.ztree.specs.Tree.{Tree}
 use Rattle.ztree.specs.declared.limits.TheConstants.{ZXID_BOUND, TICK_BOUND}
@@ -7,19 +7,21 @@ use Rattle.ztree.specs.Lawful.{AllNodes, AllSessions}
 use Rattle.ztree.specs.declared.node.Node.{Node}
 use Rattle.ztree.specs.declared.session.Session.{Session}
 
--- the version and the cversion of a node were raised at most so often, and a counter has an end of its own
+-- the node's version and cversion are at most this number of raises; its counter has a limit of its
+-- own
 pub record IsWithin (raises : ℕ) (n : Node) : Type 0 where
   pub version : n.version ≤ raises
   pub cversion : n.cversion ≤ raises
   pub seq : n.seq ≤ MAX_COUNTER + 1
 
--- a session's id is the number of a change that was made, and its timeout is one that is granted
+-- a session's id is the zxid of a change that was made, and its timeout is in the granted range
 pub record IsGranted (zxid id : ℕ) (s : Session) : Type 0 where
   pub before : id ≤ zxid
   pub least : MIN_TIMEOUT ≤ s.timeout
   pub most : s.timeout ≤ MAX_TIMEOUT
 
--- every number of the tree leaves room for one more change: each change raises a node's at most 4,096 times
+-- Every number of the tree leaves room for one more change. One change raises a counter of a node
+-- at most 4,096 times.
 pub record IsBounded (t : Tree) : Type 0 where
   pub zxid : t.zxid < ZXID_BOUND
   pub time : t.time < TICK_BOUND

@@ -1,4 +1,4 @@
--- Runs of calls from the opening tree, and what holds of each: the statements are contracts in `src/laws.rt`.
+-- Laws of runs of calls from the initial tree. The functions of `src/laws.rt` promise them.
 use Rattle.std.specs.Prelude.{◌≡◌, ℕ, ◌<◌, ◌+◌, Bool, true, false, ◌&&◌, ◌||◌, List, [], ◌∷◌, ◌++◌, Some, Result, Ok, Err, if◌then◌else◌, nat_lt}
 use Rattle.std.specs.List.{IsDistinct}
 use Rattle.std.specs.Ordering.{eq_by_cmp}
@@ -19,12 +19,12 @@ use Rattle.zcalls.specs.Part.{part_step, is_sequential}
 use Rattle.zcalls.specs.Multi.{Run, run}
 use Rattle.zcalls.specs.Step.{step, is_exhausted}
 
--- the tree after these calls, each of a client
+-- the tree after these calls, each with its client
 abbrev pub after_calls : Tree → List (ℕ × Update) → Tree
 after_calls t [] = t
 after_calls t (call ∷ calls) = after_calls (step t call.0 call.1).0 calls
 
--- the reply says that the call was done
+-- the reply is a success
 abbrev pub is_success : Reply → Bool
 is_success (reply.Refused refusal) = false
 is_success (reply.MultiRefused number refusal) = false
@@ -40,7 +40,8 @@ is_success (reply.Data bytes stat) = true
 is_success (reply.Exists stat) = true
 is_success (reply.Children names) = true
 
--- the reply says that the call made a change: a ping makes none, and a tick only where it ends a session or removes a node
+-- The reply says that the call changed the tree. A ping never does; a tick does only if it ends a
+-- session or removes a node.
 abbrev pub is_change : Reply → Bool
 is_change (reply.Refused refusal) = false
 is_change (reply.MultiRefused number refusal) = false
@@ -56,13 +57,14 @@ is_change (reply.Data bytes stat) = false
 is_change (reply.Exists stat) = false
 is_change (reply.Children names) = false
 
--- every zxid that the node tells is below this one
+-- every zxid of the node is below this one
 pub record IsOlder (zxid : ℕ) (n : Node) : Type 0 where
   pub czxid : n.czxid < zxid
   pub mzxid : n.mzxid < zxid
   pub pzxid : n.pzxid < zxid
 
--- after any calls from the opening, the zxid of a change is greater than every zxid that stood before it
+-- after any calls from the initial tree, the zxid of a change is greater than every zxid in the
+-- tree before it
 abbrev pub ZxidsRise : Type 0
 ZxidsRise =
     (calls : List (ℕ × Update)) (client : ℕ) (update : Update) (path : Path) (n : Node)
@@ -70,32 +72,32 @@ ZxidsRise =
     → finite.get (after_calls opening_tree calls).nodes path ≡ Some n
     → IsOlder (step (after_calls opening_tree calls) client update).0.zxid n
 
--- a call takes one zxid where it makes a change, and else none
+-- a call takes one zxid if it makes a change, and otherwise none
 abbrev pub ChangesTakeOneZxid : Type 0
 ChangesTakeOneZxid =
     (t : Tree) (client : ℕ) (update : Update)
     → (step t client update).0.zxid ≡ t.zxid + (if is_change (step t client update).1 then 1 else 0)
 
--- a part that was done, and its reply
+-- a part that was done, with its reply
 abbrev pub Done : Type 0
 Done = Part × PartReply
 
--- a part where it was done, and those after it
+-- the part, if it was done, and the parts done after it
 abbrev pub and_done : Part → Result (Tree × PartReply) Refusal → (Tree → List Done) → List Done
 and_done part (Err refusal) more = []
 and_done part (Ok (t, answer)) more = (part, answer) ∷ more t
 
--- these parts of a client as changes of their own, one after the other, up to the first that is refused
+-- a client's parts as separate changes in sequence, up to the first refusal
 unfoldable pub parts_done : Tree → ℕ → List Part → List Done
 parts_done t client [] = []
 parts_done t client (part ∷ parts) = and_done part (part_step t client part) (λ u. parts_done u client parts)
 
--- a multi's parts where it was done, and none where it was refused
+-- the parts of a multi if it succeeded, and none if it was refused
 abbrev pub where_done : Run → List Done → List Done
 where_done (Err stopped) parts = []
 where_done (Ok did) parts = parts
 
--- the parts that a call of a client did; those of sessions have none
+-- the parts that a client's call did; session calls and ticks have none
 abbrev pub update_done : Tree → ℕ → Update → List Done
 update_done t client (Create create) = parts_done t client (part_of.Create create ∷ [])
 update_done t client (Delete delete) = parts_done t client (part_of.Delete delete ∷ [])
@@ -106,46 +108,47 @@ update_done t client (Ping session) = []
 update_done t client (Close session) = []
 update_done t client Tick = []
 
--- the same, where a next zxid is left
+-- the parts that a client's call did, and none where it is refused as exhausted
 abbrev pub call_done : Tree → ℕ → Update → List Done
 call_done t client update = if is_exhausted t update then [] else update_done t client update
 
--- the parts that these calls did, in their order
+-- the parts that these calls did, in order
 abbrev pub calls_done : Tree → List (ℕ × Update) → List Done
 calls_done t [] = []
 calls_done t (call ∷ calls) = call_done t call.0 call.1 ++ calls_done (step t call.0 call.1).0 calls
 
--- what is told on going through parts in their order
+-- a fold over the parts that were done, in order
 abbrev pub through : {S : Type 0} → (S → Part → PartReply → S) → S → List Done → S
 through next s [] = s
 through next s (done ∷ more) = through next (next s done.0 done.1) more
 
--- two paths are the same
+-- the two paths are equal
 abbrev pub is_same : Path → Path → Bool
 is_same = eq_by_cmp path_cmp
 
--- the part made this path
+-- the part created this path
 abbrev pub is_made : Path → PartReply → Bool
 is_made path (part_reply.Created made) = is_same path made
 is_made path part_reply.Deleted = false
 is_made path (part_reply.Set stat) = false
 is_made path part_reply.Checked = false
 
--- the sets of a node from the part that made it on, after one more part
+-- the count of sets of a node since the part that created it, after one more part
 abbrev pub sets_since : Path → ℕ → Part → PartReply → ℕ
 sets_since path sets (part_of.Create create) answer = if is_made path answer then 0 else sets
 sets_since path sets (part_of.Delete delete) answer = sets
 sets_since path sets (part_of.SetData set) answer = if is_same path set.path then sets + 1 else sets
 sets_since path sets (part_of.Check check) answer = sets
 
--- a node's version is the number of successful sets from the part that made it on
+-- a node's version is the number of successful sets since the part that created it
 abbrev pub VersionCountsSets : Type 0
 VersionCountsSets =
     (calls : List (ℕ × Update)) (path : Path) (n : Node)
     → finite.get (after_calls opening_tree calls).nodes path ≡ Some n
     → n.version ≡ through (sets_since path) 0 (calls_done opening_tree calls)
 
--- those paths, and one more where a part made it beneath the node with the parent's counter; none where it made the node
+-- The paths after one more create. A sequential node beneath `above` is added; the creation of
+-- `above` itself starts over with none.
 abbrev pub with_made : Path → List Path → Bool → PartReply → List Path
 with_made above made sequential (part_reply.Created path) =
     if is_same above path then [] else
@@ -155,14 +158,16 @@ with_made above made sequential part_reply.Deleted = made
 with_made above made sequential (part_reply.Set stat) = made
 with_made above made sequential part_reply.Checked = made
 
--- the paths that sequential creates made beneath a node from the part that made it on, after one more part
+-- the paths that sequential creates made beneath a node since the part that created it, after one
+-- more part
 abbrev pub numbered_since : Path → List Path → Part → PartReply → List Path
 numbered_since above made (part_of.Create create) answer = with_made above made (is_sequential create.kind) answer
 numbered_since above made (part_of.Delete delete) answer = made
 numbered_since above made (part_of.SetData set) answer = made
 numbered_since above made (part_of.Check check) answer = made
 
--- two sequential creates beneath one node, from the part that made it on until it goes, never make the same name
+-- two sequential creates beneath one node never make the same name, from the node's creation until
+-- its removal
 abbrev pub NumbersDiffer : Type 0
 NumbersDiffer =
     (calls : List (ℕ × Update)) (above : Path) → IsDistinct is_same (through (numbered_since above) [] (calls_done opening_tree calls))

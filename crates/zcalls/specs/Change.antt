@@ -1,4 +1,5 @@
--- A change of one node as an update and as a part of a multi, and what it did as the reply to each.
+-- A change of one node, as an update and as a part of a multi; and its result, as the reply to
+-- each.
 use Rattle.zcalls.specs.declared.call.Part.{Part}
 use Rattle.zcalls.specs.declared.call.Part.TheVariants as part
 use Rattle.zcalls.specs.declared.call.Update.{Update}
@@ -12,7 +13,7 @@ use Rattle.zcalls.specs.declared.reply.PartReply.TheVariants as part_reply
 use Rattle.zcalls.specs.declared.reply.Reply.{Reply}
 use Rattle.zcalls.specs.declared.reply.Reply.TheVariants as reply
 
--- the update that asks for the change alone
+-- the update that asks for the change by itself
 abbrev pub update_of : Change → Update
 update_of (Create create) = update.Create create
 update_of (Delete delete) = update.Delete delete
@@ -24,7 +25,7 @@ part_of (Create create) = part.Create create
 part_of (Delete delete) = part.Delete delete
 part_of (SetData set) = part.SetData set
 
--- the reply to the change alone
+-- the reply to the change by itself
 abbrev pub reply_of : ChangeReply → Reply
 reply_of (Created path) = reply.Created path
 reply_of Deleted = reply.Deleted

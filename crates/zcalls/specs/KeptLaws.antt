@@ -1,5 +1,5 @@
--- What holds of the entry step, over any plain step and all plain states with kept replies: each is the contract of a
--- function in `src/laws.rt`.
+-- Laws of the entry step, over any sequential step and all states with cached replies. Each is the
+-- contract of a function in `src/laws.rt`.
 use Rattle.std.specs.Prelude.{◌≡◌, ◌<◌, ◌≤◌, ℕ, List, [], ◌∷◌, ◌++◌, Some}
 use Rattle.std.specs.FinMap.{get}
 use Rattle.zcalls.specs.declared.call.Call.{Call}
@@ -11,24 +11,24 @@ use Rattle.zcalls.specs.Lists.{Among, NoTwo}
 use Rattle.zcalls.specs.Operation.{Operation, IsSameCall, operation_of, AreOneUpdate}
 use Rattle.zcalls.specs.Acts.{acts_from, acts_of, after_log}
 
--- the number of a client's last call that acted; 0 where none did
+-- the number of a client's last call that acted, or 0 if none did
 abbrev pub last_number : {P : Type 0} → KeptState P → ℕ → ℕ
 last_number s client = last_of (get s.kept client)
 
--- where nothing is kept, an entry of a number from 1 on acts by the plain step
+-- where nothing is cached, an entry with a number from 1 on acts by the sequential step
 abbrev pub FirstEntriesAct : {P : Type 0} → PlainStep P → Type 0
 FirstEntriesAct {P} step =
     (p : P) (e : Entry) → 0 < e.number
     → ((entry_step step (nothing_kept p) e).0.plain ≡ (step p e.client e.update).0)
     × ((entry_step step (nothing_kept p) e).1 ≡ Some (step p e.client e.update).1)
 
--- an entry that had a reply has it again when it comes again, and then changes nothing
+-- a repeated entry that had a reply gets the same reply, and then changes nothing
 abbrev pub RetryChangesNothing : {P : Type 0} → PlainStep P → Type 0
 RetryChangesNothing {P} step =
     (s : KeptState P) (e : Entry) (reply : Reply)
     → (entry_step step s e).1 ≡ Some reply → entry_step step (entry_step step s e).0 e ≡ ((entry_step step s e).0, Some reply)
 
--- over any entries, the number of a client's last call that acted never falls
+-- the number of a client's last call that acted never falls, whatever entries are applied
 abbrev pub KeptNumbersRise : {P : Type 0} → PlainStep P → Type 0
 KeptNumbersRise {P} step =
     (s : KeptState P) (entries : List Entry) (client : ℕ)
@@ -39,7 +39,7 @@ abbrev pub LowNumbersChangeNothing : {P : Type 0} → PlainStep P → Type 0
 LowNumbersChangeNothing {P} step =
     (s : KeptState P) (e : Entry) → e.number ≤ last_number s e.client → (entry_step step s e).0 ≡ s
 
--- over any entries, no call acts twice
+-- no call acts twice, whatever entries are applied
 abbrev pub NoCallActsTwice : {P : Type 0} → PlainStep P → Type 0
 NoCallActsTwice {P} step = (s : KeptState P) (entries : List Entry) → NoTwo AreOneUpdate (acts_from step s entries)
 
@@ -48,14 +48,15 @@ abbrev pub HasReply : List (Operation × Reply) → ℕ → ℕ → Reply → Ty
 HasReply acts client number reply =
     (o : Operation) × (o.client ≡ client) × (o.number ≡ number) × Among (o, reply) acts
 
--- after any log, a reply that an entry has is that of its call when it acted, in the log or now
+-- after any log, a reply to an entry is the one its call got when it acted, in the log or now
 abbrev pub RepliesAreOfActs : {P : Type 0} → Plain P → Type 0
 RepliesAreOfActs plain =
     (log : List Entry) (e : Entry) (reply : Reply)
     → (entry_step plain.update (after_log plain log) e).1 ≡ Some reply
     → HasReply (acts_of plain (log ++ e ∷ [])) e.client e.number reply
 
--- the reply of a call that acted is given again after any entries, until a number of its client above it acts
+-- the reply of a call that acted is returned again after any entries, until a higher number of its
+-- client acts
 abbrev pub RepliesStayUntilTheNext : {P : Type 0} → PlainStep P → Type 0
 RepliesStayUntilTheNext {P} step =
     (s : KeptState P) (e : Entry) (entries : List Entry) (reply : Reply)
@@ -63,17 +64,17 @@ RepliesStayUntilTheNext {P} step =
     → last_number (after_entries (entry_step step) (entry_step step s e).0 entries) e.client ≤ e.number
     → (entry_step step (after_entries (entry_step step) (entry_step step s e).0 entries) e).1 ≡ Some reply
 
--- the plain state after a client's call
+-- the sequential state after a client's call
 abbrev pub after_call : {P : Type 0} → PlainStep P → P → ℕ → Call → P
 after_call step p client (Update update) = (step p client update).0
 after_call step p client (Query query) = p
 
--- the plain state after these calls alone, one after the other
+-- the sequential state after these calls alone, in order
 abbrev pub after_acts : {P : Type 0} → PlainStep P → P → List (Operation × Reply) → P
 after_acts step p [] = p
 after_acts step p (act ∷ acts) = after_acts step (after_call step p act.0.client act.0.call) acts
 
--- over any entries, the plain state is that after the calls that acted, in their order
+-- over any entries, the sequential state is the one after the calls that acted, in order
 abbrev pub OnlyActsCount : {P : Type 0} → PlainStep P → Type 0
 OnlyActsCount {P} step =
     (s : KeptState P) (entries : List Entry)

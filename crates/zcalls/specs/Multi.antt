@@ -1,5 +1,5 @@
--- A multi: its parts one after the other, all of them or none.
--- ZooKeeper Programmer's Guide, "Multi"; the part that is named is this project's profile.
+-- A multi: all of its parts in sequence, or none. The source is the ZooKeeper Programmer's Guide,
+-- "Multi". Reporting which part was refused is this project's profile.
 use Rattle.std.specs.Prelude.{ℕ, ◌+◌, List, [], ◌∷◌, Result, Ok, Err}
 use Rattle.ztree.specs.Tree.{Tree}
 use Rattle.zcalls.specs.declared.call.Part.{Part}
@@ -7,16 +7,18 @@ use Rattle.zcalls.specs.declared.refusal.Refusal.{Refusal}
 use Rattle.zcalls.specs.declared.reply.PartReply.{PartReply}
 use Rattle.zcalls.specs.Part.{part_step}
 
--- what the parts of a multi did, or the part that was refused, counted from 1
+-- the result of a multi's parts, or the number of the refused part, counted from 1, with its
+-- refusal
 abbrev pub Run : Type 0
 Run = Result (Tree × List PartReply) (ℕ × Refusal)
 
--- what parts did behind one that was done: its reply stands in front, and a part that was refused is one further on
+-- the result behind a part that was done: its reply comes first, and a refused part is numbered one
+-- higher
 abbrev pub behind : PartReply → Run → Run
 behind reply (Err (number, refusal)) = Err (number + 1, refusal)
 behind reply (Ok (t, replies)) = Ok (t, reply ∷ replies)
 
--- a part, and those behind it on the tree that it left; one that is refused ends the run
+-- a part, and then the rest on the tree that it left; a refused part ends the run
 abbrev pub and_then : Result (Tree × PartReply) Refusal → (Tree → Run) → Run
 and_then (Err refusal) rest = Err (1, refusal)
 and_then (Ok (t, reply)) rest = behind reply (rest t)

@@ -1,4 +1,4 @@
--- One call of one client, under the client's number of it.
+-- One call of one client, with the client's number for it.
 use Rattle.std.specs.Prelude.{◌≡◌, ℕ}
 use Rattle.zcalls.specs.declared.call.Call.{Call}
 use Rattle.zcalls.specs.declared.call.Call.TheVariants.{Update}
@@ -11,7 +11,7 @@ pub record Operation : Type 0 where
   pub number : ℕ
   pub call : Call
 
--- the two are one call: the same client has one number for them
+-- the two are the same call: one client, one number
 abbrev pub IsSameCall : Operation → Operation → Type 0
 IsSameCall a b = (a.client ≡ b.client) × (a.number ≡ b.number)
 
@@ -19,6 +19,6 @@ IsSameCall a b = (a.client ≡ b.client) × (a.number ≡ b.number)
 abbrev pub operation_of : Entry → Operation
 operation_of e = record { client = e.client; number = e.number; call = Update e.update }
 
--- two calls that were answered are one call
+-- two calls with their replies are the same call
 abbrev pub AreOneUpdate : Operation × Reply → Operation × Reply → Type 0
 AreOneUpdate a b = IsSameCall a.0 b.0

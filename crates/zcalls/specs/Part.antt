@@ -1,6 +1,6 @@
--- The change step and the part step: one operation on the plain tree.
--- ZooKeeper Programmer's Guide, "ZNodes", "Ephemeral Nodes", "Sequence Nodes -- Unique Naming" and "Time in ZooKeeper";
--- the order of refusals and the limits are this project's profile.
+-- The change step and the part step: one operation on the tree. The source is the ZooKeeper
+-- Programmer's Guide, "ZNodes", "Ephemeral Nodes", "Sequence Nodes -- Unique Naming" and "Time in
+-- ZooKeeper". The order of refusals and the limits are this project's profile.
 use Rattle.std.specs.Prelude.{ℕ, ◌+◌, Bool, true, false, not, ◌&&◌, List, [], ◌∷◌, length, Option, None, Some, Result, Ok, Err, if◌then◌else◌, nat_lt, nat_le, ◌==◌}
 use Rattle.std.specs.Option.{option_map_or}
 use Rattle.std.specs.FinMap as finite
@@ -31,12 +31,12 @@ use Rattle.zcalls.specs.declared.reply.PartReply.{PartReply}
 use Rattle.zcalls.specs.declared.reply.PartReply.TheVariants.{Checked}
 use Rattle.zcalls.specs.Change.{part_reply_of}
 
--- the path is the root's
+-- the path is the root
 abbrev pub is_root : Path → Bool
 is_root [] = true
 is_root (name ∷ path) = false
 
--- the node at the path has this; where there is none, it has not
+-- the node at the path exists and passes the test
 abbrev pub node_has : (Node → Bool) → Nodes → Path → Bool
 node_has test nodes path = option_map_or test (finite.get nodes path) false
 
@@ -44,16 +44,16 @@ node_has test nodes path = option_map_or test (finite.get nodes path) false
 abbrev pub is_owned : Node → Bool
 is_owned n = not (n.owner == 0)
 
--- the node's version is not the one that is expected
+-- the node's version differs from the expected one
 abbrev pub has_other_version : Expected → Node → Bool
 has_other_version Any n = false
 has_other_version (Exactly version) n = not (n.version == version)
 
--- the last number of a node's counter was given
+-- the node's counter has given its last number
 abbrev pub is_spent : Node → Bool
 is_spent n = nat_lt MAX_COUNTER n.seq
 
--- the kind takes a number of the parent's counter
+-- a node of this kind takes a number from its parent's counter
 abbrev pub is_sequential : Kind → Bool
 is_sequential Persistent = false
 is_sequential PersistentSequential = true
@@ -62,7 +62,7 @@ is_sequential (PersistentSequentialWithTtl ttl) = true
 is_sequential (Ephemeral session) = false
 is_sequential (EphemeralSequential session) = true
 
--- the session that is to own the node, or nobody
+-- the session that will own the node, or 0 for none
 abbrev pub owner_of : Kind → ℕ
 owner_of Persistent = 0
 owner_of PersistentSequential = 0
@@ -71,7 +71,7 @@ owner_of (PersistentSequentialWithTtl ttl) = 0
 owner_of (Ephemeral session) = session
 owner_of (EphemeralSequential session) = session
 
--- how many ticks the node is to live after a write of its data, or 0: for good
+-- the TTL of the node in ticks, or 0 for none
 abbrev pub ttl_of : Kind → ℕ
 ttl_of Persistent = 0
 ttl_of PersistentSequential = 0
@@ -80,11 +80,11 @@ ttl_of (PersistentSequentialWithTtl ttl) = ttl
 ttl_of (Ephemeral session) = 0
 ttl_of (EphemeralSequential session) = 0
 
--- to this client the session is gone: it isn't there, or is another client's
+-- the session is gone for this client: it doesn't exist, or belongs to another client
 abbrev pub is_gone : Sessions → ℕ → ℕ → Bool
 is_gone sessions client session = option_map_or (λ (s : Session). not (s.client == client)) (finite.get sessions session) true
 
--- the node is to be owned by a session that is gone
+-- the node would belong to a session that is gone
 abbrev pub has_no_owner : Sessions → ℕ → Kind → Bool
 has_no_owner sessions client Persistent = false
 has_no_owner sessions client PersistentSequential = false
@@ -93,7 +93,7 @@ has_no_owner sessions client (PersistentSequentialWithTtl ttl) = false
 has_no_owner sessions client (Ephemeral session) = is_gone sessions client session
 has_no_owner sessions client (EphemeralSequential session) = is_gone sessions client session
 
--- the counter of the node at the path
+-- the counter of the node at the path, or 0 if there is no node
 abbrev pub counter_at : Nodes → Path → ℕ
 counter_at nodes path = option_map_or (λ n. n.seq) (finite.get nodes path) 0
 
@@ -101,7 +101,7 @@ counter_at nodes path = option_map_or (λ n. n.seq) (finite.get nodes path) 0
 abbrev pub made_path : Nodes → Kind → Path → Path
 made_path nodes kind path = if is_sequential kind then numbered_path path (counter_at nodes (parent_of path)) else path
 
--- when a client's create is refused, in the order of the tests
+-- the refusals of a client's create, in the order of the tests
 abbrev pub create_refusals : Tree → ℕ → Create → List (Bool × Refusal)
 create_refusals t client create =
     (has_no_owner t.sessions client create.kind, SessionGone)
@@ -114,7 +114,7 @@ create_refusals t client create =
     ∷ (nat_le MAX_NODES (finite.len t.nodes), Full)
     ∷ []
 
--- when a delete is refused, in the order of the tests
+-- the refusals of a delete, in the order of the tests
 abbrev pub delete_refusals : Nodes → Delete → List (Bool × Refusal)
 delete_refusals nodes delete =
     (is_root delete.path, RootFixed)
@@ -123,35 +123,35 @@ delete_refusals nodes delete =
     ∷ (nat_lt 0 (length (children nodes delete.path)), NotEmpty)
     ∷ []
 
--- a refusal, or else this
+-- the refusal if there is one, else the result
 abbrev pub unless_refused : {A : Type 0} → Option Refusal → A → Result A Refusal
 unless_refused (Some refusal) x = Err refusal
 unless_refused None x = Ok x
 
--- what is done with a node of the version that is expected
+-- the action on a node if it exists and has the expected version, else the refusal
 abbrev pub on_version : {A : Type 0} → Expected → Option Node → (Node → A) → Result A Refusal
 on_version expected None act = Err NoNode
 on_version expected (Some n) act = if has_other_version expected n then Err BadVersion else Ok (act n)
 
--- a tree with this node at a path, and what is told of it
+-- the tree with this node at the path, and the node's new stat
 abbrev pub with_node_set : Tree → Path → Node → Tree × ChangeReply
 with_node_set t path n =
     let nodes = finite.insert t.nodes path n in
     (record t { nodes = nodes }, Set (stat_of nodes path n))
 
--- a client's create makes one node, beneath a parent that is there and no session owns
+-- a create makes one node, under a parent that exists and that no session owns
 unfoldable pub create_step : Tree → ℕ → Create → Result (Tree × ChangeReply) Refusal
 create_step t client create =
     let made = made_path t.nodes create.kind create.path in
     unless_refused (first_that_holds (create_refusals t client create))
     (with_node t made create.bytes (owner_of create.kind) (ttl_of create.kind) (is_sequential create.kind), Created made)
 
--- a delete takes one node away, beneath which there is none
+-- a delete removes one node that has no children
 unfoldable pub delete_step : Tree → Delete → Result (Tree × ChangeReply) Refusal
 delete_step t delete =
     unless_refused (first_that_holds (delete_refusals t.nodes delete)) (without_node t delete.path, Deleted)
 
--- a set writes one node's data, and tells its stat after it
+-- a set writes one node's data, and returns its new stat
 unfoldable pub set_step : Tree → SetData → Result (Tree × ChangeReply) Refusal
 set_step t set =
     on_version set.version (finite.get t.nodes set.path)
@@ -161,18 +161,18 @@ set_step t set =
 unfoldable pub check_step : Tree → Check → Result (Tree × PartReply) Refusal
 check_step t check = on_version check.version (finite.get t.nodes check.path) (λ n. (t, Checked))
 
--- the change step, for a client
+-- the change step, for a client: one change of one node
 abbrev pub change_step : Tree → ℕ → Change → Result (Tree × ChangeReply) Refusal
 change_step t client (change.Create create) = create_step t client create
 change_step t client (change.Delete delete) = delete_step t delete
 change_step t client (change.SetData set) = set_step t set
 
--- what a change did, told as by a part
+-- the result of a change as the result of a part
 abbrev pub told_as_part : Result (Tree × ChangeReply) Refusal → Result (Tree × PartReply) Refusal
 told_as_part (Err refusal) = Err refusal
 told_as_part (Ok (t, did)) = Ok (t, part_reply_of did)
 
--- the part step, for a client
+-- the part step, for a client: one part of a multi
 abbrev pub part_step : Tree → ℕ → Part → Result (Tree × PartReply) Refusal
 part_step t client (part.Create create) = told_as_part (create_step t client create)
 part_step t client (part.Delete delete) = told_as_part (delete_step t delete)

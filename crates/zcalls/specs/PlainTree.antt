@@ -1,9 +1,9 @@
--- The plain tree as a service of one call after the other: the sequential specification.
--- ZooKeeper Programmer's Guide, "The ZooKeeper Data Model".
+-- The plain tree as a sequential service: the sequential specification. The source is the ZooKeeper
+-- Programmer's Guide, "The ZooKeeper Data Model".
 use Rattle.ztree.specs.Tree.{Tree, opening_tree}
 use Rattle.zcalls.specs.Kept.{Plain}
 use Rattle.zcalls.specs.Step.{step, query_reply}
 
--- opened with the root alone; an update by the plain step, and a query answered from the tree
+-- it starts with the root alone, does an update by `step`, and answers a query from the tree
 abbrev pub plain_tree : Plain Tree
 plain_tree = record { opening = opening_tree; update = step; ask = query_reply }

@@ -1,4 +1,4 @@
--- What holds of sessions: each is the contract of a function in `src/laws.rt`.
+-- Laws of sessions. Each is the contract of a function in `src/laws.rt`. The source is the
 -- ZooKeeper Programmer's Guide, "ZooKeeper Sessions" and "Ephemeral Nodes".
 use Rattle.std.specs.Prelude.{◌≡◌, ℕ, ◌<◌, ◌≤◌, ◌+◌, ◌⊎◌, false, not, List, [], ◌∷◌, length, Option, None, Some, IsSome, if◌then◌else◌, nat_le, ◌==◌}
 use Rattle.std.specs.Option.{option_and_then}
@@ -14,59 +14,62 @@ use Rattle.zcalls.specs.Part.{node_has}
 use Rattle.zcalls.specs.Step.{step, is_exhausted, stale_next}
 use Rattle.zcalls.specs.CallRuns.{after_calls, is_success}
 
--- after any calls from the opening the tree is lawful: so each owner of a node is a session that lives
+-- after any calls from the initial tree the tree is lawful, so each owner of a node is a live
+-- session
 abbrev pub TreesAreLawful : Type 0
 TreesAreLawful = (calls : List (ℕ × Update)) → IsLawful (after_calls opening_tree calls)
 
--- it is the close of that session by its own client
+-- the call is the close of that session by its own client
 abbrev pub IsOwnClose : ℕ → Session → ℕ → Update → Type 0
 IsOwnClose id s client update = (update ≡ Close id) × (client ≡ s.client)
 
--- it is a tick that isn't refused and reaches the session's deadline
+-- the call is a tick that isn't refused and reaches the session's deadline
 abbrev pub IsItsTick : Tree → Session → Update → Type 0
 IsItsTick t s update = (update ≡ Tick) × (is_exhausted t Tick ≡ false) × (s.deadline ≤ t.time + 1)
 
--- a session ends only by its own client's close, or at a tick that isn't refused and reaches its deadline
+-- a session ends only by its own client's close, or at a tick that isn't refused and reaches its
+-- deadline
 abbrev pub EndsOnlySo : Type 0
 EndsOnlySo =
     (t : Tree) (client : ℕ) (update : Update) (id : ℕ) (s : Session)
     → finite.get t.sessions id ≡ Some s → finite.get (step t client update).0.sessions id ≡ None
     → IsOwnClose id s client update ⊎ IsItsTick t s update
 
--- a session whose deadline the tick doesn't reach
+-- the session, if the tick doesn't reach its deadline
 abbrev pub if_not_due : ℕ → Session → Option Session
 if_not_due tick s = if nat_le s.deadline tick then None else Some s
 
--- a tick that isn't refused ends exactly the sessions whose deadline it reaches, and tells how many, and how many nodes it removed
+-- A tick that isn't refused ends exactly the sessions whose deadline it reaches. Its reply counts
+-- them, and the nodes it removed as stale.
 abbrev pub TickEndsTheDue : Type 0
 TickEndsTheDue =
     (t : Tree) (client : ℕ) → is_exhausted t Tick ≡ false
     → ((id : ℕ) → finite.get (step t client Tick).0.sessions id ≡ option_and_then (if_not_due (t.time + 1)) (finite.get t.sessions id))
     × ((step t client Tick).1 ≡ reply.Ticked (t.time + 1) (length (due_sessions t.sessions (t.time + 1))) (length (stale_next t)))
 
--- the end of a session takes away exactly the nodes that it owns
+-- the end of a session removes exactly the nodes that it owns
 abbrev pub EndTakesItsOwn : Type 0
 EndTakesItsOwn =
     (t : Tree) (id : ℕ) (path : Path)
     → has_node (without_session t id).nodes path ≡ node_has (λ n. not (n.owner == id)) t.nodes path
 
--- a session that was opened or kept alive just now
+-- the session exists and was opened or renewed at this tick
 abbrev pub IsFresh : Tree → ℕ → Type 0
 IsFresh t id = (s : Session) × (finite.get t.sessions id ≡ Some s) × (s.deadline ≡ t.time + s.timeout)
 
--- a successful open or ping leaves the session its whole timeout
+-- a successful open or ping gives the session its whole timeout
 abbrev pub OpenAndPingRenew : Type 0
 OpenAndPingRenew =
     (t : Tree) (client : ℕ) (ticks id timeout : ℕ)
     → ((step t client (Open ticks)).1 ≡ reply.Opened id timeout → IsFresh (step t client (Open ticks)).0 id)
     × ((step t client (Ping id)).1 ≡ reply.Pinged → IsFresh (step t client (Ping id)).0 id)
 
--- one where the call was a tick that isn't refused
+-- 1 if the call is a tick that isn't refused, else 0
 abbrev pub one_if_tick : Tree → ℕ → Update → ℕ
 one_if_tick t client Tick = if is_success (step t client Tick).1 then 1 else 0
 one_if_tick t client update = 0
 
--- how many of these calls are ticks that aren't refused
+-- the number of ticks among these calls that aren't refused
 abbrev pub ticks_in : Tree → List (ℕ × Update) → ℕ
 ticks_in t [] = 0
 ticks_in t (call ∷ calls) = one_if_tick t call.0 call.1 + ticks_in (step t call.0 call.1).0 calls
@@ -76,8 +79,8 @@ abbrev pub NeverCloses : ℕ → ℕ → List (ℕ × Update) → Type 0
 NeverCloses client id [] = Unit {0}
 NeverCloses client id (call ∷ calls) = (call.0 ≡ client → call.1 ≡ Close id → ⊥) × NeverCloses client id calls
 
--- after any calls from the opening: a session that its client doesn't close, and that has had fewer ticks than its timeout
--- since its open or a ping, lives
+-- After any calls from the initial tree, a session that its client doesn't close is alive. That
+-- holds while it has had fewer ticks than its timeout since its open or last ping.
 abbrev pub LivesItsTimeout : Type 0
 LivesItsTimeout =
     (before calls : List (ℕ × Update)) (id : ℕ) (s : Session)

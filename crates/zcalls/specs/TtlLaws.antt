@@ -1,4 +1,4 @@
--- What holds of nodes with a time to live: each is the contract of a function in `src/laws.rt`.
+-- Laws of nodes with a TTL. Each is the contract of a function in `src/laws.rt`. The source is the
 -- ZooKeeper Programmer's Guide, "TTL Nodes".
 use Rattle.std.specs.Prelude.{◌≡◌, ℕ, ◌+◌, ◌<◌, Bool, true, false, not, List, Some, if◌then◌else◌}
 use Rattle.std.specs.List.{list_any}
@@ -19,38 +19,40 @@ use Rattle.zcalls.specs.declared.reply.Reply.TheVariants as reply
 use Rattle.zcalls.specs.Step.{step, is_exhausted, is_busy, due_next, stale_next}
 use Rattle.zcalls.specs.CallRuns.{after_calls}
 
--- a tick that isn't refused takes a node with a time to live exactly where it reaches the end of that time, and the node had no
--- children before the tick
+-- A tick that isn't refused removes a node with a TTL exactly when the TTL has expired, and the
+-- node had no children before the tick.
 abbrev pub TickRemovesTheStale : Type 0
 TickRemovesTheStale =
     (t : Tree) (client : ℕ) (path : Path) (n : Node)
     → IsLawful t → is_exhausted t Tick ≡ false → finite.get t.nodes path ≡ Some n → 0 < n.ttl
     → has_node (step t client Tick).0.nodes path ≡ not (is_stale t.nodes (t.time + 1) path n)
 
--- the node at the path is due at none of the ticks from this time on that are fewer than its time to live
+-- the node exists, and its TTL hasn't expired at any tick less than a whole TTL after this time
 abbrev pub IsPutOff : ℕ → Path → Tree → Type 0
 IsPutOff time path t = (n : Node) × (finite.get t.nodes path ≡ Some n) × ((ticks : ℕ) → ticks < n.ttl → is_due (time + ticks) n ≡ false)
 
--- a successful set puts the end of its node off by the whole time to live
+-- a successful set restarts the TTL of its node
 abbrev pub SetPutsOff : Type 0
 SetPutsOff =
     (t : Tree) (client : ℕ) (set : ToSet) (stat : Stat)
     → (step t client (SetData set)).1 ≡ reply.Set stat → IsPutOff t.time set.path (step t client (SetData set)).0
 
--- after any calls from the opening, no session owns a node with a time to live: it is never an ephemeral
+-- after any calls from the initial tree, no session owns a node with a TTL: it is never an
+-- ephemeral
 abbrev pub NobodyOwnsTheTimed : Type 0
 NobodyOwnsTheTimed =
     (calls : List (ℕ × Update)) (path : Path) (n : Node)
     → finite.get (after_calls opening_tree calls).nodes path ≡ Some n → 0 < n.ttl → n.owner ≡ 0
 
--- a part of a multi asks for the node at the path to be deleted
+-- the part of a multi is a delete of the node at the path
 abbrev pub part_deletes : Path → Part → Bool
 part_deletes path (part.Create create) = false
 part_deletes path (part.Delete delete) = eq_by_cmp path_cmp path delete.path
 part_deletes path (part.SetData set) = false
 part_deletes path (part.Check check) = false
 
--- the call may take away the node at the path, whoever owns it: it asks for that, or is a tick
+-- the call may remove the node at the path even if it has no owner: it deletes the node, or is a
+-- tick
 abbrev pub may_remove : Path → Update → Bool
 may_remove path (Create create) = false
 may_remove path (Delete delete) = eq_by_cmp path_cmp path delete.path
@@ -61,14 +63,14 @@ may_remove path (Ping session) = false
 may_remove path (Close session) = false
 may_remove path Tick = true
 
--- a node that nobody owns, as one with a time to live, goes by no other call than a delete of it or a tick
+-- a node without an owner, such as one with a TTL, disappears only by a delete of it or a tick
 abbrev pub LastsUntilRemoved : Type 0
 LastsUntilRemoved =
     (t : Tree) (client : ℕ) (update : Update) (path : Path)
     → IsLawful t → IsPersistent (finite.get t.nodes path) → may_remove path update ≡ false
     → has_node (step t client update).0.nodes path ≡ true
 
--- a tick takes one zxid for all that it ends and removes, and none where there is nothing
+-- a tick takes one zxid for all that it ends and removes, and none if there is nothing
 abbrev pub TickTakesOneZxid : Type 0
 TickTakesOneZxid =
     (t : Tree) (client : ℕ) → is_exhausted t Tick ≡ false

@@ -1,28 +1,26 @@
-//! Calls.
+//! The calls of the service.
 
 use crate::call_number::CallNumber;
 use crate::multi::Multi;
 use zpath::Path;
 use ztree::{ClientId, Data, SessionId, Ttl};
 
-/// How a node is made.
+/// The kind of a node that is created. "Sequential" appends ten digits of the parent's counter to
+/// the name.
 #[derive(Clone, Copy, Debug, PartialEq, Eq)]
 pub enum Kind {
-    /// It stays until it is deleted, and has the name that the call gives.
+    /// Persistent: the node stays until it is deleted.
     Persistent,
-    /// It stays until it is deleted, and its name ends in ten digits of its parent's counter.
+    /// Persistent, and sequential.
     PersistentSequential,
-    /// It stays until it is deleted, or until a tick finds that it has lived for so long since the last write of its
-    /// data, and has no children; it has the name that the call gives.
+    /// Persistent with a TTL. A tick removes the node once the TTL since the last write of its data
+    /// has passed, if it has no children.
     PersistentWithTtl(Ttl),
-    /// It stays until it is deleted, or until a tick finds that it has lived for so long since the last write of its
-    /// data, and has no children; its name ends in ten digits of its parent's counter.
+    /// Persistent with a TTL, and sequential.
     PersistentSequentialWithTtl(Ttl),
-    /// It belongs to the session of this id, goes when the session ends, and has the name that the
-    /// call gives.
+    /// Ephemeral: the node belongs to the session with this id, and goes when the session ends.
     Ephemeral(SessionId),
-    /// It belongs to the session of this id, goes when the session ends, and its name ends in ten
-    /// digits of its parent's counter.
+    /// Ephemeral, and sequential.
     EphemeralSequential(SessionId),
 }
 
@@ -30,7 +28,7 @@ impl Kind {
     ghost use Rattle.std.specs.Prelude.{◌≡◌};
     ghost use Rattle.zcalls.specs.Part.{is_sequential, owner_of, ttl_of};
 
-    /// Whether the parent's counter goes into the name.
+    /// Returns whether the parent's counter goes into the name.
     pub fn is_sequential(self) -> bool
         ensures { result ≡ is_sequential self }
     {
@@ -42,7 +40,7 @@ impl Kind {
         }
     }
 
-    /// The session that is to own the node; 0 where nobody is.
+    /// Returns the id of the session that will own the node, or 0 for none.
     pub fn owner(self) -> u64
         ensures { result ≡ owner_of self }
     {
@@ -55,7 +53,7 @@ impl Kind {
         }
     }
 
-    /// How many ticks the node is to live after a write of its data; 0 where it is to stay.
+    /// Returns the TTL in ticks, or 0 for none.
     pub fn ttl(self) -> u64
         ensures { result ≡ ttl_of self }
     {
@@ -69,117 +67,118 @@ impl Kind {
     }
 }
 
-/// Which version of a node a call is meant for.
+/// The version of a node that a call expects.
 #[derive(Clone, Copy, Debug, PartialEq, Eq)]
 pub enum Expected {
-    /// Whichever it is.
+    /// Any version.
     Any,
-    /// This one alone.
+    /// Exactly this version.
     Exactly(u64),
 }
 
-/// What a create asks for (ZooKeeper Programmer's Guide, "ZNodes").
+/// A create (ZooKeeper Programmer's Guide, "ZNodes").
 #[derive(Drop)]
 pub struct Create {
-    /// Where the node is to be; the parent's counter is added to it where the kind is sequential.
+    /// The path to create. For a sequential kind, the parent's counter is appended to it.
     pub path: Path,
-    /// How it is made.
+    /// The kind of the node.
     pub kind: Kind,
     /// Its data.
     pub bytes: Data,
 }
 
-/// What a delete asks for.
+/// A delete.
 #[derive(Drop)]
 pub struct Delete {
-    /// The node.
+    /// The path of the node.
     pub path: Path,
-    /// The version that it must have.
+    /// The version it must have.
     pub version: Expected,
 }
 
-/// What a set asks for.
+/// A set: a write of a node's data.
 #[derive(Drop)]
 pub struct SetData {
-    /// The node.
+    /// The path of the node.
     pub path: Path,
     /// Its new data.
     pub bytes: Data,
-    /// The version that it must have.
+    /// The version it must have.
     pub version: Expected,
 }
 
-/// What a check asks for.
+/// A check of a node's version.
 #[derive(Drop)]
 pub struct Check {
-    /// The node.
+    /// The path of the node.
     pub path: Path,
-    /// The version that it must have.
+    /// The version it must have.
     pub version: Expected,
 }
 
-/// One part of a change.
+/// One part of a multi.
 #[derive(Drop)]
 pub enum Part {
-    /// Makes a node.
+    /// Creates a node.
     Create(Create),
-    /// Takes a node away.
+    /// Deletes a node.
     Delete(Delete),
     /// Writes a node's data.
     SetData(SetData),
-    /// Looks whether a node is there and has the version, and changes nothing.
+    /// Checks that a node exists and has the version; changes nothing.
     Check(Check),
 }
 
 /// A call that may change the tree.
 #[derive(Drop)]
 pub enum Update {
-    /// Makes a node.
+    /// Creates a node.
     Create(Create),
-    /// Takes a node away.
+    /// Deletes a node.
     Delete(Delete),
     /// Writes a node's data.
     SetData(SetData),
     /// Does all of its parts, or none.
     Multi(Multi),
-    /// Opens a session of the client that calls, which asks for a timeout of so many ticks.
+    /// Opens a session for the calling client. The argument is the timeout asked for, in ticks.
     Open(u64),
-    /// Keeps the client's session of this id alive.
+    /// Renews the client's session with this id.
     Ping(SessionId),
-    /// Ends the client's session of this id.
+    /// Ends the client's session with this id.
     Close(SessionId),
-    /// Raises the clock by one tick, which ends each session whose deadline it reaches.
+    /// Advances the clock by one tick. It ends each session whose deadline is reached. Then it
+    /// removes each node whose TTL has expired and that had no children before the tick.
     Tick,
 }
 
-/// A call that changes nothing.
+/// A call that reads the tree and changes nothing.
 #[derive(Drop)]
 pub enum Query {
-    /// The data and the stat of a node.
+    /// Reads the data and the stat of a node.
     GetData(Path),
-    /// The stat of a node.
+    /// Reads the stat of a node.
     Exists(Path),
-    /// The names of a node's children.
+    /// Reads the names of a node's children.
     GetChildren(Path),
 }
 
-/// A call.
+/// A call of a client.
 #[derive(Drop)]
 pub enum Call {
-    /// One that may change the tree.
+    /// A call that may change the tree.
     Update(Update),
-    /// One that changes nothing.
+    /// A call that changes nothing.
     Query(Query),
 }
 
-/// An update, with the client that asks for it and that client's number of the call: what every
-/// machine applies in the same order.
+/// A log entry: an update, its client, and that client's number for the call. Every machine applies
+/// the entries in the same order.
 #[derive(Drop)]
 pub struct Entry {
-    /// Who asks.
+    /// The calling client.
     pub client: ClientId,
     /// The client's number of the call.
     pub number: CallNumber,
-    /// What is asked for.
+    /// The update.
     pub update: Update,
 }

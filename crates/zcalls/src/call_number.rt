@@ -1,11 +1,11 @@
-//! The call number.
+//! The number of a client's call.
 
 ghost use Rattle.std.specs.Prelude.{◌≡◌, ◌<◌, ◌≤◌, IfNone, IfSome};
 
 use crate::limits::MAX_CALL_NUMBER;
 use std::marker::Model;
 
-/// The number of a client's call: its first has 1, and each next one more. It is below 2^62.
+/// The number of a client's call: 1 for the first, then one more each time. It is below 2^62.
 #[derive(Clone, Copy, Debug, PartialEq, Eq)]
 pub struct CallNumber {
     number: u64,
@@ -25,7 +25,7 @@ impl Model for CallNumber {
 }
 
 impl CallNumber {
-    /// The one of that number; none from 2^62 on.
+    /// Returns the call number with this value, or `None` from 2^62 on.
     pub fn new(number: u64) -> Option<CallNumber>
         ensures same { IfSome result (λ n. (n ≡ number) × (number ≤ MAX_CALL_NUMBER)) }
         ensures none { IfNone result (MAX_CALL_NUMBER < number) }
@@ -37,14 +37,14 @@ impl CallNumber {
         }
     }
 
-    /// The number before the first call's.
+    /// Returns 0, the number before the first call.
     pub fn before_all() -> CallNumber
         ensures { result ≡ 0 }
     {
         CallNumber { number: 0 }
     }
 
-    /// Its number.
+    /// Returns its value.
     pub fn number(self) -> u64
         ensures same { result ≡ self }
         ensures small { result ≤ MAX_CALL_NUMBER }

@@ -1,29 +1,29 @@
-//! A change of one node: what is asked for, and what it did.
+//! A change of one node, and its result.
 
 use crate::call::{Create, Delete, Part, SetData, Update};
 use crate::reply::{PartReply, Reply};
 use zpath::Path;
 use ztree::Stat;
 
-/// A change of one node. By itself it is an update, and in a multi a part.
+/// A change of one node. It is an update by itself, or a part of a multi.
 #[derive(Drop)]
 pub enum Change {
-    /// Makes a node.
+    /// Creates a node.
     Create(Create),
-    /// Takes a node away.
+    /// Deletes a node.
     Delete(Delete),
     /// Writes a node's data.
     SetData(SetData),
 }
 
-/// What a change of one node did.
+/// The result of a change of one node.
 #[derive(Drop)]
 pub enum ChangeReply {
-    /// It made the node at this path.
+    /// The node at this path was created.
     Created(Path),
-    /// It took the node away.
+    /// The node was deleted.
     Deleted,
-    /// It wrote the data of a node, of which this is told now.
+    /// The data was written; this is the node's new stat.
     Set(Stat),
 }
 

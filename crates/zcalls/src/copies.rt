@@ -1,4 +1,4 @@
-//! Copies: each value of a call or a reply, once more. Only want of memory refuses one.
+//! Copies of calls and replies. A copy fails only for out of memory.
 
 ghost use Rattle.std.specs.Prelude.{◌≡◌, IfOk};
 
@@ -10,7 +10,7 @@ use std::alloc::Global;
 use zpath::{Memory, Name};
 
 impl Create {
-    /// The same wish once more.
+    /// Returns a copy of the create.
     pub fn copied(&self, alloc: Global) -> Result<Create, Memory>
         ensures { IfOk result (λ copy. copy ≡ self.now) }
     {
@@ -23,7 +23,7 @@ impl Create {
 }
 
 impl Delete {
-    /// The same wish once more.
+    /// Returns a copy of the delete.
     pub fn copied(&self, alloc: Global) -> Result<Delete, Memory>
         ensures { IfOk result (λ copy. copy ≡ self.now) }
     {
@@ -35,7 +35,7 @@ impl Delete {
 }
 
 impl SetData {
-    /// The same wish once more.
+    /// Returns a copy of the set.
     pub fn copied(&self, alloc: Global) -> Result<SetData, Memory>
         ensures { IfOk result (λ copy. copy ≡ self.now) }
     {
@@ -48,7 +48,7 @@ impl SetData {
 }
 
 impl Check {
-    /// The same wish once more.
+    /// Returns a copy of the check.
     pub fn copied(&self, alloc: Global) -> Result<Check, Memory>
         ensures { IfOk result (λ copy. copy ≡ self.now) }
     {
@@ -60,7 +60,7 @@ impl Check {
 }
 
 impl Part {
-    /// The same part once more.
+    /// Returns a copy of the part.
     pub fn copied(&self, alloc: Global) -> Result<Part, Memory>
         ensures { IfOk result (λ copy. copy ≡ self.now) }
     {
@@ -74,7 +74,7 @@ impl Part {
 }
 
 impl Multi {
-    /// The same parts once more.
+    /// Returns a copy of the parts.
     pub fn copied(&self, alloc: Global) -> Result<Multi, Memory>
         ensures { IfOk result (λ copy. copy ≡ self.now) }
     {
@@ -97,7 +97,7 @@ fn copied_parts(alloc: Global, parts: &[Part]) -> Result<Vec<Part>, Memory>
 }
 
 impl Update {
-    /// The same update once more.
+    /// Returns a copy of the update.
     pub fn copied(&self, alloc: Global) -> Result<Update, Memory>
         ensures { IfOk result (λ copy. copy ≡ self.now) }
     {
@@ -115,7 +115,7 @@ impl Update {
 }
 
 impl Query {
-    /// The same query once more.
+    /// Returns a copy of the query.
     pub fn copied(&self, alloc: Global) -> Result<Query, Memory>
         ensures { IfOk result (λ copy. copy ≡ self.now) }
     {
@@ -128,7 +128,7 @@ impl Query {
 }
 
 impl Call {
-    /// The same call once more.
+    /// Returns a copy of the call.
     pub fn copied(&self, alloc: Global) -> Result<Call, Memory>
         ensures { IfOk result (λ copy. copy ≡ self.now) }
     {
@@ -140,7 +140,7 @@ impl Call {
 }
 
 impl PartReply {
-    /// The same reply once more.
+    /// Returns a copy of the reply.
     pub fn copied(&self, alloc: Global) -> Result<PartReply, Memory>
         ensures { IfOk result (λ copy. copy ≡ self.now) }
     {
@@ -154,7 +154,7 @@ impl PartReply {
 }
 
 impl Replies {
-    /// The same replies once more.
+    /// Returns a copy of the replies.
     pub fn copied(&self, alloc: Global) -> Result<Replies, Memory>
         ensures { IfOk result (λ copy. copy ≡ self.now) }
     {
@@ -174,7 +174,7 @@ fn copied_replies(alloc: Global, replies: &[PartReply]) -> Result<Vec<PartReply>
 }
 
 impl Names {
-    /// The same names once more.
+    /// Returns a copy of the names.
     pub fn copied(&self, alloc: Global) -> Result<Names, Memory>
         ensures { IfOk result (λ copy. copy ≡ self.now) }
     {
@@ -194,7 +194,7 @@ fn copied_names(alloc: Global, names: &[Name]) -> Result<Vec<Name>, Memory>
 }
 
 impl Reply {
-    /// The same reply once more.
+    /// Returns a copy of the reply.
     pub fn copied(&self, alloc: Global) -> Result<Reply, Memory>
         ensures { IfOk result (λ copy. copy ≡ self.now) }
     {

@@ -1,8 +1,9 @@
-//! The calls of the service, what each does to the plain tree, and what it is answered: definitions and types.
+//! The calls of the service: the types, and the definitions of what each call does and returns.
 //!
-//! The plain step (`specs/Step.antt`) is the sequential specification: the service as it would be if one machine
-//! did one call after the other. The entry step (`specs/Kept.antt`) lets an update act once, however often it is
-//! asked for. Their laws are contracts of functions with empty bodies. No store is known here.
+//! The sequential step (`specs/Step.antt`) is the sequential specification: the service as one
+//! machine that does one call after the other. The entry step (`specs/Kept.antt`) lets an update
+//! act once, however often it is sent. Their laws are contracts of functions with empty bodies.
+//! This crate knows no store.
 #![tactic(auto)]
 
 mod call;

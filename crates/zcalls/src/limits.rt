@@ -1,18 +1,18 @@
-//! The limits on calls, by which clauses and definitions name them.
+//! The limits on calls. Clauses and definitions refer to them by name.
 
-/// The most parts of one multi. The limit is this project's profile.
+/// The greatest number of parts in a multi. The limit is this project's profile.
 pub const MAX_PARTS: usize = 64;
 
 /// The last number that a node's counter gives. The limit is ZooKeeper's.
 pub const MAX_COUNTER: u64 = 2147483647;
 
-/// The least timeout that is given, in ticks. It is ZooKeeper's.
+/// The least session timeout, in ticks. The limit is ZooKeeper's.
 pub const MIN_TIMEOUT: u64 = 2;
 
-/// The greatest timeout that is given, in ticks. It is ZooKeeper's.
+/// The greatest session timeout, in ticks. The limit is ZooKeeper's.
 pub const MAX_TIMEOUT: u64 = 20;
 
-/// The greatest number of a client's call.
+/// The greatest call number.
 pub const MAX_CALL_NUMBER: u64 = (1 << 62) - 1;
 
 /// The most times that one change raises a counter of one node.

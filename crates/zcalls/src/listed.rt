@@ -1,4 +1,4 @@
-//! Lists in replies.
+//! The lists in replies.
 
 ghost use Rattle.std.specs.Prelude.{◌≡◌};
 
@@ -6,7 +6,7 @@ use crate::reply::PartReply;
 use std::marker::Model;
 use zpath::Name;
 
-/// What the parts of a multi did, in their order.
+/// The replies to the parts of a multi, in order.
 #[derive(Drop)]
 pub struct Replies {
     replies: Vec<PartReply>,
@@ -22,14 +22,14 @@ impl Model for Replies {
 }
 
 impl Replies {
-    /// The replies as a list.
+    /// Wraps the replies.
     pub fn new(replies: Vec<PartReply>) -> Replies
         ensures { result ≡ replies.items }
     {
         Replies { replies }
     }
 
-    /// The replies in their order.
+    /// Returns the replies in order.
     pub fn as_slice(&self) -> &[PartReply]
         ensures { result.now ≡ self.now }
     {
@@ -52,14 +52,14 @@ impl Model for Names {
 }
 
 impl Names {
-    /// The names as a list.
+    /// Wraps the names.
     pub fn new(names: Vec<Name>) -> Names
         ensures { result ≡ names.items }
     {
         Names { names }
     }
 
-    /// The names in the order of their bytes.
+    /// Returns the names, as they were given. A reply lists them in byte order.
     pub fn as_slice(&self) -> &[Name]
         ensures { result.now ≡ self.now }
     {

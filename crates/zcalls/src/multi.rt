@@ -4,7 +4,7 @@ use crate::call::Part;
 use crate::limits::MAX_PARTS;
 use std::marker::Model;
 
-/// The parts of a multi, 1 to 64, in their order.
+/// The parts of a multi, in order: 1 to 64 of them.
 #[derive(Drop)]
 pub struct Multi {
     parts: Vec<Part>,
@@ -25,7 +25,8 @@ impl Model for Multi {
 impl Multi {
     ghost use Rattle.std.specs.Prelude.{◌≡◌, ◌≤◌, ◌<◌, IfOk, IfErr, ◌⊎◌, length};
 
-    /// The parts of a multi; none or more than 64 are handed back.
+    /// Makes a multi from its parts. Returns them unchanged as the error if there are none or more
+    /// than 64.
     pub fn new(parts: Vec<Part>) -> Result<Multi, Vec<Part>>
         ensures multi { IfOk result (λ multi. multi ≡ parts.items) }
         ensures back { IfErr result (λ back. back ≡ parts) }
@@ -39,7 +40,7 @@ impl Multi {
         }
     }
 
-    /// The parts in their order.
+    /// Returns the parts in order.
     pub fn as_slice(&self) -> &[Part]
         ensures parts { result.now ≡ self.now }
         ensures some { 0 < length self.now }
@@ -48,7 +49,7 @@ impl Multi {
         &self.parts
     }
 
-    /// The parts.
+    /// Returns the parts, and consumes the multi.
     pub fn into_parts(self) -> Vec<Part>
         ensures parts { result.items ≡ self }
         ensures few { length self ≤ MAX_PARTS }

@@ -6,29 +6,29 @@ use thiserror::Error;
 /// Why a call was refused. A refused call changes nothing.
 #[derive(Clone, Copy, Debug, PartialEq, Eq, Error)]
 pub enum Refusal {
-    /// There is no such node.
+    /// The node doesn't exist.
     NoNode,
-    /// The node is there already.
+    /// The node already exists.
     NodeExists,
     /// The node has children.
     NotEmpty,
-    /// The node has another version.
+    /// The node has a different version.
     BadVersion,
     /// The parent is ephemeral.
     NoChildrenForEphemerals,
-    /// The session isn't there, or is another client's.
+    /// The session doesn't exist, or belongs to another client.
     SessionGone,
     /// The parent's counter has given its last number.
     SequenceFull,
-    /// The made name or the made path is too long.
+    /// The resulting name or path would be too long.
     PathLimit,
     /// The root can't be deleted.
     RootFixed,
-    /// There are 4,096 nodes.
+    /// The tree already has 4,096 nodes.
     Full,
-    /// There are 1,024 sessions.
+    /// There are already 1,024 sessions.
     TooManySessions,
-    /// The last change has the greatest number that there is; or, at a tick, the clock has.
+    /// The last zxid has been used up; or, for a tick, the last tick.
     Exhausted,
 }
 

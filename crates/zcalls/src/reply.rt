@@ -1,50 +1,51 @@
-//! Replies.
+//! The replies of the service.
 
 use crate::listed::{Names, Replies};
 use crate::refusal::Refusal;
 use zpath::Path;
 use ztree::{Data, SessionId, Stat};
 
-/// What one part of a change did.
+/// The reply to one part of a multi.
 #[derive(Drop)]
 pub enum PartReply {
-    /// It made the node at this path.
+    /// The node at this path was created.
     Created(Path),
-    /// It took the node away.
+    /// The node was deleted.
     Deleted,
-    /// It wrote the data of a node, of which this is told now.
+    /// The data was written; this is the node's new stat.
     Set(Stat),
-    /// The node is there, and has the version.
+    /// The node exists and has the version.
     Checked,
 }
 
-/// What a call is answered with.
+/// The reply to a call.
 #[derive(Drop)]
 pub enum Reply {
-    /// The node at this path was made.
+    /// The node at this path was created.
     Created(Path),
-    /// The node was taken away.
+    /// The node was deleted.
     Deleted,
-    /// The data of a node was written, and this is told of it now.
+    /// The data was written; this is the node's new stat.
     Set(Stat),
-    /// All parts of a multi were done, and did this.
+    /// All parts of the multi were done; these are their replies.
     Multi(Replies),
-    /// A session was opened: its id, and the timeout that it was given, in ticks.
+    /// A session was opened: its id, and the timeout granted, in ticks.
     Opened(SessionId, u64),
-    /// The session lives for its timeout from now.
+    /// The session was renewed: it lives for its whole timeout from now.
     Pinged,
-    /// The session was ended.
+    /// The session was closed.
     Closed,
-    /// The clock shows this tick, which ended so many sessions, and then removed so many nodes whose time to live was over.
+    /// The clock's new tick, the number of sessions that it ended, and the number of nodes that it
+    /// then removed since their TTL had expired.
     Ticked(u64, usize, usize),
-    /// The data of a node, and what is told of it.
+    /// The data of a node, and its stat.
     Data(Data, Stat),
-    /// What is told of a node.
+    /// The stat of a node.
     Exists(Stat),
-    /// The names of a node's children, in the order of their bytes.
+    /// The names of a node's children, in byte order.
     Children(Names),
     /// The call was refused.
     Refused(Refusal),
-    /// The multi was refused, since this part of it, counted from 1, was.
+    /// The multi was refused: the number of the refused part, counted from 1, and its refusal.
     MultiRefused(usize, Refusal),
 }

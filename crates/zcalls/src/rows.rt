@@ -1,4 +1,4 @@
-//! Worked rows of the definitions: each function's contract has some, and its body does nothing.
+//! Worked examples of the definitions. Each function's contract has some; its body does nothing.
 
 ghost use Rattle.std.specs.Prelude.{◌≡◌, ℕ, [], ◌∷◌, true, false, None, Ok, Err};
 ghost use Rattle.std.specs.FinMap.{get};
@@ -31,8 +31,8 @@ ghost use Rattle.zcalls.specs.support.Rows.{HasNode, IsChildless, get_a};
 ghost use Rattle.zcalls.specs.support.Rows.{delete_a, set_a, sevens, childless_stat, without_a, deleted_a};
 ghost use Rattle.zcalls.specs.support.Rows.{without_7, only_7, only_a, ticked, leaves};
 
-/// What one entry does: where nothing is kept; and where a client's call 3 acted last, as the seventh
-/// create.
+/// What one entry does: where nothing is cached, and where a client's call 3 acted last, as the
+/// seventh create.
 pub fn updates_act_once()
     ensures number_0 { after seven (creates 1 0) ≡ (seven, None) }
     ensures first { after seven (creates 1 1) ≡ (with_eighth seven 1 1, told 8) }
@@ -41,7 +41,7 @@ pub fn updates_act_once()
     ensures other_client { after third_kept (creates 2 3) ≡ (with_eighth third_kept 2 3, told 8) }
 {}
 
-/// What six entries of a client are answered, one after the other: call 1 acts, and call 2 is refused.
+/// The replies to six entries of one client in sequence: call 1 acts, and call 2 is refused.
 pub fn refusals_are_kept()
     ensures number_0 { after one (creates 1 0) ≡ (one, None) }
     ensures acts { after one (creates 1 1) ≡ (created, told 2) }
@@ -51,23 +51,23 @@ pub fn refusals_are_kept()
     ensures refused_again { after refused (deletes 1 2) ≡ (refused, told_no) }
 {}
 
-/// The plain tree as a service: where it starts, what an update does to it, and what a query is answered.
+/// The plain tree as a service: its initial state, what an update does, and the reply to a query.
 pub fn plain_tree_steps()
     ensures opening { plain_tree.opening ≡ opening_tree }
     ensures update { (t : Tree) (c : ℕ) (u : Update) → plain_tree.update t c u ≡ step t c u }
     ensures ask { (t : Tree) (query : Query) → plain_tree.ask t query ≡ query_reply t query }
 {}
 
-/// The order in which refusals are tested, whatever the tests say: of two that hold, the earlier is the
-/// answer.
+/// The order in which refusals are tested, for any outcomes of the tests: of two that hold, the
+/// earlier is the reply.
 pub fn refusals_have_an_order()
     ensures create { CreatesAreTested order_of_creates }
     ensures delete { DeletesAreTested (RootFixed ∷ NoNode ∷ BadVersion ∷ NotEmpty ∷ []) }
     ensures exhausted { IsRefusedWhere is_exhausted Exhausted }
 {}
 
-/// The parts of a multi, by what each does: none are done; one that is refused ends them, and is counted
-/// from 1; the reply of one that is done stands in front.
+/// The parts of a multi, by the result of each. An empty list of parts is done. A refused part ends
+/// the run and is numbered from 1. The reply of a part that is done comes first.
 pub fn parts_are_done_in_turn()
     ensures none { (t : Tree) (client : ℕ) → run t client [] ≡ Ok (t, []) }
     ensures refused { FirstIsRefused NoNode (Err (1, NoNode)) }
@@ -76,8 +76,8 @@ pub fn parts_are_done_in_turn()
         → FirstIsChecked (Ok (v, Deleted ∷ [])) (Ok (v, Checked ∷ Deleted ∷ [])) }
 {}
 
-/// A change that names a version is done where the node has that version, and only there. The node that is spoken of has
-/// version 6 and cversion 8.
+/// A change that names a version is done only where the node has that version. The node of the
+/// examples has version 6 and cversion 8.
 pub fn versions_are_tested()
     ensures any { has_other_version Any some_node ≡ false }
     ensures same { has_other_version (Exactly 6) some_node ≡ false }
@@ -87,8 +87,8 @@ pub fn versions_are_tested()
     ensures set_of_another { (t : Tree) → HasNode t → set_a t 8 ≡ Err BadVersion }
 {}
 
-/// What is told: the bytes and the stat of a node, the part of a multi that was refused, and whether a node's counter has
-/// given its last number.
+/// What is returned: the data and the stat of a node, and the part of a multi that was refused.
+/// Also, whether a node's counter has given its last number.
 pub fn what_is_told()
     ensures data { (t : Tree) → HasNode t → IsChildless t
         → get_a t ≡ reply.Data sevens childless_stat }
@@ -99,7 +99,7 @@ pub fn what_is_told()
     ensures no_number { is_spent (record some_node { seq = 2147483648 }) ≡ true }
 {}
 
-/// Which replies say that a call was done: all but the two refusals.
+/// Which replies are successes: all but the two refusals.
 pub fn successes()
     ensures created { is_success (reply.Created []) ≡ true }
     ensures deleted { is_success reply.Deleted ≡ true }
@@ -124,8 +124,8 @@ pub fn changes_of_ticks()
     ensures both { is_change (reply.Ticked 1 1 1) ≡ true }
 {}
 
-/// What a tick leaves and tells, by the sessions that end and the nodes that go: first the sessions, then the nodes, and one
-/// number for all of them.
+/// The tree and the reply after a tick, given the sessions that end and the nodes that go. The
+/// sessions come first, then the nodes, with one zxid for all of them.
 pub fn ticks_are_one_change()
     ensures idle { (t : Tree) → tick_result t [] [] ≡ (with_next_tick t, ticked t 0 0) }
     ensures ends { (t : Tree) → tick_result t only_7 [] ≡ leaves t (without_7 t) 1 0 }
@@ -134,7 +134,7 @@ pub fn ticks_are_one_change()
         ≡ leaves t (without_a (without_7 t)) 1 1 }
 {}
 
-/// What kinds with a time to live are made of.
+/// The attributes of the kinds with a TTL.
 pub fn kinds_with_a_ttl()
     ensures ttl { ttl_of (PersistentWithTtl 5) ≡ 5 }
     ensures sequential_ttl { ttl_of (PersistentSequentialWithTtl 6) ≡ 6 }
@@ -146,7 +146,7 @@ pub fn kinds_with_a_ttl()
     ensures numbered { is_sequential (PersistentSequentialWithTtl 6) ≡ true }
 {}
 
-/// The limits, as numbers.
+/// The limits as numbers.
 pub fn limits_are_numbers()
     ensures parts { MAX_PARTS ≡ 64 }
     ensures counter { MAX_COUNTER ≡ 2147483647 }

@@ -1,4 +1,4 @@
-//! An entry with many owners.
+//! A log entry with shared ownership.
 
 ghost use Rattle.std.specs.Prelude.{◌≡◌, IfOk};
 
@@ -8,7 +8,8 @@ use std::marker::Model;
 use std::sync::Arc;
 use zpath::Memory;
 
-/// An entry that its owners share: a server that keeps one, applies it and forwards it has it once, and so has the chain.
+/// A shared log entry. A server that stores, applies and forwards an entry holds it once, and so
+/// does the chain.
 #[derive(Drop)]
 pub struct SharedEntry {
     entry: Arc<Entry>,
@@ -24,7 +25,7 @@ impl Model for SharedEntry {
 }
 
 impl SharedEntry {
-    /// The first owner of an entry.
+    /// Makes the first owner of an entry, or returns `Memory`.
     pub fn new(alloc: Global, entry: Entry) -> Result<SharedEntry, Memory>
         ensures { IfOk result (λ shared. shared ≡ entry) }
     {
@@ -33,14 +34,14 @@ impl SharedEntry {
         })
     }
 
-    /// The entry.
+    /// Returns the entry.
     pub fn entry(&self) -> &Entry
         ensures { result.now ≡ self.now }
     {
         &self.entry
     }
 
-    /// One more owner of the same entry.
+    /// Returns a copy that shares the entry, or `Memory`.
     pub fn copied(&self, _alloc: Global) -> Result<SharedEntry, Memory>
         ensures { IfOk result (λ shared. shared ≡ self.now) }
     {

@@ -1,4 +1,4 @@
--- What the calls of C do to a service.
+-- What C's calls do to a service.
 use Rattle.std.specs.Prelude.{◌≡◌, ℕ, ◌≤◌, ◌<◌, ◌⊎◌, List, [], ◌++◌, length, drop, string_bytes}
 use Rattle.zprotocol.specs.declared.limits.TheConstants.{MAX_SERVERS}
 use Rattle.zworld.specs.Steps.{WorldView}
@@ -11,48 +11,49 @@ use Rattle.zclib.specs.declared.service.Service.TheVariants.{Open, OutOfMemory, 
 use Rattle.zclib.specs.declared.status.Status.{Status}
 use Rattle.zclib.specs.declared.status.Status.TheVariants.{Done, Pending, Memory, NoServers}
 
--- the number that stands for a status in C
+-- a status's number in C
 abbrev pub code_of : Status → ℕ
 code_of Done = 0
 code_of Pending = 1
 code_of Memory = 2
 code_of NoServers = 3
 
--- what is to be told
+-- the pending answer
 abbrev pub to_tell : Service → List ℕ
 to_tell (Open script answer) = string_bytes answer
 to_tell OutOfMemory = []
 to_tell Refused = []
 
--- A service was opened with so many servers: nothing was asked of them and nothing is to be told; or there is no memory
--- for them; or there is no such number of servers.
+-- A service was opened with that number of servers. Its world is in its initial state, and no
+-- answer is pending; or memory ran out; or there is no such number of servers.
 abbrev pub IsOpened : ℕ → Service → Type 0
 IsOpened servers (Open script answer) =
     IsServers servers × (world_between script.held ≡ opening_of servers) × (string_bytes answer ≡ [])
 IsOpened servers OutOfMemory = IsServers servers
 IsOpened servers Refused = (servers ≡ 0) ⊎ (MAX_SERVERS < servers)
 
--- what to say of a service that was opened
+-- the status of a service that was just opened
 abbrev pub status_of : Service → Status
 status_of (Open script answer) = Done
 status_of OutOfMemory = Memory
 status_of Refused = NoServers
 
--- a service was asked what to say of it
+-- the code is that of the service's status, and the service stays as it was
 abbrev pub IsStatusOf : Service → Service → ℕ → Type 0
 IsStatusOf old new code = (new ≡ old) × (code ≡ code_of (status_of old))
 
--- a service was opened, and C is told this number
+-- a service was opened, and C receives this code
 abbrev pub OpensAs : ℕ → Service → ℕ → Type 0
 OpensAs servers new code = IsOpened servers new × (code ≡ code_of (status_of new))
 
--- a service is open, at a world and with an answer to be told of which this holds
+-- a service is open, and this holds of its world and its pending answer
 abbrev pub IsAt : Service → (ServiceWorld → List ℕ → Type 0) → Type 0
 IsAt (Open script answer) holds = holds (world_between script.held) (string_bytes answer)
 IsAt OutOfMemory holds = ⊥
 IsAt Refused holds = ⊥
 
--- Processes play a line. Either it is done, and its answer is what is to be told; or there is no memory, and they are let go.
+-- A world executes a line. Either that is done, and the line's answer is pending; or memory ran
+-- out, and the world was dropped.
 abbrev pub Plays : WorldView → Service → List ℕ → Status → Type 0
 Plays script new line Done =
     IsAt new (λ world told. IsLineDone (world_between script.held) line world (λ text. told ≡ text))
@@ -60,7 +61,8 @@ Plays script new line Pending = ⊥
 Plays script new line Memory = new ≡ OutOfMemory
 Plays script new line NoServers = ⊥
 
--- A service hears a line. It is played if no answer is still to be told, and else nothing is done. Want of memory is for good.
+-- A service is handed a line. It is executed if no answer is pending, and else nothing is done.
+-- Running out of memory is for good.
 abbrev pub Hears : Service → Service → List ℕ → Status → Type 0
 Hears (Open script answer) new line status =
     (string_bytes answer ≡ [] → Plays script new line status)
@@ -68,11 +70,11 @@ Hears (Open script answer) new line status =
 Hears OutOfMemory new line status = (status ≡ Memory) × (new ≡ OutOfMemory)
 Hears Refused new line status = (status ≡ NoServers) × (new ≡ Refused)
 
--- the same, and C is told this number
+-- the same, and C receives this code
 abbrev pub HearsAs : Service → Service → List ℕ → ℕ → Type 0
 HearsAs old new line code = (status : Status) × (code ≡ code_of status) × Hears old new line status
 
--- nothing is to be told any more, and all else is as it was
+-- no answer is pending any more, and all else is as it was
 abbrev pub HasTold : Service → Service → Type 0
 HasTold (Open script answer) (Open left nothing) = (left ≡ script) × (string_bytes nothing ≡ [])
 HasTold (Open script answer) OutOfMemory = ⊥
@@ -80,8 +82,8 @@ HasTold (Open script answer) Refused = ⊥
 HasTold OutOfMemory new = new ≡ OutOfMemory
 HasTold Refused new = new ≡ Refused
 
--- What is to be told is told whole where there is room for it, and what stands behind it in the buffer stays; else nothing is
--- done. The count is its length either way.
+-- The pending answer is copied whole if the buffer has room for it, and the bytes behind it stay.
+-- Otherwise nothing is done. The count is the answer's length either way.
 abbrev pub Tells : Service → Service → List ℕ → List ℕ → ℕ → Type 0
 Tells old new before after count =
     (count ≡ length (to_tell old))

@@ -1,4 +1,4 @@
--- What a program of C does with one service, call by call, and what it is told.
+-- What a C program does with one service, call by call, and what it receives.
 use Rattle.std.specs.Prelude.{◌≡◌, ℕ, nat_lt, List, [], ◌∷◌, ◌++◌, length, take, if◌then◌else◌}
 use Rattle.zworld_model.specs.declared.outcome.Outcome.{Outcome}
 use Rattle.zscript.specs.Line.{opening_script, answers}
@@ -7,8 +7,7 @@ use Rattle.zclib.specs.declared.status.Status.{Status}
 use Rattle.zclib.specs.declared.status.Status.TheVariants.{Done, Pending, Memory, NoServers}
 use Rattle.zclib.specs.Service.{IsOpened, Hears, Tells, to_tell}
 
--- A call: a line was given, and this status came back; or a buffer was given, was so before and after it, and this count
--- came back.
+-- A call and its result: a line, and the status; or a buffer before and after, and the count.
 pub data Call : Type 0 where
   Hear : List ℕ → Status → Call
   Tell : List ℕ → List ℕ → ℕ → Call
@@ -18,12 +17,12 @@ abbrev pub IsCalled : Service → Call → Service → Type 0
 IsCalled old (Hear line status) new = Hears old new line status
 IsCalled old (Tell before after count) new = Tells old new before after count
 
--- some calls, one after the other
+-- a sequence of calls
 abbrev pub IsUsed : Service → List Call → Service → Type 0
 IsUsed old [] new = new ≡ old
 IsUsed old (call ∷ calls) new = (next : Service) × IsCalled old call next × IsUsed next calls new
 
--- the line of a call, if it was played
+-- the line of a call, if it was executed
 abbrev pub played_by : Call → List (List ℕ)
 played_by (Hear line Done) = line ∷ []
 played_by (Hear line Pending) = []
@@ -31,23 +30,23 @@ played_by (Hear line Memory) = []
 played_by (Hear line NoServers) = []
 played_by (Tell before after count) = []
 
--- what a call told: the front of its buffer, if there was room
+-- the answer that a call delivered: the front of its buffer, if there was room
 abbrev pub told_by : Call → List ℕ
 told_by (Hear line status) = []
 told_by (Tell before after count) = if nat_lt (length before) count then [] else take count after
 
--- the lines that were played
+-- the lines that were executed
 abbrev pub played_lines : List Call → List (List ℕ)
 played_lines [] = []
 played_lines (call ∷ calls) = played_by call ++ played_lines calls
 
--- all that was told
+-- all answers that were delivered
 abbrev pub told_bytes : List Call → List ℕ
 told_bytes [] = []
 told_bytes (call ∷ calls) = told_by call ++ told_bytes calls
 
--- Whatever the calls are: what was told, and what is to be told still, is what a script of the lines that were played is
--- answered with, under some outcomes of its events.
+-- Whatever the calls are: the answers delivered, and then the pending one, are a script's answers
+-- to the executed lines, for some outcomes of its events.
 abbrev pub ScriptsTextIsTold : Type 0
 ScriptsTextIsTold =
     (servers : ℕ) (opened used : Service) (calls : List Call) → IsOpened servers opened → IsUsed opened calls used

@@ -1,4 +1,5 @@
-//! The exports. C holds a service by a pointer to bytes: its type reaches numbers of 128 bits, which no export may lead to.
+//! The C exports. C holds a service by a pointer to bytes. The type itself reaches numbers of 128
+//! bits, which no export may lead to.
 
 ghost use Rattle.std.specs.Prelude.{◌≡◌, ℕ, ◌^◌, ◌<◌, List, length};
 ghost use Rattle.std.specs.Mem.{type_size};
@@ -16,7 +17,7 @@ use crate::service::{Service, finish, hear, make, status, tell};
 use std::alloc::Global;
 use std::mem::size_of;
 
-/// How many bytes a service takes, for which C makes room.
+/// Returns the size of a service in bytes. C provides the memory.
 #[unsafe(no_mangle)]
 pub extern "C" fn jellqupas_size() -> usize
     ensures { result ≡ type_size service.the_row }
@@ -24,8 +25,8 @@ pub extern "C" fn jellqupas_size() -> usize
     size_of::<Service>()
 }
 
-/// Makes a service where there is room for one, and says whether it is open: 0; 2, no memory was found; 3, there is no
-/// such number of servers.
+/// Opens a service in the memory at `at`. Returns 0 where it is open, 2 where it is out of memory,
+/// and 3 where there is no such number of servers.
 #[unsafe(no_mangle)]
 pub unsafe extern "C" fn jellqupas_open(alloc: Global, servers: u8, at: *mut u8) -> u32
     requires* { sem 𝓛 (room_at service.the_row at) }
@@ -37,8 +38,11 @@ pub unsafe extern "C" fn jellqupas_open(alloc: Global, servers: u8, at: *mut u8)
     status(&mut *at)
 }
 
-/// Plays one line, without its LF: 0, its answer is then to be told; 1, an answer is still to be told, and nothing was
-/// done; 2, no memory was found, now or before; 3, there are no servers.
+/// Executes one line, which is given without its LF.
+///
+/// Returns 0 where that is done: its answer is then pending. Returns 1 where an earlier answer is
+/// still pending, and nothing was done. Returns 2 where memory ran out, now or before, and 3 where
+/// there are no servers.
 #[unsafe(no_mangle)]
 pub unsafe extern "C" fn jellqupas_hear(at: *mut u8, from: *const u8, len: usize) -> u32
     ghost g: { Service × (Share × List ℕ) }
@@ -54,7 +58,8 @@ pub unsafe extern "C" fn jellqupas_hear(at: *mut u8, from: *const u8, len: usize
     )
 }
 
-/// How many bytes the answer has. Where there is room for it, it is written there, and is told; else nothing is done.
+/// Returns the length of the pending answer in bytes. If the buffer has room for it, it is copied
+/// there, and is pending no more. Otherwise nothing is done.
 #[unsafe(no_mangle)]
 pub unsafe extern "C" fn jellqupas_tell(at: *mut u8, to: *mut u8, len: usize) -> usize
     ghost g: { Service × List ℕ }
@@ -71,7 +76,7 @@ pub unsafe extern "C" fn jellqupas_tell(at: *mut u8, to: *mut u8, len: usize) ->
     )
 }
 
-/// Ends a service, and leaves the room that it had.
+/// Closes a service. The memory in which it lay is C's to free.
 #[unsafe(no_mangle)]
 pub unsafe extern "C" fn jellqupas_close(at: *mut u8)
     ghost g: { Service }

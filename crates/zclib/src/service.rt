@@ -10,18 +10,19 @@ use zprotocol::ServerId;
 use zscript::{answer_line, script_world};
 use zworld::World;
 
-/// What C has room for.
+/// A service, in memory that C provides.
 #[derive(Drop)]
 pub enum Service {
-    /// A world with every client that there can be, and the answer to the last line, until it is told.
+    /// A world with all clients, and the answer to the last line until it is read.
     Open(World, String),
-    /// None any more: no memory was found, and they were let go.
+    /// Out of memory: there is no world, or it was dropped.
     OutOfMemory,
-    /// None: there is no such number of servers.
+    /// There is no such number of servers.
     Refused,
 }
 
-/// A service that begins with so many servers, if there are so many and memory for them.
+/// Returns a service whose chain begins with `servers` servers. It is `Refused` where there is no
+/// such number, and `OutOfMemory` where memory ran out.
 pub(crate) fn make(alloc: Global, servers: u8) -> Service
     ensures { IsOpened servers result }
 {
@@ -34,7 +35,7 @@ pub(crate) fn make(alloc: Global, servers: u8) -> Service
     }
 }
 
-/// What to say of a service that was opened.
+/// Returns the status code of a service that was just opened.
 pub(crate) fn status(service: &mut Service) -> u32
     ensures { IsStatusOf service.old service.new result }
 {
@@ -46,7 +47,8 @@ pub(crate) fn status(service: &mut Service) -> u32
     status.code()
 }
 
-/// Plays a line, whose answer is then to be told. After want of memory no line is played any more.
+/// Executes a line; its answer is then pending. Once memory has run out, no line is executed any
+/// more.
 fn play(service: &mut Service, line: &[u8]) -> Status
     ensures { Hears service.old service.new line.now result }
 {
@@ -65,14 +67,14 @@ fn play(service: &mut Service, line: &[u8]) -> Status
     Status::Memory
 }
 
-/// The same, and the number that stands for the status.
+/// Does the same, and returns the status code.
 pub(crate) fn hear(service: &mut Service, line: &[u8]) -> u32
     ensures { HearsAs service.old service.new line.now result }
 {
     play(service, line).code()
 }
 
-/// Tells the answer where there is room for all of it, and says how many bytes it has.
+/// Moves the pending answer to the buffer if all of it fits. Returns its length in bytes.
 pub(crate) fn tell(service: &mut Service, to: &mut [u8]) -> usize
     ensures { Tells service.old service.new to.old to.new result }
 {
@@ -88,7 +90,7 @@ pub(crate) fn tell(service: &mut Service, to: &mut [u8]) -> usize
     count
 }
 
-/// Ends a service.
+/// Drops a service.
 pub(crate) fn finish(service: Service) {
     drop(service);
 }

@@ -1,23 +1,23 @@
-//! What C is told of a call.
+//! The status of a call, as C receives it.
 
 ghost use Rattle.std.specs.Prelude.{◌≡◌};
 ghost use Rattle.zclib.specs.Service.{code_of};
 
-/// What became of a call.
+/// The status of a call.
 #[derive(Clone, Copy, Drop)]
 pub enum Status {
-    /// It was done.
+    /// The call was done.
     Done,
-    /// An answer is still to be told, and nothing was done.
+    /// An answer is still pending, and nothing was done.
     Pending,
-    /// No memory was found, now or before.
+    /// Out of memory, now or before.
     Memory,
-    /// The service was opened with a number of servers that there isn't.
+    /// The service was opened with a number of servers out of the range.
     NoServers,
 }
 
 impl Status {
-    /// The number that stands for it in C.
+    /// Returns its number in C.
     pub(crate) fn code(self) -> u32
         ensures { result ≡ code_of self }
     {

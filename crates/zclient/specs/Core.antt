@@ -1,4 +1,4 @@
--- What the client table leaves open: when there is no memory, and how a reply is handed out.
+-- What the client table leaves open: out of memory, and how a reply is handed out.
 use Rattle.std.specs.Prelude.{◌≡◌, ◌<◌, ℕ, Option, None, Some, List}
 use Rattle.std.specs.Option.{IsSome, option_map}
 use Rattle.zcalls.specs.declared.reply.Reply.{Reply}
@@ -12,20 +12,22 @@ use Rattle.zprotocol.specs.declared.client.begin_fault.BeginFault.TheVariants.{M
 use Rattle.zprotocol.specs.client.View.{ClientView}
 use Rattle.zprotocol.specs.client.Table.{begin_fault, outstanding_posts}
 
--- a call is refused with this: by the table, or for memory where the table allows it
+-- a call is refused with this fault: the table's own, or `Memory` where the table would allow the
+-- call
 abbrev pub IsBeginFault : ClientView → BeginFault → Type 0
 IsBeginFault v Memory = begin_fault v ≡ None
 IsBeginFault v fault = begin_fault v ≡ Some fault
 
--- a message for which a call has to be sent again: a later configuration, while the client waits for a call
+-- at this message a call has to be sent again: it is a later configuration, and a call is
+-- outstanding
 abbrev pub IsResend : {T : Type 0} → ClientView → Process → Message T → Type 0
 IsResend v Master (message.Config epoch head tail) = (v.epoch < epoch) × IsSome v.outstanding
 IsResend v from other = ⊥
 
--- the reply that is handed out, without its call's number
+-- the reply that is handed out, without the number of its call
 abbrev pub reply_of : Option (ℕ × Reply) → Option Reply
 reply_of given = option_map (λ answer. answer.1) given
 
--- the call that a client waits for, sent to these ends of the chain
+-- the outstanding call, sent to these ends of the chain
 abbrev pub sent_to : {T : Type 0} → ClientView → Option ℕ → Option ℕ → List (PostOf T)
 sent_to v head tail = outstanding_posts (record v { head = head; tail = tail })

@@ -13,7 +13,8 @@ use zcalls::{Call, CallNumber, MAX_CALL_NUMBER, Reply};
 use zpath::Memory;
 use zprotocol::{BeginFault, Epoch, Message, Out, Process, ServerId};
 
-/// What a client knows: its last call's number, the call that it waits for, and the chain's ends.
+/// What a client knows: the number of its last call, its outstanding call, and the ends of the
+/// chain.
 #[derive(Drop)]
 pub struct ClientCore {
     alloc: Global,
@@ -39,7 +40,7 @@ impl Model for ClientCore {
 }
 
 impl ClientCore {
-    /// A client of the opening chain, whose last server is this. It takes no memory.
+    /// Returns a client of the initial chain, whose last server is `last`. It allocates nothing.
     pub fn new(alloc: Global, last: ServerId) -> ClientCore
         ensures { (clients c : ℕ) → c < clients → result ≡ opening_client last clients c }
     {
@@ -53,7 +54,8 @@ impl ClientCore {
         }
     }
 
-    /// A client that there isn't: it knows no chain. It takes no memory.
+    /// Returns the state of a client number that the world doesn't have: it knows no chain. It
+    /// allocates nothing.
     pub fn outside(alloc: Global) -> ClientCore
         ensures { (servers clients c : ℕ) → clients ≤ c
             → result ≡ opening_client servers clients c }
@@ -68,7 +70,7 @@ impl ClientCore {
         }
     }
 
-    /// The number of the call that it waits for.
+    /// Returns the number of the outstanding call, if there is one.
     pub fn outstanding(&self) -> Option<CallNumber>
         ensures { result ≡ option_map (λ waits. waits.0) self.now.outstanding }
     {
@@ -76,7 +78,8 @@ impl ClientCore {
         Some(*number)
     }
 
-    /// Why it can't begin a call now: `Busy`, or `Exhausted`.
+    /// Returns why no call can be invoked now: `Busy` (one is outstanding) or `Exhausted` (no call
+    /// number is left).
     #[tactic(auto, unfolding(zprotocol::specs::client::Table::begin_fault))]
     pub fn begin_fault(&self) -> Option<BeginFault>
         ensures { result ≡ begin_fault self.now }
@@ -90,7 +93,8 @@ impl ClientCore {
         None
     }
 
-    /// Begins a call, and answers its number. All growth is made before anything is put or changed.
+    /// Invokes a call and returns its number. It fails as `begin_fault` says, or with `Memory`;
+    /// then nothing has changed and nothing was sent.
     #[tactic(auto, unfolding(zprotocol::specs::client::Table::begin_step, zprotocol::specs::client::Table::begin_fault))]
     pub fn begin<T: Drop>(&mut self, call: Call, out: &mut Out<T>) -> Result<CallNumber, BeginFault>
         ensures number { IfOk result (λ number. number ≡ self.new.number) }
@@ -118,8 +122,9 @@ impl ClientCore {
         Ok(number)
     }
 
-    /// Takes a message, and hands out the reply that it waited for. Where a call has to be sent again and
-    /// there is no memory for it, hands the message back.
+    /// Handles a received message, and returns the reply that the outstanding call waited for.
+    /// Where the call must be sent again and memory runs out, it hands the message back; then
+    /// nothing has changed and nothing was sent.
     #[tactic(auto, unfolding(zprotocol::specs::client::Table::client_step))]
     pub fn take<T: Drop>(
         &mut self,
@@ -153,7 +158,8 @@ impl ClientCore {
         }
     }
 
-    /// Sends the call that it waits for once more; answers whether there is one.
+    /// Sends the outstanding call again; returns whether there is one. Out of memory is the only
+    /// error, and then nothing was sent.
     #[tactic(auto, unfolding(zprotocol::specs::client::Table::retry_posts))]
     pub fn retry<T: Drop>(&self, out: &mut Out<T>) -> Result<bool, Memory>
         ensures waits { IfOk result (λ waits. waits ≡ is_some self.now.outstanding) }
@@ -165,7 +171,7 @@ impl ClientCore {
         Ok(self.outstanding.is_some())
     }
 
-    // Sends the call that it waits for, where there is one, to these ends of the chain.
+    // Sends the outstanding call, if there is one, to these ends of the chain.
     fn send<T: Drop>(
         &self,
         head: &Option<ServerId>,
@@ -182,7 +188,8 @@ impl ClientCore {
         send_call(self.alloc, head, tail, *number, call, out)
     }
 
-    // Answer: to the call that it waits for, the wait is over, and the reply is handed out.
+    // `Answer`: the reply to the outstanding call ends the wait and is handed out. Any other is
+    // dropped.
     #[tactic(auto, unfolding(zprotocol::specs::client::Table::answer_row))]
     fn answer<T: Drop>(&mut self, number: CallNumber, reply: Reply) -> Option<Reply>
         ensures next { self.new ≡ (answer_row {T = T} self.old number reply).0 }
@@ -199,7 +206,8 @@ impl ClientCore {
         None
     }
 
-    // Config: a later one holds from now on, and a call that it waits for goes out again.
+    // `Config`: a later configuration replaces the known one, and the outstanding call is sent
+    // again.
     #[tactic(auto, unfolding(zprotocol::specs::client::Table::config_row))]
     fn config<T: Drop>(
         &mut self,
@@ -230,8 +238,8 @@ impl ClientCore {
     }
 }
 
-// Sends a call to these ends of the chain: an update to the head, a query to the tail. Where there is no such
-// server, nothing is put. All growth is made before that.
+// Sends a call to these ends of the chain: an update to the head, a query to the tail. It sends
+// nothing where there is no such server. It allocates everything before it sends.
 fn send_call<T: Drop>(
     alloc: Global,
     head: &Option<ServerId>,

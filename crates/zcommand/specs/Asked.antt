@@ -8,7 +8,8 @@ use Rattle.zcommand.specs.declared.order.Settings.TheVariants.{Script}
 use Rattle.zcommand.specs.declared.fault.WordsFault.{WordsFault}
 use Rattle.zcommand.specs.declared.fault.WordsFault.TheVariants.{Memory, BadWords}
 
--- A number that was given asks for a script over exactly so many servers, where a chain may begin with so many.
+-- A number that was given asks for a script over exactly this many servers, if a chain may begin
+-- with this many.
 abbrev pub settings_of : Option (List ℕ) → Result Settings WordsFault
 settings_of (Some (servers ∷ [])) =
     if nat_le 1 servers && nat_le servers MAX_SERVERS then Ok (Script servers) else Err BadWords
@@ -18,7 +19,7 @@ settings_of _ = Err BadWords
 unfoldable pub settings_asked : List (List ℕ) → Result Settings WordsFault
 settings_asked words = settings_of (asked_of (codes "script") ((codes "servers", codes "1") ∷ []) words)
 
--- Why no settings were had: the words come to this fault, or there was no memory to read them.
+-- Why there are no settings: the words have this fault, or memory ran out while they were read.
 abbrev pub IsFaultOf : List (List ℕ) → WordsFault → Type 0
 IsFaultOf words fault = (fault ≡ Memory) ⊎ (settings_asked words ≡ Err fault)
 

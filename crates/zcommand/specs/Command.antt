@@ -1,4 +1,4 @@
--- What a run of the program comes to, told by its words and by what its devices did.
+-- What a run of the program comes to, by its words and by what its devices did.
 use Rattle.std.specs.Prelude.{ℕ, ◌≡◌, ◌⊎◌, List, [], ◌∷◌, ◌++◌, Ok}
 use Rattle.zdevices.specs.Device.{SourceRun, SinkRun, Failed, TookBeginning}
 use Rattle.zscript.specs.Outcome.{IsPlayed, IsCutBy, IsIdle, play_fault_text}
@@ -8,21 +8,22 @@ use Rattle.zscript.specs.declared.fault.PlayFault.TheVariants.{Memory}
 use Rattle.zcommand.specs.declared.order.Settings.TheVariants.{Script}
 use Rattle.zcommand.specs.Asked.{settings_asked}
 
--- A line went to a device; or a beginning of it, and the device failed.
+-- A device took the line, or it took a prefix of it and failed.
 abbrev pub IsTold : SinkRun → List ℕ → Type 0
 IsTold faults line =
     faults.took (line ++ 10 ∷ []) ⊎ (TookBeginning faults.took (line ++ 10 ∷ []) × Failed faults.failed)
 
--- The words ask for a script over exactly so many servers.
+-- The words ask for a script over exactly this many servers.
 abbrev pub AskForServers : List (List ℕ) → ℕ → Type 0
 AskForServers words servers = IsServers servers × (settings_asked words ≡ Ok (Script servers))
 
--- Every line was played, by a chain of exactly the servers that the words ask for.
+-- Every line was played, by a chain of exactly the number of servers that the words ask for.
 abbrev pub IsPlayedAsAsked : List (List ℕ) → SourceRun → SinkRun → Type 0
 IsPlayedAsAsked words source sink = (servers : ℕ) × AskForServers words servers × IsPlayed servers source sink
 
--- A fault ended the run of exactly the servers that the words ask for, and was told; or for want of memory the words were not
--- read: nothing was read or written, and this was told.
+-- A fault ended the run, with exactly the number of servers that the words ask for, and was
+-- reported. Or memory ran out while the words were read: nothing was read or written, and this was
+-- reported.
 abbrev pub IsCutAndTold : List (List ℕ) → SourceRun → SinkRun → SinkRun → Type 0
 IsCutAndTold words source sink faults =
     ((servers : ℕ) × AskForServers words servers × (fault : PlayFault) × IsCutBy servers source sink fault

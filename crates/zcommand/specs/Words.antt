@@ -15,7 +15,7 @@ abbrev pub words_fault_status : WordsFault → ℕ
 words_fault_status Memory = 1
 words_fault_status BadWords = 2
 
--- Why a program's words could not be had: one that is no text is a bad word.
+-- Why a program's words could not be had: one that is not text is a bad word.
 abbrev pub fault_of_kind : ErrorKind → WordsFault
 fault_of_kind OutOfMemory = Memory
 fault_of_kind _ = BadWords

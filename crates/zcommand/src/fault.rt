@@ -19,7 +19,7 @@ pub enum WordsFault {
 impl WordsFault {
     ghost use Rattle.zcommand.specs.Words.{words_fault_text, words_fault_status};
 
-    /// What a program says of it.
+    /// Returns what a program says of it.
     pub fn text(self) -> &'static str
         ensures { result.now ≡ words_fault_text self }
     {
@@ -29,7 +29,7 @@ impl WordsFault {
         }
     }
 
-    /// The exit status that a program ends with.
+    /// Returns the exit status that a program ends with: 1 for `Memory`, 2 for `BadWords`.
     pub fn status(self) -> u8
         ensures { result ≡ words_fault_status self }
     {
@@ -40,7 +40,8 @@ impl WordsFault {
     }
 }
 
-// By hand: the `Display` that `thiserror` derives has no `output`, so that no clause could cite what it writes.
+// By hand: the `Display` that `thiserror` derives has no `output`, so that no clause could cite
+// what it writes.
 impl fmt::Display for WordsFault {
     ghost use Rattle.std.specs.Prelude.{Some};
     ghost use Rattle.zcommand.specs.Words.{words_fault_text};
@@ -62,7 +63,7 @@ impl From<AllocError> for WordsFault {
     }
 }
 
-// Why the words could not be had: for want of memory, or since one of them is no text.
+// Converts the reason why the words could not be had: out of memory, or one of them is not text.
 impl From<io::Error> for WordsFault {
     ghost use Rattle.std_io.specs.IoError.{error_kind};
     ghost use Rattle.zcommand.specs.Words.{fault_of_kind};

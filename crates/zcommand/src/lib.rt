@@ -1,7 +1,8 @@
 //! A program's words, and what they do: `command` is main without its devices.
 //!
-//! `settings` reads the words with `clap`; `command` does what they ask for, says a fault by its one line, and answers
-//! the exit status; `refuse` is its end where the words could not even be had.
+//! `settings` reads the words with `clap`. `command` does what they ask for, reports a fault in one
+//! line, and returns the exit status. `refuse` reports why the words could not even be had, and
+//! returns the exit status.
 #![tactic(auto)]
 
 mod fault;

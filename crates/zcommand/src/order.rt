@@ -2,9 +2,9 @@
 
 use zscript::Servers;
 
-/// What to do.
+/// What a program's words ask for.
 #[derive(Clone, Copy, Debug, PartialEq, Eq)]
 pub enum Settings {
-    /// To play a script.
+    /// Play a script.
     Script(Servers),
 }

@@ -13,10 +13,10 @@ use crate::words::settings;
 use std::alloc::Global;
 use zscript::{Sink, Source, play, write_all};
 
-/// Does what the words ask for, says of a fault on `faults` what it is, and answers the exit status.
+/// Does what the words ask for, reports a fault on `faults`, and returns the exit status.
 ///
-/// The status is 0 where the script was played to its end, 1 after a device's fault or want of memory, and
-/// 2 where the words are not understood. Where `faults` fails nothing else changes.
+/// The status is 0 where the script was played to its end, and 1 after a device's fault or out of
+/// memory. It is 2 where the words are not understood. A failure of `faults` changes nothing else.
 pub fn command<S: Source, K: Sink, F: Sink>(
     alloc: Global,
     words: &[&str],
@@ -26,13 +26,13 @@ pub fn command<S: Source, K: Sink, F: Sink>(
 ) -> u8
     ensures status { result ≤ 2 }
 
-    // All was played, by the servers that the words ask for, and nothing was said.
+    // All was played, by the number of servers that the words ask for, and no fault was reported.
     ensures played { result ≡ 0 → IsPlayedAsAsked (texts_of words.now)
         (source_run S.gave S.failed S.has_ended source.old source.new)
         (sink_run K.took K.failed sink.old sink.new) }
     ensures silent { result ≡ 0 → F.took faults.old [] faults.new }
 
-    // A fault ended the run, and was told.
+    // A fault ended the run, and was reported.
     ensures cut { result ≡ 1 → IsCutAndTold (texts_of words.now)
         (source_run S.gave S.failed S.has_ended source.old source.new)
         (sink_run K.took K.failed sink.old sink.new)
@@ -57,7 +57,7 @@ pub fn command<S: Source, K: Sink, F: Sink>(
     }
 }
 
-/// Says why there are no words to do, and answers the exit status.
+/// Reports why there are no words to do, and returns the exit status.
 pub fn refuse<F: Sink>(fault: WordsFault, faults: &mut F) -> u8
     ensures status { result ≡ words_fault_status fault }
     ensures told { IsTold

@@ -6,7 +6,7 @@ ghost use Rattle.zcommand.specs.support.Rows.{text_asked};
 use crate::fault::WordsFault;
 use crate::order::Settings;
 
-/// Words of the program, between spaces, and how many servers they ask for.
+/// Words of the program, separated by spaces, and how many servers they ask for.
 pub fn words_ask_for_servers()
     ensures none { text_asked (codes "zk script") ≡ Ok (Settings.Script 1) }
     ensures three { text_asked (codes "zk script --servers 3") ≡ Ok (Settings.Script 3) }

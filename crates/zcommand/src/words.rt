@@ -19,7 +19,8 @@ static SCRIPT_OPTIONS: [NumberOption; 1] = [NumberOption {
 
 /// Reads `NAME script [--servers N]`, where N is 1 to `MAX_SERVERS`, and 1 if it is not given.
 ///
-/// All else is `BadWords`, a request for help too. `Memory` comes only where memory runs out.
+/// Everything else is `BadWords`, also a request for help. `Memory` means out of memory, and
+/// nothing else.
 pub fn settings<'a>(alloc: Global, words: &'a [&'a str]) -> Result<Settings, WordsFault>
     ensures ok { IfOk result (λ settings. settings_asked (texts_of words.now) ≡ Ok settings) }
     ensures err { IfErr result (IsFaultOf (texts_of words.now)) }
@@ -31,7 +32,7 @@ pub fn settings<'a>(alloc: Global, words: &'a [&'a str]) -> Result<Settings, Wor
     }
 }
 
-// What a script of these numbers asks for.
+// Returns what a script with these numbers asks for.
 fn asked(numbers: &[u16]) -> Result<Settings, WordsFault>
     ensures exact { result ≡ settings_of (Some numbers.now) }
     ensures few { IfOk result IsScript }

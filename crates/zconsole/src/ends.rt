@@ -16,12 +16,12 @@ use zprotocol::ServerId;
 /// How many orders the channel has room for.
 pub const ROOM: usize = 32;
 
-/// Why an order was not handed on: the master's thread has ended.
+/// Why an order was not sent: the master's thread has ended.
 #[derive(Clone, Copy, Debug, Drop, PartialEq, Eq, Error)]
 #[error("Closed")]
 pub struct Closed;
 
-/// The end from which servers are ordered to join, and to leave.
+/// The sending end, from which servers are ordered to join and to leave.
 #[derive(Drop)]
 pub struct Console {
     pub(crate) to: RuledSender<Order, Log, Fifo>,
@@ -30,7 +30,7 @@ pub struct Console {
     ghost puts: { (view pass).puts ≡ true },
 }
 
-/// The end where the master's thread takes the orders.
+/// The receiving end, where the master's thread receives the orders.
 #[derive(Drop)]
 pub struct Inbox {
     pub(crate) from: RuledReceiver<Order, Log, Fifo>,
@@ -40,21 +40,24 @@ pub struct Inbox {
 }
 
 impl Console {
+    ghost use Rattle.zconsole.specs.declared.ends.TheConstants.{ROOM};
     ghost use Rattle.zconsole.specs.declared.order.Order.{Order};
     ghost use Rattle.zconsole.specs.declared.order.Order.TheVariants.{Join, Retire};
-    ghost use Rattle.zconsole.specs.Ends.{AreEnds, IsSameConsole, ordered, taken_of};
+    ghost use Rattle.zconsole.specs.Ends.{AreEnds, IsSameConsole, ordered, room_of, taken_of};
 
-    /// A channel on which nothing was ordered. Err where there is no memory.
+    /// Returns the two ends of an empty channel with room for `ROOM` orders. The only error is out
+    /// of memory.
     pub fn open(alloc: Global) -> Result<(Console, Inbox), Memory>
         ensures ends { IfOk result (λ r. AreEnds r.0 r.1) }
         ensures empty { IfOk result (λ r. (ordered r.0 ≡ []) × (taken_of r.1 ≡ [])) }
+        ensures room { IfOk result (λ r. room_of r.0 ≡ ROOM) }
     {
         let (to, from, mut pass) = bounded_with::<Order, Log, Fifo, Global>(alloc, ROOM)?;
         let other = to.another::<Roles>(&mut pass);
         Ok((Console { to, pass }, Inbox { from, pass: other }))
     }
 
-    /// Orders that a server join. It waits for room. At Err nothing was handed on.
+    /// Orders that a server join. Blocks until there is room. At `Err` nothing was sent.
     pub fn join<R: Wait>(&mut self, rt: &R, server: ServerId) -> Result<(), Closed>
         ensures ok { OnOk result
             (ordered self.new ≡ ordered self.old ++ Join server ∷ []) }
@@ -64,7 +67,7 @@ impl Console {
         self.put(rt, Order::Join(server))
     }
 
-    /// Orders that a server leave. It waits for room. At Err nothing was handed on.
+    /// Orders that a server leave. Blocks until there is room. At `Err` nothing was sent.
     pub fn retire<R: Wait>(&mut self, rt: &R, server: ServerId) -> Result<(), Closed>
         ensures ok { OnOk result
             (ordered self.new ≡ ordered self.old ++ Retire server ∷ []) }
@@ -74,7 +77,7 @@ impl Console {
         self.put(rt, Order::Retire(server))
     }
 
-    // Puts an order on the channel.
+    // Sends an order.
     fn put<R: Wait>(&mut self, rt: &R, order: Order) -> Result<(), Closed>
         ensures ok { OnOk result (ordered self.new ≡ ordered self.old ++ order ∷ []) }
         ensures err { OnErr result (ordered self.new ≡ ordered self.old) }
@@ -86,7 +89,7 @@ impl Console {
         }
     }
 
-    /// With both ends in one thread again: what was ordered is what was taken, and then what is left.
+    /// With both ends in one thread again: what was received is a prefix of what was ordered.
     pub fn told(self, inbox: Inbox)
         requires { AreEnds self inbox }
         ensures { (left : List Order) × (ordered self ≡ taken_of inbox ++ left) }
@@ -104,7 +107,7 @@ impl Console {
 impl Inbox {
     ghost use Rattle.zconsole.specs.Ends.{IsSameInbox, taken_of};
 
-    /// The oldest order that wasn't taken, if there is one. It doesn't wait for one.
+    /// Receives the oldest order, if there is one. It doesn't wait for one.
     pub fn take<R: Wait>(&mut self, rt: &R) -> Option<Order>
         ensures taken { taken_of self.new ≡ taken_of self.old ++ option_to_list result }
         ensures ends { IsSameInbox self.old self.new }

@@ -1,4 +1,4 @@
-//! What the console orders.
+//! The orders of the console.
 
 use zprotocol::ServerId;
 

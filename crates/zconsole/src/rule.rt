@@ -1,4 +1,5 @@
-//! The rule of the console's channel: one end puts, one takes, and what was put is what was taken and then what is there.
+//! The rule of the console's channel. One end sends, and one receives. What was sent is what was
+//! received, and then what the channel holds.
 
 ghost use Rattle.std.specs.Prelude.{◌≡◌, true, false, [], ◌∷◌, ◌++◌};
 ghost use Rattle.zconsole.specs.Orders.{log, InOrder};
@@ -7,7 +8,7 @@ use crate::order::Order;
 use crossbeam_channel::protocol::{Join, Lesson, Outcome, Protocol, Split};
 use std::collections::LinkedList;
 
-/// What an end may do, and what it has put or taken. No value of it is made.
+/// What an end may do, and what it has sent or received. No value of it is made.
 pub struct Log {
     pub puts: bool,
     pub takes: bool,
@@ -48,7 +49,7 @@ impl Join<Log> for Roles {
     ghost spent = { log false false [] [] };
 }
 
-/// One more is put.
+/// One more order is sent.
 pub struct Puts;
 
 impl Outcome<Order, Log> for Puts {
@@ -59,7 +60,7 @@ impl Lesson<Order, Log> for Puts {
     ghost fact = { λ v items. Unit {0} };
 }
 
-/// One more is taken.
+/// One more order is received.
 pub struct Takes;
 
 impl Outcome<Order, Log> for Takes {

@@ -32,12 +32,12 @@ impl Calls {
         })
     }
 
-    /// The client of all calls.
+    /// Returns the client of all calls.
     pub fn client(&self) -> ClientId {
         self.client
     }
 
-    /// The call that makes the node.
+    /// Returns the call that makes the node.
     pub fn first(&self) -> Result<Entry, Trouble> {
         let create = Create {
             path: self.path.copied(self.alloc)?,
@@ -47,7 +47,7 @@ impl Calls {
         self.entry(0, Update::Create(create))
     }
 
-    /// The update with this number, counted from 1.
+    /// Returns the update with this number, counted from 1.
     pub fn update(&self, number: u64) -> Result<Entry, Trouble> {
         let set = SetData {
             path: self.path.copied(self.alloc)?,
@@ -57,7 +57,7 @@ impl Calls {
         self.entry(number, Update::SetData(set))
     }
 
-    // The update as the client's next call after so many others.
+    // Returns the update as the client's next call after this many others.
     fn entry(&self, before: u64, update: Update) -> Result<Entry, Trouble> {
         match number_after(before) {
             Some(number) => Ok(Entry {
@@ -72,12 +72,12 @@ impl Calls {
         }
     }
 
-    /// The query.
+    /// Returns the query.
     pub fn query(&self) -> Result<Query, Trouble> {
         Ok(Query::GetData(self.path.copied(self.alloc)?))
     }
 
-    /// Makes the calls of an order, and lets each go. None is answered.
+    /// Makes the calls of an order, and drops each. None is answered.
     pub fn let_go(&self, order: &Order) -> Result<u64, Trouble> {
         for number in 0..order.count {
             match order.kind {
@@ -89,7 +89,7 @@ impl Calls {
     }
 }
 
-/// The number of a client's next call after so many others.
+/// Returns the number of a client's next call after this many others.
 pub fn number_after(before: u64) -> Option<CallNumber> {
     CallNumber::new(before.checked_add(1)?)
 }

@@ -8,7 +8,7 @@ use zcalls::Entry;
 use zprotocol::{Message, Out, Process, ServerId};
 use zserver::{Server, Snapshot};
 
-/// Gives a new chain of so many servers the calls of an order; how many it answered.
+/// Gives the calls of an order to a new chain of `count` servers; returns how many it answered.
 pub fn answered(alloc: Global, count: u8, calls: &Calls, order: &Order) -> Result<u64, Trouble> {
     let mut chain = Chain::new(alloc, count)?;
     let answered = chain.plays(calls, order);
@@ -16,7 +16,7 @@ pub fn answered(alloc: Global, count: u8, calls: &Calls, order: &Order) -> Resul
     answered
 }
 
-// The servers from the head to the tail, with places from 0 on, and what one of them put.
+// The servers from the head to the tail, with places from 0 on, and what one of them sent.
 #[derive(Drop)]
 struct Chain {
     servers: Vec<Server>,
@@ -26,7 +26,7 @@ struct Chain {
 }
 
 impl Chain {
-    // A chain of so many servers, which have no node but the root.
+    // Returns a chain of this many servers, whose only node is the root.
     fn new(alloc: Global, count: u8) -> Result<Chain, Trouble> {
         Ok(Chain {
             servers: opened(alloc, count)?,
@@ -36,8 +36,8 @@ impl Chain {
         })
     }
 
-    // Makes the node, and then gives it the calls of an order, each when the one before it is done; how many of these
-    // it answered.
+    // Makes the node, and then gives the calls of an order, each when the one before it is done.
+    // Returns how many of these it answered.
     fn plays(&mut self, calls: &Calls, order: &Order) -> Result<u64, Trouble> {
         let entry = calls.first()?;
         self.submits(entry)?;
@@ -56,7 +56,8 @@ impl Chain {
         self.submits(entry)
     }
 
-    // The update goes down the chain, its answer to the client, and the acknowledgement up the chain.
+    // The update goes down the chain, its response to the client, and the acknowledgement up the
+    // chain.
     fn submits(&mut self, entry: Entry) -> Result<(), Trouble> {
         let from = Process::Client(entry.client);
         self.takes(0, from, Message::Submit(entry.number, entry.update))?;
@@ -86,7 +87,7 @@ impl Chain {
         Ok(())
     }
 
-    // What the server at the first place put goes to the server at the second.
+    // Delivers what the server at the first place sent to the server at the second.
     fn passes(&mut self, from: u8, to: u8) -> Result<(), Trouble> {
         let from = process(from)?;
         match self.out.next() {
@@ -105,12 +106,12 @@ impl Chain {
             drop(message);
             return Err(Trouble::BadOrder);
         };
-        // A query that isn't heard is counted by its missing answer.
+        // An unheard query is counted by its missing response.
         let _ = server.take(from, message, &mut self.out)?;
         Ok(())
     }
 
-    // The tail's answer is counted, and let go.
+    // Counts the tail's response, and drops it.
     fn tells(&mut self) {
         if let Some((_, message)) = self.out.next() {
             drop(message);
@@ -119,7 +120,7 @@ impl Chain {
     }
 }
 
-// The servers of the opening chain.
+// Returns the servers of the initial chain.
 fn opened(alloc: Global, count: u8) -> Result<Vec<Server>, Trouble> {
     let mut servers = Vec::new(alloc);
     for number in 1..=count {
@@ -134,7 +135,7 @@ fn opened(alloc: Global, count: u8) -> Result<Vec<Server>, Trouble> {
     Ok(servers)
 }
 
-// The server at a place, as who puts a message.
+// Returns the server at a place, as the sender of a message.
 fn process(at: u8) -> Result<Process, Trouble> {
     match ServerId::new(at.saturating_add(1)) {
         Some(server) => Ok(Process::Server(server)),

@@ -7,7 +7,8 @@ use std::alloc::Global;
 use zcalls::{Entry, Query, Reply};
 use zops::{MAX_APPLIED, Machine};
 
-/// Gives a new machine that has the calls' node the calls of an order; how many it answered.
+/// Gives the calls of an order to a new machine that has the calls' node; returns how many it
+/// answered.
 pub fn answered(alloc: Global, calls: &Calls, order: &Order) -> Result<u64, Trouble> {
     let mut machine = Machine::new(alloc)?;
     let answered = plays(&mut machine, calls, order);
@@ -31,13 +32,13 @@ fn plays(machine: &mut Machine, calls: &Calls, order: &Order) -> Result<u64, Tro
     Ok(answered)
 }
 
-// Whether the update with this number is done.
+// Returns whether the update with this number is done.
 fn updates(machine: &mut Machine, calls: &Calls, number: u64) -> Result<bool, Trouble> {
     let entry = calls.update(number)?;
     applies(machine, entry)
 }
 
-// Whether the entry has a reply.
+// Returns whether the entry has a reply.
 fn applies(machine: &mut Machine, entry: Entry) -> Result<bool, Trouble> {
     if machine.applied() >= MAX_APPLIED {
         drop(entry);
@@ -54,7 +55,7 @@ fn applies(machine: &mut Machine, entry: Entry) -> Result<bool, Trouble> {
     }
 }
 
-// Whether the node's data is told.
+// Returns whether the node's data is returned.
 fn asks(machine: &Machine, calls: &Calls) -> Result<bool, Trouble> {
     let query = calls.query()?;
     let reply = machine.ask(&query);
@@ -65,7 +66,7 @@ fn asks(machine: &Machine, calls: &Calls) -> Result<bool, Trouble> {
     }
 }
 
-// Whether a reply tells data; it is let go.
+// Returns whether a reply has data, and drops it.
 fn is_data(reply: Reply) -> bool {
     let is_data = matches!(&reply, Reply::Data(_, _));
     drop(reply);

@@ -1,8 +1,10 @@
-//! What a call costs at the servers alone, without links, clients and text: the same calls, made and let go,
-//! given to one machine, or handed down a chain of servers in one thread until each is answered and each entry
-//! acknowledged. Each line of the input is an order `PLACE KIND COUNT`; PLACE is `nowhere`, `machine` or a number
-//! of servers from 1 to 8, and KIND is `update` or `query`. Its answer is how many of the calls were answered.
-//! Who counts the instructions is `bench/servers.py`.
+//! What a call costs at the servers alone, without channels, clients and text. The same calls are
+//! made and dropped, given to one machine, or sent down a chain of servers in one thread until each
+//! is answered and each entry acknowledged.
+//!
+//! Each line of the input is an order `PLACE KIND COUNT`. PLACE is `nowhere`, `machine` or a number
+//! of servers from 1 to 8, and KIND is `update` or `query`. Its answer is how many of the calls
+//! were answered. `bench/servers.py` counts the instructions.
 #![tactic(auto)]
 
 mod calls;
@@ -27,7 +29,7 @@ fn main(rt: HostRuntime) -> io::Result<()> {
     Ok(())
 }
 
-// Tells how many calls were answered.
+// Writes how many calls were answered.
 fn tell(rt: &HostRuntime, answered: Result<u64, Trouble>) -> io::Result<()> {
     match answered {
         Ok(answered) => println!(rt; "{answered} answered"),
@@ -35,7 +37,7 @@ fn tell(rt: &HostRuntime, answered: Result<u64, Trouble>) -> io::Result<()> {
     }
 }
 
-// How many calls of the line's order are answered.
+// Returns how many calls of the line's order are answered.
 fn obeyed(alloc: Global, line: &str) -> Result<u64, Trouble> {
     let order = Order::read(line)?;
     let calls = Calls::new(alloc)?;

@@ -10,7 +10,7 @@ pub enum Place {
     Nowhere,
     /// One machine.
     Machine,
-    /// A chain of so many servers.
+    /// A chain of this many servers.
     Chain(u8),
 }
 
@@ -19,11 +19,11 @@ pub enum Place {
 pub enum Kind {
     /// Each sets the data of one node.
     Update,
-    /// Each asks for that data.
+    /// Each reads that data.
     Query,
 }
 
-/// So many calls of one kind, given to one of the places.
+/// A number of calls of one kind, given to one of the places.
 #[derive(Clone, Copy)]
 pub struct Order {
     pub place: Place,

@@ -1,4 +1,4 @@
-//! What an order can meet.
+//! What can go wrong with an order.
 
 use std::alloc::{AllocError, AllocFailed};
 use thiserror::Error;
@@ -8,10 +8,10 @@ use zserver::Stopped;
 /// Why an order wasn't obeyed.
 #[derive(Clone, Copy, Debug, PartialEq, Eq, Error)]
 pub enum Trouble {
-    /// A growth was refused.
+    /// Memory ran out.
     #[error("memory")]
     Memory,
-    /// The line is no order, or a number is none of a process or a call.
+    /// The line is not an order, or a number is not one of a process or a call.
     #[error("bad order")]
     BadOrder,
 }

@@ -1,4 +1,4 @@
--- What a clause says of what a desk leaves.
+-- What a clause says of what an endpoint leaves.
 use Rattle.std.specs.Prelude.{◌≡◌, false, List, [], length, map}
 use Rattle.zprotocol.specs.declared.process.Process.{Process}
 use Rattle.zprotocol.specs.server.Machine.{kept_tree}
@@ -10,8 +10,8 @@ use Rattle.zdesks.specs.declared.desk.Desk.{Desk}
 use Rattle.zdesks.specs.declared.desk.Ending.{Ending}
 use Rattle.zdesks.specs.Desks.{TreeDeed, TreeStanding, TreeTaken, Each, IsOutside, IsSettled, Self, Stands, is_cut_of, pending, self_of}
 
--- the deeds of a process account for what its desk left: what they took of each link begins what was taken there, and what was
--- put is what they put
+-- the steps of a process account for what its endpoint left; what they received from each channel
+-- is a prefix of what was received there; what was sent is what they sent
 pub record AccountsAtEnd (who : Self) (e : Ending) (deeds : List TreeDeed) : Type 0 where
   pub goes : GoesBy kept_tree who.me who.opening 0 deeds
   pub traced : trace_by deeds ≡ e.trace.events.items
@@ -20,19 +20,19 @@ pub record AccountsAtEnd (who : Self) (e : Ending) (deeds : List TreeDeed) : Typ
   pub others : (p : Process) → IsOutside p (length e.ins.items) → takes p deeds ≡ []
   pub put : Each (λ i x. put_of x ≡ puts (process_at i) deeds) e.outs.items
 
--- where its trace isn't cut, there are such deeds
+-- unless its trace is cut, there are such steps
 abbrev pub HasEnded : Self → Ending → Type 0
 HasEnded who e = e.trace.is_cut ≡ false → ∥ ((deeds : List TreeDeed) × AccountsAtEnd who e deeds) ∥₁
 
--- whatever the desk accounted for is accounted for at the end
+-- what the endpoint accounted for is accounted for at the end
 abbrev pub KeepsAtEnd : Desk → Ending → Type 0
 KeepsAtEnd d e = (s : TreeStanding) (t : TreeTaken) → Stands d s t (pending d) → HasEnded (self_of d) e
 
--- where all that was put is on links, its trace is cut only if it was
+-- if all messages are on their channels, its trace is cut exactly if it was before
 abbrev pub IsCutAsBefore : Desk → Ending → Type 0
 IsCutAsBefore d e = IsSettled d → e.trace.is_cut ≡ is_cut_of d
 
--- what a desk leaves has the ends of the same rings
+-- what an endpoint leaves has the ends of the same rings
 abbrev pub SameWires : Desk → Ending → Type 0
 SameWires d e =
     (map ring_of_rx e.ins.items ≡ map ring_of_rx d.ins.items) × (map ring_of_tx e.outs.items ≡ map ring_of_tx d.outs.items)

@@ -1,6 +1,7 @@
-//! The desk of a process.
+//! The endpoint of a process.
 
 ghost use Rattle.std.specs.Prelude.{◌≡◌, [], true, false, length};
+ghost use Rattle.zdesks.specs.Waiting.{NothingWaits};
 
 use std::alloc::Global;
 use zprotocol::{Message, Out, Process, ServerId};
@@ -9,22 +10,22 @@ use zserver::Snapshot;
 use ztraces::{Stamp, Trace, TraceEvent};
 use zworld_model::CallEvent;
 
-/// A message with the stamp of the event that put it.
+/// A message with the timestamp of the event that sent it.
 pub type Stamped = (Stamp, Message<Snapshot>);
 
-/// What a process in a thread has beside its view.
+/// The endpoint of a process in a thread: what it has beside its view.
 #[derive(Drop)]
 pub struct Desk {
     pub(crate) me: Process,
-    // the last server of the opening chain, and how many clients there are
+    // the last server of the initial chain, and how many clients there are
     pub(crate) last: ServerId,
     pub(crate) clients: u8,
-    // by place: from each process, and to each
+    // by place: the channel from each process, and to each
     pub(crate) ins: Vec<Rx<Stamped>>,
     pub(crate) outs: Vec<Tx<Stamped>>,
-    /// What the last event put and is on no link yet, but for the first of it.
+    /// The last event's messages that aren't on their channels yet, except one that is held.
     pub out: Out<Snapshot>,
-    // the first of it, where no memory was found for it
+    // the first of those, if there was no memory for it
     pub(crate) held: Option<(Process, Message<Snapshot>)>,
     // whether something may wait before a ring
     pub(crate) waits: bool,
@@ -33,16 +34,17 @@ pub struct Desk {
     pub(crate) seen: Vec<CallEvent>,
     pub(crate) is_cut: bool,
     ghost sides: { length ins.items ≡ length outs.items },
+    ghost noticed: { waits ≡ false → NothingWaits outs.items },
 }
 
-/// What a desk leaves: the process's links, its trace, and what its caller saw.
+/// What an endpoint leaves: the process's channels, its trace, and what its caller saw.
 #[derive(Drop)]
 pub struct Ending {
-    /// The links it took from, by place.
+    /// The receiving ends, by place.
     pub ins: Vec<Rx<Stamped>>,
-    /// The links it put on, by place.
+    /// The sending ends, by place.
     pub outs: Vec<Tx<Stamped>>,
-    /// What it did. It is cut where something of that is on no link.
+    /// What it did. It is cut if a message of it is on no channel.
     pub trace: Trace,
     /// What its caller saw.
     pub seen: Vec<CallEvent>,
@@ -53,7 +55,7 @@ impl Desk {
     ghost use Rattle.zdesks.specs.Desks.{is_cut_of, opening_of, seen_of, stamp_of_desk, trace_of, wires_of};
     ghost use Rattle.zdesks.specs.Endings.{IsCutAsBefore, KeepsAtEnd, SameWires};
 
-    /// The desk of a process that did nothing yet, with links on which nothing was put.
+    /// Returns the endpoint of a process that has done nothing, with unused channels.
     pub fn new(
         alloc: Global,
         me: Process,
@@ -89,7 +91,8 @@ impl Desk {
         }
     }
 
-    /// What it leaves, once all is put that the last event put. Its trace is cut also where there is no memory for that.
+    /// Sends the last event's messages, then returns what the endpoint leaves. If there is no
+    /// memory for that, its trace is cut.
     pub fn into_ending(mut self) -> Ending
         ensures ended { KeepsAtEnd self result }
         ensures wires { SameWires self result }
@@ -98,12 +101,12 @@ impl Desk {
         ensures cut { is_cut_of self ≡ true → result.trace.is_cut ≡ true }
         ensures whole { IsCutAsBefore self result }
     {
-        // What finds no memory is no longer put: the trace tells that it is cut.
+        // A message that finds no memory is never sent: the trace is cut.
         let _ = self.settle();
         self.leave()
     }
 
-    // What it leaves. Its trace is cut also where something that an event put is on no link.
+    // Returns what it leaves. Its trace is cut also if a message of an event is on no channel.
     fn leave(mut self) -> Ending
         ensures ended { KeepsAtEnd self result }
         ensures wires { SameWires self result }

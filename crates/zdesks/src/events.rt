@@ -1,4 +1,4 @@
-//! The trace of a desk.
+//! The trace of an endpoint.
 
 ghost use Rattle.std.specs.Prelude.{◌≡◌, false, IsFalse, IsTrue, max, option_to_list};
 ghost use Rattle.ztraces.specs.Stamps.{next_stamp};
@@ -12,22 +12,22 @@ use ztraces::{Act, MAX_STAMP, Stamp, TraceEvent};
 use zworld_model::CallEvent;
 
 impl Desk {
-    /// The stamp of its last event.
+    /// Returns the timestamp of its last event.
     pub fn stamp(&self) -> Stamp
         ensures { result ≡ stamp_of_desk self.now }
     {
         self.stamp
     }
 
-    /// The stamp of the next event, where it takes a message of this stamp: one more than the greater of the two. The last stamp
-    /// that there is stays.
+    /// Returns the timestamp of the next event, if it receives a message with this timestamp. It is
+    /// one more than the greater of the two, or else `MAX_STAMP`.
     pub fn next_stamp(&self, taken: Stamp) -> Stamp
         ensures { result ≡ next_stamp (max (stamp_of_desk self.now) taken) }
     {
         self.stamp.later(taken).next()
     }
 
-    /// Makes room for one event in trace and record. False where there is no memory for it.
+    /// Reserves room for one event in trace and record. False if there is no memory for it.
     pub fn reserve(&mut self) -> bool
         ensures room { IsTrue result → HasRoom self.new }
         ensures needed { IsFalse result → HasRoom self.old → ⊥ }
@@ -40,8 +40,8 @@ impl Desk {
         self.seen.reserve(1).is_ok()
     }
 
-    /// Enters an event into the trace, and what the caller saw of it into the record. Where its stamp is the last one, or there
-    /// is no room for it, the trace is cut.
+    /// Appends an event to the trace, and what the caller saw of it to the record. The trace is cut
+    /// if the timestamp is the last one, or if there is no room for the event.
     pub fn enter(&mut self, act: Act, stamp: Stamp, told: Option<CallEvent>)
         ensures stands { StandsAfter self.old self.new act stamp (option_to_list told) }
         ensures beside { StandsBeside self.old self.new act stamp (option_to_list told) }
@@ -74,12 +74,13 @@ impl Desk {
         }
     }
 
-    // Enters what the caller saw into the record.
+    // Appends what the caller saw to the record.
     fn tell(&mut self, told: Option<CallEvent>)
         ensures stands { HasTold self.old self.new (option_to_list told) }
         ensures rest { (self.new.held ≡ self.old.held) × (self.new.out ≡ self.old.out) }
         ensures same { SameDesk self.old self.new }
         ensures told { self.new.is_cut ≡ false → HasSeen self.old self.new (option_to_list told) }
+        ensures cut { self.new.is_cut ≡ false → self.old.is_cut ≡ false }
         ensures trace { (self.new.trace ≡ self.old.trace) × (self.new.stamp ≡ self.old.stamp) }
         ensures whole { HasSeenRoom self.old → self.new.is_cut ≡ self.old.is_cut }
     {

@@ -1,8 +1,10 @@
-//! The desk of a process in a thread: its links, its trace, its stamp, and what it has put that isn't on its links yet.
+//! The endpoint of a process in a thread: its channels, its trace, its timestamp, and the messages
+//! that aren't on their channels yet.
 //!
-//! It is the same for a server, the master and a client, and has one invariant, which each keeps: the process went by its
-//! table from the opening through its trace, took from each link what was taken there, and put on each what was put there.
-//! What differs between the three is where a process stands, and its rows.
+//! It is the same for a server, the master and a client, and has one invariant. The process went by
+//! its table from the initial state through its trace. What was received from each channel, and
+//! sent on it, is what the process's steps received and sent. The three differ only in where a
+//! process stands, and in its rows.
 #![tactic(auto)]
 
 mod desk;
@@ -12,4 +14,4 @@ mod links;
 mod posting;
 
 pub use desk::{Desk, Ending, Stamped};
-pub use limits::MAX_EVENTS;
+pub use limits::{MAX_EVENTS, limits_are_numbers};

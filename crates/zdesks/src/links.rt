@@ -1,20 +1,21 @@
-//! The links of a desk.
+//! The channels of an endpoint.
 
-ghost use Rattle.std.specs.Prelude.{◌≡◌, ◌<◌, None};
-ghost use Rattle.zdesks.specs.Desks.{HasTaken, Keeps, SameRest, link_count};
+ghost use Rattle.std.specs.Prelude.{◌≡◌, ◌<◌, IsFalse, None, true};
+ghost use Rattle.zdesks.specs.Desks.{HasTaken, Keeps, SameRest, link_count, wires_of};
+ghost use Rattle.zdesks.specs.Waiting.{AreFlushed, NothingWaits};
 
 use crate::desk::{Desk, Stamped};
 use zprotocol::Process;
 
 impl Desk {
-    /// How many links it takes from.
+    /// Returns how many channels it receives from.
     pub fn links(&self) -> usize
         ensures { result ≡ link_count self.now }
     {
         self.ins.len()
     }
 
-    /// The next message of a link, with its sender. None where its ring has none.
+    /// Receives the next message of a channel, with its sender. None if its ring has none.
     pub fn take(&mut self, link: usize) -> Option<(Process, Stamped)>
         requires { link < link_count self.old }
         ensures taken { HasTaken self.old self.new None result }
@@ -29,8 +30,9 @@ impl Desk {
         Some((from, message))
     }
 
-    /// Moves what waits into the rings, as far as there is room.
+    /// Moves the messages that wait into the rings, as far as there is room.
     pub fn flush(&mut self)
+        ensures flushed { AreFlushed (wires_of self.new).1 }
         ensures keeps { Keeps self.old self.new }
         ensures same { SameRest self.old self.new }
     {
@@ -39,15 +41,20 @@ impl Desk {
         }
     }
 
-    // The same, whether or not something waits; true where something waits still.
+    // Flushes every channel; returns whether a message still waits.
     fn flush_all(&mut self) -> bool
+        requires { self.old.waits ≡ true }
+        ensures waits { self.new.waits ≡ true }
+        ensures none { IsFalse result → NothingWaits self.new.outs.items }
+        ensures flushed { AreFlushed self.new.outs.items }
         ensures keeps { Keeps self.old self.new }
         ensures same { SameRest self.old self.new }
     {
         let mut waits = false;
         for link in 0..self.outs.len() {
-            self.outs[link].flush();
-            waits |= self.outs[link].has_waiting();
+            let out = &mut self.outs[link];
+            out.flush();
+            waits |= out.has_waiting();
         }
         waits
     }

@@ -1,15 +1,17 @@
-//! What the last event put goes onto the links.
+//! The last event's messages go onto the channels.
 
-ghost use Rattle.std.specs.Prelude.{◌≡◌, ◌∷◌, [], None, IfNone, IfSome, IsTrue};
+ghost use Rattle.std.specs.Prelude.{◌≡◌, ◌∷◌, [], false, None, IfNone, IfSome, IsTrue};
 ghost use Rattle.ztraces.specs.Deeds.{last_post};
-ghost use Rattle.zdesks.specs.Desks.{HasPut, IsSettled, Keeps, pending, SameBooks, SameDesk};
+ghost use Rattle.zdesks.specs.Desks.{HasPut, is_cut_of, IsSettled, Keeps, pending, SameBooks};
+ghost use Rattle.zdesks.specs.Desks.{SameDesk};
 
 use crate::desk::Desk;
 use zprotocol::{Message, Process};
 use zserver::Snapshot;
 
 impl Desk {
-    /// Puts what the last event put on its links. False where there was no memory for all of it: the rest is kept for later.
+    /// Sends the last event's messages. False if there was no memory for all of them: the rest is
+    /// kept for later.
     pub fn settle(&mut self) -> bool
         ensures stands { HasPut self.old self.new (pending self.old) (pending self.new) }
         ensures all { IsTrue result → IsSettled self.new }
@@ -25,7 +27,7 @@ impl Desk {
         true
     }
 
-    // The next of what waits.
+    // Removes the next message that isn't on its channel yet.
     pub(crate) fn next_post(&mut self) -> Option<(Process, Message<Snapshot>)>
         ensures none { IfNone result ((pending self.old ≡ []) × (self.new.out.posts ≡ [])) }
         ensures some { IfSome result (λ post. pending self.old ≡ post ∷ self.new.out.posts) }
@@ -40,7 +42,8 @@ impl Desk {
         }
     }
 
-    // Puts one message on its link, or keeps it. A process that has no place is none of this run: its message is let go.
+    // Sends one message, or holds it for later. A process that has no place isn't part of this run:
+    // its message is dropped.
     fn put_on_link(&mut self, to: Process, message: Message<Snapshot>) -> bool
         requires { self.old.held ≡ None }
         ensures stands { HasPut self.old self.new
@@ -61,15 +64,17 @@ impl Desk {
                 true
             }
             Err((_, message)) => {
-                self.held = Some((to, message));
+                drop(self.held.replace((to, message)));
                 false
             }
         }
     }
 
-    /// Puts the last words of a server, for which its link to the master keeps a place. It takes no memory.
+    /// Sends the failure notice of a server, for which its channel to the master keeps a slot. It
+    /// takes no memory.
     pub fn put_gone(&mut self)
         ensures stands { HasPut self.old self.new last_post [] }
+        ensures books { is_cut_of self.new ≡ false → SameBooks self.old self.new }
         ensures rest { (self.new.held ≡ self.old.held) × (self.new.out ≡ self.old.out) }
         ensures same { SameDesk self.old self.new }
     {

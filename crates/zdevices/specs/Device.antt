@@ -1,11 +1,11 @@
--- What devices did between two states, and the words that clauses have for it.
+-- What devices did between two states, in the terms that clauses use.
 use Rattle.std.specs.Prelude.{◌≡◌, ℕ, ◌<◌, Bool, true, List, ◌++◌}
 
--- A relation between states, as a test of what was done from the one to the other.
+-- A relation between states, as a test of what was done between them.
 abbrev pub Between : {S A : Type 0} → (S → A → S → Type 0) → S → S → A → Type 0
 Between relation before after done = relation before done after
 
--- What a source did: the bytes that it gave, how often it failed, and whether it told its end.
+-- What a source did: the bytes that it gave, how often it failed, and whether it reported its end.
 pub record SourceRun : Type 1 where
   pub gave : List ℕ → Type 0
   pub failed : ℕ → Type 0
@@ -16,7 +16,7 @@ pub record SinkRun : Type 1 where
   pub took : List ℕ → Type 0
   pub failed : ℕ → Type 0
 
--- Of a source, by its trait's members, between two of its states.
+-- The same of a source, by its trait's members, between two of its states.
 abbrev pub source_run :
     {S : Type 0} → (S → List ℕ → S → Type 0) → (S → ℕ → S → Type 0) → (S → Type 0) → S → S → SourceRun
 source_run gave failed has_ended before after = record {
@@ -33,7 +33,7 @@ sink_run took failed before after = record {
   failed = Between failed before after;
 }
 
--- Front is a beginning of whole.
+-- Front is a prefix of whole.
 abbrev pub IsBeginning : List ℕ → List ℕ → Type 0
 IsBeginning front whole = (more : List ℕ) × (whole ≡ front ++ more)
 
@@ -41,11 +41,11 @@ IsBeginning front whole = (more : List ℕ) × (whole ≡ front ++ more)
 abbrev pub Failed : (ℕ → Type 0) → Type 0
 Failed failed = (count : ℕ) × (0 < count) × failed count
 
--- A beginning of the text went to a device.
+-- A device took a prefix of the text.
 abbrev pub TookBeginning : (List ℕ → Type 0) → List ℕ → Type 0
 TookBeginning took text = (front : List ℕ) × IsBeginning front text × took front
 
--- A flag that is raised by a failure, and never lowered, over so many failures.
+-- A flag that a failure raises, and nothing lowers, over this many failures.
 pub record Raises (before : Bool) (count : ℕ) (after : Bool) : Type 0 where
   pub kept : before ≡ true → after ≡ true
   pub raised : 0 < count → after ≡ true

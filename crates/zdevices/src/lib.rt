@@ -1,7 +1,9 @@
-//! Where bytes come from and where they go: devices, by what they promise of each read and each write.
+//! Where bytes come from and where they go: devices, by what they promise of each read and each
+//! write.
 //!
-//! A `Source` and a `Sink` are told by relations between their states (specs/Device.antt). Devices over memory are
-//! `SliceSource` and `VecSink`; `ReaderSource` and `WriterSink` are over any reader and writer of std.
+//! A `Source` and a `Sink` are described by relations between their states (specs/Device.antt).
+//! `SliceSource` and `VecSink` are devices over memory. `ReaderSource` and `WriterSink` are over
+//! any reader and writer of std.
 #![tactic(auto)]
 
 mod device;

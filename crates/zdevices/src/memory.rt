@@ -1,6 +1,6 @@
 //! Devices over memory, for tests and for callers that hold their script.
 //!
-//! Both are exact: what was handed out is what is no longer left, and what was taken is what is held.
+//! Both are exact: what was given is what is no longer left, and what was taken is what is held.
 
 ghost use Rattle.std.specs.Prelude.{◌≡◌, ◌<◌, ◌+◌, List, [], ◌++◌, length, refl, IsTrue, true, false, Some, None};
 ghost use Rattle.zdevices.specs.Device.{Raises};
@@ -13,14 +13,14 @@ use crate::device::{DeviceFault, Sink, Source};
 use std::alloc::Global;
 use std::marker::Model;
 
-// Fails once, after so many calls.
+// Fails once, after this many calls.
 #[derive(Clone, Copy)]
 struct Failure {
     calls_left: Option<u64>,
 }
 
 impl Failure {
-    // Counts one call down, and answers whether this is the one that fails.
+    // Counts one call down; returns whether this is the one that fails.
     fn comes(&mut self) -> bool
         ensures due { result ≡ is_due self.old.calls_left }
         ensures counted { self.new.calls_left ≡ after_call self.old.calls_left }
@@ -39,7 +39,7 @@ impl Failure {
     }
 }
 
-/// Hands out a slice.
+/// A source that gives the bytes of a slice.
 #[derive(Drop)]
 pub struct SliceSource<'a> {
     left: &'a [u8],
@@ -63,7 +63,7 @@ impl<'a> Model for SliceSource<'a> {
 }
 
 impl<'a> SliceSource<'a> {
-    /// Hands out these bytes, at most so many at a read.
+    /// Returns a source of these bytes, at most `at_most` of them at a read.
     pub fn new(left: &'a [u8], at_most: usize) -> SliceSource<'a>
         requires { 0 < at_most }
         ensures left { result.left ≡ left.entry.now }
@@ -81,7 +81,7 @@ impl<'a> SliceSource<'a> {
         }
     }
 
-    /// The same bytes, but one read fails: the one after so many reads.
+    /// Returns the same source, except that the read after this many reads fails.
     pub fn failing_after(self, reads: u64) -> SliceSource<'a>
         ensures { result ≡ record self.entry { fails_after = Some reads } }
     {
@@ -130,7 +130,7 @@ impl Source for SliceSource<'_> {
     ghost failed_both = { λ s t u. raises_both s.has_failed t.has_failed u.has_failed };
 }
 
-/// Takes bytes into a vector, and fails where memory runs out.
+/// A sink that appends to a vector, and fails where memory runs out.
 #[derive(Drop)]
 pub struct VecSink {
     bytes: Vec<u8>,
@@ -153,7 +153,7 @@ impl Model for VecSink {
 }
 
 impl VecSink {
-    /// Holds nothing yet, and takes at most so many bytes at a write.
+    /// Returns an empty sink, which takes at most `at_most` bytes at a write.
     pub fn new(alloc: Global, at_most: usize) -> VecSink
         requires { 0 < at_most }
         ensures held { result.held ≡ [] }
@@ -169,7 +169,7 @@ impl VecSink {
         }
     }
 
-    /// The same, but one write fails: the one after so many writes.
+    /// Returns the same sink, except that the write after this many writes fails.
     pub fn failing_after(mut self, writes: u64) -> VecSink
         ensures { result ≡ record self { fails_after = Some writes } }
     {
@@ -177,7 +177,7 @@ impl VecSink {
         self
     }
 
-    /// What it holds.
+    /// Returns the bytes that it holds.
     pub fn bytes(&self) -> &[u8]
         ensures { result.now ≡ self.now.held }
     {

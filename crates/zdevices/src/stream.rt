@@ -1,7 +1,8 @@
-//! Devices over the readers and writers of std, as a program's own input and output.
+//! Devices over the readers and writers of std, such as a program's own input and output.
 //!
-//! What bytes such a reader has left, or such a writer holds, is std's `remaining` and `contents` where it is known,
-//! as of a slice or a vector. Of a terminal, a file or a pipe it is not, and the relations then hold for all bytes.
+//! What bytes such a reader has left, or such a writer holds, is std's `remaining` and `contents`
+//! where these are known, as for a slice or a vector. For a terminal, a file or a pipe they aren't
+//! known, and the relations then hold for all bytes.
 
 ghost use Rattle.std.specs.Prelude.{◌≡◌, ◌<◌, IsTrue, false, ◌^◌, ◌-◌};
 ghost use Rattle.std.specs.Io.KnownBytes.{Consumes, Appends, IsAtEnd};
@@ -12,7 +13,8 @@ use crate::device::{DeviceFault, Sink, Source};
 use std::io::{Read, Write};
 use std::marker::Model;
 
-/// Reads from any reader. After `u64::MAX` reads it fails, so that no reader can keep a player forever.
+/// A source over any reader. After `u64::MAX` reads it fails, so that no reader can keep a player
+/// forever.
 #[derive(Drop)]
 pub struct ReaderSource<R> {
     reader: R,
@@ -32,7 +34,7 @@ impl<R> Model for ReaderSource<R> {
 }
 
 impl<R: Read> ReaderSource<R> {
-    /// Reads from this reader.
+    /// Returns a source over this reader.
     pub fn new(reader: R) -> ReaderSource<R>
         ensures reader { result.reader ≡ reader }
         ensures budget { result.budget ≡ 2 ^ 64 - 1 }
@@ -80,7 +82,7 @@ impl<R: Read> Source for ReaderSource<R> {
     ghost failed_both = { λ s t u. raises_both s.has_failed t.has_failed u.has_failed };
 }
 
-/// Writes to any writer. A write that takes no byte is a failure.
+/// A sink over any writer. A write that takes no byte is a failure.
 #[derive(Drop)]
 pub struct WriterSink<W> {
     writer: W,
@@ -96,7 +98,7 @@ impl<W> Model for WriterSink<W> {
 }
 
 impl<W: Write> WriterSink<W> {
-    /// Writes to this writer.
+    /// Returns a sink over this writer.
     pub fn new(writer: W) -> WriterSink<W>
         ensures writer { result.writer ≡ writer }
         ensures sound { result.has_failed ≡ false }

@@ -5,7 +5,7 @@ ghost use Rattle.zdevices.specs.Device.{Between, TookBeginning, Failed};
 
 use crate::device::{DeviceFault, Sink};
 
-/// Writes all the bytes. After a fault the sink has taken a beginning of them.
+/// Writes all the bytes. After a fault the sink has taken a prefix of them.
 pub fn write_all<K: Sink>(sink: &mut K, bytes: &[u8]) -> Result<(), DeviceFault>
     ensures took { OnOk result (K.took sink.old bytes.now sink.new) }
     ensures sound { OnOk result (K.failed sink.old 0 sink.new) }

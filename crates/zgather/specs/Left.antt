@@ -19,7 +19,7 @@ use Rattle.zdesks.specs.Endings.{HasEnded}
 abbrev pub by_place : Ending → List Ending → List Ending → List Ending
 by_place master servers clients = master ∷ (servers ++ clients)
 
--- who stands at a place of a run whose chain ends with that server, with so many clients
+-- the process at a place of a run with this many clients, whose chain ends with that server
 abbrev pub self_at : ℕ → ℕ → ℕ → Self
 self_at last clients i = record { me = process_at i; opening = opening_of last clients (process_at i) }
 
@@ -27,7 +27,7 @@ self_at last clients i = record { me = process_at i; opening = opening_of last c
 abbrev pub AreLeft : ℕ → ℕ → List Ending → Type 0
 AreLeft last clients endings = Each (λ i e. HasEnded (self_at last clients i) e) endings
 
--- they have the ends of links from each of them to each
+-- they have the ends of channels from each of them to each
 abbrev pub AreWired : List Ending → Type 0
 AreWired endings =
     IsWoven (length endings) (map (λ (e : Ending). map ring_of_tx e.outs.items) endings)
@@ -39,17 +39,17 @@ is_left_cut master servers clients =
     master.trace.is_cut
     || (list_any (λ (e : Ending). e.trace.is_cut) servers || list_any (λ (e : Ending). e.trace.is_cut) clients)
 
--- so they have, unless one is cut
+-- they have those ends, unless one trace is cut
 abbrev pub AreWiredUnlessCut : Ending → List Ending → List Ending → Type 0
 AreWiredUnlessCut master servers clients =
     is_left_cut master servers clients ≡ false → AreWired (by_place master servers clients)
 
--- where one is cut, the master's trace is cut only if it was
+-- where one is cut, the master's trace is cut only if it was cut before
 abbrev pub CutsNoMore : Ending → List Ending → List Ending → Traces → Type 0
 CutsNoMore master servers clients traces =
     is_left_cut master servers clients ≡ true → traces.master.is_cut ≡ master.trace.is_cut
 
--- the links that they put on, those that they took from, and their traces
+-- the channels that they send on, those that they receive from, and their traces
 abbrev pub outs_of : List Ending → List (Vec (Tx TreeStamped) Global)
 outs_of endings = map (λ (e : Ending). e.outs) endings
 

@@ -16,9 +16,11 @@ use zpath::Memory;
 use zprotocol::ServerId;
 use ztraces::{ClientTrace, Traces};
 
-/// The traces of a run whose chain began with the servers up to the last one, from what its processes left: the master, the
-/// servers by number, and the clients by number. They are lawful, unless one is cut. The master's is cut where a link can't tell
-/// what was put on it.
+/// Returns the traces of a run, from what its processes left: the master, the servers by number,
+/// and the clients by number. The chain began with the servers up to `last`. The traces are lawful,
+/// unless one is cut. The master's trace is cut where a channel can't tell what was sent on it.
+///
+/// The only error is out of memory.
 pub fn gather(
     alloc: Global,
     last: ServerId,
@@ -41,17 +43,26 @@ pub fn gather(
     ensures whole { IfOk result (CutsNoMore master servers.items clients.items) }
 {
     let is_cut = master.trace.is_cut | (is_any_cut(&servers) | is_any_cut(&clients));
-    let count = 1 + servers.len() + clients.len();
-    let outs = Vec::with_capacity(alloc, count)?;
-    let ins = Vec::with_capacity(alloc, count)?;
+    let outs = Vec::new(alloc);
+    let ins = Vec::new(alloc);
     let mut mesh = Mesh { outs, ins };
+    let Ok(kept) = keep(&mut mesh, master) else {
+        drop((mesh, servers, clients));
+        return Err(Memory);
+    };
     let ClientTrace {
         trace: mut trace,
         record,
-    } = keep(&mut mesh, master)?;
+    } = kept;
     drop(record);
-    let servers = keep_servers(alloc, &mut mesh, servers)?;
-    let clients = keep_clients(alloc, &mut mesh, clients)?;
+    let Ok(servers) = keep_servers(alloc, &mut mesh, servers) else {
+        drop((mesh, trace, clients));
+        return Err(Memory);
+    };
+    let Ok(clients) = keep_clients(alloc, &mut mesh, clients) else {
+        drop((mesh, trace, servers));
+        return Err(Memory);
+    };
     let is_told = if is_cut {
         drop(mesh);
         true

@@ -1,4 +1,4 @@
-//! What a process left, taken apart: its ends of the links, and its trace.
+//! What a process left, taken apart: its ends of the channels, and its trace.
 
 ghost use Rattle.std.specs.Prelude.{◌≡◌, ◌∷◌, ◌++◌, [], IfOk, OnOk, map};
 ghost use Rattle.std.specs.List.{list_any};
@@ -11,14 +11,14 @@ use zmesh::Mesh;
 use zpath::Memory;
 use ztraces::{ClientTrace, Trace};
 
-/// Whether one of the traces is cut.
+/// Returns whether one of the traces is cut.
 pub(crate) fn is_any_cut(endings: &Vec<Ending>) -> bool
     ensures { result ≡ list_any (λ (e : Ending). e.trace.is_cut) endings.now.items }
 {
     endings.iter().any(|ending| ending.trace.is_cut)
 }
 
-/// Puts the ends of one process behind the others, and answers its trace, with what its caller saw.
+/// Appends the ends of one process to the others, and returns its trace with what its caller saw.
 pub(crate) fn keep(mesh: &mut Mesh<Stamped>, ending: Ending) -> Result<ClientTrace, Memory>
     ensures outs { OnOk result (mesh.new.outs.items ≡ mesh.old.outs.items ++ ending.outs ∷ []) }
     ensures ins { OnOk result (mesh.new.ins.items ≡ mesh.old.ins.items ++ ending.ins ∷ []) }
@@ -38,7 +38,7 @@ pub(crate) fn keep(mesh: &mut Mesh<Stamped>, ending: Ending) -> Result<ClientTra
     })
 }
 
-/// The same for all servers.
+/// Does the same for all servers.
 pub(crate) fn keep_servers(
     alloc: Global,
     mesh: &mut Mesh<Stamped>,
@@ -56,7 +56,7 @@ pub(crate) fn keep_servers(
     Ok(traces)
 }
 
-/// The same for all clients.
+/// Does the same for all clients.
 pub(crate) fn keep_clients(
     alloc: Global,
     mesh: &mut Mesh<Stamped>,

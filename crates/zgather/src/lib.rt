@@ -1,7 +1,8 @@
 //! What the processes of a run left, gathered into the traces of the run.
 //!
-//! A process leaves its trace and its ends of the links. With both ends of each link in one thread, the links tell that what was
-//! taken begins what was put: then the traces are lawful.
+//! A process leaves its trace and its ends of the channels. With both ends of each channel in one
+//! thread, the channels can tell that what was received is a prefix of what was sent. Then the
+//! traces are lawful.
 #![tactic(auto)]
 
 mod gathering;

@@ -17,7 +17,7 @@ fn main(rt: HostRuntime) -> ExitCode {
     ExitCode::from(status)
 }
 
-// Does what the words ask for that the program was started with.
+// Does what the words that the program was started with ask for.
 fn run<S: Source, K: Sink, F: Sink>(
     rt: &HostRuntime,
     source: &mut S,

@@ -1,7 +1,7 @@
-//! `zk race` runs the service in threads, clients racing for nodes, and audits the run.
+//! `zk race` runs the service in threads, with clients that race for nodes, and audits the run.
 //!
-//! It is a program of its own, so that whoever plays scripts need not wait for the proof of the threads: `./zk` runs the one
-//! that the words ask for.
+//! It is a program of its own, so that scripts don't wait for the proof of the threads. `./zk` runs
+//! the program that the words ask for.
 #![tactic(auto)]
 
 use std::env;
@@ -22,7 +22,7 @@ fn main(rt: HostRuntime) -> ExitCode {
     ExitCode::from(status)
 }
 
-// Does what the words ask for that the program was started with.
+// Runs the race that the program's arguments ask for, and returns the exit status.
 fn run<R: Threads + Wait + Copy + Send + 'static, K: Sink, F: Sink>(
     rt: &HostRuntime,
     threads: R,

@@ -1,4 +1,4 @@
--- What a line asks for: a call, or an event of the chain. The grammar is this project's own profile.
+-- What a line means: a call, or an event of the chain. The grammar is this project's profile.
 use Rattle.std.specs.Prelude.{ℕ, List, [], ◌∷◌, codes, Option, None, Some, Ok, Err, if◌then◌else◌}
 use Rattle.std.specs.Option.{option_map}
 use Rattle.std.specs.Str.{bytes_eq}
@@ -10,12 +10,12 @@ use Rattle.zlines.specs.LineWords.{Word, words_of, is_malformed, client_of}
 use Rattle.zlines.specs.ProcessWords.{server_of, client_process_of, process_of}
 use Rattle.zlines.specs.Request.{Read, then_read, read_of, request_in}
 
--- two processes, where each word named one
+-- the two processes, if both words named one
 abbrev pub both : Option Process → Option Process → Option (Process × Process)
 both (Some from) (Some to) = Some (from, to)
 both from to = None
 
--- a link: the process that it comes from, and the one that it goes to
+-- a link, by its sender and its receiver
 abbrev pub link_in : List Word → Option (Process × Process)
 link_in (from ∷ (to ∷ [])) = both (process_of from) (process_of to)
 link_in words = None
@@ -28,7 +28,7 @@ take_in words = option_map (λ (from, to). Take from to) (link_in words)
 abbrev pub ignore_in : List Word → Option Line
 ignore_in words = option_map (λ (from, to). Ignore from to) (link_in words)
 
--- the one server that is named
+-- the server that a lone word names
 abbrev pub lone_server_in : List Word → Option ℕ
 lone_server_in (server ∷ []) = server_of server
 lone_server_in words = None
@@ -45,24 +45,24 @@ join_in words = option_map Join (lone_server_in words)
 abbrev pub retire_in : List Word → Option Line
 retire_in words = option_map Retire (lone_server_in words)
 
--- retry CLIENT, which is named as a process
+-- retry CLIENT, where the client is named as a process
 abbrev pub retry_in : List Word → Option Line
 retry_in (client ∷ []) = option_map Retry (client_process_of client)
 retry_in words = None
 
--- settle, and nothing behind it
+-- settle, without further words
 abbrev pub settle_in : List Word → Option Line
 settle_in [] = Some Settle
 settle_in words = None
 
--- a client's command, which is played to its answer, or, behind `begin`, begins alone
+-- a client's command, which runs until its reply; after `begin`, it is only invoked
 abbrev pub client_line_in : ℕ → List Word → Read Line
 client_line_in client [] = Err BadLine
 client_line_in client (verb ∷ words) =
     if bytes_eq verb (codes "begin") then then_read (request_in client words) (λ request. Ok (Begin request)) else
     then_read (request_in client (verb ∷ words)) (λ request. Ok (Call request))
 
--- what the words of a line ask for
+-- the meaning of the words of a line
 abbrev pub line_in : List Word → Read Line
 line_in [] = Err BadLine
 line_in (word ∷ words) =
@@ -75,6 +75,6 @@ line_in (word ∷ words) =
     if bytes_eq word (codes "settle") then read_of (settle_in words) else
     then_read (read_of (client_of word)) (λ client. client_line_in client words)
 
--- what a line asks for
+-- the meaning of a line
 unfoldable pub line_of : List ℕ → Read Line
 line_of line = if is_malformed line then Err BadLine else line_in (words_of line)

@@ -1,4 +1,4 @@
--- The texts of replies: this project's own profile. Data in them is base64 by RFC 4648, section 4.
+-- The text of replies. It is this project's profile. Data is base64, by RFC 4648, section 4.
 use Rattle.std.specs.Prelude.{ℕ, List, [], ◌∷◌, ◌++◌, length, codes, nat_lt, if◌then◌else◌}
 use Rattle.std.specs.Fmt.{decimal}
 use Rattle.std.specs.List.{flat_map}
@@ -16,39 +16,39 @@ abbrev pub numbers_of : Stat → List ℕ
 numbers_of s =
     s.czxid ∷ s.mzxid ∷ s.pzxid ∷ s.ctime ∷ s.mtime ∷ s.version ∷ s.cversion ∷ s.owner ∷ s.length ∷ s.children ∷ []
 
--- each number in decimal, after a space
+-- a space and the number in decimal
 abbrev pub spaced_number : ℕ → List ℕ
 spaced_number n = 32 ∷ decimal n
 
--- the numbers of a stat, each after a space
+-- the numbers of a stat, each with a space before it
 abbrev pub stat_text : Stat → List ℕ
 stat_text s = flat_map spaced_number (numbers_of s)
 
--- what one part of a multi did
+-- the reply to one part of a multi
 abbrev pub part_text : PartReply → List ℕ
 part_text (part.Created path) = text_of path
 part_text part.Deleted = codes "deleted"
 part_text (part.Set stat) = codes "stat" ++ stat_text stat
 part_text part.Checked = codes "checked"
 
--- what a further part did
+-- the reply to a further part
 abbrev pub next_part_text : PartReply → List ℕ
 next_part_text reply = codes " ; " ++ part_text reply
 
--- what the parts of a multi did
+-- the replies to the parts of a multi
 abbrev pub parts_text : List PartReply → List ℕ
 parts_text [] = []
 parts_text (reply ∷ replies) = part_text reply ++ flat_map next_part_text replies
 
--- a name, after a space
+-- a space and the name
 abbrev pub spaced_name : List ℕ → List ℕ
 spaced_name name = 32 ∷ name
 
--- how many nodes a tick removed, where it removed some
+-- the number of nodes that a tick removed, if not zero
 abbrev pub removed_text : ℕ → List ℕ
 removed_text removed = if nat_lt 0 removed then codes " removed " ++ decimal removed else []
 
--- the line of a reply
+-- the text of a reply
 abbrev pub reply_text : Reply → List ℕ
 reply_text (Created path) = codes "ok " ++ text_of path
 reply_text Deleted = codes "ok deleted"

@@ -1,5 +1,5 @@
--- What a client's command asks for: the script's grammar. It is this project's own profile.
--- A line that has not the shape is a bad line; else the first path or data that is refused, from the left, is named.
+-- What a client's command means: the grammar of the script. It is this project's profile. A line of
+-- the wrong shape is a `BadLine`. Else the fault names the first bad path or data from the left.
 use Rattle.std.specs.Prelude.{◌≡◌, ◌⊎◌, ℕ, List, [], ◌∷◌, codes, nat_eq, Option, None, Some, Result, Ok, Err, if◌then◌else◌}
 use Rattle.std.specs.Option.{option_map_or}
 use Rattle.std.specs.Str.{bytes_eq}
@@ -29,20 +29,20 @@ use Rattle.zlines.specs.declared.request.LineFault.TheVariants.{BadLine, BadPath
 use Rattle.zlines.specs.LineWords.{Word, number_of, data_of}
 use Rattle.zlines.specs.Shape.{change_shape, lone_shape, parts_shape}
 
--- what is read of a line, or why nothing is
+-- the result of reading: a value or a fault
 abbrev pub Read : Type 0 → Type 0
 Read A = Result A LineFault
 
--- why nothing was read: there was no memory for it, or this fault is in the text
+-- nothing was read: out of memory, or the text has this fault
 abbrev pub IsUnread : {A : Type 0} → Read A → LineFault → Type 0
 IsUnread read fault = (fault ≡ Memory) ⊎ (read ≡ Err fault)
 
--- goes on with what was read
+-- continue with what was read
 abbrev pub then_read : {A B : Type 0} → Read A → (A → Read B) → Read B
 then_read (Err fault) next = Err fault
 then_read (Ok x) next = next x
 
--- what a word spells; where it spells nothing, the line has not the shape of a line
+-- what a word spells; if it spells nothing, the line is a `BadLine`
 abbrev pub read_of : {A : Type 0} → Option A → Read A
 read_of None = Err BadLine
 read_of (Some x) = Ok x
@@ -55,7 +55,7 @@ path_in word = option_map_or (λ fault. Err (BadPath fault)) (fault_of word) (Ok
 abbrev pub data_in : Word → Read (List ℕ)
 data_in word = option_map_or (λ bytes. Ok bytes) (data_of word) (Err BadData)
 
--- create PATH KIND DATA, where the path comes before the data
+-- create PATH KIND DATA; the path is read before the data
 abbrev pub create_in : Word → Kind → Word → Read Change
 create_in path kind bytes =
     then_read (path_in path) (λ path.
@@ -67,7 +67,7 @@ abbrev pub delete_in : Word → Expected → Read Change
 delete_in path version =
     then_read (path_in path) (λ path. Ok (Delete (record { path = path; version = version })))
 
--- set PATH VERSION DATA, where the path comes before the data
+-- set PATH VERSION DATA; the path is read before the data
 abbrev pub set_in : Word → Expected → Word → Read Change
 set_in path version bytes =
     then_read (path_in path) (λ path.
@@ -90,13 +90,13 @@ abbrev pub part_in : PartWords → Read Part
 part_in (ChangeOf words) = then_read (change_in words) (λ change. Ok (part_of change))
 part_in (CheckOf path version) = check_in path version
 
--- the parts of a multi, from the left
+-- the parts of a multi, read from the left
 abbrev pub parts_in : List PartWords → Read (List Part)
 parts_in [] = Ok []
 parts_in (words ∷ more) =
     then_read (part_in words) (λ part. then_read (parts_in more) (λ parts. Ok (part ∷ parts)))
 
--- a call of one part; a check is none
+-- a command that is a single change; a check isn't one
 abbrev pub single_in : Word → List Word → Read Call
 single_in verb words =
     then_read (read_of (lone_shape (change_shape verb words))) (λ words.
@@ -110,7 +110,7 @@ multi_in words =
     then_read (parts_in parts) (λ parts.
     Ok (Update (act.Multi parts))))
 
--- the PATH that a query asks about
+-- the PATH of a query
 abbrev pub asked_in : List Word → Read Path
 asked_in (path ∷ []) = path_in path
 asked_in words = Err BadLine
@@ -119,7 +119,7 @@ asked_in words = Err BadLine
 abbrev pub query_in : (Path → Question) → List Word → Read Call
 query_in query words = then_read (asked_in words) (λ path. Ok (Query (query path)))
 
--- the NUMBER that a call of sessions names: a session, or the ticks that one is to live
+-- the NUMBER of a session call: a session id, or a timeout in ticks
 abbrev pub number_in : List Word → Read ℕ
 number_in (word ∷ []) = read_of (number_of word)
 number_in words = Err BadLine
@@ -128,7 +128,7 @@ number_in words = Err BadLine
 abbrev pub session_in : (ℕ → Act) → List Word → Read Call
 session_in update words = then_read (number_in words) (λ n. Ok (Update (update n)))
 
--- the call that a command asks for
+-- the call of a command
 abbrev pub call_in : List Word → Read Call
 call_in [] = Err BadLine
 call_in (verb ∷ words) =
@@ -141,12 +141,13 @@ call_in (verb ∷ words) =
     if bytes_eq verb (codes "close") then session_in act.Close words else
     single_in verb words
 
--- tick, and nothing behind it
+-- tick, without further words
 abbrev pub tick_in : List Word → Read Call
 tick_in (verb ∷ []) = if bytes_eq verb (codes "tick") then Ok (Update act.Tick) else Err BadLine
 tick_in words = Err BadLine
 
--- the call that a client's command asks for: client 0 is the clock, which gives `tick` alone; no other client gives it
+-- The call of a client's command. Client 0 is the clock: it can only `tick`, and no other client
+-- can.
 abbrev pub command_in : ℕ → List Word → Read Call
 command_in client command = if nat_eq client 0 then tick_in command else call_in command
 

@@ -1,5 +1,5 @@
--- The shape of a part, and of a multi: what is looked at before any path or data is.
--- Words are taken from the left, as many as the verb wants, so that `;` can stand where a path or data is wanted.
+-- The shape of a part, and of a multi: it is tested before any path or data is. Words are taken
+-- from the left, as many as the verb needs, so `;` may stand in the place of a path or data.
 use Rattle.std.specs.Prelude.{ℕ, zero, suc, nat_eq, nat_lt, nat_le, ◌&&◌, List, [], ◌∷◌, drop, codes, Option, None, Some, if◌then◌else◌}
 use Rattle.std.specs.Option.{option_map, option_and_then}
 use Rattle.std.specs.List.{starts_with}
@@ -15,40 +15,40 @@ use Rattle.zlines.specs.declared.part_words.ChangeWords.{ChangeWords}
 use Rattle.zlines.specs.declared.part_words.ChangeWords.TheVariants.{Create, Delete, SetData}
 use Rattle.zlines.specs.LineWords.{Word, number_of}
 
--- a number of ticks that is a time to live
+-- the number of ticks, if it is a valid TTL
 abbrev pub in_ttl_range : ℕ → Option ℕ
 in_ttl_range ticks = if nat_lt 0 ticks && nat_le ticks MAX_TTL then Some ticks else None
 
--- the time to live that a word spells
+-- the TTL that a word spells
 abbrev pub ttl_of : Word → Option ℕ
 ttl_of word = option_and_then in_ttl_range (number_of word)
 
--- how a node with a time to live is to be made: `t:` or `ts:`, and its ticks
+-- a kind with a TTL: `t:` or `ts:`, then the ticks
 abbrev pub timed_kind_of : Word → Option Kind
 timed_kind_of word =
     if starts_with nat_eq word (codes "t:") then option_map PersistentWithTtl (ttl_of (drop 2 word)) else
     if starts_with nat_eq word (codes "ts:") then option_map PersistentSequentialWithTtl (ttl_of (drop 3 word)) else
     None
 
--- how a node of a session is to be made: `e:` or `es:`, and the session's number; or one with a time to live
+-- an ephemeral kind: `e:` or `es:`, then the session's id; else a kind with a TTL
 abbrev pub owned_kind_of : Word → Option Kind
 owned_kind_of word =
     if starts_with nat_eq word (codes "e:") then option_map Ephemeral (number_of (drop 2 word)) else
     if starts_with nat_eq word (codes "es:") then option_map EphemeralSequential (number_of (drop 3 word)) else
     timed_kind_of word
 
--- how a node is to be made
+-- the kind of node that a word names
 unfoldable pub kind_of : Word → Option Kind
 kind_of word =
     if bytes_eq word (codes "p") then Some Persistent else
     if bytes_eq word (codes "ps") then Some PersistentSequential else
     owned_kind_of word
 
--- the version that a call is meant for
+-- the expected version that a word names
 abbrev pub version_of : Word → Option Expected
 version_of word = if bytes_eq word (codes "any") then Some Any else option_map Exactly (number_of word)
 
--- something, and the words behind it
+-- something, and the remaining words
 abbrev pub Shape : Type 0 → Type 0
 Shape A = Option (A × List Word)
 
@@ -73,7 +73,7 @@ abbrev pub check_shape : List Word → Shape PartWords
 check_shape (path ∷ (version ∷ words)) = option_map (λ version. (Check path version, words)) (version_of version)
 check_shape words = None
 
--- a verb that changes a node, and the words that it wants
+-- a change: its verb, and the words that it needs
 abbrev pub change_shape : Word → List Word → Shape ChangeWords
 change_shape verb words =
     if bytes_eq verb (codes "create") then create_shape words else
@@ -85,25 +85,25 @@ change_shape verb words =
 abbrev pub as_part : Shape ChangeWords → Shape PartWords
 as_part shape = option_map (λ (change, words). (Change change, words)) shape
 
--- a verb of a part, and the words that it wants
+-- a part: its verb, and the words that it needs
 abbrev pub part_shape : Word → List Word → Shape PartWords
 part_shape verb words =
     if bytes_eq verb (codes "check") then check_shape words else as_part (change_shape verb words)
 
--- something, where no word is left behind it
+-- something, if no word remains
 abbrev pub lone_shape : {A : Type 0} → Shape A → Option A
 lone_shape None = None
 lone_shape (Some (shape, [])) = Some shape
 lone_shape (Some (shape, word ∷ words)) = None
 
--- a part, and what the words behind it come to, where `;` stands between
+-- a part, then the parts of the remaining words if `;` stands between
 abbrev pub and_parts : Shape PartWords → (List Word → Option (List PartWords)) → Option (List PartWords)
 and_parts None next = None
 and_parts (Some (part, [])) next = Some (part ∷ [])
 and_parts (Some (part, word ∷ words)) next =
     if bytes_eq word (codes ";") then option_map (λ parts. part ∷ parts) (next words) else None
 
--- the parts that some words come to: at least one, and at most so many
+-- the parts in these words: at least one, and at most the given number
 unfoldable pub parts_shape : ℕ → List Word → Option (List PartWords)
 parts_shape zero words = None
 parts_shape (suc room) [] = None

@@ -7,7 +7,7 @@ ghost use Rattle.zlines.specs.support.Words.{HasWord};
 
 use std::marker::Model;
 
-/// What is left of a line's words.
+/// The remaining words of a line.
 #[derive(Drop)]
 pub(crate) struct Cursor<'a> {
     left: Option<&'a str>,
@@ -24,21 +24,21 @@ impl<'a> Model for Cursor<'a> {
 }
 
 impl<'a> Cursor<'a> {
-    /// All words of a line.
+    /// Returns a cursor at the first word of a line.
     pub(crate) fn new(line: &'a str) -> Cursor<'a>
         ensures { result ≡ words_of line.now }
     {
         Cursor { left: Some(line) }
     }
 
-    /// The next word, if there is one.
+    /// Returns the next word, or `None` at the end.
     pub(crate) fn next(&mut self) -> Option<&'a str>
         ensures word { IfSome result (λ word. self.old ≡ word.now ∷ self.new) }
         ensures none { IfNone result ((self.old ≡ []) × (self.new ≡ [])) }
     {
         let left = self.left?;
         let bytes = left.as_bytes();
-        // Words are short, so their bytes are looked at one by one.
+        // Words are short, so a simple loop over their bytes will do.
         let mut end = 0;
         while end < bytes.len() && bytes[end] != b' ' {
             end += 1;
@@ -51,7 +51,7 @@ impl<'a> Cursor<'a> {
         Some(&left[..end])
     }
 
-    /// Whether no word is left.
+    /// Returns whether no word remains.
     pub(crate) fn is_done(&self) -> bool
         ensures done { OnTrue result (self.now ≡ []) }
         ensures more { OnFalse result (HasWord self.now) }

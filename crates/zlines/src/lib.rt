@@ -1,7 +1,8 @@
-//! The text of a script's lines: a line becomes a call or an event of the chain, and a reply becomes text.
+//! The text of the script: a line is parsed into a call or an event of the chain, and a reply is
+//! written as text.
 //!
-//! `read_line` reads what a line asks for, and `write_reply` writes what a call is answered with. Each is a function of
-//! `specs/`: `line_of` (Line.antt), `reply_text` (Reply.antt).
+//! `read_line` parses a line, and `write_reply` writes a reply. The definitions are `line_of`
+//! (`specs/Line.antt`) and `reply_text` (`specs/Reply.antt`).
 #![tactic(auto)]
 
 mod cursor;

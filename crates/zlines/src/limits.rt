@@ -1,7 +1,7 @@
-//! The limits of a script's text: this project's own profile.
+//! The limits of the script's text. They are this project's profile.
 
-/// The most bytes that a line has, without its LF.
+/// The greatest length of a line in bytes, without its LF.
 pub const MAX_LINE: usize = 524_288;
 
-/// Numbers in words are below this.
+/// The bound on numbers in words: each is below it.
 pub const NUMBER_BOUND: u64 = 1 << 62;

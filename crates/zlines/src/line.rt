@@ -1,27 +1,27 @@
-//! What a line asks for.
+//! The meaning of a line.
 
 use crate::request::Request;
 use zcalls::ClientId;
 use zprotocol::{Process, ServerId};
 
-/// What a line asks for.
+/// The meaning of a line.
 #[derive(Drop)]
 pub enum Line {
-    /// A client's call, from its begin to its answer.
+    /// A client's call, from its invocation to its reply.
     Call(Request),
-    /// A client's call begins.
+    /// A client's call is only invoked.
     Begin(Request),
-    /// The front message of the link from the first process to the second is delivered.
+    /// The first message on the link from the first process to the second is delivered.
     Take(Process, Process),
-    /// The front message of that link, a request of a client, is lost.
+    /// The first message on that link, a client's request, is lost.
     Ignore(Process, Process),
-    /// A server fails, for good.
+    /// A server fails for good.
     Fail(ServerId),
-    /// A server is to join.
+    /// A server is asked to join the chain.
     Join(ServerId),
-    /// A member is ordered to leave.
+    /// A member is ordered to leave the chain.
     Retire(ServerId),
-    /// A client sends its outstanding call once more.
+    /// A client sends its outstanding call again.
     Retry(ClientId),
     /// Messages are delivered until none is left.
     Settle,

@@ -1,4 +1,4 @@
-//! Lines, read.
+//! Reading lines.
 
 ghost use Rattle.std.specs.Prelude.{◌≡◌, Ok, IfOk, IfErr};
 ghost use Rattle.zlines.specs.Request.{IsUnread};
@@ -17,7 +17,7 @@ use std::str;
 use zcalls::ClientId;
 use zprotocol::{Process, ServerId};
 
-/// Reads a line: what it asks for, or why it asks for nothing.
+/// Parses a line, without its LF. Returns its meaning, or its fault.
 #[tactic(auto, unfolding(crate::specs::Line::line_of))]
 pub fn read_line(alloc: Global, line: &[u8]) -> Result<Line, LineFault>
     ensures found { IfOk result (λ asked. line_of line.now ≡ Ok asked) }
@@ -30,13 +30,13 @@ pub fn read_line(alloc: Global, line: &[u8]) -> Result<Line, LineFault>
         return Err(LineFault::BadLine);
     }
     let Ok(text) = str::from_utf8(line) else {
-        // Plain bytes are a text.
+        // Plain bytes are valid UTF-8.
         unreachable!();
     };
     read_words(alloc, Cursor::new(text))
 }
 
-// What the words of a line ask for.
+// Returns the meaning of a line's words.
 fn read_words(alloc: Global, mut words: Cursor) -> Result<Line, LineFault>
     ensures found { IfOk result (λ asked. line_in words.entry ≡ Ok asked) }
     ensures fault { IfErr result (IsUnread (line_in words.entry)) }
@@ -59,7 +59,7 @@ fn read_words(alloc: Global, mut words: Cursor) -> Result<Line, LineFault>
     }
 }
 
-// A client's command, which is played to its answer, or, behind `begin`, begins alone.
+// Reads a client's command, which runs until its reply; after `begin`, it is only invoked.
 fn read_client_line(alloc: Global, client: ClientId, mut words: Cursor) -> Result<Line, LineFault>
     ensures found { IfOk result (λ asked. client_line_in client words.entry ≡ Ok asked) }
     ensures fault { IfErr result (IsUnread (client_line_in client words.entry)) }
@@ -124,7 +124,7 @@ fn retry_line(mut words: Cursor) -> Option<Line>
     Some(Line::Retry(client_process_in(word)?))
 }
 
-// settle, and no further word
+// settle, without further words
 fn settle_line(words: Cursor) -> Option<Line>
     ensures { result ≡ settle_in words.entry }
 {
@@ -135,7 +135,7 @@ fn settle_line(words: Cursor) -> Option<Line>
     }
 }
 
-// FROM TO, and no further word
+// FROM TO, without further words
 fn link(mut words: Cursor) -> Option<(Process, Process)>
     ensures { result ≡ link_in words.entry }
 {
@@ -147,7 +147,7 @@ fn link(mut words: Cursor) -> Option<(Process, Process)>
     Some((process_in(from)?, process_in(to)?))
 }
 
-// SERVER, and no further word
+// SERVER, without further words
 fn lone_server(mut words: Cursor) -> Option<ServerId>
     ensures { result ≡ lone_server_in words.entry }
 {

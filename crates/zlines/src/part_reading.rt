@@ -1,4 +1,4 @@
-//! Parts whose shape was looked at, read: each path and each data word, from the left.
+//! Reading the paths and the data of parts whose shape has been tested, from the left.
 
 ghost use Rattle.std.specs.Prelude.{◌≡◌, Ok, IfOk, IfErr};
 ghost use Rattle.zlines.specs.Request.{IsUnread, path_in, data_in, change_in, part_in, parts_in};

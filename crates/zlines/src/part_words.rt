@@ -1,9 +1,9 @@
-//! A part of a command, taken apart into words.
+//! The parts of a command, split into words.
 
 use std::marker::Model;
 use zcalls::{Expected, Kind};
 
-/// A word that is yet to be read.
+/// A word that hasn't been read yet.
 #[derive(Drop)]
 pub(crate) struct Word<'a> {
     pub(crate) text: &'a str,
@@ -17,7 +17,7 @@ impl<'a> Model for Word<'a> {
     ghost view = { λ word. word.text.now };
 }
 
-/// A change whose shape was looked at, and whose path and data are yet to be read.
+/// A change whose shape has been tested; its path and data haven't been read yet.
 #[derive(Drop)]
 pub(crate) enum ChangeWords<'a> {
     /// create PATH KIND DATA
@@ -28,7 +28,7 @@ pub(crate) enum ChangeWords<'a> {
     SetData(Word<'a>, Expected, Word<'a>),
 }
 
-/// A part of a multi, likewise.
+/// A part of a multi, in the same state.
 #[derive(Drop)]
 pub(crate) enum PartWords<'a> {
     /// A change.

@@ -1,4 +1,4 @@
-//! Commands of clients, read.
+//! Reading the commands of clients.
 
 ghost use Rattle.std.specs.Prelude.{◌≡◌, ◌∷◌, Ok, Err, IfOk, IfErr};
 ghost use Rattle.zlines.specs.Request.{IsUnread, request_in, tick_in, call_in, number_in, asked_in, query_in, session_in, multi_in};
@@ -14,8 +14,8 @@ use std::alloc::Global;
 use zcalls::{Call, ClientId, Multi, Query, SessionId, Update};
 use zpath::Path;
 
-/// Reads a client's command: its verb, and the words behind it. Client 0 is the clock: it gives `tick` alone,
-/// and no other client gives it.
+/// Reads a client's command, from its verb and the words after it. Client 0 is the clock: it can
+/// only `tick`, and no other client can.
 pub(crate) fn read_request(
     alloc: Global,
     client: ClientId,
@@ -34,7 +34,7 @@ pub(crate) fn read_request(
     Ok(Request { client, call })
 }
 
-// `tick`, and no further word.
+// `tick`, without further words
 fn read_tick(verb: &str, words: Cursor) -> Result<Call, LineFault>
     ensures found { IfOk result (λ call. tick_in (verb.now ∷ words.entry) ≡ Ok call) }
     ensures fault { IfErr result (λ fault. tick_in (verb.now ∷ words.entry) ≡ Err fault) }
@@ -46,7 +46,7 @@ fn read_tick(verb: &str, words: Cursor) -> Result<Call, LineFault>
     }
 }
 
-// The call that the words of a command ask for.
+// Reads the call of a command.
 fn read_call(alloc: Global, verb: &str, words: Cursor) -> Result<Call, LineFault>
     ensures found { IfOk result (λ call. call_in (verb.now ∷ words.entry) ≡ Ok call) }
     ensures fault { IfErr result (IsUnread (call_in (verb.now ∷ words.entry))) }
@@ -123,7 +123,7 @@ fn read_close(words: Cursor) -> Result<Call, LineFault>
     Ok(Call::Update(Update::Close(SessionId::new(session))))
 }
 
-// The path that a query asks about, and no further word.
+// PATH, without further words
 fn read_asked(alloc: Global, mut words: Cursor) -> Result<Path, LineFault>
     ensures found { IfOk result (λ path. asked_in words.entry ≡ Ok path) }
     ensures fault { IfErr result (IsUnread (asked_in words.entry)) }
@@ -137,7 +137,7 @@ fn read_asked(alloc: Global, mut words: Cursor) -> Result<Path, LineFault>
     read_path(alloc, path)
 }
 
-// A number, and no further word.
+// NUMBER, without further words
 fn read_number(mut words: Cursor) -> Result<u64, LineFault>
     ensures found { IfOk result (λ number. number_in words.entry ≡ Ok number) }
     ensures fault { IfErr result (λ fault. number_in words.entry ≡ Err fault) }
@@ -151,7 +151,7 @@ fn read_number(mut words: Cursor) -> Result<u64, LineFault>
     number(word).ok_or(LineFault::BadLine)
 }
 
-// A call of several parts.
+// multi PART ; PART ; PART
 fn read_multi(alloc: Global, words: Cursor) -> Result<Call, LineFault>
     ensures found { IfOk result (λ call. multi_in words.entry ≡ Ok call) }
     ensures fault { IfErr result (IsUnread (multi_in words.entry)) }

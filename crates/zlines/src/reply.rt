@@ -1,4 +1,4 @@
-//! The texts of replies.
+//! Writing replies as text.
 
 ghost use Rattle.std.specs.Prelude.{◌++◌, OnOk};
 ghost use Rattle.zlines.specs.Texts.{Writes, counts_text};
@@ -15,7 +15,7 @@ use itoa::Buffer;
 use zcalls::{PartReply, Refusal, Reply, Stat};
 use zpath::{Memory, Name};
 
-/// Writes a reply, without the end of its line.
+/// Appends the text of a reply, without a line end.
 pub fn write_reply(reply: &Reply, out: &mut String) -> Result<(), Memory>
     ensures { OnOk result (Writes out.old out.new (reply_text reply.now)) }
 {
@@ -53,7 +53,7 @@ pub fn write_reply(reply: &Reply, out: &mut String) -> Result<(), Memory>
     }
 }
 
-// Plain text. Each reply begins with it.
+// Appends a text as it is. Every reply begins with one.
 fn write_text(text: &str, out: &mut String) -> Result<(), Memory>
     ensures { OnOk result (Writes out.old out.new text.now) }
 {
@@ -61,7 +61,7 @@ fn write_text(text: &str, out: &mut String) -> Result<(), Memory>
     Ok(())
 }
 
-// A number, behind a text.
+// Appends a text and a number.
 fn write_count(front: &str, number: u64, out: &mut String) -> Result<(), Memory>
     ensures { OnOk result (Writes out.old out.new (front.now ++ decimal number)) }
 {
@@ -69,7 +69,7 @@ fn write_count(front: &str, number: u64, out: &mut String) -> Result<(), Memory>
     write_number(number, &mut Buffer::new(), out)
 }
 
-// Two numbers, each behind a text.
+// Appends two numbers, each with a text before it.
 fn write_counts(
     front: &str,
     first: u64,
@@ -84,7 +84,7 @@ fn write_counts(
     write_count(middle, second, out)
 }
 
-// How many nodes a tick removed, where it removed some.
+// Appends the number of nodes that a tick removed, if not zero.
 fn write_removed(removed: u64, out: &mut String) -> Result<(), Memory>
     ensures { OnOk result (Writes out.old out.new (removed_text removed)) }
 {
@@ -94,7 +94,7 @@ fn write_removed(removed: u64, out: &mut String) -> Result<(), Memory>
     write_count(" removed ", removed, out)
 }
 
-// The data of a node, and its stat.
+// Appends the data of a node, and its stat.
 fn write_node(bytes: &[u8], stat: &Stat, out: &mut String) -> Result<(), Memory>
     ensures { OnOk result (Writes out.old out.new (reply_text (Data bytes.now stat.now))) }
 {
@@ -103,7 +103,7 @@ fn write_node(bytes: &[u8], stat: &Stat, out: &mut String) -> Result<(), Memory>
     write_stat_behind(" stat", stat, out)
 }
 
-// Data: `-` for no bytes, else base64.
+// Appends data: `-` for no bytes, else base64.
 fn write_data(bytes: &[u8], out: &mut String) -> Result<(), Memory>
     ensures { OnOk result (Writes out.old out.new (data_text bytes.now)) }
 {
@@ -115,7 +115,7 @@ fn write_data(bytes: &[u8], out: &mut String) -> Result<(), Memory>
     Ok(())
 }
 
-// The name of a refusal, behind a text.
+// Appends a text and the name of a refusal.
 fn write_refusal(front: &str, refusal: &Refusal, out: &mut String) -> Result<(), Memory>
     ensures { OnOk result (Writes out.old out.new (front.now ++ refusal_name refusal.now)) }
 {
@@ -123,7 +123,7 @@ fn write_refusal(front: &str, refusal: &Refusal, out: &mut String) -> Result<(),
     Ok(())
 }
 
-// What the parts of a multi did, with ` ; ` between.
+// Appends the replies to the parts of a multi, with ` ; ` between them.
 fn write_parts(replies: &[PartReply], out: &mut String) -> Result<(), Memory>
     ensures { OnOk result (Writes out.old out.new (parts_text replies.now)) }
 {
@@ -134,7 +134,7 @@ fn write_parts(replies: &[PartReply], out: &mut String) -> Result<(), Memory>
     write_more_parts(more, out)
 }
 
-// What further parts of a multi did.
+// Appends the replies to the further parts of a multi.
 fn write_more_parts(replies: &[PartReply], out: &mut String) -> Result<(), Memory>
     ensures { OnOk result (Writes out.old out.new (flat_map next_part_text replies.now)) }
 {
@@ -145,7 +145,7 @@ fn write_more_parts(replies: &[PartReply], out: &mut String) -> Result<(), Memor
     Ok(())
 }
 
-// What one part of a multi did.
+// Appends the reply to one part of a multi.
 fn write_part(reply: &PartReply, out: &mut String) -> Result<(), Memory>
     ensures { OnOk result (Writes out.old out.new (part_text reply.now)) }
 {
@@ -160,7 +160,7 @@ fn write_part(reply: &PartReply, out: &mut String) -> Result<(), Memory>
     }
 }
 
-// Each name, after a space.
+// Appends each name with a space before it.
 fn write_names(names: &[Name], out: &mut String) -> Result<(), Memory>
     ensures { OnOk result (Writes out.old out.new (flat_map spaced_name names.now)) }
 {
@@ -171,7 +171,7 @@ fn write_names(names: &[Name], out: &mut String) -> Result<(), Memory>
     Ok(())
 }
 
-// A number. Most have one digit, which is pushed as it is.
+// Appends a number. Most have one digit, which is pushed directly.
 #[inline(always)]
 fn write_number(number: u64, buffer: &mut Buffer, out: &mut String) -> Result<(), Memory>
     ensures { OnOk result (Writes out.old out.new (decimal number)) }

@@ -1,4 +1,4 @@
-//! What a line asks for, or why it asks for nothing.
+//! A client's request, or why a line is refused.
 
 ghost use Rattle.std.specs.Prelude.{◌≡◌};
 ghost use Rattle.zlines.specs.declared.request.LineFault.TheVariants.{Memory};
@@ -10,22 +10,22 @@ use zpath::PathFault;
 /// A call of a client.
 #[derive(Drop)]
 pub struct Request {
-    /// Who calls.
+    /// The calling client.
     pub client: ClientId,
     /// The call.
     pub call: Call,
 }
 
-/// Why a line asks for nothing.
+/// Why a line is refused.
 #[derive(Clone, Copy, Debug, PartialEq, Eq)]
 pub enum LineFault {
-    /// It has not the shape of a line.
+    /// It doesn't have the shape of a line.
     BadLine,
-    /// A word that should be a path is none.
+    /// A word that should be a path isn't one, for this reason.
     BadPath(PathFault),
-    /// A word that should be data is none.
+    /// A word that should be data isn't.
     BadData,
-    /// A growth was refused.
+    /// Out of memory.
     Memory,
 }
 

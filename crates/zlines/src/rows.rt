@@ -1,4 +1,4 @@
-//! Worked rows of the definitions: each clause is one, and the bodies do nothing.
+//! Worked examples of the definitions. Each clause is one; the bodies do nothing.
 
 ghost use Rattle.std.specs.Prelude.{◌≡◌, [], ◌∷◌, Some, None, Ok, Err, codes};
 ghost use Rattle.zpath.specs.declared.fault.PathFault.TheVariants.{NotAbsolute};
@@ -26,7 +26,7 @@ ghost use Rattle.zlines.specs.Reply.{reply_text, stat_text};
 ghost use Rattle.zlines.specs.support.Rows.{asks, begins, get_a, create_root, first_stat};
 ghost use Rattle.zlines.specs.support.Rows.{three_parts, one_part, two_bytes, no_bytes, refused_child};
 
-/// Worked rows of the words: numbers, clients and data.
+/// Worked examples of words: numbers, clients, kinds and data.
 #[tactic(auto, unfolding(crate::specs::Shape::kind_of, base64::proofs::OnLiterals::base64_on_literals))]
 pub fn words()
     ensures zero { number_of (codes "0") ≡ Some 0 }
@@ -59,7 +59,7 @@ pub fn words()
     ensures none_shown { data_text [] ≡ codes "-" }
 {}
 
-/// Worked rows of the lines: what each asks for, or why it asks for nothing.
+/// Worked examples of lines: their meaning, or their fault.
 #[tactic(auto, unfolding(crate::specs::Line::line_of, crate::specs::Shape::kind_of, crate::specs::Shape::parts_shape, zpath::specs::Faults::fault_of, base64::proofs::OnLiterals::base64_on_literals))]
 pub fn lines()
     ensures unknown { line_of (codes "1 multi") ≡ Err BadLine }
@@ -88,7 +88,7 @@ pub fn lines()
     ensures create { line_of (codes "31 create / p -") ≡ asks 31 create_root }
 {}
 
-/// Worked rows of the words that name processes.
+/// Worked examples of words that name processes.
 pub fn process_words()
     ensures master { process_of (codes "m") ≡ Some Master }
     ensures last_server { process_of (codes "s16") ≡ Some (Server 16) }
@@ -102,7 +102,7 @@ pub fn process_words()
     ensures other_word { process_of (codes "x1") ≡ None }
 {}
 
-/// Worked rows of the lines that are events of the chain.
+/// Worked examples of lines that are events of the chain.
 #[tactic(auto, unfolding(crate::specs::Line::line_of, zpath::specs::Faults::fault_of))]
 pub fn event_lines()
     ensures take { line_of (codes "take c1 s1") ≡ Ok (line.Take (Client 1) (Server 1)) }
@@ -128,7 +128,7 @@ pub fn event_lines()
     ensures begin_path { line_of (codes "1 begin get a") ≡ Err (BadPath NotAbsolute) }
 {}
 
-/// Worked rows of the texts of replies.
+/// Worked examples of the text of replies.
 pub fn replies()
     ensures refused { reply_text (Refused NoNode) ≡ codes "no NoNode" }
     ensures opened { reply_text (Opened 1 2) ≡ codes "ok session 1 timeout 2" }
@@ -138,7 +138,7 @@ pub fn replies()
     ensures stat { stat_text first_stat ≡ codes " 1 1 1 0 0 0 0 0 2 0" }
 {}
 
-/// Worked rows of the texts of replies that tell what was done, each under its own word.
+/// Worked examples of the text of successful replies, one for each kind.
 #[tactic(auto, unfolding(base64::proofs::OnLiterals::base64_on_literals))]
 pub fn done_replies()
     ensures deleted { reply_text reply.Deleted ≡ codes "ok deleted" }
@@ -153,7 +153,7 @@ pub fn done_replies()
     ensures children { reply_text (reply.Children (a ∷ (a ∷ []))) ≡ codes "ok 2 a a" }
 {}
 
-/// Worked rows of the texts of refusals, all of them.
+/// Worked examples of the text of refusals: all of them.
 pub fn refused_replies()
     ensures no_node { reply_text (Refused NoNode) ≡ codes "no NoNode" }
     ensures node_exists { reply_text (Refused NodeExists) ≡ codes "no NodeExists" }
@@ -172,7 +172,7 @@ pub fn refused_replies()
         ≡ codes "no multi 12 BadVersion" }
 {}
 
-/// The limits, as numbers.
+/// The limits as numbers.
 pub fn limits_are_numbers()
     ensures line { MAX_LINE ≡ 524288 }
     ensures number { NUMBER_BOUND ≡ 4611686018427387904 }

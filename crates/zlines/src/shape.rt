@@ -1,4 +1,4 @@
-//! The shape of parts: words taken from the left, as many as each verb wants.
+//! The shape of parts: words taken from the left, as many as each verb needs.
 
 ghost use Rattle.std.specs.Prelude.{◌≡◌, Ok, Some, None, IfOk, IfErr, IfSome, IfNone};
 ghost use Rattle.zlines.specs.Shape.{check_shape, change_shape, part_shape, lone_shape, parts_shape};
@@ -12,12 +12,13 @@ use crate::words::{kind_in, version_in};
 use std::alloc::Global;
 use zcalls::MAX_PARTS;
 
-/// The parts that all these words come to, with `;` between them.
+/// Returns the parts in all these words, with `;` between them.
 pub(crate) fn all_parts<'a>(
     alloc: Global,
     mut words: Cursor<'a>,
 ) -> Result<Vec<PartWords<'a>>, LineFault>
-    ensures found { IfOk result (λ all. read_of (parts_shape MAX_PARTS words.entry) ≡ Ok all.items) }
+    ensures found { IfOk result (λ all.
+        read_of (parts_shape MAX_PARTS words.entry) ≡ Ok all.items) }
     ensures fault { IfErr result (IsUnread (read_of (parts_shape MAX_PARTS words.entry))) }
 {
     let mut parts = Vec::new(alloc);
@@ -41,7 +42,7 @@ pub(crate) fn all_parts<'a>(
     Err(LineFault::BadLine)
 }
 
-/// The change that all words behind a verb come to.
+/// Returns the change that a verb and all the words after it spell.
 pub(crate) fn lone_change<'a>(verb: &str, mut words: Cursor<'a>) -> Option<ChangeWords<'a>>
     ensures { result ≡ lone_shape (change_shape verb.now words.entry) }
 {
@@ -49,7 +50,7 @@ pub(crate) fn lone_change<'a>(verb: &str, mut words: Cursor<'a>) -> Option<Chang
     if words.is_done() { Some(change) } else { None }
 }
 
-// The part that begins with a verb; the words behind it stay.
+// Returns the part that begins with a verb; the words after it remain.
 fn next_part<'a>(verb: &str, words: &mut Cursor<'a>) -> Option<PartWords<'a>>
     ensures part { IfSome result (λ part. part_shape verb.now words.old ≡ Some (part, words.new)) }
     ensures none { IfNone result (part_shape verb.now words.old ≡ None) }
@@ -61,9 +62,10 @@ fn next_part<'a>(verb: &str, words: &mut Cursor<'a>) -> Option<PartWords<'a>>
     Some(PartWords::Change(change))
 }
 
-// The change that begins with a verb.
+// Returns the change that begins with a verb; the words after it remain.
 fn next_change<'a>(verb: &str, words: &mut Cursor<'a>) -> Option<ChangeWords<'a>>
-    ensures part { IfSome result (λ part. change_shape verb.now words.old ≡ Some (part, words.new)) }
+    ensures part { IfSome result (λ part.
+        change_shape verb.now words.old ≡ Some (part, words.new)) }
     ensures none { IfNone result (change_shape verb.now words.old ≡ None) }
 {
     match verb {

@@ -1,11 +1,13 @@
-//! Whether a line is well spaced, seen many bytes at a time. Two loads that overlap cover a short line.
+//! Tests the bytes and the spaces of a line, many bytes at a time. Two overlapping loads cover a
+//! short line.
 
 ghost use Rattle.std.specs.Prelude.{◌≡◌, ◌+◌, ◌-◌, ◌<◌, ◌≤◌, length, true};
 ghost use Rattle.zlines.specs.support.Spaced.{is_spaced, IsOddAmong};
 
 use std::simd::prelude::*;
 
-/// Whether a line has plain bytes alone and no empty word: no space at an end, and no two beside each other.
+/// Returns whether a line has only plain bytes and no empty word: no space at an end, and no two in
+/// a row.
 pub(crate) fn is_spaced(line: &[u8]) -> bool
     ensures { result ≡ is_spaced true line.now }
 {
@@ -19,7 +21,7 @@ pub(crate) fn is_spaced(line: &[u8]) -> bool
     if line[pairs] == b' ' {
         return false;
     }
-    // A byte behind the first is odd if it is not plain, or a space behind a space.
+    // A byte after the first is odd if it isn't plain, or if it is a space after a space.
     let has_odd = if pairs >= 16 {
         has_odd_in_many(line, pairs)
     } else if pairs >= 8 {
@@ -32,7 +34,8 @@ pub(crate) fn is_spaced(line: &[u8]) -> bool
     !has_odd
 }
 
-// Whether the second of two neighbours is odd, of 16 or more pairs: the first and the second byte, and so on.
+// Returns whether any of 16 or more pairs of neighbours has an odd second byte. Pair 0 is the first
+// and the second byte.
 fn has_odd_in_many(line: &[u8], pairs: usize) -> bool
     requires many { 16 ≤ pairs }
     requires are { pairs + 1 ≡ length line.now }
@@ -48,7 +51,7 @@ fn has_odd_in_many(line: &[u8], pairs: usize) -> bool
     has_odd_in_lanes::<16>(line, pairs - 16)
 }
 
-// The same of N pairs, from one on, at once.
+// The same for the N pairs from `at` on, at once.
 #[inline(always)]
 fn has_odd_in_lanes<const N: usize>(line: &[u8], at: usize) -> bool
     requires some { (0 < N) × (N ≤ 64) }
@@ -63,7 +66,7 @@ fn has_odd_in_lanes<const N: usize>(line: &[u8], at: usize) -> bool
     (is_odd | is_double).to_bitmask() != 0
 }
 
-// The same of a few pairs, one by one.
+// The same for a few pairs, one by one.
 fn has_odd_in_few(line: &[u8], pairs: usize) -> bool
     requires { pairs + 1 ≡ length line.now }
     ensures { IsOddAmong line.now 0 pairs result }

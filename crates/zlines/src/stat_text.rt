@@ -1,4 +1,5 @@
-//! The text of a stat. Its numbers are put into one place, the last one first, since where each begins is then known.
+//! The text of a stat. The numbers are written into one buffer from the last to the first, since
+//! then the place of each is known.
 
 ghost use Rattle.std.specs.Prelude.{◌≡◌, ◌+◌, ◌*◌, ◌≤◌, ◌++◌, ◌∷◌, length, drop, OnOk, IsAscii};
 ghost use Rattle.std.specs.Fmt.{decimal};
@@ -12,16 +13,16 @@ use std::str;
 use zcalls::Stat;
 use zpath::Memory;
 
-// The most bytes of a number and the space before it.
+// The most bytes of a number with the space before it.
 const NUMBER_ROOM: usize = 21;
 
 // The most bytes of the text before a stat.
 const FRONT_ROOM: usize = 8;
 
-// Room for a text and the ten numbers of a stat.
+// Room for the text before a stat, and for its ten numbers.
 const ROOM: usize = FRONT_ROOM + 10 * NUMBER_ROOM;
 
-/// Writes the numbers of a stat, behind a short text.
+/// Appends a short text and the numbers of a stat.
 pub(crate) fn write_stat_behind(front: &str, stat: &Stat, out: &mut String) -> Result<(), Memory>
     requires { length front.now ≤ FRONT_ROOM }
     ensures { OnOk result (Writes out.old out.new (front.now ++ stat_text stat.now)) }
@@ -31,14 +32,15 @@ pub(crate) fn write_stat_behind(front: &str, stat: &Stat, out: &mut String) -> R
     let start = numbers - front.len();
     text[start..numbers].copy_from_slice(front.as_bytes());
     let Ok(text) = str::from_utf8(&text[start..]) else {
-        // A text, and digits and spaces.
+        // It is a text, then digits and spaces: valid UTF-8.
         unreachable!();
     };
     out.push_str(text)?;
     Ok(())
 }
 
-// Puts the ten numbers of a stat, with a space before each, at the end of a place, and answers where they begin.
+// Writes the ten numbers of a stat at the end of a buffer, each with a space before it. Returns
+// where they begin.
 fn put_stat(stat: &Stat, place: &mut [u8]) -> usize
     requires { length place.old ≡ ROOM }
     ensures told { drop result place.new ≡ stat_text stat.now }
@@ -62,7 +64,7 @@ fn put_stat(stat: &Stat, place: &mut [u8]) -> usize
     put_numbers(&numbers, place)
 }
 
-// Puts numbers, with a space before each, at the end of a place, and answers where they begin.
+// Writes numbers at the end of a buffer, each with a space before it. Returns where they begin.
 #[inline(always)]
 fn put_numbers(numbers: &[u64], place: &mut [u8]) -> usize
     requires { NUMBER_ROOM * length numbers.now ≤ length place.old }
@@ -81,7 +83,7 @@ fn put_numbers(numbers: &[u64], place: &mut [u8]) -> usize
     start
 }
 
-// Puts a number, with a space before it, so that it ends at a place, and answers where it begins.
+// Writes a number with a space before it, so that it ends at `end`. Returns where it begins.
 #[inline(always)]
 fn put_number(number: u64, place: &mut [u8], end: usize) -> usize
     requires room { NUMBER_ROOM ≤ end }

@@ -1,4 +1,4 @@
-//! What a single word names: a number, a version, a kind of node, a process.
+//! The meaning of single words: numbers, versions, kinds of nodes, processes.
 
 ghost use Rattle.std.specs.Prelude.{◌≡◌, IfSome, IfNone, false, nat_eq};
 ghost use Rattle.std.specs.Char.{is_ascii_digit};
@@ -13,7 +13,7 @@ use zcalls::{ClientId, Expected, Kind, SessionId, Ttl};
 use zprotocol::{MAX_SERVERS, Process, ServerId};
 use ztree::limits::MAX_CLIENTS;
 
-/// The number that a word spells: decimal, without leading zeros, below `NUMBER_BOUND`.
+/// Returns the number that a word spells: decimal, without leading zeros, below `NUMBER_BOUND`.
 #[tactic(auto, using(crate::proofs::OneNumeral::one_digit))]
 pub(crate) fn number(word: &str) -> Option<u64>
     ensures { result ≡ number_of word.now }
@@ -35,21 +35,21 @@ pub(crate) fn number(word: &str) -> Option<u64>
     }
 }
 
-// No byte but digits, or no byte at all.
+// Returns whether all bytes are digits; true for no bytes.
 fn has_digits_alone(word: &str) -> bool
     ensures { result ≡ list_all is_ascii_digit word.now }
 {
     word.as_bytes().iter().all(|byte| byte.is_ascii_digit())
 }
 
-// A zero, and something behind it.
+// Returns whether the word is longer than one byte and begins with a zero.
 fn has_leading_zero(word: &str) -> bool
     ensures { result ≡ has_leading_zero word.now }
 {
     matches!(word.as_bytes(), [b'0', _, ..])
 }
 
-/// The version that a word names: `any`, or a number.
+/// Returns the version that a word names: `any`, or a number.
 pub(crate) fn version_in(word: &str) -> Option<Expected>
     ensures { result ≡ version_of word.now }
 {
@@ -59,7 +59,7 @@ pub(crate) fn version_in(word: &str) -> Option<Expected>
     Some(Expected::Exactly(number(word)?))
 }
 
-/// The kind of node that a word names.
+/// Returns the kind of node that a word names.
 #[tactic(auto, unfolding(crate::specs::Shape::kind_of))]
 pub(crate) fn kind_in(word: &str) -> Option<Kind>
     ensures { result ≡ kind_of word.now }
@@ -71,7 +71,7 @@ pub(crate) fn kind_in(word: &str) -> Option<Kind>
     }
 }
 
-// `e:` or `es:`, and a session; or what a node with a time to live is.
+// `e:` or `es:`, and a session's id; else a kind with a TTL
 fn owned_kind_in(word: &str) -> Option<Kind>
     ensures { result ≡ owned_kind_of word.now }
 {
@@ -84,7 +84,7 @@ fn owned_kind_in(word: &str) -> Option<Kind>
     timed_kind_in(word)
 }
 
-// `t:` or `ts:`, and a time to live.
+// `t:` or `ts:`, and a TTL
 fn timed_kind_in(word: &str) -> Option<Kind>
     ensures { result ≡ timed_kind_of word.now }
 {
@@ -95,14 +95,14 @@ fn timed_kind_in(word: &str) -> Option<Kind>
     Some(Kind::PersistentSequentialWithTtl(ttl_in(ticks)?))
 }
 
-// A number of ticks that is a time to live.
+// Returns the TTL that a word spells.
 fn ttl_in(word: &str) -> Option<Ttl>
     ensures { result ≡ ttl_of word.now }
 {
     Ttl::new(number(word)?)
 }
 
-/// The client that a word names: 0 to 31.
+/// Returns the client that a word names: 0 to 31.
 pub(crate) fn client_in(word: &str) -> Option<ClientId>
     ensures { result ≡ client_of word.now }
 {
@@ -112,7 +112,7 @@ pub(crate) fn client_in(word: &str) -> Option<ClientId>
     }
 }
 
-/// The process that a word names.
+/// Returns the process that a word names.
 pub(crate) fn process_in(word: &str) -> Option<Process>
     ensures { result ≡ process_of word.now }
 {
@@ -125,7 +125,7 @@ pub(crate) fn process_in(word: &str) -> Option<Process>
     Some(Process::Client(client_process_in(word)?))
 }
 
-/// The server that a word names: `s1` to `s16`.
+/// Returns the server that a word names: `s1` to `s16`.
 pub(crate) fn server_in(word: &str) -> Option<ServerId>
     ensures { result ≡ server_of word.now }
 {
@@ -135,14 +135,14 @@ pub(crate) fn server_in(word: &str) -> Option<ServerId>
     }
 }
 
-/// The client that a word names as a process: `c0` to `c31`.
+/// Returns the client that a word names as a process: `c0` to `c31`.
 pub(crate) fn client_process_in(word: &str) -> Option<ClientId>
     ensures { result ≡ client_process_of word.now }
 {
     client_in(behind("c", word)?)
 }
 
-// What follows these bytes in a word that begins with them.
+// Returns what follows a prefix in a word, if the word begins with it.
 fn behind<'a>(front: &str, word: &'a str) -> Option<&'a str>
     ensures rest { IfSome result (λ rest. IsBehind front.now word.now rest.now) }
     ensures none { IfNone result (starts_with nat_eq word.now front.now ≡ false) }

@@ -1,12 +1,13 @@
-//! What is known of a list of which some hold something.
+//! What is known of a list of which some items hold something.
 
 ghost use Rattle.std.specs.Prelude.{◌≡◌, ◌<◌, ◌≤◌};
 ghost use Rattle.zprotocol.specs.declared.limits.TheConstants.{PROCESSES};
 
 use zprotocol::PROCESSES;
 
-/// Of a list with an item for each process: how many hold something, and two places that bound where those are. None
-/// below `first` holds something, and none from `end` on. So a search for one costs by what is held.
+/// Counts the non-empty items of a list with one item for each process, and bounds their places. No
+/// item below `first` holds something, and none from `end` on. So the cost of a search depends on
+/// how many are non-empty.
 #[derive(Drop)]
 pub(crate) struct Held {
     pub(crate) count: usize,
@@ -17,7 +18,7 @@ pub(crate) struct Held {
 impl Held {
     ghost use Rattle.zlinks.specs.support.Bounds.{no_held, added, removed};
 
-    /// None holds something.
+    /// Returns the count of an empty list: no item holds something.
     pub(crate) fn none() -> Held
         ensures { result ≡ no_held }
     {
@@ -28,7 +29,7 @@ impl Held {
         }
     }
 
-    /// The one at this place holds something from now on.
+    /// Records that the item at this place holds something from now on.
     pub(crate) fn add(&mut self, at: usize)
         requires place { at < PROCESSES }
         requires counted { self.old.count < PROCESSES }
@@ -39,8 +40,8 @@ impl Held {
         self.end = self.end.max(at + 1);
     }
 
-    /// One of them holds nothing from now on. Where it was the last one the bounds are as at the beginning, else they
-    /// stay: it may stand anywhere between them.
+    /// Records that one of them holds nothing from now on. If it was the last one, the bounds are
+    /// reset. Else they stay: it may stand anywhere between them.
     pub(crate) fn remove(&mut self)
         requires { 0 < self.old.count }
         ensures { self.new ≡ removed self.old }

@@ -1,8 +1,8 @@
-//! The links between the processes: one queue of messages for each ordered pair of them.
+//! The channels between the processes: one queue of messages for each ordered pair of them.
 //!
-//! What is put on a link goes last, and what is taken is its front, so a link neither loses nor repeats, and keeps
-//! order. The links know which processes have put something that nobody took yet, so whoever delivers their
-//! messages passes by the others. What a `Snapshot` hands over is a type parameter.
+//! A message that is sent goes last, and the front is delivered. So a channel neither loses nor
+//! repeats messages, and keeps their order. `Links` knows which processes have messages in flight,
+//! so whoever delivers them skips the others. The payload of a `Snapshot` is a type parameter.
 #![tactic(auto)]
 
 mod held;

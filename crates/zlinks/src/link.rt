@@ -1,4 +1,4 @@
-//! One link.
+//! One channel.
 
 ghost use Rattle.std.specs.Prelude.{◌≡◌, [], ◌∷◌, ◌++◌, IfNone, IfSome, OnErr, OnOk, not};
 ghost use Rattle.zlinks.specs.Places.{holds, ShowsFront};
@@ -25,7 +25,7 @@ impl<T> Model for Link<T> {
 }
 
 impl<T: Drop> Link<T> {
-    /// A link on which nothing is. It takes no memory.
+    /// Returns an empty channel. It allocates nothing.
     pub(crate) fn new(alloc: Global) -> Link<T>
         ensures { result ≡ [] }
     {
@@ -34,14 +34,14 @@ impl<T: Drop> Link<T> {
         }
     }
 
-    /// Whether nothing is on it.
+    /// Returns whether the channel is empty.
     pub(crate) fn is_empty(&self) -> bool
         ensures { result ≡ not (holds self.now) }
     {
         self.queue.is_empty()
     }
 
-    /// Puts a message last.
+    /// Appends a message.
     pub(crate) fn put(&mut self, message: Message<T>) -> Result<(), Memory>
         ensures put { OnOk result (self.new ≡ self.old ++ message ∷ []) }
         ensures same { OnErr result (self.new ≡ self.old) }
@@ -55,14 +55,14 @@ impl<T: Drop> Link<T> {
         }
     }
 
-    /// The front, which stays.
+    /// Returns the front, and leaves it there.
     pub(crate) fn front(&self) -> Option<&Message<T>>
         ensures { ShowsFront self.now result }
     {
         self.queue.front()
     }
 
-    /// Takes the front out.
+    /// Removes the front and returns it.
     pub(crate) fn next(&mut self) -> Option<Message<T>>
         ensures some { IfSome result (λ front. self.old ≡ front ∷ self.new) }
         ensures none { IfNone result ((self.old ≡ []) × (self.new ≡ [])) }
@@ -70,7 +70,7 @@ impl<T: Drop> Link<T> {
         self.queue.pop_front()
     }
 
-    /// Drops all that is on it.
+    /// Drops all messages on the channel.
     pub(crate) fn clear(&mut self)
         ensures { self.new ≡ [] }
     {

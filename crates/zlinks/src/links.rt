@@ -1,4 +1,4 @@
-//! The links.
+//! The channels.
 
 ghost use Rattle.std.specs.Prelude.{◌≡◌, ◌≤◌, true, false, [], IfNone, IfSome, IfOk, None, Some, OnErr, OnOk};
 ghost use Rattle.zprotocol.specs.declared.process.Process.{Process};
@@ -15,9 +15,9 @@ use std::marker::Model;
 use zpath::Memory;
 use zprotocol::{Message, PROCESSES, Process};
 
-/// The links between all processes: a row for each sender, with a queue for each receiver, and which senders' rows hold
-/// something. Mostly one message is under way: what is put where nothing else is lies by itself, in front of its queue,
-/// and takes no queue.
+/// The channels between all processes: a row for each sender, with a queue for each receiver, and
+/// which senders' rows are non-empty. Mostly one message is in flight. So a message that is sent
+/// while nothing else is in flight lies by itself, in front of its queue, and needs no queue.
 #[derive(Drop)]
 pub struct Links<T> {
     lone: Option<Lone<T>>,
@@ -38,7 +38,7 @@ impl<T> Model for Links<T> {
 }
 
 impl<T: Drop> Links<T> {
-    /// Links on which nothing is.
+    /// Returns empty channels.
     pub fn new(alloc: Global) -> Result<Links<T>, Memory>
         ensures { IfOk result (λ links. (from to : Process) → links_of links from to ≡ []) }
     {
@@ -53,8 +53,9 @@ impl<T: Drop> Links<T> {
         })
     }
 
-    /// The first place, from this one on, of a process of which something is under way; or `PROCESSES`, at once where
-    /// nothing is. The master has place 0, then come the servers and the clients, each by number.
+    /// Returns the first place, from `at` on, of a process with messages in flight, or `PROCESSES`.
+    /// It searches nothing where nothing is in flight. The master has place 0; then come the
+    /// servers and the clients, each by number.
     pub fn next_sender(&self, at: usize) -> usize
         ensures few { result ≤ PROCESSES }
         ensures ahead { at ≤ PROCESSES → at ≤ result }
@@ -74,7 +75,8 @@ impl<T: Drop> Links<T> {
         end
     }
 
-    /// The first place, from this one on, of a process to which the first one has something under way; or `PROCESSES`.
+    /// Returns the first place, from `at` on, of a process to which `from` has messages in flight,
+    /// or `PROCESSES`.
     pub fn next_receiver(&self, from: &Process, at: usize) -> usize
         ensures few { result ≤ PROCESSES }
         ensures ahead { at ≤ PROCESSES → at ≤ result }
@@ -89,7 +91,7 @@ impl<T: Drop> Links<T> {
         self.rows[sender].next_held(at, end)
     }
 
-    /// Puts a message last on a link.
+    /// Appends a message to a channel.
     pub fn put(&mut self, from: &Process, to: &Process, message: Message<T>) -> Result<(), Memory>
         ensures put { OnOk result
             (Keeps self.new (with_last (links_of self.old) from.now to.now message)) }
@@ -98,11 +100,14 @@ impl<T: Drop> Links<T> {
         let sender = from.place();
         let receiver = to.place();
         if self.lone.is_none() && self.held.count == 0 {
-            self.lone = Some(Lone {
-                from: sender,
-                to: receiver,
-                message,
-            });
+            // (there was none; dropped by name, it costs one small call)
+            drop(
+                self.lone.replace(Lone {
+                    from: sender,
+                    to: receiver,
+                    message,
+                }),
+            );
             return Ok(());
         }
         let row = &mut self.rows[sender];
@@ -114,7 +119,7 @@ impl<T: Drop> Links<T> {
         Ok(())
     }
 
-    /// The front of a link, which stays.
+    /// Returns the front of a channel, and leaves it there.
     pub fn front(&self, from: &Process, to: &Process) -> Option<&Message<T>>
         ensures { ShowsFront (links_of self.now from.now to.now) result }
     {
@@ -126,7 +131,7 @@ impl<T: Drop> Links<T> {
         self.rows[sender].front(receiver)
     }
 
-    /// Takes out the front of a link.
+    /// Removes the front of a channel and returns it.
     pub fn next(&mut self, from: &Process, to: &Process) -> Option<Message<T>>
         ensures rest { Keeps self.new (without_first (links_of self.old) from.now to.now) }
         ensures front { IsFrontOf (links_of self.old from.now to.now) result }
@@ -145,7 +150,7 @@ impl<T: Drop> Links<T> {
         Some(front)
     }
 
-    /// Drops all that is on links to a process.
+    /// Drops all messages on channels to a process.
     pub fn clear(&mut self, to: &Process)
         ensures { Keeps self.new (without_receiver (links_of self.old) to.now) }
     {
@@ -160,7 +165,7 @@ impl<T: Drop> Links<T> {
     }
 }
 
-// Shows the lone message, where it is on the link between these places.
+// Returns the lone message, if it is on the channel between these places, and leaves it there.
 fn front_on<T: Drop>(slot: &Option<Lone<T>>, from: usize, to: usize) -> Option<&Message<T>>
     ensures some { IfSome result
         (λ front. slot.now ≡ Some (record { from = from; to = to; message = front.now })) }
@@ -175,7 +180,7 @@ fn front_on<T: Drop>(slot: &Option<Lone<T>>, from: usize, to: usize) -> Option<&
     None
 }
 
-// Takes the lone message out, where it is on the link between these places.
+// Removes the lone message and returns it, if it is on the channel between these places.
 fn take_on<T: Drop>(slot: &mut Option<Lone<T>>, from: usize, to: usize) -> Option<Message<T>>
     ensures some { IfSome result
         (λ front. slot.old ≡ Some (record { from = from; to = to; message = front })) }
@@ -190,7 +195,7 @@ fn take_on<T: Drop>(slot: &mut Option<Lone<T>>, from: usize, to: usize) -> Optio
     }
 }
 
-// Drops the lone message, where it is for the process in this place.
+// Drops the lone message, if its receiver is at this place.
 fn clear_to<T: Drop>(slot: &mut Option<Lone<T>>, to: usize)
     ensures { slot.new ≡ without_to slot.old to }
 {
@@ -198,6 +203,6 @@ fn clear_to<T: Drop>(slot: &mut Option<Lone<T>>, to: usize)
         return;
     };
     if lone.to == to {
-        *slot = None;
+        drop(slot.take());
     }
 }

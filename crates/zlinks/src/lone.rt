@@ -2,7 +2,8 @@
 
 use zprotocol::Message;
 
-/// A message that was put where nothing else was under way, and the places of its sender and its receiver.
+/// A message that was sent when nothing else was in flight, with the places of its sender and
+/// receiver.
 #[derive(Drop)]
 pub(crate) struct Lone<T> {
     pub(crate) from: usize,

@@ -1,4 +1,4 @@
-//! The links from one process.
+//! The channels from one process.
 
 ghost use Rattle.std.specs.Prelude.{◌≡◌, ◌+◌, ◌<◌, ◌≤◌, ℕ, true, [], ◌∷◌, ◌++◌, IfNone, IfOk, OnErr, OnOk, length, get_or, set, drop, not};
 ghost use Rattle.zprotocol.specs.declared.limits.TheConstants.{PROCESSES};
@@ -12,7 +12,7 @@ use std::marker::Model;
 use zpath::Memory;
 use zprotocol::{Message, PROCESSES};
 
-/// The links from one process, by the places of the receivers, and which of them hold something.
+/// The channels from one process, by the places of the receivers, and which of them are non-empty.
 #[derive(Drop)]
 pub(crate) struct Row<T> {
     links: Vec<Link<T>>,
@@ -33,7 +33,7 @@ impl<T> Model for Row<T> {
 }
 
 impl<T: Drop> Row<T> {
-    /// A row in which nothing is.
+    /// Returns a row of empty channels.
     pub(crate) fn new(alloc: Global) -> Result<Row<T>, Memory>
         ensures blank { IfOk result (λ row. IsBlank row) }
     {
@@ -47,14 +47,14 @@ impl<T: Drop> Row<T> {
         })
     }
 
-    /// Whether nothing is in it.
+    /// Returns whether all its channels are empty.
     pub(crate) fn is_silent(&self) -> bool
         ensures { result ≡ not (sends self.now) }
     {
         self.held.count == 0
     }
 
-    /// The first place, from this one on and before the end, on the link to which something is; or the end.
+    /// Returns the first place in `at..end` whose channel is non-empty, or `end`.
     pub(crate) fn next_held(&self, at: usize, end: usize) -> usize
         ensures few { result ≤ end }
         ensures empty { (i : ℕ) → at ≤ i → i < result → get_or self.now i [] ≡ [] }
@@ -69,7 +69,7 @@ impl<T: Drop> Row<T> {
         end
     }
 
-    /// Puts a message last on the link to this place.
+    /// Appends a message to the channel to this place.
     pub(crate) fn put(&mut self, at: usize, message: Message<T>) -> Result<(), Memory>
         requires { at < PROCESSES }
         ensures wide { length self.old ≡ PROCESSES }
@@ -86,7 +86,7 @@ impl<T: Drop> Row<T> {
         Ok(())
     }
 
-    /// The front of the link to this place, which stays.
+    /// Returns the front of the channel to this place, and leaves it there.
     pub(crate) fn front(&self, at: usize) -> Option<&Message<T>>
         requires { at < PROCESSES }
         ensures { ShowsFront (get_or self.now at []) result }
@@ -94,7 +94,7 @@ impl<T: Drop> Row<T> {
         self.links[at].front()
     }
 
-    /// Takes out the front of the link to this place.
+    /// Removes the front of the channel to this place and returns it.
     pub(crate) fn next(&mut self, at: usize) -> Option<Message<T>>
         requires { at < PROCESSES }
         ensures wide { length self.old ≡ PROCESSES }
@@ -110,7 +110,8 @@ impl<T: Drop> Row<T> {
         Some(front)
     }
 
-    /// Drops all that is on the link to this place. Answers whether nothing else was in the row, but something was on it.
+    /// Drops all messages on the channel to this place. Returns whether that emptied the row: the
+    /// channel held something, and no other did.
     pub(crate) fn clear(&mut self, at: usize) -> bool
         requires { at < PROCESSES }
         ensures wide { length self.old ≡ PROCESSES }

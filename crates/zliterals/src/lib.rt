@@ -1,4 +1,5 @@
-//! Numbers of processes, calls and entries by literals, for tests: who writes one knows that there is such a number.
+//! Numbers of processes, calls and entries from literals, for tests. The caller has to prove that
+//! there is such a number.
 #![tactic(auto)]
 
 ghost use Rattle.std.specs.Prelude.{◌≡◌, ◌<◌, ◌≤◌};
@@ -8,7 +9,7 @@ ghost use Rattle.zprotocol.specs.declared.limits.TheConstants.{MAX_EPOCH, MAX_LO
 
 use zprotocol::{CallNumber, ClientId, Epoch, LogNumber, ServerId};
 
-/// The server of this number.
+/// Returns the server of this number.
 pub fn server(number: u8) -> ServerId
     requires { (0 < number) × (number ≤ MAX_SERVERS) }
     ensures { result ≡ number }
@@ -19,7 +20,7 @@ pub fn server(number: u8) -> ServerId
     }
 }
 
-/// The client of this number.
+/// Returns the client of this number.
 pub fn client(number: u8) -> ClientId
     requires { number < MAX_CLIENTS }
     ensures { result ≡ number }
@@ -30,7 +31,7 @@ pub fn client(number: u8) -> ClientId
     }
 }
 
-/// The epoch of this number.
+/// Returns the epoch of this number.
 pub fn epoch(number: u64) -> Epoch
     requires { number ≤ MAX_EPOCH }
     ensures { result ≡ number }
@@ -41,7 +42,7 @@ pub fn epoch(number: u64) -> Epoch
     }
 }
 
-/// The log number of an entry.
+/// Returns the log number of an entry.
 pub fn log_number(number: u64) -> LogNumber
     requires { number ≤ MAX_LOG_NUMBER }
     ensures { result ≡ number }
@@ -52,7 +53,7 @@ pub fn log_number(number: u64) -> LogNumber
     }
 }
 
-/// The number of a client's call.
+/// Returns the number of a client's call.
 pub fn call_number(number: u64) -> CallNumber
     requires { number ≤ MAX_CALL_NUMBER }
     ensures { result ≡ number }

@@ -1,4 +1,4 @@
-//! The chain of servers: where a member stands, and how the chain is mended.
+//! The chain of servers: where a member stands, and how the chain is repaired.
 
 ghost use Rattle.std.specs.Prelude.{◌≡◌, ◌<◌, ◌≤◌, ◌==◌, length, map};
 ghost use Rattle.std.specs.List.{last_or, position};
@@ -12,10 +12,10 @@ use crate::member::Member;
 use arrayvec::ArrayVec;
 use zprotocol::{Epoch, JoinFault, Message, Out, Process, ServerId};
 
-/// The members from the head down.
+/// The members, from the head down.
 pub(crate) type Members = ArrayVec<Member, SERVERS>;
 
-/// Where the server stands in the chain.
+/// Returns the position of the server in the chain.
 pub(crate) fn position_of(members: &[Member], server: ServerId) -> Option<usize>
     ensures { result ≡ position (λ member. member.0 == server) members.now }
 {
@@ -24,7 +24,7 @@ pub(crate) fn position_of(members: &[Member], server: ServerId) -> Option<usize>
         .position(|member| member.id().number() == server.number())
 }
 
-/// The member before the server, where their pair has this epoch; none before the first.
+/// Returns the predecessor of the server, where their pair has this epoch. The head has none.
 pub(crate) fn member_before(members: &[Member], server: ServerId, epoch: Epoch) -> Option<ServerId>
     ensures { result ≡ before server epoch members.now }
 {
@@ -36,7 +36,7 @@ pub(crate) fn member_before(members: &[Member], server: ServerId, epoch: Epoch) 
     member_before(rest, server, epoch)
 }
 
-/// Whether this is the one that joins.
+/// Returns whether this server is the one that is joining.
 pub(crate) fn is_the_joining(joining: &Option<ServerId>, server: ServerId) -> bool
     ensures { result ≡ joins joining.now server }
 {
@@ -46,7 +46,7 @@ pub(crate) fn is_the_joining(joining: &Option<ServerId>, server: ServerId) -> bo
     }
 }
 
-/// Who is left of one that may be the one that is gone.
+/// Returns the server, unless it is the one that is gone.
 pub(crate) fn who_stays(who: Option<ServerId>, gone: ServerId) -> Option<ServerId>
     ensures { result ≡ who_stays who gone }
 {
@@ -56,7 +56,8 @@ pub(crate) fn who_stays(who: Option<ServerId>, gone: ServerId) -> Option<ServerI
     }
 }
 
-/// Why nobody can join this chain: another one is joining, or nobody is there to give the state.
+/// Returns why no server can join this chain: another one is joining, or no member can hand over
+/// the state.
 pub(crate) fn chain_fault(members: &[Member], joining: &Option<ServerId>) -> Option<JoinFault>
     ensures { result ≡ chain_fault joining.now members.now }
 {
@@ -69,7 +70,7 @@ pub(crate) fn chain_fault(members: &[Member], joining: &Option<ServerId>) -> Opt
     }
 }
 
-/// The last member that isn't joining, or else the one that was found before.
+/// Returns the last member that isn't joining, or else `found`.
 pub(crate) fn last_with_state(
     members: &[Member],
     joining: &Option<ServerId>,
@@ -86,7 +87,7 @@ pub(crate) fn last_with_state(
     last_with_state(rest, joining, Some(first.id()))
 }
 
-/// The last member, or else the one that was found before.
+/// Returns the last member, or else `found`.
 pub(crate) fn last_member(members: &[Member], found: Option<ServerId>) -> Option<ServerId>
     ensures { result ≡ last_or found (map (λ member. member.0) members.now) }
 {
@@ -96,7 +97,7 @@ pub(crate) fn last_member(members: &[Member], found: Option<ServerId>) -> Option
     last_member(rest, Some(first.id()))
 }
 
-/// Mends a chain from which the member at this place has gone, and tells its neighbours.
+/// Repairs the chain after the member at this position has gone, and informs its neighbours.
 pub(crate) fn mend<T: Drop>(members: &mut Members, at: usize, epoch: Epoch, out: &mut Out<T>)
     requires within { at ≤ length members.old.items }
     requires room { 0 < out.old.room }

@@ -21,7 +21,7 @@ use zprotocol::{
     ClientId, Epoch, JoinFault, LogNumber, Message, Out, Process, RetireFault, ServerId,
 };
 
-/// What the master knows. That the epochs which it gives are few is the business of its owner.
+/// What the master knows. Its owner bounds how many epochs it gives out.
 #[derive(Drop)]
 pub(crate) struct Knowledge {
     chain: Members,
@@ -53,7 +53,8 @@ impl Model for Knowledge {
 }
 
 impl Knowledge {
-    /// The opening: the chain is the servers from 1 up to this one, and there are so many clients.
+    /// Returns the initial state: the chain is the servers from 1 to `last`, and there are this
+    /// many clients.
     pub(crate) fn new(last: ServerId, clients: u8) -> Knowledge
         requires { clients ≤ MAX_CLIENTS }
         ensures { result ≡ opening_master last clients }
@@ -77,7 +78,7 @@ impl Knowledge {
         }
     }
 
-    /// How many clients there are.
+    /// Returns the number of clients.
     pub(crate) fn clients(&self) -> u8
         ensures same { result ≡ self.now.clients }
         ensures few { result ≤ MAX_CLIENTS }
@@ -85,17 +86,18 @@ impl Knowledge {
         self.clients
     }
 
-    /// The numbers of servers are few.
+    /// Returns the length of the chain. Its clauses also say that at most `MAX_SERVERS` numbers are
+    /// used.
     pub(crate) fn count(&self) -> usize
         ensures chain { result ≡ length self.now.chain }
         ensures used { length self.now.used ≤ MAX_SERVERS }
     {
-        // No more numbers are used than there are marks: the clause of `width` tells it.
+        // No more numbers are used than there are marks, by the clause of `width`.
         let _ = width(&self.used);
         self.chain.len()
     }
 
-    /// Takes a message: the master table.
+    /// Handles a received message by the master table.
     #[tactic(auto, using(zprotocol::proofs::Posts::put_none), unfolding(zprotocol::specs::master::Table::master_step))]
     pub(crate) fn take<T: Drop>(&mut self, from: Process, message: &Message<T>, out: &mut Out<T>)
         requires epochs { self.old.epoch < MAX_EPOCH }
@@ -115,7 +117,8 @@ impl Knowledge {
         }
     }
 
-    // Have: the server before the sender hears of its new successor, and what that has.
+    // `Have`: tells the sender's predecessor of its new successor and of the last entry that it
+    // has.
     fn have<T: Drop>(
         &self,
         server: ServerId,
@@ -136,7 +139,7 @@ impl Knowledge {
         }
     }
 
-    // Joined: from the one that is joining; the clients hear of it.
+    // `Joined`, from the joining server: clients are told of the new tail.
     fn joined<T: Drop>(&mut self, server: ServerId, out: &mut Out<T>)
         requires epochs { self.old.epoch < MAX_EPOCH }
         requires room { MAX_POSTS ≤ out.old.room }
@@ -150,7 +153,8 @@ impl Knowledge {
         }
     }
 
-    // Gone: outside the chain the number is used; in the chain, it is mended in a new epoch, and told.
+    // `Gone`: outside the chain the server's number counts as used. In the chain, the chain is
+    // repaired in a new epoch, and clients are told.
     fn gone<T: Drop>(&mut self, server: ServerId, out: &mut Out<T>)
         requires epochs { self.old.epoch < MAX_EPOCH }
         requires room { MAX_POSTS ≤ out.old.room }
@@ -170,7 +174,7 @@ impl Knowledge {
         self.tell(out);
     }
 
-    /// Why a server can't join.
+    /// Returns why the server can't join.
     pub(crate) fn join_fault(&self, server: ServerId) -> Option<JoinFault>
         ensures { result ≡ join_fault self.now server }
     {
@@ -186,7 +190,7 @@ impl Knowledge {
         None
     }
 
-    /// A join that isn't refused.
+    /// Lets a server join. The caller has checked that it isn't refused.
     pub(crate) fn join<T: Drop>(&mut self, server: ServerId, out: &mut Out<T>)
         requires epochs { self.old.epoch < MAX_EPOCH }
         requires new { length self.old.chain < length (with_number server self.old.used) }
@@ -205,7 +209,7 @@ impl Knowledge {
         out.put_reserved(Process::Server(server), Message::NewPred(epoch, before));
     }
 
-    /// Why a server can't be ordered to leave.
+    /// Returns why the server can't be ordered to leave.
     pub(crate) fn retire_fault(&self, server: ServerId) -> Option<RetireFault>
         ensures { result ≡ retire_fault self.now server }
     {
@@ -224,7 +228,7 @@ impl Knowledge {
         None
     }
 
-    /// An order to leave that isn't refused.
+    /// Orders a member to leave. The caller has checked that it isn't refused.
     pub(crate) fn retire<T: Drop>(&mut self, server: ServerId, out: &mut Out<T>)
         requires { MAX_POSTS ≤ out.old.room }
         ensures next { self.new ≡ (retire_step {T = T} self.old server).0 }
@@ -234,7 +238,7 @@ impl Knowledge {
         out.put_reserved(Process::Server(server), Message::Retire);
     }
 
-    // Every client, by number, hears of the epoch, the head and the tail.
+    // Sends the epoch, the head and the tail to every client, in the order of their numbers.
     fn tell<T: Drop>(&self, out: &mut Out<T>)
         requires { self.now.clients ≤ out.old.room }
         ensures { PutsInRoom out.old out.new (config_posts self.now) }
@@ -250,14 +254,14 @@ impl Knowledge {
         }
     }
 
-    // The head that clients are told.
+    // Returns the head that clients are told.
     fn head(&self) -> Option<ServerId>
         ensures { result ≡ head_of self.now }
     {
         Some(self.chain.first()?.id())
     }
 
-    // The tail that clients are told.
+    // Returns the tail that clients are told.
     fn tail(&self) -> Option<ServerId>
         ensures { result ≡ tail_of self.now }
     {
@@ -265,7 +269,7 @@ impl Knowledge {
     }
 }
 
-// The next epoch.
+// Returns the next epoch.
 fn next_epoch(epoch: Epoch) -> Epoch
     requires { epoch < MAX_EPOCH }
     ensures { result ≡ epoch + 1 }

@@ -1,9 +1,10 @@
-//! The master: it learns of failures, mends the chain, adds servers to it, and orders them to leave.
+//! The master: it learns of failures, repairs the chain, adds servers to it, and orders them to
+//! leave.
 //!
-//! What comes in are messages, and orders to let a server join or leave; what goes out are messages to servers and
-//! clients. Each function is its row of the master table. What a `Snapshot` hands over is a type parameter:
-//! the master never looks at it. It takes no memory: servers are few, and the caller keeps room for what is
-//! put.
+//! It consumes messages, and orders to let a server join or leave. It produces messages to servers
+//! and clients. Each function is one row of the master table. The payload of a `Snapshot` is a type
+//! parameter: the master never looks at it. It allocates nothing: servers are few, and the caller
+//! reserves room for what is sent.
 #![tactic(auto)]
 
 mod chain;

@@ -13,7 +13,7 @@ use crate::limits::MAX_POSTS;
 use std::marker::Model;
 use zprotocol::{JoinFault, Message, Out, Process, RetireFault, ServerId};
 
-/// The master. Whatever it hears, it gives at most three epochs for each number of a server.
+/// The master. Whatever it receives, it gives at most three epochs for each server number.
 #[derive(Drop)]
 pub struct Master {
     known: Knowledge,
@@ -33,19 +33,19 @@ impl Model for Master {
 }
 
 impl Master {
-    /// The master of the opening chain, whose last server is this, with so many clients. It takes no
-    /// memory.
+    /// Returns the master of the initial chain, whose last server is `last`, with this many
+    /// clients. It allocates nothing.
     pub fn new(last: ServerId, clients: u8) -> Master
         requires { clients ≤ MAX_CLIENTS }
         ensures { result ≡ opening_master last clients }
     {
         let known = Knowledge::new(last, clients);
-        // The invariant bounds the numbers that are used, and the clause of `count` tells that they are few.
+        // The invariant bounds the used numbers by what the clause of `count` says of them.
         let _ = known.count();
         Master { known }
     }
 
-    /// How many clients there are.
+    /// Returns the number of clients.
     pub fn clients(&self) -> u8
         ensures same { result ≡ self.now.clients }
         ensures few { result ≤ MAX_CLIENTS }
@@ -53,7 +53,7 @@ impl Master {
         self.known.clients()
     }
 
-    /// Takes a message. It takes no memory, and always acts.
+    /// Handles a received message. It allocates nothing and never fails.
     pub fn take<T: Drop>(&mut self, from: Process, message: Message<T>, out: &mut Out<T>)
         requires { MAX_POSTS ≤ out.old.room }
         ensures next { self.new ≡ (master_step self.old from message).0 }
@@ -62,18 +62,18 @@ impl Master {
     {
         self.known.take(from, &message, out);
         drop(message);
-        // (as in `new`)
+        // As in `new`.
         let _ = self.known.count();
     }
 
-    /// Why a server can't join now.
+    /// Returns why the server can't join now.
     pub fn join_fault(&self, server: ServerId) -> Option<JoinFault>
         ensures { result ≡ join_fault self.now server }
     {
         self.known.join_fault(server)
     }
 
-    /// Lets a server join behind the last of the chain, or says why it can't. It takes no memory.
+    /// Lets a server join behind the tail, or returns why it can't. It allocates nothing.
     pub fn join<T: Drop>(&mut self, server: ServerId, out: &mut Out<T>) -> Result<(), JoinFault>
         requires { MAX_POSTS ≤ out.old.room }
         ensures next { OnOk result (self.new ≡ (join_step {T = T} self.old server).0) }
@@ -87,19 +87,19 @@ impl Master {
             return Err(fault);
         }
         self.known.join(server, out);
-        // (as in `new`)
+        // As in `new`.
         let _ = self.known.count();
         Ok(())
     }
 
-    /// Why a member can't be ordered to leave now.
+    /// Returns why the member can't be ordered to leave now.
     pub fn retire_fault(&self, server: ServerId) -> Option<RetireFault>
         ensures { result ≡ retire_fault self.now server }
     {
         self.known.retire_fault(server)
     }
 
-    /// Orders a member to leave, or says why it can't. It takes no memory.
+    /// Orders a member to leave, or returns why it can't. It allocates nothing.
     pub fn retire<T: Drop>(&mut self, server: ServerId, out: &mut Out<T>) -> Result<(), RetireFault>
         requires { MAX_POSTS ≤ out.old.room }
         ensures next { OnOk result (self.new ≡ (retire_step {T = T} self.old server).0) }

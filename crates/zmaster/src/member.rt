@@ -5,7 +5,7 @@ ghost use Rattle.std.specs.Prelude.{◌≡◌};
 use std::marker::Model;
 use zprotocol::{Epoch, ServerId};
 
-/// A member of the chain, with the epoch of its pair with the one before it.
+/// A member of the chain, with the epoch of its pair with its predecessor.
 #[derive(Drop)]
 pub(crate) struct Member {
     id: ServerId,
@@ -40,7 +40,7 @@ impl Member {
     }
 }
 
-/// What fills the places that no member has.
+/// Fills the places of the array that hold no member.
 impl Default for Member {
     fn default() -> Member {
         Member {

@@ -1,4 +1,4 @@
-//! The numbers of servers that were ever used, as a row of marks.
+//! The server numbers that were ever used, as a row of flags.
 
 ghost use Rattle.std.specs.Prelude.{◌≡◌, ◌≤◌, length};
 ghost use Rattle.zprotocol.specs.declared.limits.TheConstants.{MAX_SERVERS};
@@ -8,21 +8,21 @@ ghost use Rattle.zmaster.specs.support.Marks.{numbers_from};
 use crate::limits::SERVERS;
 use zprotocol::ServerId;
 
-/// Whether the number is marked.
+/// Returns whether the number is used.
 pub(crate) fn is_used(used: &[bool; SERVERS], server: ServerId) -> bool
     ensures { result ≡ is_among server (numbers_from 1 used.now) }
 {
     used[server.number() as usize - 1]
 }
 
-/// Marks the number.
+/// Marks the number as used.
 pub(crate) fn mark_used(used: &mut [bool; SERVERS], server: ServerId)
     ensures { numbers_from 1 used.new ≡ with_number server (numbers_from 1 used.old) }
 {
     used[server.number() as usize - 1] = true;
 }
 
-/// How many numbers can be marked.
+/// Returns how many numbers can be marked.
 pub(crate) fn width(used: &[bool; SERVERS]) -> usize
     ensures { length (numbers_from 1 used.now) ≤ MAX_SERVERS }
 {

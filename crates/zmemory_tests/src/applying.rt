@@ -1,4 +1,4 @@
-//! A machine that meets want of memory in `apply` answers `Memory` for good.
+//! A machine that runs out of memory in `apply` returns `Memory` for good.
 
 use crate::machines::{
     acts, can_be_copied, first_entry, machine, machine_of_multi, second_entry, timed_machine,
@@ -10,27 +10,27 @@ use zops::Machine;
 use zpath::{Memory, Path};
 use zstories::Ended;
 
-/// A create, whose path is made where it is applied.
+/// Applies a create, whose path is made where it is applied.
 pub(crate) fn create_is_applied(alloc: Global) -> Ended {
     is_second(alloc, create_sequential(alloc, "/a/b"))
 }
 
-/// A multi.
+/// Applies a multi.
 pub(crate) fn multi_is_applied(alloc: Global) -> Ended {
     is_second(alloc, multi(alloc, "/b"))
 }
 
-/// An open.
+/// Applies an open.
 pub(crate) fn open_is_applied(alloc: Global) -> Ended {
     is_second(alloc, Ok(Update::Open(5)))
 }
 
-/// The reply that is kept for client 1 is given once more, which makes a copy of its list.
+/// Sends client 1's cached reply again, which makes a copy of its list.
 pub(crate) fn retry_is_applied(alloc: Global) -> Ended {
     is_applied_at(alloc, machine_of_multi(alloc), first_entry(Update::Tick))
 }
 
-/// A tick that removes a node, whose time to live is over.
+/// Applies a tick that removes a node whose time to live is over.
 pub(crate) fn removal_is_applied(alloc: Global) -> Ended {
     is_applied_at(alloc, timed_machine(alloc), second_entry(Update::Tick))
 }
@@ -67,7 +67,7 @@ fn applies(alloc: Global, machine: &mut Machine, entry: Entry) -> Ended {
     }
 }
 
-// Whether the machine answers Memory to everything, now that there is some.
+// Returns whether the machine answers `Memory` to everything, now that there is memory again.
 fn is_broken(alloc: Global, machine: &mut Machine) -> bool {
     !answers(alloc, machine) && !can_be_copied(machine) && !applies_a_tick(machine)
 }

@@ -1,4 +1,4 @@
-//! A machine that meets want of memory in `ask` or `copy` is what it was.
+//! A machine that runs out of memory in `ask` or `copy` is unchanged.
 
 use crate::machines::{can_be_copied, machine};
 use std::alloc::Global;
@@ -7,7 +7,7 @@ use zops::Machine;
 use zpath::{Memory, Path};
 use zstories::Ended;
 
-/// It is asked for the names beneath the root.
+/// Asks it for the names beneath the root.
 pub(crate) fn children_are_told(alloc: Global) -> Ended {
     match machine(alloc) {
         Ok(machine) => {
@@ -28,7 +28,7 @@ fn tells(machine: &Machine, query: &Query) -> Ended {
     }
 }
 
-// Whether the reply has the name of `/a` alone.
+// Returns whether the reply has the name of `/a` alone.
 fn tells_of_a(machine: &Machine, query: &Query) -> Result<bool, Memory> {
     match machine.ask(query) {
         Ok(reply) => Ok(is_of_a(reply)),
@@ -45,7 +45,7 @@ fn is_of_a(reply: Reply) -> bool {
     is_so
 }
 
-/// It is copied.
+/// Copies it.
 pub(crate) fn machine_is_copied(alloc: Global) -> Ended {
     match machine(alloc) {
         Ok(machine) => {

@@ -1,4 +1,4 @@
-//! A client that finds no memory to send its call: nothing is put, and it knows what it knew.
+//! A client that has no memory to send its call: it sends nothing, and is unchanged.
 
 use crate::taking::has_put;
 use crate::values::{create, path};
@@ -10,10 +10,10 @@ use zpath::Memory;
 use zprotocol::{Message, Out, Process};
 use zstories::Ended;
 
-// What a client puts: no Snapshot is among it.
+// What a client sends: no Snapshot is among it.
 type Outbox = Out<()>;
 
-/// It begins an update.
+/// Invokes an update.
 pub(crate) fn update_begins(alloc: Global) -> Ended {
     match create(alloc, "/a") {
         Ok(update) => begins(alloc, Call::Update(update)),
@@ -21,7 +21,7 @@ pub(crate) fn update_begins(alloc: Global) -> Ended {
     }
 }
 
-/// It begins a query.
+/// Invokes a query.
 pub(crate) fn query_begins(alloc: Global) -> Ended {
     match path(alloc, "/a") {
         Ok(path) => begins(alloc, Call::Query(Query::GetData(path))),
@@ -47,12 +47,12 @@ fn begins_at(core: &mut ClientCore, call: Call, out: &mut Outbox) -> Ended {
     }
 }
 
-// Whether nothing was put, and the client waits for no call.
+// Returns whether nothing was sent, and no call is outstanding.
 fn is_idle(core: &ClientCore, out: &mut Outbox) -> bool {
     !has_put(out) && core.outstanding().is_none()
 }
 
-// Whether a call begins as the first.
+// Returns whether a call is invoked as the first.
 fn begins_a_tick(core: &mut ClientCore, out: &mut Outbox) -> bool {
     match core.begin(Call::Update(Update::Tick), out) {
         Ok(number) => number.number() == 1,
@@ -60,24 +60,24 @@ fn begins_a_tick(core: &mut ClientCore, out: &mut Outbox) -> bool {
     }
 }
 
-/// It hears of another head and tail, while it waits.
+/// Receives another head and tail, while a call is outstanding.
 pub(crate) fn config_is_taken(alloc: Global) -> Ended {
     waiting(alloc, Act::Hears)
 }
 
-/// It sends the call that it waits for once more.
+/// Sends the outstanding call once more.
 pub(crate) fn call_is_retried(alloc: Global) -> Ended {
     waiting(alloc, Act::Sends)
 }
 
-// What a client does while it waits for its first call.
+// What a client does while its first call is outstanding.
 #[derive(Clone, Copy)]
 enum Act {
     Hears,
     Sends,
 }
 
-// A client of a chain of one server does this while it waits for its first call.
+// Lets a client of a chain of one server do this while its first call is outstanding.
 fn waiting(alloc: Global, act: Act) -> Ended {
     let mut core = ClientCore::new(alloc, server(1));
     let ended = if begins_first(alloc, &mut core) {
@@ -124,7 +124,8 @@ fn hears(core: &mut ClientCore, out: &mut Outbox) -> Ended {
     }
 }
 
-// Whether there is no reply, or else the message that is handed back is the one that was given.
+// Returns in `Ok` whether there is no reply, and in `Err` whether the message that is handed back
+// is the one that was given.
 fn is_heard(core: &mut ClientCore, out: &mut Outbox) -> Result<bool, bool> {
     let taken = core.take(Process::Master, config(), out);
     let is_heard = match &taken {
@@ -159,12 +160,12 @@ fn sends_again(core: &ClientCore, out: &mut Outbox) -> bool {
     core.retry(out).is_ok() && has_put_to(1, out)
 }
 
-// Whether nothing was put, and the client still waits for its first call.
+// Returns whether nothing was sent, and the first call is still outstanding.
 fn waits(core: &ClientCore, out: &mut Outbox) -> bool {
     !has_put(out) && matches!(core.outstanding(), Some(number) if number.number() == 1)
 }
 
-// Whether the first message that was put goes to this server.
+// Returns whether the first message that was sent goes to this server.
 fn has_put_to(number: u8, out: &mut Outbox) -> bool {
     let post = out.next();
     let is_there = match &post {

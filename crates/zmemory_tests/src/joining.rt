@@ -1,4 +1,4 @@
-//! A join: the whole state is handed over, and taken.
+//! A join: the whole state is handed over, and received.
 
 use crate::story::{Word, hears, hears_at};
 use crate::taking::{acts, takes};
@@ -8,7 +8,7 @@ use zprotocol::{Message, Out, Process};
 use zserver::{Server, Snapshot};
 use zstories::Ended;
 
-/// A spare server whose predecessor is server 1 takes what that one hands over.
+/// A spare server whose predecessor is server 1 receives what that one hands over.
 pub(crate) fn snapshot_is_taken(alloc: Global) -> Ended {
     let Some(snapshot) = handed_over(alloc) else {
         return Ended::NotBegun;
@@ -28,7 +28,7 @@ fn joins(alloc: Global, spare: &mut Server, snapshot: Message<Snapshot>) -> Ende
     }
 }
 
-// Whether server 1 is its predecessor from now on. What it puts is let go.
+// Returns whether server 1 is its predecessor from now on. What it sends is dropped.
 fn turns(alloc: Global, spare: &mut Server) -> bool {
     let mut out = Out::new(alloc);
     let message = Message::NewPred(epoch(1), server(1));
@@ -37,13 +37,13 @@ fn turns(alloc: Global, spare: &mut Server) -> bool {
     has_turned
 }
 
-// What server 1 hands over.
+// Returns what server 1 hands over.
 fn handed_over(alloc: Global) -> Option<Message<Snapshot>> {
     let Ok(mut only) = Server::first(alloc, None, None) else {
         return None;
     };
     let mut out = Out::new(alloc);
-    // Where it hears neither, it has put nothing.
+    // Where it hears neither, it has sent nothing.
     let _ = hears(alloc, &mut only, Word::Submit)
         && hears_at(alloc, &mut only, Word::JoinedBy, &mut out);
     drop(only);

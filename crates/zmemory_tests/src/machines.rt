@@ -7,17 +7,17 @@ use zliterals::{call_number, client};
 use zops::{MAX_APPLIED, Machine};
 use zpath::Memory;
 
-/// A machine at which client 1's first call made `/a`.
+/// Returns a machine at which client 1's first call made `/a`.
 pub(crate) fn machine(alloc: Global) -> Result<Machine, Memory> {
     machine_after(alloc, create(alloc, "/a"))
 }
 
-/// A machine at which client 1's first call made `/a`, which lives for a tick.
+/// Returns a machine at which client 1's first call made `/a`, which lives for one tick.
 pub(crate) fn timed_machine(alloc: Global) -> Result<Machine, Memory> {
     machine_after(alloc, create_timed(alloc, "/a"))
 }
 
-/// A machine at which client 1's first call was a multi that made `/a`.
+/// Returns a machine at which client 1's first call was a multi that made `/a`.
 pub(crate) fn machine_of_multi(alloc: Global) -> Result<Machine, Memory> {
     machine_after(alloc, multi(alloc, "/a"))
 }
@@ -36,7 +36,7 @@ fn machine_after(alloc: Global, update: Result<Update, Memory>) -> Result<Machin
     Err(Memory)
 }
 
-/// The update as client 1's first call.
+/// Returns the update as client 1's first call.
 pub(crate) fn first_entry(update: Update) -> Entry {
     Entry {
         client: client(1),
@@ -45,7 +45,7 @@ pub(crate) fn first_entry(update: Update) -> Entry {
     }
 }
 
-/// The update as client 1's second call.
+/// Returns the update as client 1's second call.
 pub(crate) fn second_entry(update: Update) -> Entry {
     Entry {
         client: client(1),
@@ -54,7 +54,7 @@ pub(crate) fn second_entry(update: Update) -> Entry {
     }
 }
 
-/// Applies an entry; whether there is a reply, and no refusal.
+/// Applies an entry; returns whether there is a reply, and no refusal.
 pub(crate) fn acts(machine: &mut Machine, entry: Entry) -> Result<bool, Memory> {
     if machine.applied() >= MAX_APPLIED {
         drop(entry);
@@ -77,7 +77,7 @@ fn has_acted(reply: Option<Reply>) -> bool {
     has_acted
 }
 
-/// Whether the machine can be copied.
+/// Returns whether the machine can be copied.
 pub(crate) fn can_be_copied(machine: &Machine) -> bool {
     match machine.copy() {
         Ok(copy) => {

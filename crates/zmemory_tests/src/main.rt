@@ -1,6 +1,7 @@
-//! What stands after a refused allocation, in the parts of a server and of a client. Each story is one call: where an allocation of it is
-//! refused, the answer is the refusal that is named for it, and what stands then is what its clauses say. Where none is refused all are
-//! done: the calls succeed where there is memory. `bench/refusals` refuses each allocation in turn, one a run.
+//! What holds after a refused allocation, in the parts of a server and of a client. Each story is
+//! one call. Where one of its allocations is refused, the answer is the refusal that is named for
+//! it, and what holds then is what its clauses say. Where none is refused, all are done: the calls
+//! succeed where there is memory. `bench/refusals` refuses each allocation in turn, one a run.
 #![tactic(auto)]
 
 mod applying;

@@ -1,4 +1,4 @@
-//! A store that finds no memory for a mark stands for the same tree, without the mark.
+//! A store that has no memory for a savepoint stands for the same tree, without the savepoint.
 
 ghost use Rattle.std.specs.Prelude.{◌≡◌, IsSome};
 
@@ -7,10 +7,10 @@ use zpath::Memory;
 use zstore::Store;
 use zstories::Ended;
 
-// Room for undoing so many steps.
+// Room for undoing this many steps.
 const STEPS: usize = 12;
 
-/// A mark at the opening.
+/// Sets a savepoint at the initial state.
 pub(crate) fn mark_is_set(alloc: Global) -> Ended {
     match Store::new(alloc) {
         Ok(mut store) => {
@@ -29,14 +29,14 @@ fn marks(store: &mut Store) -> Ended {
     }
 }
 
-// Whether the store is the same behind a mark and the way back to it.
+// Returns whether the store is the same after a savepoint and a rollback to it.
 fn goes_back(store: &mut Store) -> Result<bool, Memory> {
     store.mark(STEPS)?;
     store.back();
     Ok(is_opening(store))
 }
 
-// Whether there is the root alone, and no change was made.
+// Returns whether there is the root alone, and no change was made.
 fn is_opening(store: &Store) -> bool {
     store.nodes() == 1 && store.sessions() == 0 && store.zxid().number() == 0 && store.given() <= 1
 }

@@ -1,10 +1,10 @@
-//! A path that is read finds no memory: nothing is left of it.
+//! A path for which memory runs out while it is read: nothing is left of it.
 
 use std::alloc::Global;
 use zpath::{Path, PathFault};
 use zstories::Ended;
 
-/// A path of three names.
+/// Reads a path of three names.
 pub(crate) fn path_is_parsed(alloc: Global) -> Ended {
     match has_its_names(alloc) {
         Ok(is_so) => Ended::done(is_so),
@@ -13,7 +13,7 @@ pub(crate) fn path_is_parsed(alloc: Global) -> Ended {
     }
 }
 
-// Whether the path has the names that its text spells.
+// Returns whether the path has the names that its text spells.
 fn has_its_names(alloc: Global) -> Result<bool, PathFault> {
     let path = Path::parse(alloc, "/a/bc/d")?;
     let is_so = is_of_three(&path);

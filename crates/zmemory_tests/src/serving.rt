@@ -26,7 +26,7 @@ pub(crate) fn query_is_taken(alloc: Global) -> Ended {
     }
 }
 
-// A query for which there is no memory is as if it had been lost: the next one is answered.
+// A query for which memory runs out is as if it had been lost: the next one is answered.
 fn answers(alloc: Global, tail: &mut Server, out: &mut Out<Snapshot>) -> Ended {
     match tail.take(Process::Client(client(1)), query(alloc, 1), out) {
         Ok(Taken::Acted) => Ended::done(has_put(out)),

@@ -1,11 +1,11 @@
-//! Bytes that find no memory to be shared become no data.
+//! Bytes for which memory runs out when they are to be shared become no data.
 
 use crate::values::two_bytes;
 use std::alloc::Global;
 use zpath::Memory;
 use zstories::Ended;
 
-/// Two bytes become data.
+/// Makes data of two bytes.
 pub(crate) fn data_is_made(alloc: Global) -> Ended {
     match has_its_bytes(alloc) {
         Ok(is_so) => Ended::done(is_so),

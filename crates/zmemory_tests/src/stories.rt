@@ -16,7 +16,7 @@ use std::io;
 use std::io::Print;
 use zstories::{Ended, tell, tell_end};
 
-// What is refused memory.
+// What may be refused memory.
 #[derive(Clone, Copy)]
 enum Story {
     Parse,
@@ -38,7 +38,7 @@ enum Story {
     Retry,
 }
 
-// A server's neighbours, what it took before, and what it takes.
+// A server's neighbours, what it received before, and what it receives.
 const STORIES: &[(&str, Story)] = &[
     ("a path is parsed", Story::Parse),
     ("bytes become data", Story::Data),
@@ -94,7 +94,7 @@ const STORIES: &[(&str, Story)] = &[
     ("a client asks again", Story::Retry),
 ];
 
-/// Tells all, one after the other, and that they have ended.
+/// Tells all stories, one after the other, and that they have ended.
 pub(crate) fn tell_all(rt: &impl Print, alloc: Global) -> io::Result<()> {
     for (name, story) in STORIES {
         tell(rt, name, ended(alloc, *story))?;

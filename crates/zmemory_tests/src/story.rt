@@ -1,4 +1,4 @@
-//! Stories of a server of the opening chain: what it takes, and what it took before.
+//! Stories of a server of the initial chain: what it receives, and what it received before.
 
 use crate::machines::first_entry;
 use crate::taking::{acts, takes};
@@ -11,8 +11,8 @@ use zprotocol::{Message, Out, Process, ServerId};
 use zserver::{Server, Snapshot};
 use zstories::Ended;
 
-/// A server takes a message: its predecessor and its successor in the opening chain, 0 for none, what it took
-/// before, and the message.
+/// A server receives a message: its predecessor and its successor in the initial chain (0 for
+/// none), what it received before, and the message.
 pub(crate) type Taking = (u8, u8, Option<Word>, Word);
 
 /// A message.
@@ -36,7 +36,7 @@ pub(crate) enum Word {
     JoinedBy,
 }
 
-/// How a story ends.
+/// Returns how a story ends.
 pub(crate) fn told(alloc: Global, story: &Taking) -> Ended {
     let (pred, succ, before, word) = *story;
     let first = Server::first(alloc, ServerId::new(pred), ServerId::new(succ));
@@ -60,7 +60,8 @@ fn told_at(alloc: Global, server: &mut Server, before: Option<Word>, word: Word)
     }
 }
 
-/// Hands a server a message before that of the story; whether it acted. What it puts is let go.
+/// Hands a server a message before that of the story; returns whether it acted. What it sends is
+/// dropped.
 pub(crate) fn hears(alloc: Global, server: &mut Server, word: Word) -> bool {
     let mut out = Out::new(alloc);
     let has_acted = hears_at(alloc, server, word, &mut out);
@@ -68,7 +69,7 @@ pub(crate) fn hears(alloc: Global, server: &mut Server, word: Word) -> bool {
     has_acted
 }
 
-/// Hands a server a message; whether it acted.
+/// Hands a server a message; returns whether it acted.
 pub(crate) fn hears_at(
     alloc: Global,
     server: &mut Server,
@@ -117,7 +118,7 @@ fn update(alloc: Global) -> Result<Message<Snapshot>, Memory> {
     }
 }
 
-// The update as the first entry of the log.
+// Returns the update as the first entry of the log.
 fn first_update(alloc: Global, update: Update) -> Result<Message<Snapshot>, Memory> {
     let entry = SharedEntry::new(alloc, first_entry(update))?;
     Ok(Message::Update(epoch(0), log_number(1), entry))

@@ -1,4 +1,4 @@
-//! A server takes a message: it acts, or it has stopped for good and put nothing.
+//! A server receives a message: it acts, or it has stopped for good and sent nothing.
 
 use std::alloc::Global;
 use zliterals::epoch;
@@ -6,7 +6,7 @@ use zprotocol::{Message, Out, Process};
 use zserver::{Server, Snapshot, Stopped, Taken};
 use zstories::Ended;
 
-/// Hands a server a message, with nothing put before; whether it acted.
+/// Hands a server a message, with nothing sent before; returns whether it acted.
 pub(crate) fn acts(
     server: &mut Server,
     from: Process,
@@ -16,7 +16,7 @@ pub(crate) fn acts(
     matches!(server.take(from, message, out), Ok(Taken::Acted))
 }
 
-/// Hands a server the message of a story; it puts something where it acts.
+/// Hands a server the message of a story; it sends something where it acts.
 pub(crate) fn takes(
     alloc: Global,
     server: &mut Server,
@@ -43,7 +43,7 @@ fn takes_at(
     }
 }
 
-/// Whether something was put; takes it out.
+/// Returns whether something was sent, and removes it.
 pub(crate) fn has_put<T: Drop>(out: &mut Out<T>) -> bool {
     let post = out.next();
     let is_some = post.is_some();
@@ -51,7 +51,8 @@ pub(crate) fn has_put<T: Drop>(out: &mut Out<T>) -> bool {
     is_some
 }
 
-// Whether nothing was put, and the server takes nothing more, not even what needs no memory.
+// Returns whether nothing was sent, and the server handles nothing more, not even what needs no
+// memory.
 fn has_stopped(server: &mut Server, out: &mut Out<Snapshot>) -> bool {
     !has_put(out) && !becomes_head(server, out) && !has_put(out)
 }

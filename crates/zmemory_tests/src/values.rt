@@ -4,7 +4,7 @@ use std::alloc::Global;
 use zcalls::{Create, Data, DataFault, Kind, Multi, Part, Ttl, Update};
 use zpath::{Memory, Path};
 
-/// The path of this text, where there is memory for it.
+/// Returns the path of this text, or that memory ran out.
 pub(crate) fn path(alloc: Global, text: &str) -> Result<Path, Memory> {
     match Path::parse(alloc, text) {
         Ok(path) => Ok(path),
@@ -12,17 +12,17 @@ pub(crate) fn path(alloc: Global, text: &str) -> Result<Path, Memory> {
     }
 }
 
-/// An update that makes a node with two bytes.
+/// Returns an update that makes a node with two bytes.
 pub(crate) fn create(alloc: Global, text: &str) -> Result<Update, Memory> {
     create_of(alloc, text, Kind::Persistent)
 }
 
-/// An update that makes a node with two bytes, whose name goes on with its parent's counter.
+/// Returns an update that makes a node with two bytes, whose name ends in its parent's counter.
 pub(crate) fn create_sequential(alloc: Global, text: &str) -> Result<Update, Memory> {
     create_of(alloc, text, Kind::PersistentSequential)
 }
 
-/// An update that makes a node with two bytes, which lives for a tick.
+/// Returns an update that makes a node with two bytes, which lives for one tick.
 pub(crate) fn create_timed(alloc: Global, text: &str) -> Result<Update, Memory> {
     match Ttl::new(1) {
         Some(ttl) => create_of(alloc, text, Kind::PersistentWithTtl(ttl)),
@@ -48,7 +48,7 @@ fn creation(alloc: Global, text: &str, kind: Kind) -> Result<Create, Memory> {
     Ok(Create { path, kind, bytes })
 }
 
-/// Data of two bytes.
+/// Returns data of two bytes.
 pub(crate) fn two_bytes(alloc: Global) -> Result<Data, Memory> {
     let Ok(bytes) = "hi".as_bytes().to_vec(alloc) else {
         return Err(Memory);
@@ -59,7 +59,7 @@ pub(crate) fn two_bytes(alloc: Global) -> Result<Data, Memory> {
     }
 }
 
-/// A multi that makes a node.
+/// Returns a multi that makes a node.
 pub(crate) fn multi(alloc: Global, text: &str) -> Result<Update, Memory> {
     let Ok(create) = creation(alloc, text, Kind::Persistent) else {
         return Err(Memory);

@@ -4,10 +4,12 @@
 #![tactic(auto)]
 
 mod beginning;
+mod ordering;
 mod playing;
 mod running;
 
 use beginning::world_begins;
+use ordering::{server_joins, server_leaves};
 use playing::{plays_over_one, plays_over_three};
 use running::events_are_run;
 use std::io;
@@ -17,6 +19,8 @@ fn main(rt: HostRuntime) -> io::Result<()> {
     spend(&rt, rt.alloc())?;
     tell(&rt, "a world begins", world_begins(rt.alloc()))?;
     tell(&rt, "a world runs events", events_are_run(rt.alloc()))?;
+    tell(&rt, "a server is to join", server_joins(rt.alloc()))?;
+    tell(&rt, "a server is to leave", server_leaves(rt.alloc()))?;
     tell(&rt, "one server plays a script", plays_over_one(rt.alloc()))?;
     tell(
         &rt,

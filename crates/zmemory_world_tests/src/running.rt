@@ -45,8 +45,8 @@ fn goes_on(world: &mut World, told: usize) -> bool {
     is_settled && is_beginning(world.history()) && matches!((told, now), (1, 1) | (3, 4))
 }
 
-// The world answers Memory to everything, and its history stays.
-fn is_broken(world: &mut World, told: usize) -> bool {
+/// Whether the world answers Memory to everything, and its history stays.
+pub(crate) fn is_broken(world: &mut World, told: usize) -> bool {
     world.settle(LIMIT).is_err()
         && world.step(Event::Fail(server(1))).is_err()
         && world.step(Event::Retry(client(1))).is_err()

@@ -1,5 +1,5 @@
--- The rings between processes: a row for each process, of those on which it puts, and a column for each, of those from which it
--- takes.
+-- The rings between processes: a row for each process, of those that it sends on, and a column for
+-- each, of those that it receives from.
 use Rattle.std.specs.Prelude.{◌≡◌, ℕ, List, [], ◌∷◌, ◌++◌, length, map, All}
 use mathlib.Core.Option.{some}
 use lib.ListN.{get_elem?}
@@ -16,19 +16,19 @@ out_rings rows = map (λ row. map ring_of_tx row.items) rows
 abbrev pub in_rings : {M : Type 0} → List (Vec (Rx M) Global) → List (List Ring)
 in_rings columns = map (λ column. map ring_of_rx column.items) columns
 
--- nothing was put, and nothing was taken
+-- nothing was sent, and nothing was received
 abbrev pub AreBlankOuts : {M : Type 0} → List (Vec (Tx M) Global) → Type 0
 AreBlankOuts rows = All (λ row. All (λ tx. put_of tx ≡ []) row.items) rows
 
 abbrev pub AreBlankIns : {M : Type 0} → List (Vec (Rx M) Global) → Type 0
 AreBlankIns columns = All (λ column. All (λ rx. taken_of rx ≡ []) column.items) columns
 
--- each has so many ends
+-- each has n ends
 abbrev pub AreWide : {X : Type 0} → ℕ → List (Vec X Global) → Type 0
 AreWide n ends = All (λ e. length e.items ≡ n) ends
 
--- each of so many processes has a ring to each and from each, and that on which one puts to another is that from which the other
--- takes from it
+-- each of n processes has a ring to each and from each; the ring on which one sends to another is
+-- that from which the other receives
 pub record IsWoven (n : ℕ) (outs ins : List (List Ring)) : Type 0 where
   pub rows : length outs ≡ n
   pub columns : length ins ≡ n
@@ -48,6 +48,6 @@ with_row [] row = []
 with_row (column ∷ columns) [] = column ∷ columns
 with_row (column ∷ columns) (ring ∷ row) = (column ++ ring ∷ []) ∷ with_row columns row
 
--- each column has one end more, that of the ring at its place in the row
+-- each column has one more end, that of the ring at its place in the row
 abbrev pub HasRowMore : {M : Type 0} → List (Vec (Rx M) Global) → List (Vec (Rx M) Global) → List (Tx M) → Type 0
 HasRowMore old new row = in_rings new ≡ with_row (in_rings old) (map ring_of_tx row)

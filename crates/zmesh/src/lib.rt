@@ -1,4 +1,4 @@
-//! Links from each of so many processes to each, itself among them.
+//! Channels from each of n processes to each, itself included.
 #![tactic(auto)]
 
 mod mesh;

@@ -1,4 +1,4 @@
-//! The links between all processes.
+//! The channels between all processes.
 
 ghost use Rattle.std.specs.Prelude.{◌≡◌, IfOk, OnOk, length, replicate, All, []};
 ghost use Rattle.zrings.specs.Ends.{put_of};
@@ -8,16 +8,16 @@ use std::alloc::Global;
 use zpath::Memory;
 use zrings::ends::{Rx, Tx, link};
 
-/// The ends of all links, by process: what each puts on, and what each takes from, each by the other's place.
+/// The ends of all channels, by process and then by the place of the other process.
 #[derive(Drop)]
 pub struct Mesh<M: Drop> {
-    /// The ends on which each process puts.
+    /// The sending ends of each process.
     pub outs: Vec<Vec<Tx<M>>>,
-    /// The ends from which each process takes.
+    /// The receiving ends of each process.
     pub ins: Vec<Vec<Rx<M>>>,
 }
 
-/// A link from each of so many processes to each, on which nothing was put. Err where there is no memory.
+/// Returns empty channels from each of `count` processes to each. The only error is out of memory.
 pub fn weave<M: Drop>(alloc: Global, count: usize) -> Result<Mesh<M>, Memory>
     ensures woven { IfOk result (λ mesh. AreWoven count mesh.outs.items mesh.ins.items) }
     ensures blank { IfOk result (λ mesh. AreBlankOuts mesh.outs.items
@@ -34,7 +34,7 @@ pub fn weave<M: Drop>(alloc: Global, count: usize) -> Result<Mesh<M>, Memory>
     Ok(Mesh { outs, ins })
 }
 
-// So many processes that take from nobody yet.
+// Returns `count` processes that receive from nobody yet.
 fn columns<M: Drop>(alloc: Global, count: usize) -> Result<Vec<Vec<Rx<M>>>, Memory>
     ensures rings { IfOk result (λ columns. in_rings columns.items ≡ replicate count []) }
     ensures blank { IfOk result (λ columns. AreBlankIns columns.items) }
@@ -46,7 +46,7 @@ fn columns<M: Drop>(alloc: Global, count: usize) -> Result<Vec<Vec<Rx<M>>>, Memo
     Ok(columns)
 }
 
-// One process more that puts to all: the ends on which it puts.
+// Adds a process that sends to all; returns its sending ends.
 fn add_row<M: Drop>(alloc: Global, ins: &mut Vec<Vec<Rx<M>>>) -> Result<Vec<Tx<M>>, Memory>
     ensures rings { IfOk result (λ row. HasRowMore ins.old.items ins.new.items row.items) }
     ensures length { IfOk result (λ row. length row.items ≡ length ins.old.items) }

@@ -1,4 +1,5 @@
-//! What was taken from each link is the beginning of what was put there: as its two ends tell, once they are in one thread again.
+//! What was received on each channel is a prefix of what was sent on it. Its two ends can tell,
+//! once they are in one thread again.
 
 ghost use Rattle.std.specs.Prelude.{◌≡◌, ◌<◌, IsTrue, length};
 ghost use Rattle.zmesh.specs.Woven.{AreWoven, in_rings, out_rings};
@@ -7,7 +8,7 @@ ghost use Rattle.zmesh.specs.Told.{AreTold, in_lists, out_lists, TellIt};
 use crate::mesh::Mesh;
 use zrings::ends::{Rx, Tx, told};
 
-/// Whether each link tells that what was taken from it begins what was put on it. False where one can't tell.
+/// Returns whether every channel can tell that what was received is a prefix of what was sent.
 pub fn are_told<M: Drop>(mesh: Mesh<M>) -> bool
     requires { AreWoven (length mesh.outs.items) mesh.outs.items mesh.ins.items }
     ensures { IsTrue result → AreTold (out_lists mesh.outs.items) (in_lists mesh.ins.items) }
@@ -24,7 +25,7 @@ pub fn are_told<M: Drop>(mesh: Mesh<M>) -> bool
     true
 }
 
-// Whether the link from one process to another tells it.
+// Returns whether the channel from one process to another can tell so.
 fn is_told<M: Drop>(
     outs: &mut Vec<Vec<Tx<M>>>,
     ins: &mut Vec<Vec<Rx<M>>>,

@@ -1,4 +1,4 @@
--- What a `Nodes` shows: the znodes by their paths, and what its Ids name.
+-- What a contract sees of a `Nodes`: the znodes by path, and what the Ids name.
 use Rattle.std.specs.Prelude.{◌≡◌, ◌≢◌, ◌⊎◌, ℕ, ◌+◌, ◌≤◌, true, false, List, length, [], ◌∷◌, Option, None, Some, IsSome, refl}
 use Rattle.std.specs.Coded.{Coded, code_by, coded×, coded_ℕ, prop_coded, Unit-prop}
 use Rattle.std.specs.Option.{option_and_then, option_map}
@@ -17,13 +17,13 @@ use Rattle.ztree.specs.support.Codes.{coded_path, coded_node}
 use Rattle.znodes.specs.declared.parts.Marks.{Marks}
 use Rattle.znodes.specs.declared.parts.Content.{Content}
 
--- a node that was taken away, and where it was
+-- a removed node, with its path
 abbrev pub Taken : Type 0
 Taken = Path × Node
 
--- the znodes by their paths, the paths of the live Ids, what was taken away and can come back under
--- its Id, the sessions that may own nodes, how many Ids were given so far, and how many nodes more
--- can come with no memory for the index
+-- The znodes by path; the paths of the live Ids; the removed nodes that can come back under their
+-- Ids; the sessions that may own nodes. Then the number of Ids given out so far, and how many more
+-- nodes the index can take without allocating.
 pub record NodesView : Type 0 where
   pub nodes : Nodes
   pub places : FinMap id_cmp Path
@@ -32,43 +32,43 @@ pub record NodesView : Type 0 where
   pub given : ℕ
   pub room : ℕ
 
--- the path of the node that an Id names
+-- the path of the node with this Id
 abbrev pub path_of : NodesView → Id → Option Path
 path_of v id = get v.places id
 
--- the node that an Id names
+-- the node with this Id
 abbrev pub node_of : NodesView → Id → Option Node
 node_of v id = option_and_then (get v.nodes) (path_of v id)
 
--- a fact on the path that an Id names
+-- the path of this Id, if there is one, has the property
 abbrev pub AtPath : NodesView → Id → (Path → Type 0) → Type 0
 AtPath v id P = (path : Path) → path_of v id ≡ Some path → P path
 
--- a fact on the node that an Id names
+-- the node with this Id, if there is one, has the property
 abbrev pub AtNode : NodesView → Id → (Node → Type 0) → Type 0
 AtNode v id P = (n : Node) → node_of v id ≡ Some n → P n
 
--- a fact on what was taken away under an Id
+-- the removed node under this Id, if there is one, has the property
 abbrev pub AtTaken : NodesView → Id → (Taken → Type 0) → Type 0
 AtTaken v id P = (t : Taken) → get v.held id ≡ Some t → P t
 
--- these are the names of the children of the node that an Id names
+-- these are the names of the children of the node with this Id
 abbrev pub AreChildrenOf : NodesView → Id → List Name → Type 0
 AreChildrenOf v id names = AtPath v id (λ path. names ≡ children v.nodes path)
 
--- how many children that node has
+-- the number of children of the node with this Id
 abbrev pub child_count_of : NodesView → Id → Option ℕ
 child_count_of v id = option_map (λ path. length (children v.nodes path)) (path_of v id)
 
--- the second Id names the node right above that of the first
+-- the second Id names the parent of the node with the first Id
 abbrev pub IsUnder : NodesView → Id → Id → Type 0
 IsUnder v id parent = AtPath v id (λ path. path_of v parent ≡ Some (parent_of path))
 
--- an owner is nobody, or one that is known
+-- the owner is nobody, or a session that may own nodes
 abbrev pub IsKnownOwner : NodesView → ℕ → Type 0
 IsKnownOwner v owner = (owner ≡ 0) ⊎ IsSome (get v.owners owner)
 
--- the root alone, under the first Id
+-- the initial state: the root alone, under the first Id
 pub record IsOpening (root : Node) (v : NodesView) : Type 0 where
   pub nodes : v.nodes ≡ insert finite.empty [] root
   pub id : Id
@@ -77,14 +77,14 @@ pub record IsOpening (root : Node) (v : NodesView) : Type 0 where
   pub owners : v.owners ≡ finite.empty
   pub given : v.given ≡ 1
 
--- the Ids name these paths, one after the other
+-- the Ids name these paths, in order
 abbrev pub AreAt : FinMap id_cmp Path → Ids → List Path → Type 0
 AreAt places [] [] = Unit {0}
 AreAt places [] (path ∷ paths) = ⊥
 AreAt places (id ∷ ids) [] = ⊥
 AreAt places (id ∷ ids) (path ∷ paths) = (get places id ≡ Some path) × AreAt places ids paths
 
--- the Ids name the nodes that a tick removes, each once
+-- the Ids name exactly the nodes that a tick removes, each once
 pub record AreStale (nodes : Nodes) (places : FinMap id_cmp Path) (tick : ℕ)
     (ids : Ids) : Type 0 where
   pub paths : List Path
@@ -92,11 +92,11 @@ pub record AreStale (nodes : Nodes) (places : FinMap id_cmp Path) (tick : ℕ)
   pub each : (path : Path) → has_path paths path ≡ is_stale_at nodes tick path
   pub once : NoneTwice path_cmp paths
 
--- nothing has changed but the room
+-- only the room may have changed
 abbrev pub SameButRoom : NodesView → NodesView → Type 0
 SameButRoom old new = new ≡ record old { room = new.room }
 
--- a node came at a free path, under a new Id
+-- a node was added at a free path, under a new Id
 pub record Adds (old new : NodesView) (id : Id) (path : Path) (n : Node) : Type 0 where
   pub free : path_of old id ≡ None
   pub unheld : get old.held id ≡ None
@@ -108,7 +108,7 @@ pub record Adds (old new : NodesView) (id : Id) (path : Path) (n : Node) : Type 
   pub given : new.given ≡ old.given + 1
   pub room : old.room ≤ new.room + 1
 
--- the node that an Id names was taken away, and can come back
+-- the node with this Id was removed, and can come back
 pub record Takes (old new : NodesView) (id : Id) (path : Path) (n : Node) : Type 0 where
   pub nodes : new.nodes ≡ remove old.nodes path
   pub places : new.places ≡ remove old.places id
@@ -117,15 +117,14 @@ pub record Takes (old new : NodesView) (id : Id) (path : Path) (n : Node) : Type
   pub given : new.given ≡ old.given
   pub room : old.room ≤ new.room
 
--- what was taken away under an Id can come back: its path is free, the node above is there, and its
--- owner is known
+-- a removed node can come back: its path is free, its parent exists, and its owner may own nodes
 pub record CanReturn (v : NodesView) (t : Taken) : Type 0 where
   pub below_root : t.0 ≢ []
   pub free : has_node v.nodes t.0 ≡ false
   pub parent : has_node v.nodes (parent_of t.0) ≡ true
   pub owner : IsKnownOwner v t.1.owner
 
--- what was taken away under an Id came back
+-- the removed node under this Id came back
 pub record Returns (old new : NodesView) (id : Id) (t : Taken) : Type 0 where
   pub nodes : new.nodes ≡ insert old.nodes t.0 t.1
   pub places : new.places ≡ insert old.places id t.0
@@ -134,33 +133,33 @@ pub record Returns (old new : NodesView) (id : Id) (t : Taken) : Type 0 where
   pub given : new.given ≡ old.given
   pub room : old.room ≤ new.room + 1
 
--- the node that an Id names was written, and nothing else has changed
+-- the node with this Id was written, and nothing else changed
 abbrev pub Writes : NodesView → NodesView → Id → (Node → Node) → Type 0
 Writes old new id f =
     AtPath old id (λ path. new ≡ record old { nodes = with_change_at old.nodes path f })
 
--- what the children left in a node
+-- the fields of a node that its children change
 abbrev pub marks_of : Node → Marks
 marks_of n = record { pzxid = n.pzxid; cversion = n.cversion; seq = n.seq }
 
--- what the writes of its data left in a node
+-- the fields of a node that a write of its data changes
 abbrev pub content_of : Node → Content
 content_of n = record { bytes = n.bytes; mzxid = n.mzxid; mtime = n.mtime; version = n.version }
 
--- a node with these marks
+-- the node with these fields of its children
 abbrev pub node_with_marks : Marks → Node → Node
 node_with_marks m n = record n { pzxid = m.pzxid; cversion = m.cversion; seq = m.seq }
 
--- a node with this data
+-- the node with these fields of its data
 abbrev pub node_with_content : Content → Node → Node
 node_with_content w n =
     record n { bytes = w.bytes; mzxid = w.mzxid; mtime = w.mtime; version = w.version }
 
--- how what was taken away is stored
+-- how a removed node is encoded
 abbrev pub coded_taken : Coded Taken
 coded_taken = coded× coded_path coded_node
 
--- how it is stored
+-- how the view is encoded
 abbrev pub coded_nodes_view : Coded NodesView
 coded_nodes_view =
     code_by

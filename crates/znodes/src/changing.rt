@@ -1,4 +1,4 @@
-//! What comes into the nodes, and goes out of them.
+//! Adding nodes, removing them, and bringing them back.
 
 ghost use Rattle.std.specs.Prelude.{◌≡◌, ◌≢◌, ◌<◌, ◌≤◌, [], Some, false, IsSome, IfOk, OnErr};
 ghost use Rattle.std.specs.FinMap.{get, remove};
@@ -16,8 +16,9 @@ use zslots::limits::GIVEN_BOUND;
 use ztree::Node;
 
 impl Nodes {
-    /// Adds a node beneath a live parent, at a free path. After `Memory` nothing has changed but the room. It is answered
-    /// too where no Id is left: once `GIVEN_BOUND` were given, or `MAX_SLOTS` nodes are there.
+    /// Adds a node at a free path under an existing parent, and returns its Id. After `Memory` only
+    /// the room may have changed. `Memory` also means that no Id is left: `GIVEN_BOUND` were given
+    /// out, or there are `MAX_SLOTS` slots.
     pub fn add(&mut self, parent: Id, path: Path, node: Node) -> Result<Id, Memory>
         requires below_root { path ≢ [] }
         requires parent { path_of self.old parent ≡ Some (parent_of path) }
@@ -43,7 +44,7 @@ impl Nodes {
             drop(node);
             return Err(Memory);
         };
-        // As if the node had been taken away.
+        // First make a row as if the node had been removed; then bring it back.
         let id = match self
             .slots
             .insert(Row::alone(self.alloc, path, node, Some(key)))
@@ -58,7 +59,7 @@ impl Nodes {
         Ok(id)
     }
 
-    /// Takes a leaf away, so that it can come back. It takes no memory.
+    /// Removes a leaf, and keeps it so that it can come back. Allocates nothing.
     pub fn take(&mut self, id: Id)
         requires live { IsSome (path_of self.old id) }
         requires below_root { AtPath self.old id (λ path. path ≢ []) }
@@ -79,8 +80,8 @@ impl Nodes {
         cut_timed(&mut self.slots, &mut self.timed, ttl, id);
     }
 
-    /// Brings back what was taken away under an Id, beneath the node that is above it now. It takes no memory.
-    // Into the lists first, and then into the index.
+    /// Brings a removed node back under its Id and its current parent. Allocates nothing.
+    // First into the lists, then into the index.
     pub fn put_back(&mut self, id: Id, parent: Id)
         requires held { IsSome (get self.old.held id) }
         requires fits { AtTaken self.old id (CanReturn self.old) }
@@ -94,7 +95,7 @@ impl Nodes {
         };
         let owner = row.node.owner;
         let ttl = row.node.ttl;
-        // What it answers is bounded, so the lists have room: none of them has all rows.
+        // This bounds the number of rows, so the lists have room: no list has all rows.
         let _ = self.slots.len();
         put_child(&mut self.slots, Some(parent), id);
         put_owned(&mut self.slots, &mut self.owners, owner, id);
@@ -110,7 +111,7 @@ impl Nodes {
         }
     }
 
-    /// Gives up what was taken away under an Id.
+    /// Drops a removed node; it can't come back.
     pub fn free(&mut self, id: Id)
         requires held { IsSome (get self.old.held id) }
         ensures { self.new ≡ record self.old { held = remove self.old.held id } }

@@ -15,7 +15,7 @@ use zpath::{Memory, Name};
 use zslots::{Id, List, Slots};
 
 impl Nodes {
-    /// The names of the children of the node that an Id names, in the order of their bytes.
+    /// Returns the names of a node's children in byte order, or `Memory`.
     pub fn children(&self, id: Id) -> Result<Vec<Name>, Memory>
         requires live { IsSome (path_of self.now id) }
         ensures { IfOk result (λ names. AreChildrenOf self.now id names.items) }
@@ -29,7 +29,7 @@ impl Nodes {
     }
 }
 
-// The last names of the paths of a list's rows, in the list's order.
+// Returns the last names of the paths of a list's rows, in the list's order.
 fn last_names(alloc: Global, slots: &Slots<Row>, list: List<0>) -> Result<Vec<Name>, Memory>
     requires { (ids : Ids) × IsList sibling_links slots.now.items list ids }
     ensures { IfOk result (λ names. AreNamesOf slots.now.items list names.items) }
@@ -43,7 +43,7 @@ fn last_names(alloc: Global, slots: &Slots<Row>, list: List<0>) -> Result<Vec<Na
     Ok(names)
 }
 
-// Adds the last name of a row's path.
+// Appends the last name of a row's path.
 fn push_name(alloc: Global, slots: &Slots<Row>, id: Id, names: &mut Vec<Name>) -> Result<(), Memory>
     ensures { OnOk result
         (names.new.items ≡ names.old.items ++ names_at slots.now.items (id ∷ [])) }
@@ -54,7 +54,7 @@ fn push_name(alloc: Global, slots: &Slots<Row>, id: Id, names: &mut Vec<Name>) -
     Ok(())
 }
 
-// The last name of a row's path.
+// Returns the last name of a row's path.
 fn last_name(slots: &Slots<Row>, id: Id) -> Option<&Name>
     ensures { option_copied result ≡ name_at slots.now.items id }
 {

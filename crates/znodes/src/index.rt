@@ -1,4 +1,4 @@
-//! The index.
+//! The index from paths to Ids.
 
 ghost use Rattle.std.specs.Prelude.{◌≡◌, ◌+◌, ◌<◌, ◌≤◌, is_some, IfOk, IfSome, OnOk, IsOk};
 ghost use Rattle.std.specs.FinMap as finite;
@@ -9,7 +9,7 @@ use std::marker::Model;
 use zpath::{Memory, Path};
 use zslots::Id;
 
-/// Ids by their paths.
+/// The Ids by path.
 #[derive(Drop)]
 pub struct Index {
     ids: HashMap<Path, Id>,
@@ -28,7 +28,7 @@ impl Model for Index {
 }
 
 impl Index {
-    /// No path. It takes no memory.
+    /// Returns an empty index. Allocates nothing.
     pub fn new(alloc: Global) -> Index
         ensures { result.ids ≡ finite.empty }
     {
@@ -37,33 +37,33 @@ impl Index {
         }
     }
 
-    /// The Id at a path.
+    /// Returns the Id at a path, if there is one.
     pub fn get(&self, path: &Path) -> Option<Id>
         ensures { result ≡ finite.get self.now.ids path.now }
     {
         self.ids.get(path).copied()
     }
 
-    /// How many paths there are.
+    /// Returns the number of paths.
     pub fn len(&self) -> usize
         ensures { result ≡ finite.len self.now.ids }
     {
         self.ids.len()
     }
 
-    /// Makes room, so that the next `more` inserts take no memory.
+    /// Reserves room, so that the next `more` inserts don't allocate.
     pub fn reserve(&mut self, more: usize) -> Result<(), Memory>
         ensures same { self.new.ids ≡ self.old.ids }
         ensures room { OnOk result (more ≤ self.new.room) }
         ensures grows { self.old.room ≤ self.new.room }
-        // It fails only where there was no room.
+        // It fails only without room.
         ensures succeeds { more ≤ self.old.room → IsOk result }
     {
         self.ids.reserve(more)?;
         Ok(())
     }
 
-    /// Puts an Id at a path, in the place of one that was there. It takes no memory.
+    /// Sets the Id at a path, and replaces one that was there. Allocates nothing.
     pub fn insert(&mut self, path: Path, id: Id)
         requires room { 0 < self.old.room }
         ensures ids { self.new.ids ≡ finite.insert self.old.ids path id }
@@ -75,8 +75,8 @@ impl Index {
         }
     }
 
-    /// Takes out the Id at a path, and gives back the path that was its key, so that `insert` can put it there again
-    /// with no memory for a new one.
+    /// Removes the Id at a path, and returns the path that was its key. With that key `insert` can
+    /// put it back without allocating.
     pub fn remove(&mut self, path: &Path) -> Option<Path>
         ensures key { IfSome result (λ key. key ≡ path.now) }
         ensures there { is_some result ≡ finite.contains_key self.old.ids path.now }
@@ -87,7 +87,7 @@ impl Index {
         Some(key)
     }
 
-    /// The same Ids under the same paths.
+    /// Returns a copy of the index, or `Memory`.
     pub fn copy(&self) -> Result<Index, Memory>
         ensures { IfOk result (λ copy. copy.ids ≡ self.now.ids) }
     {

@@ -1,11 +1,12 @@
-//! The znodes of one machine, linked to their parents and to their owners, and found by their paths.
+//! The znodes of one machine, linked to their parents and owners, and found by path.
 //!
-//! A node stands in a slot, under an Id that is never given twice. Its children are a list whose links stand in the
-//! children (list 0), and so are the nodes that a session owns (list 1) and those with a time to live (list 2); an index
-//! finds the Id at a path. So a change
-//! costs by what it changes, whatever else there is. A node that is taken away can come back under its Id without memory.
+//! A node is in a slot, under an Id that is never given out twice. Three intrusive lists run
+//! through the nodes: the children of a node (list 0), the nodes of a session (list 1), and the
+//! nodes with a TTL (list 2). An index finds the Id at a path. So the cost of a change depends on
+//! what it changes, not on the size of the tree. A removed node can come back under its Id without
+//! allocating.
 //!
-//! Contracts speak of the finite maps that `specs/NodesView.antt` names: nodes by their paths, paths by their Ids.
+//! Contracts speak of the finite maps in `specs/NodesView.antt`: nodes by path, and paths by Id.
 #![tactic(auto)]
 
 mod changing;

@@ -1,4 +1,4 @@
-//! How a row is put into its lists, and taken out of them.
+//! Inserting a row into its lists, and unlinking it.
 
 ghost use Rattle.std.specs.Prelude.{◌≡◌, ◌≢◌, ◌<◌, None, IfSome};
 ghost use Rattle.zslots.specs.declared.limits.TheConstants.{MAX_LENGTH};
@@ -13,7 +13,7 @@ use crate::row::Row;
 use zpath::Path;
 use zslots::{Id, List, Slots};
 
-// Puts a row before its parent's children.
+// Inserts a row at the front of its parent's children.
 pub(crate) fn put_child(slots: &mut Slots<Row>, parent: Option<Id>, id: Id)
     requires { AtChildren slots.old.items parent (λ list. length_of list < MAX_LENGTH) }
     ensures { slots.new ≡ with_items slots.old (with_child slots.old.items parent id) }
@@ -30,7 +30,7 @@ pub(crate) fn put_child(slots: &mut Slots<Row>, parent: Option<Id>, id: Id)
     }
 }
 
-// Takes a row out of its parent's children.
+// Unlinks a row from its parent's children.
 pub(crate) fn cut_child(slots: &mut Slots<Row>, parent: Option<Id>, id: Id)
     requires { AtChildren slots.old.items parent (λ list. 0 < length_of list) }
     ensures { slots.new ≡ with_items slots.old (without_child slots.old.items parent id) }
@@ -47,7 +47,7 @@ pub(crate) fn cut_child(slots: &mut Slots<Row>, parent: Option<Id>, id: Id)
     }
 }
 
-// Puts a row before those of its owner's list.
+// Inserts a row at the front of its owner's list.
 pub(crate) fn put_owned(slots: &mut Slots<Row>, owners: &mut Owners, owner: u64, id: Id)
     requires { IfSome (list_of owners.old owner) (λ list. length_of list < MAX_LENGTH) }
     ensures rows { slots.new ≡ slots_with_owned slots.old owners.old owner id }
@@ -59,7 +59,7 @@ pub(crate) fn put_owned(slots: &mut Slots<Row>, owners: &mut Owners, owner: u64,
     }
 }
 
-// Takes a row out of its owner's list.
+// Unlinks a row from its owner's list.
 pub(crate) fn cut_owned(slots: &mut Slots<Row>, owners: &mut Owners, owner: u64, id: Id)
     requires { IfSome (list_of owners.old owner) (λ list. 0 < length_of list) }
     ensures rows { slots.new ≡ slots_without_owned slots.old owners.old owner id }
@@ -71,7 +71,7 @@ pub(crate) fn cut_owned(slots: &mut Slots<Row>, owners: &mut Owners, owner: u64,
     }
 }
 
-// Takes a row out of those with a time to live, where its node has one.
+// Unlinks a row from the list of nodes with a TTL, if its node has one.
 pub(crate) fn cut_timed(slots: &mut Slots<Row>, timed: &mut List<2>, ttl: u64, id: Id)
     requires { ttl ≢ 0 → 0 < length_of timed.old }
     ensures rows { slots.new ≡ with_items slots.old (without_timed slots.old.items ttl id) }
@@ -82,7 +82,7 @@ pub(crate) fn cut_timed(slots: &mut Slots<Row>, timed: &mut List<2>, ttl: u64, i
     }
 }
 
-// Writes the key that a row keeps.
+// Writes the index key that a row keeps.
 pub(crate) fn set_key(slots: &mut Slots<Row>, id: Id, key: Option<Path>)
     ensures { slots.new ≡ with_items slots.old (with_key slots.old.items id key) }
 {
@@ -91,7 +91,7 @@ pub(crate) fn set_key(slots: &mut Slots<Row>, id: Id, key: Option<Path>)
     }
 }
 
-// Takes out the key that a row keeps.
+// Takes the index key that a row keeps.
 pub(crate) fn take_key(slots: &mut Slots<Row>, id: Id) -> Option<Path>
     ensures key { result ≡ kept_key slots.old.items id }
     ensures rows { slots.new ≡ with_items slots.old (with_key slots.old.items id None) }

@@ -1,4 +1,4 @@
-//! The nodes, as one value.
+//! The nodes as one value.
 
 ghost use Rattle.std.specs.Prelude.{◌≡◌, ◌≤◌, IfOk, OnOk};
 ghost use Rattle.std.specs.FinMap as finite;
@@ -40,7 +40,7 @@ impl Model for Nodes {
 impl Nodes {
     ghost use Rattle.znodes.specs.NodesView.{IsOpening, SameButRoom};
 
-    /// A root that nobody owns and no time to live ends, alone.
+    /// Makes nodes with the root alone, or returns `Memory`. The root has no owner and no TTL.
     pub fn new(alloc: Global, root: Node) -> Result<Nodes, Memory>
         requires nobodys { root.owner ≡ 0 }
         requires stays { root.ttl ≡ 0 }
@@ -69,21 +69,22 @@ impl Nodes {
         })
     }
 
-    /// How many Ids were given so far.
+    /// Returns the number of Ids given out so far.
     pub fn given(&self) -> u128
         ensures { result ≡ self.now.given }
     {
         self.slots.given()
     }
 
-    /// How many nodes there are, the root among them.
+    /// Returns the number of nodes, the root included.
     pub fn len(&self) -> usize
         ensures { result ≡ finite.len self.now.nodes }
     {
         self.index.len()
     }
 
-    /// Makes room in the index, so that so many nodes can come back without memory.
+    /// Reserves room in the index, so that `more` nodes can come back without allocating. After
+    /// `Memory` only the room may have changed.
     pub fn reserve(&mut self, more: usize) -> Result<(), Memory>
         ensures room { OnOk result (more ≤ self.new.room) }
         ensures same { SameButRoom self.old self.new }
@@ -93,7 +94,7 @@ impl Nodes {
         Ok(())
     }
 
-    /// Nodes of their own with the same Ids, what was taken away among them.
+    /// Returns a copy with the same Ids, and the removed nodes that can come back; or `Memory`.
     pub fn copy(&self) -> Result<Nodes, Memory>
         ensures { IfOk result (SameButRoom self.now) }
     {

@@ -30,7 +30,7 @@ impl Owners {
     ghost use Rattle.zslots.specs.Lists.{empty_list};
     ghost use Rattle.znodes.specs.support.OwnerLists.{list_of};
 
-    // No list.
+    // Returns an empty table of lists.
     pub(crate) fn new(alloc: Global) -> Owners
         ensures { result ≡ empty }
     {
@@ -39,7 +39,7 @@ impl Owners {
         }
     }
 
-    // An owner's list; nobody has none.
+    // Returns an owner's list, or `None` for owner 0.
     pub(crate) fn list(&self, owner: u64) -> Option<List<1>>
         ensures { result ≡ list_of self.now owner }
     {
@@ -49,7 +49,7 @@ impl Owners {
         self.lists.get(&owner).copied()
     }
 
-    // Writes a list that is there, so it takes no memory.
+    // Writes an existing list, so it allocates nothing.
     pub(crate) fn set(&mut self, owner: u64, list: List<1>)
         requires { IsSome (get self.old owner) }
         ensures { self.new ≡ insert self.old owner list }
@@ -60,7 +60,7 @@ impl Owners {
         }
     }
 
-    // An empty list for one more owner.
+    // Adds an empty list for one more owner. After `Memory` nothing has changed.
     pub(crate) fn open(&mut self, owner: u64) -> Result<(), Memory>
         ensures ok { OnOk result (self.new ≡ insert self.old owner empty_list) }
         ensures err { OnErr result (self.new ≡ self.old) }
@@ -69,14 +69,14 @@ impl Owners {
         Ok(())
     }
 
-    // Takes an owner's list away.
+    // Removes an owner's list.
     pub(crate) fn close(&mut self, owner: u64)
         ensures { self.new ≡ remove self.old owner }
     {
         self.lists.remove(&owner);
     }
 
-    // The same lists once more.
+    // Returns a copy of the lists, or `Memory`.
     pub(crate) fn copy(&self) -> Result<Owners, Memory>
         ensures { IfOk result (λ copy. copy ≡ self.now) }
     {

@@ -8,7 +8,7 @@ use crate::nodes::Nodes;
 use zpath::Memory;
 
 impl Nodes {
-    /// Lets a session own nodes. After `Memory` nothing has changed.
+    /// Allows a session to own nodes. After `Memory` nothing has changed.
     pub fn open_owner(&mut self, owner: u64) -> Result<(), Memory>
         requires free { get self.old.owners owner ≡ None }
         ensures ok { OnOk result
@@ -19,7 +19,7 @@ impl Nodes {
         Ok(())
     }
 
-    /// Lets a session that owns no node own none from now on.
+    /// Stops a session from owning nodes. It must own none now.
     pub fn close_owner(&mut self, owner: u64)
         requires owns_none { ephemerals self.old.nodes owner ≡ [] }
         ensures { self.new ≡ record self.old { owners = remove self.old.owners owner } }

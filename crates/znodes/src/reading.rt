@@ -1,4 +1,4 @@
-//! What is read of the nodes.
+//! Reading the nodes.
 
 ghost use Rattle.std.specs.Prelude.{◌≡◌, ◌≢◌, ◌<◌, [], Some, is_some, IfSome, IfNone, OnSome, IsSome};
 ghost use Rattle.std.specs.Option.{option_copied};
@@ -12,7 +12,8 @@ use zslots::Id;
 use ztree::Node;
 
 impl Nodes {
-    /// The node at a path; none where there is none. One look into the index.
+    /// Returns the Id of the node at a path, or `None` if there is no such node. One lookup in the
+    /// index.
     pub fn find(&self, path: &Path) -> Option<Id>
         ensures found { IfSome result (λ id. path_of self.now id ≡ Some path.now) }
         ensures node { is_some result ≡ has_node self.now.nodes path.now }
@@ -20,7 +21,7 @@ impl Nodes {
         self.index.get(path)
     }
 
-    /// The node that an Id names; none where it names none.
+    /// Returns the node with this Id, or `None` if there is no such node.
     pub fn node(&self, id: Id) -> Option<&Node>
         ensures value { option_copied result ≡ node_of self.now id }
         ensures live { is_some result ≡ is_some (path_of self.now id) }
@@ -29,7 +30,8 @@ impl Nodes {
         Some(&row.node)
     }
 
-    /// The node right above the one that an Id names; none above the root, and where it names none.
+    /// Returns the Id of the parent of the node with this Id. `None` for the root, and if there is
+    /// no such node.
     pub fn above(&self, id: Id) -> Option<Id>
         ensures above { IfSome result (IsUnder self.now id) }
         ensures live { OnSome result (IsSome (path_of self.now id)) }
@@ -39,7 +41,7 @@ impl Nodes {
         Row::live(&self.slots, id)?.parent
     }
 
-    /// How many children the node has that an Id names; none where it names none.
+    /// Returns the number of children of the node with this Id, or `None` if there is no such node.
     pub fn child_count(&self, id: Id) -> Option<usize>
         ensures { result ≡ child_count_of self.now id }
     {
@@ -47,7 +49,7 @@ impl Nodes {
         Some(row.children.len())
     }
 
-    /// A node that the session owns, if it owns one.
+    /// Returns the Id of some node that the session owns, or `None` if it owns none.
     pub fn first_owned(&self, owner: u64) -> Option<Id>
         requires somebody { 0 < owner }
         ensures live { IfSome result (λ id. IsSome (path_of self.now id)) }

@@ -8,25 +8,26 @@ use zpath::{Memory, Path};
 use zslots::{Copied, Id, Linked, Links, List, Slots};
 use ztree::Node;
 
-/// A node, where it is, the node above it, its children, and its neighbours among its siblings, among the nodes of its
-/// owner, and among the nodes with a time to live.
+/// A node with its path, its parent and its children; and its links among its siblings, among its
+/// owner's nodes, and among the nodes with a TTL.
 #[derive(Drop)]
 pub(crate) struct Row {
     pub(crate) path: Path,
     pub(crate) node: Node,
-    // While the node is in the tree; the root has none.
+    // `Some` while the node is in the tree and isn't the root.
     pub(crate) parent: Option<Id>,
     pub(crate) children: List<0>,
     pub(crate) siblings: Links,
     pub(crate) fellows: Links,
     pub(crate) timed: Links,
-    // The index's key, while the node is taken away: with it the node comes back without memory.
+    // The node's key in the index, while the node is removed. With it, the node comes back without
+    // allocating.
     pub(crate) key: Option<Path>,
-    // Where its copies are allocated.
+    // The allocator for its copies.
     pub(crate) alloc: Global,
 }
 
-// Rows are most of what a machine with many nodes takes.
+// Rows are most of the memory of a machine with many nodes.
 const _: () = prove!(size_of::<Row>() <= 300);
 
 impl Row {
@@ -34,7 +35,7 @@ impl Row {
     ghost use Rattle.znodes.specs.support.Rows.{lone_row};
     ghost use Rattle.znodes.specs.support.Reading.{live_at};
 
-    // A row in no list.
+    // Returns a row that is in no list.
     pub(crate) fn alone(alloc: Global, path: Path, node: Node, key: Option<Path>) -> Row
         ensures { result ≡ lone_row alloc path node key }
     {
@@ -60,7 +61,7 @@ impl Row {
         }
     }
 
-    // The row that an Id names, where its node is in the tree.
+    // Returns the row with this Id, if its node is in the tree.
     pub(crate) fn live(slots: &Slots<Row>, id: Id) -> Option<&Row>
         ensures { option_copied result ≡ live_at slots.now.items id }
     {

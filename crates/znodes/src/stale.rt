@@ -14,8 +14,8 @@ use zpath::Memory;
 use zslots::{Id, List, Slots};
 
 impl Nodes {
-    /// The Ids of the nodes that a tick removes, each once: those that are due, and have no children. It costs by the
-    /// nodes with a time to live.
+    /// Returns the Ids of the nodes that a tick removes, each once; or `Memory`. Their TTL has
+    /// expired, and they have no children. The cost depends on the number of nodes with a TTL.
     pub fn stale(&self, tick: u64) -> Result<Vec<Id>, Memory>
         ensures { IfOk result (λ ids.
             AreStale self.now.nodes self.now.places tick ids.items) }
@@ -24,7 +24,7 @@ impl Nodes {
     }
 }
 
-// Those of a list's rows that a tick removes, in the list's order.
+// Returns the rows of a list that a tick removes, in the list's order.
 fn stale_in(alloc: Global, slots: &Slots<Row>, list: List<2>, tick: u64) -> Result<Vec<Id>, Memory>
     requires { (ids : Ids) × IsList timed_links slots.now.items list ids }
     ensures { IfOk result (λ stale. AreStaleOf slots.now.items tick list stale.items) }
@@ -38,7 +38,7 @@ fn stale_in(alloc: Global, slots: &Slots<Row>, list: List<2>, tick: u64) -> Resu
     Ok(stale)
 }
 
-// Adds a row's Id where a tick removes its node.
+// Appends a row's Id, if a tick removes its node.
 fn push_stale(slots: &Slots<Row>, id: Id, tick: u64, stale: &mut Vec<Id>) -> Result<(), Memory>
     ensures { OnOk result
         (AddsStale slots.now.items tick id stale.old.items stale.new.items) }
@@ -49,7 +49,7 @@ fn push_stale(slots: &Slots<Row>, id: Id, tick: u64, stale: &mut Vec<Id>) -> Res
     Ok(())
 }
 
-// Whether a tick removes a row's node, if it is in the tree.
+// Returns whether a tick removes a row's node, assuming that it is in the tree.
 fn is_stale(slots: &Slots<Row>, id: Id, tick: u64) -> bool
     ensures { result ≡ is_stale_row slots.now.items tick id }
 {

@@ -1,4 +1,4 @@
-//! What is written in a node that stays.
+//! Writing the fields of a node.
 
 ghost use Rattle.std.specs.Prelude.{◌≡◌, IsSome};
 ghost use Rattle.znodes.specs.NodesView.{path_of, AtNode, Writes, marks_of, content_of, node_with_marks, node_with_content};
@@ -9,7 +9,7 @@ use std::mem;
 use zslots::Id;
 
 impl Nodes {
-    /// Writes what the children leave, and hands out what they had left.
+    /// Writes the fields that its children change, and returns the old ones.
     pub fn put_marks(&mut self, id: Id, marks: Marks) -> Marks
         requires live { IsSome (path_of self.old id) }
         ensures written { Writes self.old self.new id (node_with_marks marks) }
@@ -29,7 +29,7 @@ impl Nodes {
         before
     }
 
-    /// Writes the data, and hands out what was there.
+    /// Writes the fields of its data, and returns the old ones.
     pub fn put_content(&mut self, id: Id, content: Content) -> Content
         requires live { IsSome (path_of self.old id) }
         ensures written { Writes self.old self.new id (node_with_content content) }

@@ -1,4 +1,4 @@
--- The machine: what it stands for, and what an entry makes of it.
+-- The state machine: what a contract sees of it, and what an entry does to it.
 use Rattle.std.specs.Prelude.{ℕ, ◌+◌, Bool, Option}
 use Rattle.ztree.specs.Tree.{Tree, opening_tree}
 use Rattle.zcalls.specs.declared.call.Entry.{Entry}
@@ -6,22 +6,22 @@ use Rattle.zcalls.specs.declared.reply.Reply.{Reply}
 use Rattle.zcalls.specs.Kept.{KeptState, nothing_kept, entry_step}
 use Rattle.zcalls.specs.Step.{step}
 
--- what a machine stands for: its tree with the kept replies, and how many entries it applied
+-- the state of a machine: its tree with the cached replies, and the number of entries applied
 pub record MachineState : Type 0 where
   pub service : KeptState Tree
   pub applied : ℕ
 
--- the opening tree, no reply kept, and no entry applied
+-- the initial state: the initial tree, no cached reply, and no entry applied
 abbrev pub opening_machine : MachineState
 opening_machine = record { service = nothing_kept opening_tree; applied = 0 }
 
--- an entry, by the entry step over the plain tree; it is counted, whether it acts or not
+-- an entry applied by the entry step over the plain tree; it is counted whether it acts or not
 unfoldable pub entry_result : MachineState → Entry → MachineState × Option Reply
 entry_result s entry =
     let did = entry_step step s.service entry in
     (record { service = did.0; applied = s.applied + 1 }, did.1)
 
--- a machine that still answers, or one that met want of memory
+-- the state, and whether the machine has run out of memory and answers no more
 pub record MachineView : Type 0 where
   pub state : MachineState
   pub is_broken : Bool

@@ -1,4 +1,4 @@
-//! The changes of one node, done to a store.
+//! The changes of one node, applied to a store.
 
 ghost use Rattle.std.specs.Prelude.{◌≡◌, ◌≢◌, ◌<◌, [], Some, None, Ok, Err, IfOk, IfErr, OnOk, OnErr, false};
 ghost use Rattle.zpath.specs.Numbered.{is_over};
@@ -21,7 +21,7 @@ use zstore::{Id, Store};
 use ztree::ClientId;
 use ztree::limits::MAX_NODES;
 
-// Whether a node of that kind is to be owned by a session that is gone to this client.
+// Returns whether a node of this kind would belong to a session that is gone for this client.
 fn has_no_owner(store: &Store, client: ClientId, kind: Kind) -> bool
     ensures { result ≡ has_no_owner store.now.tree.sessions client kind }
 {
@@ -36,7 +36,7 @@ fn has_no_owner(store: &Store, client: ClientId, kind: Kind) -> bool
     }
 }
 
-// Whether a session owns the node.
+// Returns whether a session owns the node.
 fn is_ephemeral(store: &Store, id: Id) -> bool
     ensures { TellsWhether is_owned store.now id result }
 {
@@ -46,7 +46,7 @@ fn is_ephemeral(store: &Store, id: Id) -> bool
     }
 }
 
-// Whether the node has another version than the one that is expected.
+// Returns whether the node's version differs from the expected one.
 pub(crate) fn has_other_version(store: &Store, id: Id, expected: Expected) -> bool
     ensures { TellsWhether (has_other_version expected) store.now id result }
 {
@@ -56,7 +56,7 @@ pub(crate) fn has_other_version(store: &Store, id: Id, expected: Expected) -> bo
     }
 }
 
-// The path of the node that a create makes beneath a live parent.
+// Returns the path of the node that a create makes under an existing parent.
 fn made_path(
     alloc: Global,
     store: &Store,
@@ -87,7 +87,7 @@ fn made_path(
     }
 }
 
-/// Makes a node for a client. Where it did nothing, the store is as it was.
+/// Creates a node for a client. On an error the store is unchanged.
 pub(crate) fn create(
     alloc: Global,
     store: &mut Store,
@@ -139,7 +139,7 @@ pub(crate) fn create(
     Ok(ChangeReply::Created(path))
 }
 
-/// Takes a node away. Where it did nothing, the store is as it was.
+/// Deletes a node. On an error the store is unchanged.
 pub(crate) fn delete(store: &mut Store, delete: &Delete) -> Result<ChangeReply, Stop>
     requires ready { IsReadyForPart store.old }
     ensures done { IfOk result
@@ -163,7 +163,7 @@ pub(crate) fn delete(store: &mut Store, delete: &Delete) -> Result<ChangeReply, 
     Ok(ChangeReply::Deleted)
 }
 
-/// Writes a node's data. Where it did nothing, the store is as it was.
+/// Writes a node's data. On an error the store is unchanged.
 pub(crate) fn set(alloc: Global, store: &mut Store, set: &SetData) -> Result<ChangeReply, Stop>
     requires ready { IsReadyForPart store.old }
     ensures done { IfOk result (IsDone (set_step store.old.tree set.now) store.old store.new) }
@@ -183,7 +183,7 @@ pub(crate) fn set(alloc: Global, store: &mut Store, set: &SetData) -> Result<Cha
     }
 }
 
-// Whether the node has children.
+// Returns whether the node has children.
 fn has_children(store: &Store, id: Id) -> bool
     ensures { AtPath store.now id (λ path. result ≡ is_parent store.now.tree.nodes path) }
 {

@@ -1,4 +1,4 @@
-//! The kept replies: the last one to each client, with the number of its call.
+//! The cached replies: the last one to each client, with its call number.
 
 ghost use Rattle.std.specs.Prelude.{◌≡◌, IfOk};
 ghost use Rattle.std.specs.FinMap.{empty, get, insert};
@@ -11,7 +11,7 @@ use zpath::Memory;
 use ztree::ClientId;
 use ztree::limits::MAX_CLIENTS;
 
-// A reply, and the number of its call.
+// A cached reply with its call number.
 #[derive(Drop)]
 struct Kept {
     number: CallNumber,
@@ -30,7 +30,7 @@ impl Model for Kept {
 }
 
 impl Kept {
-    // The same once more.
+    // Returns a copy.
     fn copied(&self, alloc: Global) -> Result<Kept, Memory>
         ensures { IfOk result (λ copy. copy ≡ self.now) }
     {
@@ -41,7 +41,7 @@ impl Kept {
     }
 }
 
-/// The last reply to each client, with the number of its call, in the place of the client's number.
+/// The last reply to each client, with its call number, indexed by the client's number.
 #[derive(Drop)]
 pub(crate) struct KeptReplies {
     places: Vec<Option<Kept>>,
@@ -66,7 +66,8 @@ impl Model for KeptReplies {
 }
 
 impl KeptReplies {
-    /// No reply. It takes the memory for every client's place, so that to keep one takes none.
+    /// Returns a cache without replies, or `Memory`. Allocates the room for every client, so that
+    /// caching a reply allocates nothing.
     pub(crate) fn new(alloc: Global) -> Result<KeptReplies, Memory>
         ensures { IfOk result (λ kept. kept ≡ empty) }
     {
@@ -77,7 +78,7 @@ impl KeptReplies {
         Ok(KeptReplies { places })
     }
 
-    /// The number of the client's last call that acted; 0 where none did.
+    /// Returns the number of the client's last call that acted, or 0 if none did.
     pub(crate) fn last_number(&self, client: ClientId) -> u64
         ensures { result ≡ last_of (get self.now client) }
     {
@@ -87,7 +88,7 @@ impl KeptReplies {
         }
     }
 
-    /// The client's kept reply, where it is that of the call of this number, once more.
+    /// Returns a copy of the client's cached reply if it belongs to this call, else `None`.
     pub(crate) fn reply(
         &self,
         alloc: Global,
@@ -105,14 +106,14 @@ impl KeptReplies {
         Ok(Some(kept.reply.copied(alloc)?))
     }
 
-    /// Keeps a reply of the client's call of this number, in the place of the one before it.
+    /// Caches the reply to this call of the client, and drops the one before it.
     pub(crate) fn keep(&mut self, client: ClientId, number: CallNumber, reply: Reply)
         ensures { self.new ≡ insert self.old client (record { number = number; reply = reply }) }
     {
         self.places[client.number() as usize] = Some(Kept { number, reply });
     }
 
-    /// The same replies once more.
+    /// Returns a copy of the cached replies, or `Memory`.
     pub(crate) fn copied(&self, alloc: Global) -> Result<KeptReplies, Memory>
         ensures { IfOk result (λ copy. copy ≡ self.now) }
     {
@@ -121,7 +122,7 @@ impl KeptReplies {
     }
 }
 
-// What is kept in these places, once more.
+// Returns a copy of these places.
 fn copied_places(alloc: Global, places: &[Option<Kept>]) -> Result<Vec<Option<Kept>>, Memory>
     ensures { IfOk result (λ copy. copy.items ≡ places.now) }
 {
@@ -132,7 +133,7 @@ fn copied_places(alloc: Global, places: &[Option<Kept>]) -> Result<Vec<Option<Ke
     Ok(copy)
 }
 
-// What is kept in one place, once more.
+// Returns a copy of one place.
 fn copied_place(alloc: Global, place: &Option<Kept>) -> Result<Option<Kept>, Memory>
     ensures { IfOk result (λ copy. copy ≡ place.now) }
 {

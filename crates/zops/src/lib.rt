@@ -1,9 +1,9 @@
-//! The calls of the service, and the machine that answers them.
+//! The calls of the service, applied to a store; and the state machine that answers them.
 //!
-//! What comes in are entries (updates with their client and number) and queries; what goes out are
-//! replies. `Machine::apply` is the entry step over the plain tree, by which an update acts once, and
-//! `Machine::ask` is the plain tree's answer: both are defined in `zcalls`, without a word of how the
-//! machine keeps its tree.
+//! Entries (updates with their client and number) and queries come in; replies come out.
+//! `Machine::apply` is the entry step over the plain tree, by which an update acts once.
+//! `Machine::ask` is the plain tree's reply to a query. `zcalls` defines both, independently of how
+//! the machine stores its tree.
 #![tactic(auto)]
 
 mod change;

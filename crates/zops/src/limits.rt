@@ -1,4 +1,4 @@
-//! The limits on a machine, by which clauses and definitions name them.
+//! The limit on a machine. Clauses and definitions refer to it by name.
 
-/// The most entries that a machine applies. The limit is this project's profile.
+/// The greatest number of entries that a machine applies. The limit is this project's profile.
 pub const MAX_APPLIED: u64 = (1 << 62) - 1;

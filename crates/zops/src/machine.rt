@@ -1,4 +1,4 @@
-//! The machine.
+//! The state machine of one server.
 
 ghost use Rattle.zops.specs.declared.limits.TheConstants.{MAX_APPLIED};
 ghost use Rattle.zops.specs.support.Ready.{IsSteady, StaysBounded};
@@ -14,8 +14,10 @@ use zcalls::{Entry, Query, Reply};
 use zpath::Memory;
 use zstore::Store;
 
-/// One machine: the tree and the last reply to each client, and the calls on it. After it met want of
-/// memory in `apply`, it answers `Memory` for good, and its tree is never shown again.
+/// A state machine: the tree, the last reply to each client, and the calls on them.
+///
+/// Once `apply` has run out of memory, the machine returns `Memory` for good, and its tree is never
+/// seen again.
 #[derive(Drop)]
 pub struct Machine {
     alloc: Global,
@@ -47,7 +49,7 @@ impl Machine {
     ghost use Rattle.ztree.specs.Lawful.{IsLawful, HasPaths};
     ghost use Rattle.zcalls.specs.Bounds.{IsBounded};
 
-    /// A machine with the opening tree, and no reply kept.
+    /// Makes a machine in the initial state: the initial tree, and no cached reply.
     pub fn new(alloc: Global) -> Result<Machine, Memory>
         ensures opening { IfOk result (λ m. m
             ≡ record { state = opening_machine; is_broken = false }) }
@@ -71,7 +73,7 @@ impl Machine {
         })
     }
 
-    /// How many entries were applied, those that were refused or did not act among them.
+    /// Returns the number of entries applied, including those that were refused or didn't act.
     pub fn applied(&self) -> u64
         ensures applied { result ≡ self.now.state.applied }
         ensures few { result ≤ MAX_APPLIED }
@@ -81,9 +83,11 @@ impl Machine {
         self.applied
     }
 
-    /// Applies an entry by the entry step over the plain tree: a number above its client's last one acts,
-    /// and its reply is kept; the number of the kept reply has that one; any other has none. After
-    /// `Memory` the machine answers `Memory` for good.
+    /// Applies an entry by the entry step over the plain tree. A number above its client's last one
+    /// acts, and its reply is cached. A repeated number returns the cached reply; any other returns
+    /// nothing.
+    ///
+    /// After `Memory` the machine returns `Memory` for good.
     #[tactic(auto, unfolding(crate::specs::Machine::entry_result))]
     pub fn apply(&mut self, entry: &Entry) -> Result<Option<Reply>, Memory>
         requires { self.old.state.applied < MAX_APPLIED }
@@ -131,7 +135,7 @@ impl Machine {
         }
     }
 
-    /// A machine that stands for the same, and goes its own way from here on.
+    /// Returns an independent copy in the same state, or `Memory`.
     pub fn copy(&self) -> Result<Machine, Memory>
         ensures same { IfOk result (λ copy. copy ≡ self.now) }
         ensures broken { self.now.is_broken ≡ true → IsErr result }
@@ -159,8 +163,8 @@ impl Machine {
     }
 }
 
-// Does an entry by the entry step: where it acts, its number and its reply are kept. What is left where it finds no memory
-// isn't told.
+// Applies an entry by the entry step: if it acts, its number and reply are cached. After `Memory`
+// the tree may have changed.
 #[tactic(auto, unfolding(zcalls::specs::Kept::entry_step))]
 fn enter(
     alloc: Global,

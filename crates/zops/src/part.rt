@@ -1,4 +1,4 @@
-//! One part of a multi, done to a store.
+//! One part of a multi, applied to a store.
 
 ghost use Rattle.std.specs.Prelude.{◌≡◌, Ok, Err, IfOk, IfErr, OnErr};
 ghost use Rattle.zcalls.specs.Part.{check_step, part_step};
@@ -13,7 +13,7 @@ use zcalls::{Check, Part, PartReply, Refusal};
 use zstore::Store;
 use ztree::ClientId;
 
-/// Does one part for a client. Where it did nothing, the store is as it was.
+/// Does one part for a client. On an error the store is unchanged.
 pub(crate) fn part(
     alloc: Global,
     store: &mut Store,
@@ -33,7 +33,7 @@ pub(crate) fn part(
     }
 }
 
-// Looks whether a node is there and has the version.
+// Checks that a node exists and has the version.
 fn check(store: &Store, check: &Check) -> Result<PartReply, Stop>
     ensures done { IfOk result (Gives (check_step store.now.tree check.now) store.now) }
     ensures stopped { IfErr result (IsStop (check_step store.now.tree check.now)) }

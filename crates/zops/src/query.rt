@@ -1,4 +1,4 @@
-//! A query, answered from a store.
+//! Queries, answered from a store.
 
 ghost use Rattle.std.specs.Prelude.{◌≡◌, IfOk};
 ghost use Rattle.zcalls.specs.Step.{query_reply};
@@ -20,7 +20,7 @@ pub(crate) fn answer(alloc: Global, store: &Store, query: &Query) -> Result<Repl
     }
 }
 
-// The data and the stat of the node at a path.
+// Returns the data and the stat of the node at a path.
 #[tactic(auto, unfolding(zcalls::specs::Step::query_reply))]
 fn get_data(alloc: Global, store: &Store, path: &Path) -> Result<Reply, Memory>
     ensures { IfOk result (λ reply. reply ≡ query_reply store.now.tree (GetData path.now)) }
@@ -34,7 +34,7 @@ fn get_data(alloc: Global, store: &Store, path: &Path) -> Result<Reply, Memory>
     Ok(Reply::Data(node.bytes.copied(alloc)?, stat))
 }
 
-// The stat of the node at a path.
+// Returns the stat of the node at a path.
 #[tactic(auto, unfolding(zcalls::specs::Step::query_reply))]
 fn exists(store: &Store, path: &Path) -> Reply
     ensures { result ≡ query_reply store.now.tree (Exists path.now) }
@@ -48,7 +48,7 @@ fn exists(store: &Store, path: &Path) -> Reply
     }
 }
 
-// The names of the children of the node at a path.
+// Returns the names of the children of the node at a path.
 #[tactic(auto, unfolding(zcalls::specs::Step::query_reply))]
 fn get_children(store: &Store, path: &Path) -> Result<Reply, Memory>
     ensures { IfOk result (λ reply. reply ≡ query_reply store.now.tree (GetChildren path.now)) }

@@ -15,8 +15,8 @@ use zcalls::{Part, PartReply};
 use zstore::Store;
 use ztree::ClientId;
 
-/// Does a client's parts one after the other, up to the first that is refused. The store keeps what those
-/// before it did.
+/// Does a client's parts in sequence, up to the first refusal. On an error the store keeps what the
+/// earlier parts did.
 pub(crate) fn run(
     alloc: Global,
     store: &mut Store,

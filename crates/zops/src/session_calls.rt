@@ -1,4 +1,4 @@
-//! The calls of sessions and the tick of the clock, done to a store.
+//! The session calls and the tick, applied to a store.
 
 ghost use Rattle.std.specs.Prelude.{◌≡◌, ◌<◌, ◌+◌, ◌||◌, not, nat_lt, length, IfOk, OnErr};
 ghost use Rattle.ztree.specs.Sessions.{without_sessions};
@@ -20,7 +20,8 @@ use zstore::{Id, Store};
 use ztree::limits::MAX_SESSIONS;
 use ztree::{ClientId, SessionId};
 
-/// Whether the session is gone to this client: it isn't there, or is another client's.
+/// Returns whether the session is gone for this client: it doesn't exist, or belongs to another
+/// client.
 pub(crate) fn is_gone(store: &Store, client: ClientId, session: SessionId) -> bool
     ensures { result ≡ is_gone store.now.tree.sessions client session }
 {
@@ -30,7 +31,7 @@ pub(crate) fn is_gone(store: &Store, client: ClientId, session: SessionId) -> bo
     }
 }
 
-// The timeout that is given to who asks for so many ticks.
+// Returns the timeout granted for the one asked for.
 fn granted(ticks: u64) -> u64
     ensures { result ≡ granted_timeout ticks }
 {
@@ -43,10 +44,11 @@ fn granted(ticks: u64) -> u64
     }
 }
 
-/// Opens a session of a client, who asks for a timeout of so many ticks.
+/// Opens a session for a client that asks for a timeout of `ticks` ticks.
 pub(crate) fn open(store: &mut Store, client: ClientId, ticks: u64) -> Result<Reply, Memory>
     requires { IsReady store.old }
-    ensures done { IfOk result (Makes (update_result store.old.tree client (Open ticks)) store.new) }
+    ensures done { IfOk result (
+        Makes (update_result store.old.tree client (Open ticks)) store.new) }
     ensures left { StaysBounded store.old store.new }
     ensures err { OnErr result (IsAsItWas store.old store.new) }
 {
@@ -59,7 +61,7 @@ pub(crate) fn open(store: &mut Store, client: ClientId, ticks: u64) -> Result<Re
     Ok(Reply::Opened(SessionId::of(store.zxid()), timeout))
 }
 
-/// Keeps a client's session alive.
+/// Renews a client's session.
 pub(crate) fn ping(store: &mut Store, client: ClientId, session: SessionId) -> Reply
     requires { IsSteady store.old }
     ensures done { (store.new.tree, result) ≡ update_result store.old.tree client (Ping session) }
@@ -86,7 +88,7 @@ pub(crate) fn close(store: &mut Store, client: ClientId, session: SessionId) -> 
     Reply::Closed
 }
 
-// Ends the sessions that the next tick reaches, by the next change.
+// Ends the sessions that expire at the next tick, by the next change.
 fn end_all(store: &mut Store, ids: Vec<SessionId>)
     requires due { ids.items ≡ due_next store.old.tree }
     requires ready { IsReady store.old }
@@ -100,14 +102,14 @@ fn end_all(store: &mut Store, ids: Vec<SessionId>)
     }
 }
 
-// Whether a tick that ends and removes so many changes nothing.
+// Returns whether a tick changes nothing, given the numbers of sessions ended and nodes removed.
 fn is_idle(ended: usize, removed: usize) -> bool
     ensures { result ≡ not (nat_lt 0 ended || nat_lt 0 removed) }
 {
     ended == 0 && removed == 0
 }
 
-// Takes away these nodes, one after the other, by the next change.
+// Removes these nodes one after the other, by the next change.
 fn remove_all(store: &mut Store, ids: Vec<Id>)
     requires named { CanRemove store.old ids.items }
     requires room { AllNodes (HasRoomForLosses (length ids.items)) store.old.tree.nodes }
@@ -120,8 +122,10 @@ fn remove_all(store: &mut Store, ids: Vec<Id>)
     }
 }
 
-/// Raises the clock by one tick, which ends the sessions whose deadline it reaches, and then removes the nodes whose time
-/// to live it reaches and that had no children before it. Only to find these takes memory, and it comes first.
+/// Advances the clock by one tick. It ends the sessions whose deadline is reached. Then it removes
+/// the nodes whose TTL has expired and that had no children before the tick.
+///
+/// Only finding these allocates, and that comes first.
 pub(crate) fn tick(store: &mut Store) -> Result<Reply, Memory>
     requires ready { IsReady store.old }
     requires time { store.old.tree.time + 1 < TICK_BOUND }

@@ -1,4 +1,4 @@
-//! Why a part, or a multi, did nothing.
+//! Why a part, or a whole multi, did nothing.
 
 ghost use Rattle.std.specs.Prelude.{◌≡◌};
 ghost use Rattle.zops.specs.declared.stop.Stop.TheVariants.{Memory as no_memory};
@@ -13,7 +13,7 @@ use zpath::Memory;
 pub(crate) enum Stop {
     /// It was refused.
     Refused(Refusal),
-    /// A growth was refused.
+    /// Out of memory.
     Memory,
 }
 
@@ -25,12 +25,12 @@ impl From<Memory> for Stop {
     }
 }
 
-/// Why the parts of a multi were not all done.
+/// Why not all the parts of a multi were done.
 #[derive(Clone, Copy, Debug, PartialEq, Eq)]
 pub(crate) enum Halt {
-    /// This part, counted from 1, was refused.
+    /// The part with this number, counted from 1, was refused.
     Refused(usize, Refusal),
-    /// A growth was refused.
+    /// Out of memory.
     Memory,
 }
 

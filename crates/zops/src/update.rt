@@ -1,4 +1,4 @@
-//! An update, done to a store by the plain step.
+//! Updates, applied to a store by the sequential step.
 
 ghost use Rattle.std.specs.Prelude.{◌≡◌, IfOk, OnErr};
 ghost use Rattle.zcalls.specs.declared.call.Update.TheVariants.{Multi as MultiOf};
@@ -18,7 +18,7 @@ use zstore::Store;
 use ztree::ClientId;
 use ztree::limits::{TICK_BOUND, ZXID_BOUND};
 
-/// Does an update. Where it finds no memory, the tree is as it was.
+/// Does an update. After `Memory` the tree is unchanged.
 #[tactic(auto, unfolding(zcalls::specs::Step::step))]
 pub(crate) fn update(
     alloc: Global,
@@ -54,7 +54,7 @@ pub(crate) fn update(
     }
 }
 
-// Whether there is no next number for the update, or no next tick.
+// Returns whether no further zxid is left for the update, or no further tick.
 fn is_exhausted(store: &Store, update: &Update) -> bool
     requires { IsSteady store.now }
     ensures { result ≡ is_exhausted store.now.tree update.now }
@@ -72,7 +72,8 @@ fn is_exhausted(store: &Store, update: &Update) -> bool
     }
 }
 
-// Does the parts of a multi from a mark on, and goes back to it where one is refused.
+// Does the parts of a multi from a savepoint on, and rolls back if one is refused or memory runs
+// out.
 fn multi(alloc: Global, store: &mut Store, client: ClientId, parts: &Multi) -> Result<Reply, Memory>
     requires { IsReady store.old }
     ensures done { IfOk result
@@ -94,7 +95,7 @@ fn multi(alloc: Global, store: &mut Store, client: ClientId, parts: &Multi) -> R
     }
 }
 
-// What is answered where the parts were not all done.
+// Returns the reply, or the error, when not all the parts were done.
 fn halted(halt: Halt) -> Result<Reply, Memory>
     ensures { IsHaltAnswered halt result }
 {

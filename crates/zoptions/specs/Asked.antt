@@ -1,4 +1,5 @@
--- The numbers that a program's words give to the options of a subcommand, by what clap tells of its parse.
+-- The numbers that a program's words give to the options of a subcommand, by what clap specifies of
+-- its parse.
 use Rattle.std.specs.Prelude.{ℕ, ◌^◌, ◌&&◌, pos, List, [], ◌∷◌, map, Option, None, Some, Result, IfOk, Vec, ◌≡◌}
 use Rattle.std.specs.Prelude.{option_map, option_and_then, if◌then◌else◌, nat_lt, codes}
 use Rattle.std.specs.Borrow.{Bor}
@@ -26,7 +27,7 @@ spellings options = map spelling_of options
 
 -- ---- the command line
 
--- What clap is told of an option `--NAME N`: the value is a number that u16 holds.
+-- How an option `--NAME N` is described to clap: the value is a number that u16 holds.
 abbrev pub rule_for : Text × Text → Rule
 rule_for option = record (new_rule option.0) {
   long = Some option.0;
@@ -41,7 +42,7 @@ command_of name options =
 
 -- ---- the numbers
 
--- The number that a text writes, of those that u16 holds.
+-- The number that a text denotes, among those that u16 holds.
 abbrev pub u16_of : Text → Option ℕ
 u16_of text =
     let digits = without_leading_plus text in
@@ -57,7 +58,7 @@ numbers_of [] rows = Some []
 numbers_of (option ∷ options) rows =
     option_and_then (λ number. option_map (λ numbers. number ∷ numbers) (numbers_of options rows)) (number_in option.0 rows)
 
--- The matches of the subcommand of this name, where that one was met.
+-- The matches of the subcommand of this name, if that one was given.
 abbrev pub matches_under : Text → Option (Text × List Row) → Option (List Row)
 matches_under name = option_and_then (λ met. if bytes_eq met.0 name then Some met.1 else None)
 
@@ -73,6 +74,6 @@ asked_of name options words =
     unless_faulty (fault_of command words)
     (option_and_then (numbers_of options) (matches_under name (subcommand_of command words)))
 
--- What is answered, where memory lasts, are these numbers, or that there are none.
+-- The result, unless memory runs out, is these numbers, or that there are none.
 abbrev pub GivesNumbers : {A E : Type 0} → Result (Option (Vec ℕ A)) E → Option (List ℕ) → Type 0
 GivesNumbers result numbers = IfOk result (λ given. option_map (λ v. v.items) given ≡ numbers)

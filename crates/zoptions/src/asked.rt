@@ -1,4 +1,4 @@
-//! The words, and the numbers that they give.
+//! The words of a command line, and the numbers that they give.
 
 ghost use Rattle.std.specs.Prelude.{◌≡◌, ◌≢◌, IsErr, IsOk};
 ghost use Rattle.clap.specs.Walk.{rows_of};
@@ -11,10 +11,11 @@ use clap::ArgMatches;
 use clap::error::ErrorKind;
 use std::alloc::{AllocError, Global};
 
-/// Reads `zk NAME [--OPTION N] ..`, of which the first word may be any: the numbers of the options, in their order, each once
-/// at most in the words. None where the words ask for anything else, help too.
+/// Reads `zk NAME [--OPTION N] ..`, whose first word may be any. Returns the numbers of the
+/// options, in their order. An option may stand in the words at most once. Returns `None` where the
+/// words ask for anything else, also for help.
 ///
-/// An `Err` comes only where memory runs out.
+/// `Err` means out of memory, and nothing else.
 pub fn numbers_asked<'a>(
     alloc: Global,
     name: &'a str,
@@ -37,7 +38,7 @@ pub fn numbers_asked<'a>(
     }
 }
 
-// Want of memory is told apart from all other faults of a parse, which are the words'.
+// Distinguishes out of memory from all other faults of a parse, which lie in the words.
 fn told_apart(kind: ErrorKind) -> Result<(), AllocError>
     ensures memory { IsErr result → kind ≡ ErrorKind.OutOfMemory }
     ensures words { IsOk result → kind ≢ ErrorKind.OutOfMemory }
@@ -48,13 +49,14 @@ fn told_apart(kind: ErrorKind) -> Result<(), AllocError>
     }
 }
 
-// The numbers of the options among a subcommand's matches.
+// Returns the numbers of the options among a subcommand's matches.
 fn numbers_in(
     alloc: Global,
     options: &[NumberOption],
     given: &ArgMatches,
 ) -> Result<Option<Vec<u16>>, AllocError>
-    ensures { GivesNumbers result (numbers_of (spellings options.now) (rows_of (found_of given.now))) }
+    ensures { GivesNumbers result (
+        numbers_of (spellings options.now) (rows_of (found_of given.now))) }
 {
     let mut numbers = Vec::new(alloc);
     for option in options {
@@ -66,7 +68,7 @@ fn numbers_in(
     Ok(Some(numbers))
 }
 
-// The number of an option.
+// Returns the number of an option.
 fn number_in(given: &ArgMatches, name: &str) -> Option<u16>
     ensures { result ≡ number_in name.now (rows_of (found_of given.now)) }
 {

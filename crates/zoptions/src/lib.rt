@@ -1,7 +1,8 @@
 //! The numbers that a program's words give to the options of a subcommand.
 //!
-//! `numbers_asked` reads `zk NAME [--OPTION N] ..` with `clap`. What it answers is an exact function of the words,
-//! `asked_of` (specs/Asked.antt), by what `clap` tells of its parse; an `Err` is want of memory.
+//! `numbers_asked` reads `zk NAME [--OPTION N] ..` with `clap`. What it returns is an exact
+//! function of the words, `asked_of` (specs/Asked.antt), by what `clap` specifies of its parse. An
+//! `Err` is out of memory.
 #![tactic(auto)]
 
 mod asked;

@@ -1,4 +1,4 @@
-//! The command line of a subcommand with options, as `clap` is told of it.
+//! The command line of a subcommand with options, as it is described to `clap`.
 
 ghost use Rattle.std.specs.Prelude.{◌≡◌, IfOk, false};
 ghost use Rattle.clap.specs.Words.{app_of, rule_of};
@@ -8,13 +8,14 @@ use crate::options::NumberOption;
 use clap::{Arg, Command, value_parser};
 use std::alloc::{AllocError, Global};
 
-/// The command line `zk NAME [--OPTION N] ..`.
+/// Returns the command line `zk NAME [--OPTION N] ..`.
 pub(crate) fn command_line<'a>(
     alloc: Global,
     name: &'a str,
     options: &'a [NumberOption<'a>],
 ) -> Result<Command<'a>, AllocError>
-    ensures { IfOk result (λ command. app_of command ≡ command_of name.now (spellings options.now)) }
+    ensures { IfOk result (λ command.
+        app_of command ≡ command_of name.now (spellings options.now)) }
 {
     let mut subcommand = Command::new(alloc, name);
     for option in options {
@@ -23,7 +24,7 @@ pub(crate) fn command_line<'a>(
     Command::new(alloc, "zk").subcommand(subcommand)
 }
 
-// An option, as an argument of a command.
+// Returns an option as an argument of a command.
 fn argument<'a>(alloc: Global, option: NumberOption<'a>) -> Arg<'a>
     ensures rule { rule_of result ≡ rule_for (spelling_of option.entry) }
     ensures local { result.global ≡ false }

@@ -5,6 +5,6 @@
 pub struct NumberOption<'a> {
     /// Its name.
     pub name: &'a str,
-    /// The number that it has where the words leave it out.
+    /// The number, as text, that it has where the words leave it out.
     pub default: &'a str,
 }

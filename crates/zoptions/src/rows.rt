@@ -3,7 +3,7 @@
 ghost use Rattle.std.specs.Prelude.{◌≡◌, [], ◌∷◌, codes, Some, None};
 ghost use Rattle.zoptions.specs.support.Rows.{race_asked};
 
-/// Words that are understood: each option has the number that they give, or its default.
+/// Good words: each option has the number that they give, or its default.
 pub fn words_give_numbers()
     ensures none { race_asked (codes "zk race") ≡ Some (4 ∷ 100 ∷ []) }
     ensures one { race_asked (codes "zk race --rounds 7") ≡ Some (4 ∷ 7 ∷ []) }
@@ -12,7 +12,7 @@ pub fn words_give_numbers()
     ensures zeros { race_asked (codes "any race --clients 007") ≡ Some (7 ∷ 100 ∷ []) }
 {}
 
-/// Words that are not.
+/// Bad words: they give no numbers.
 pub fn bad_words_give_none()
     ensures no_subcommand { race_asked (codes "zk") ≡ None }
     ensures another { race_asked (codes "zk script") ≡ None }

@@ -1,5 +1,6 @@
 pub mod Runs
 pub mod Headline
+pub mod CutRuns
 pub mod Tails
 pub mod Told
 pub mod legal_lemmas

@@ -37,7 +37,7 @@ account_world plain t (event ∷ events) =
     (account_world_if (is_enabled t.world event) (account_by plain t event (acts (log_machine plain) t.world event)) t)
 
 -- each event
-each_event : (event : Event) → KeepsSound event
+pub each_event : (event : Event) → KeepsSound event
 each_event (Begin c call) = calls_begin c call
 each_event (Retry c) = calls_are_sent_again c
 each_event (Take from Master) = master_hears from
@@ -50,7 +50,7 @@ each_event (Fail x) = servers_fail x
 each_event (Join x) = servers_join x
 each_event (Retire x) = members_retire x
 
-lasts_next : (t : Account) (event : Event) → LastsAreLengths t.world → LastsAreLengths (next_account plain_tree t event).world
+pub lasts_next : (t : Account) (event : Event) → LastsAreLengths t.world → LastsAreLengths (next_account plain_tree t event).world
 lasts_next t event exact =
     subst LastsAreLengths (sym (account_world_if (is_enabled t.world event) (account_by plain_tree t event (acts (log_machine plain_tree) t.world event)) t))
     (lasts_happen plain_tree t.world event exact)

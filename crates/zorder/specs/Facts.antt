@@ -1,4 +1,5 @@
--- What holds of every list of events beside the headline: of logs, of tails and of what clients were told.
+-- What holds of every list of events besides the headline: of logs, of tails and of the replies
+-- that clients received.
 use Rattle.std.specs.Prelude.{◌≡◌, ℕ, true, false, List, ◌++◌, Some}
 use Rattle.zcalls.specs.declared.call.Entry.{Entry}
 use Rattle.zcalls.specs.declared.call.Call.TheVariants.{Query}
@@ -29,26 +30,26 @@ account_of servers clients events = account_after plain_tree (opening_account pl
 abbrev pub EveryRunIsSound : Type 0
 EveryRunIsSound = (servers clients : ℕ) (events : List Event) → IsSound plain_tree (account_of servers clients events)
 
--- of the servers that live at most one is a tail that answers
+-- of the running servers at most one is a tail that answers
 abbrev pub OneTailAnswers : Type 0
 OneTailAnswers =
     (servers clients : ℕ) (events : List Event) (s t : ℕ) → let w = run kept_tree (opening_world kept_tree servers clients) events in
     w.failed s ≡ false → w.failed t ≡ false → is_tail (w.servers s) ≡ true → is_tail (w.servers t) ≡ true → s ≡ t
 
--- the log of each member begins that of each member before it
+-- the log of each member is a prefix of that of each member before it
 abbrev pub LogsBeginEachOther : Type 0
 LogsBeginEachOther =
     (servers clients : ℕ) (events : List Event) (x y : ℕ) (log : List Entry) → let w = (account_of servers clients events).world in
     ComesBefore x y (members w.master) → log_at w y ≡ Some log → (own : List Entry) × (log_at w x ≡ Some own) × IsPrefix log own
 
--- an update that was answered is committed by then, and has acted with that reply
+-- an update that was answered is committed by then, and acted with that reply
 abbrev pub AnsweredUpdatesAreCommitted : Type 0
 AnsweredUpdatesAreCommitted =
     (servers clients : ℕ) (events : List Event) (o : Operation) (reply : Reply) → let t = account_of servers clients events in
     IsUpdate o.call → HasBegun t.world.history o → Among (Answer o.client o.number reply) t.world.history
     → Among (o, reply) (acts_of plain_tree t.committed)
 
--- a query that was answered was told what the tree answers after a log that was committed by then
+-- a query that was answered got what the tree answers after a log that was committed by then
 abbrev pub AnsweredQueriesSawCommitted : Type 0
 AnsweredQueriesSawCommitted =
     (servers clients : ℕ) (events : List Event) (client number : ℕ) (query : Question) (reply : Reply) →
@@ -63,7 +64,7 @@ CommittedStays =
     (servers clients : ℕ) (events more : List Event)
     → IsPrefix (account_of servers clients events).committed (account_of servers clients (events ++ more)).committed
 
--- a server that is a tail holds all that any tail before it answered from
+-- a server that is a tail holds all that any earlier tail answered from
 abbrev pub TailsHoldWhatTailsHeld : Type 0
 TailsHoldWhatTailsHeld =
     (servers clients : ℕ) (events more : List Event) (s t : ℕ) (old log : List Entry) →

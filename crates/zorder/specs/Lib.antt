@@ -1,3 +1,4 @@
+pub mod Cuts
 pub mod Facts
 pub mod Headline
 pub mod legal
@@ -5,3 +6,4 @@ pub mod chain
 pub mod servers
 pub mod clients
 pub mod master
+pub mod support

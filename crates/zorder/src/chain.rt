@@ -1,6 +1,6 @@
-//! What is kept of a chain, whatever happens to it: the facts of `specs/chain/Sound.antt`, over the log world and what is told of
-//! it beside the world (`specs/chain/Account.antt`). Here is what each step of a server keeps, the opening, and
-//! the laws on which all events stand.
+//! The facts of a chain that every event keeps (`specs/chain/Sound.antt`). They are over the log
+//! world and the account beside it (`specs/chain/Account.antt`). Here are what each step of a
+//! server keeps, the initial state, and the laws on which all events stand.
 
 pub mod laws;
 mod rows;

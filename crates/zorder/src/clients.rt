@@ -1,3 +1,4 @@
-//! Clients call, hear and ask again, and servers fail: what is kept of a chain stays so.
+//! Clients invoke calls, receive messages and send again, and servers fail: each keeps the facts of
+//! a chain.
 
 pub mod laws;

@@ -1,4 +1,5 @@
-//! What holds of every list of events beside the promise: each contract is a fact, and no body does anything.
+//! What holds of every list of events besides linearizability. Each contract is a fact, and no body
+//! does anything.
 
 ghost use Rattle.zorder.specs.Facts.{
   AnsweredQueriesSawCommitted,
@@ -16,12 +17,12 @@ pub fn every_run_is_sound()
     ensures { EveryRunIsSound }
 {}
 
-/// Of the servers that live at most one is a tail that answers.
+/// Of the running servers at most one is a tail that answers.
 pub fn one_tail_answers()
     ensures { OneTailAnswers }
 {}
 
-/// The log of each member begins the log of each member before it.
+/// The log of each member is a prefix of the log of each member before it.
 pub fn logs_begin_each_other()
     ensures { LogsBeginEachOther }
 {}
@@ -31,17 +32,18 @@ pub fn committed_stays()
     ensures { CommittedStays }
 {}
 
-/// A server that is a tail holds all that any tail before it answered from.
+/// A server that is a tail holds all that any earlier tail answered from.
 pub fn tails_hold_what_tails_held()
     ensures { TailsHoldWhatTailsHeld }
 {}
 
-/// An update that a client was answered is committed by then, and has acted with that reply.
+/// When a client receives the reply to an update, the update is committed, and acted with that
+/// reply.
 pub fn answered_updates_are_committed()
     ensures { AnsweredUpdatesAreCommitted }
 {}
 
-/// A query that a client was answered saw a log that is committed by then.
+/// When a client receives the reply to a query, the log that the query saw is committed.
 pub fn answered_queries_saw_committed()
     ensures { AnsweredQueriesSawCommitted }
 {}

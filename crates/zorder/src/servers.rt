@@ -1,3 +1,3 @@
-//! Servers hear servers and clients: what is kept of a chain stays so.
+//! Servers receive messages from servers and clients: each keeps the facts of a chain.
 
 pub mod laws;

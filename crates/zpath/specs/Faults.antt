@@ -1,5 +1,5 @@
--- Which fault a text has, and a path that is to have one more name. The rules are those of the grammar; the faults'
--- names and their order are this project's own profile.
+-- Which fault a text has, and which fault a path would have with one more name. The rules are those
+-- of the grammar. The names of the faults and their order are this project's own profile.
 use Rattle.std.specs.Prelude.{◌≡◌, ◌⊎◌, ℕ, Bool, false, not, ◌==◌, List, [], ◌∷◌, ◌++◌, codes, Option, Some}
 use Rattle.std.specs.List.{list_any, slice_split}
 use Rattle.zpath.specs.declared.fault.PathFault.{PathFault}
@@ -7,11 +7,11 @@ use Rattle.zpath.specs.declared.fault.PathFault.TheVariants.{Empty, NotAbsolute,
 use Rattle.zpath.specs.First.{first_that_holds}
 use Rattle.zpath.specs.Grammar.{is_empty, is_dots, has_bad_byte, is_long, is_long_text, is_deep, is_reserved, text_of}
 
--- what stands between slashes
+-- the parts of a text between its slashes
 abbrev pub parts_of : List ℕ → List (List ℕ)
 parts_of bytes = slice_split (λ byte. byte == 47) bytes
 
--- the names that a text spells after its first byte: none where nothing follows it
+-- the names in a text after its leading slash: none where nothing follows it
 abbrev pub names_of : List ℕ → List (List ℕ)
 names_of [] = []
 names_of (slash ∷ []) = []
@@ -22,7 +22,7 @@ abbrev pub is_absolute : List ℕ → Bool
 is_absolute [] = false
 is_absolute (byte ∷ rest) = byte == 47
 
--- the tests of a text, each made on the whole of it before the next, and the fault that each finds
+-- the tests of a text in order, each with its fault; each test looks at the whole text
 abbrev pub text_tests : List ℕ → List (Bool × PathFault)
 text_tests text =
     (is_empty text, Empty)
@@ -40,7 +40,7 @@ text_tests text =
 unfoldable pub fault_of : List ℕ → Option PathFault
 fault_of text = first_that_holds (text_tests text)
 
--- the tests of a path that is to have one more name
+-- the tests of a path extended by one name, in order, each with its fault
 abbrev pub child_tests : List (List ℕ) → List ℕ → List (Bool × PathFault)
 child_tests path name =
     (is_long_text (text_of (path ++ name ∷ [])), PathTooLong)
@@ -48,15 +48,15 @@ child_tests path name =
     ∷ (is_reserved (path ++ name ∷ []), Reserved)
     ∷ []
 
--- why a path can't have one more name
+-- the fault of a path extended by one name, if any
 unfoldable pub child_fault : List (List ℕ) → List ℕ → Option PathFault
 child_fault path name = first_that_holds (child_tests path name)
 
--- the fault is the expected one, or memory ran out
+-- the fault is the expected one, or it is out of memory
 abbrev pub IsMemoryOr : Option PathFault → PathFault → Type 0
 IsMemoryOr expected fault = (fault ≡ Memory) ⊎ (expected ≡ Some fault)
 
--- the word for a fault
+-- the text shown for a fault
 abbrev pub fault_name : PathFault → List ℕ
 fault_name Empty = codes "Empty"
 fault_name NotAbsolute = codes "NotAbsolute"

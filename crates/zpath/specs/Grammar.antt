@@ -1,6 +1,7 @@
--- What a path is: a list of names, each a list of bytes. The ZooKeeper Programmer's Guide, section "The ZooKeeper
--- Data Model", has absolute paths, no control characters, no `.` or `..` alone, and the word `zookeeper` reserved.
--- Visible ASCII alone and the limits are this project's own profile.
+-- What a path is: a list of names, each a list of bytes. The source is the ZooKeeper Programmer's
+-- Guide, section "The ZooKeeper Data Model". Paths are absolute, without control characters, and no
+-- name is `.` or `..`. The word `zookeeper` is reserved. Allowing only visible ASCII, and the
+-- limits, are this project's own profile.
 use Rattle.std.specs.Prelude.{◌≡◌, ℕ, ◌<◌, ◌≤◌, Bool, false, ◌&&◌, ◌||◌, not, ◌==◌, nat_le, nat_lt, List, [], ◌∷◌, ◌++◌, length, codes}
 use Rattle.std.specs.List.{list_any, flat_map, AllByRecursion}
 use Rattle.std.specs.Str.{bytes_eq}
@@ -9,11 +10,11 @@ use Rattle.std.specs.Ordering.{nat_cmp}
 use Rattle.std.specs.Cmp.Lexicographic.{slice_cmp}
 use Rattle.zpath.specs.declared.limits.TheConstants.{MAX_NAME_LEN, MAX_TEXT_LEN, MAX_DEPTH}
 
--- a visible byte that is no slash
+-- a visible ASCII byte other than a slash
 abbrev pub is_name_byte : ℕ → Bool
 is_name_byte byte = nat_le 0x21 byte && nat_le byte 0x7e && not (byte == 47)
 
--- there are no bytes
+-- the name has no bytes
 abbrev pub is_empty : List ℕ → Bool
 is_empty name = length name == 0
 
@@ -21,59 +22,59 @@ is_empty name = length name == 0
 abbrev pub is_dots : List ℕ → Bool
 is_dots name = bytes_eq name (codes ".") || bytes_eq name (codes "..")
 
--- some byte of the name may not stand in a name
+-- some byte of the name isn't allowed in a name
 abbrev pub has_bad_byte : List ℕ → Bool
 has_bad_byte name = list_any (λ byte. not (is_name_byte byte)) name
 
--- the name has more bytes than a name may have
+-- the name is longer than `MAX_NAME_LEN` bytes
 abbrev pub is_long : List ℕ → Bool
 is_long name = nat_lt MAX_NAME_LEN (length name)
 
--- the text has more bytes than a path's text may have
+-- the text is longer than `MAX_TEXT_LEN` bytes
 abbrev pub is_long_text : List ℕ → Bool
 is_long_text text = nat_lt MAX_TEXT_LEN (length text)
 
--- there are more names than a path may have
+-- there are more than `MAX_DEPTH` names
 abbrev pub is_deep : List (List ℕ) → Bool
 is_deep names = nat_lt MAX_DEPTH (length names)
 
--- the first name is `zookeeper`, which the service keeps for itself
+-- the first name is `zookeeper`, which is reserved for the service
 abbrev pub is_reserved : List (List ℕ) → Bool
 is_reserved [] = false
 is_reserved (name ∷ names) = bytes_eq name (codes "zookeeper")
 
--- one visible byte or more without a slash, not too many, and neither `.` nor `..`
+-- a name: 1 to `MAX_NAME_LEN` visible bytes without a slash, and neither `.` nor `..`
 pub record IsName (name : List ℕ) : Type 0 where
   pub filled : 0 < length name
   pub no_dots : is_dots name ≡ false
   pub visible : has_bad_byte name ≡ false
   pub short : length name ≤ MAX_NAME_LEN
 
--- a name after its slash
+-- a slash followed by the name
 abbrev pub segment_of : List ℕ → List ℕ
 segment_of name = 47 ∷ name
 
--- the text of a path: a slash at the root, else each name after a slash
+-- the text of a path: a slash for the root, else each name with a slash before it
 abbrev pub text_of : List (List ℕ) → List ℕ
 text_of [] = 47 ∷ []
 text_of (name ∷ names) = flat_map segment_of (name ∷ names)
 
--- names, not too many, in a text that is not too long, the first of them not reserved
+-- a path: names within the limits of depth and text length, and the first isn't reserved
 pub record IsPath (path : List (List ℕ)) : Type 0 where
   pub names : AllByRecursion IsName path
   pub short : length (text_of path) ≤ MAX_TEXT_LEN
   pub shallow : length path ≤ MAX_DEPTH
   pub unreserved : is_reserved path ≡ false
 
--- some path has this text
+-- the text is the text of some path
 abbrev pub IsTextOfPath : List ℕ → Type 0
 IsTextOfPath text = (path : List (List ℕ)) × IsPath path × (text ≡ text_of path)
 
--- the name is the path's last
+-- the name is the last one of the path
 abbrev pub EndsWith : List (List ℕ) → List ℕ → Type 0
 EndsWith path name = (front : List (List ℕ)) × (path ≡ front ++ name ∷ [])
 
--- the names are the path's but for its last
+-- the names are those of the path without its last one
 abbrev pub IsFrontOf : List (List ℕ) → List (List ℕ) → Type 0
 IsFrontOf path front = (name : List ℕ) × (path ≡ front ++ name ∷ [])
 

@@ -1,4 +1,4 @@
--- What holds of the definitions themselves, so that a text and its path can stand for one another.
+-- Laws of the definitions: they let a text and its path stand for each other.
 use Rattle.std.specs.Prelude.{◌≡◌, ◌≢◌, ◌↔◌, ℕ, ◌<◌, ◌^◌, false, List, [], None}
 use Rattle.zpath.specs.declared.limits.TheConstants.{COUNTER_DIGITS}
 use Rattle.zpath.specs.Grammar.{IsPath, text_of, IsTextOfPath}
@@ -9,18 +9,18 @@ use Rattle.zpath.specs.Numbered.{numbered_path, is_over, numbered_fault}
 abbrev pub SpellsOnePath : Type 0
 SpellsOnePath = (left right : List (List ℕ)) → IsPath left → IsPath right → text_of left ≡ text_of right → left ≡ right
 
--- a text has no fault exactly if it is the text of a path
+-- a text has no fault if and only if it is the text of some path
 abbrev pub IsFaultless : Type 0
 IsFaultless = (text : List ℕ) → (fault_of text ≡ None) ↔ IsTextOfPath text
 
--- two paths below the root that end with different counters, none with more digits than are shown, are different paths,
--- whatever names were asked for
+-- Two paths below the root that end with different counters are different paths, whatever names
+-- were asked for. The counters must have at most `COUNTER_DIGITS` digits.
 abbrev pub TellsNumbersApart : Type 0
 TellsNumbersApart =
     (left right : List (List ℕ)) (a b : ℕ) → left ≢ [] → right ≢ [] → a < 10 ^ COUNTER_DIGITS → b < 10 ^ COUNTER_DIGITS →
     numbered_path left a ≡ numbered_path right b → a ≡ b
 
--- a counter's digits are refused exactly if the path with them is over a limit
+-- appending the counter is refused if and only if the resulting path is over a limit
 abbrev pub RefusesWhatIsOver : Type 0
 RefusesWhatIsOver =
     (path : List (List ℕ)) (counter : ℕ) →

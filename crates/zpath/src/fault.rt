@@ -1,4 +1,4 @@
-//! Why a text is no path.
+//! Why a text isn't a path.
 
 ghost use Rattle.std.specs.Prelude.{◌≡◌};
 ghost use Rattle.zpath.specs.declared.fault.PathFault.TheVariants.{Memory};
@@ -8,18 +8,18 @@ use std::alloc::{AllocError, AllocFailed};
 use std::fmt;
 use thiserror::Error;
 
-/// Why a text is refused: its first fault in this order, each looked for in the whole text.
+/// The first fault of a text, in the order of the variants. Each test looks at the whole text.
 #[derive(Clone, Copy, Debug, PartialEq, Eq, Error)]
 pub enum PathFault {
     /// The text has no bytes.
     Empty,
-    /// The first byte is no slash.
+    /// The first byte isn't a slash.
     NotAbsolute,
-    /// A name is empty, as between two slashes or after a last one.
+    /// A name is empty: there are two slashes in a row, or a slash at the end.
     EmptyName,
     /// A name is `.` or `..`.
     DotName,
-    /// A byte of a name is not in `0x21..=0x7E`.
+    /// A name has a byte outside `0x21..=0x7E`.
     BadByte,
     /// A name has more than `MAX_NAME_LEN` bytes.
     NameTooLong,
@@ -29,7 +29,7 @@ pub enum PathFault {
     TooDeep,
     /// The first name is `zookeeper`.
     Reserved,
-    /// Nothing is wrong with the text: its path ran out of memory.
+    /// Out of memory. It says nothing about the text.
     Memory,
 }
 

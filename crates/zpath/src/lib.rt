@@ -1,9 +1,11 @@
 //! Absolute paths in a tree of named nodes.
 //!
-//! In comes a text, out comes a `Path` or the first fault of the text; a path is shown again as the
-//! one text that spells it. What a path is stands in `specs/Grammar.antt`, which fault a text has in
-//! `specs/Faults.antt`, how a sequential node is named in `specs/Numbered.antt`. Contracts see a
-//! `Name` as its bytes and a `Path` as the list of its names.
+//! A text is parsed into a `Path`, or into the first fault of the text. A path is displayed as the
+//! one text that parses to it.
+//!
+//! The definitions: `specs/Grammar.antt` (what a path is), `specs/Faults.antt` (which fault a text
+//! has), `specs/Numbered.antt` (how a sequential node is named). Contracts see a `Name` as its
+//! bytes, and a `Path` as the list of its names.
 #![tactic(auto)]
 
 mod fault;

@@ -1,13 +1,13 @@
-//! The limits of a path, which are this project's profile.
+//! The limits of a path. They are this project's profile.
 
-/// The most bytes of a name.
+/// The greatest length of a name, in bytes.
 pub const MAX_NAME_LEN: usize = 255;
 
-/// The most bytes of a path's text.
+/// The greatest length of a path's text, in bytes.
 pub const MAX_TEXT_LEN: usize = 1024;
 
-/// The most names of a path.
+/// The greatest number of names in a path.
 pub const MAX_DEPTH: usize = 64;
 
-/// How many digits of its parent's counter end the name of a sequential node.
+/// The number of counter digits at the end of a sequential node's name.
 pub const COUNTER_DIGITS: usize = 10;

@@ -6,7 +6,7 @@ use crate::memory::Memory;
 use crate::name::Name;
 use std::alloc::Global;
 
-// One or two names lie in place, so that their list takes one block of memory where it is shared.
+// One or two names are stored inline, so that a shared list of them takes one allocation.
 #[derive(Debug, Drop)]
 pub(crate) enum NameList {
     One([Name; 1]),
@@ -17,7 +17,7 @@ pub(crate) enum NameList {
 impl NameList {
     ghost use Rattle.zpath.specs.support.Lists.{items_of};
 
-    // Names and one more.
+    // Returns the names with one more at the end.
     pub(crate) fn with_last(alloc: Global, front: &[Name], last: Name) -> Result<NameList, Memory>
         ensures { IfOk result (λ list. items_of list ≡ front.now ++ last ∷ []) }
     {

@@ -1,9 +1,9 @@
-//! Out of memory, as every layer answers it.
+//! The error for out of memory, shared by every layer.
 
 use std::alloc::{AllocError, AllocFailed};
 use thiserror::Error;
 
-/// A growth was refused: there is no memory for it.
+/// Out of memory: an allocation was refused.
 #[derive(Clone, Copy, Debug, PartialEq, Eq, Error)]
 #[error("memory")]
 pub struct Memory;

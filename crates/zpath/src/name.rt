@@ -22,7 +22,7 @@ use std::marker::Model;
 
 /// A name: 1 to `MAX_NAME_LEN` visible bytes without a slash, and neither `.` nor `..`.
 ///
-/// Names are got from a path that was parsed, and are ordered by their bytes.
+/// A caller gets names from a parsed path. Names are ordered by their bytes.
 #[derive(Debug, Drop)]
 pub struct Name {
     text: Text,
@@ -43,7 +43,7 @@ impl Model for Name {
 impl Name {
     ghost use Rattle.zpath.specs.Grammar.{IsName};
 
-    /// The name with this text.
+    /// Makes the name with this text.
     pub(crate) fn from_text(alloc: Global, text: &str) -> Result<Name, Memory>
         requires { IsName text.now }
         ensures { IfOk result (λ name. name ≡ text.now) }
@@ -53,7 +53,7 @@ impl Name {
         })
     }
 
-    /// The name with a counter's digits after it.
+    /// Returns the name with a counter's digits appended.
     pub(crate) fn numbered(&self, alloc: Global, counter: u64) -> Result<Name, Memory>
         requires { length self.now + COUNTER_DIGITS ≤ MAX_NAME_LEN }
         ensures { IfOk result (λ name. name ≡ self.now ++ digits COUNTER_DIGITS counter) }
@@ -65,7 +65,7 @@ impl Name {
         })
     }
 
-    /// The name's text.
+    /// Returns the name's text.
     pub fn as_str(&self) -> &str
         ensures text { result.now ≡ self.now }
         ensures name { IsName self.now }
@@ -73,7 +73,7 @@ impl Name {
         self.text.as_str()
     }
 
-    /// A second owner of the same name.
+    /// Returns a copy of the name, or `Memory`.
     pub fn copied(&self, _alloc: Global) -> Result<Name, Memory>
         ensures copy { IfOk result (λ copy. copy ≡ self.now) }
         ensures name { IsName self.now }
@@ -115,7 +115,7 @@ impl Eq for Name {
     ghost laws = { nat_list_eq_equiv };
 }
 
-// A name is hashed as its text.
+// A name hashes as its text.
 impl Hash for Name {
     ghost hash_input = { fed.str };
 

@@ -1,4 +1,4 @@
-//! A counter's digits after the last name of a path.
+//! Appending a counter's digits to the last name of a path.
 
 ghost use Rattle.std.specs.Prelude.{◌≡◌, ◌≤◌, ◌+◌, ◌++◌, ◌∷◌, [], ℕ};
 ghost use Rattle.arrayvec.specs.ArrayString.{array_string_len};
@@ -12,7 +12,7 @@ use crate::name::Name;
 use crate::scan;
 use arrayvec::ArrayString;
 
-/// Appends the last `width` decimal digits of a number, with zeros before them where it has fewer.
+/// Appends the last `width` decimal digits of a number, padded with leading zeros.
 pub(crate) fn push_digits(text: &mut ArrayString<COUNTER_DIGITS>, width: usize, number: u64)
     requires { array_string_len text.old + width ≤ COUNTER_DIGITS }
     ensures { text.new.bytes ≡ text.old.bytes ++ digits width number }
@@ -24,7 +24,7 @@ pub(crate) fn push_digits(text: &mut ArrayString<COUNTER_DIGITS>, width: usize, 
     text.push(char::from(b'0' + (number % 10) as u8));
 }
 
-/// Why the path of these names can't have a counter's digits.
+/// Returns why a counter's digits can't be appended to this path, if there is a reason.
 #[tactic(auto, unfolding(crate::specs::Numbered::numbered_fault))]
 pub(crate) fn numbered_fault(front: &[Name], last: &Name) -> Option<PathFault>
     requires { IsPath (front.now ++ last.now ∷ []) }

@@ -1,4 +1,4 @@
-//! Paths: parsing, their family, their order and their text.
+//! Paths: parsing, parents and children, order and display.
 
 ghost use Rattle.std.specs.Prelude.{◌≡◌, ◌≢◌, ◌≤◌, ◌⊎◌, ◌++◌, ℕ, length, take, true, false, List, [], ◌∷◌, Some, None, IfOk, IfErr, IfSome, IfNone, OnOk, refl, nat_eq};
 ghost use Rattle.std.specs.Cmp;
@@ -22,11 +22,11 @@ use std::hash::{Hash, Hasher};
 use std::marker::Model;
 use std::sync::Arc;
 
-/// An absolute path, by its names from the root down.
+/// An absolute path: the names from the root down.
 ///
 /// Paths are ordered name by name, so a path comes right before those below it.
-// The names stand in a list that all owners of the path share, and those of the paths above it, which show fewer names
-// of it. The root has no list.
+// The names stand in a list that is shared: the copies of a path have the same list, and its
+// ancestors show fewer names of it. The root has no list.
 #[derive(Debug, Drop)]
 pub struct Path {
     list: Option<Arc<NameList>>,
@@ -48,7 +48,7 @@ impl Path {
     ghost use Rattle.zpath.specs.Grammar.{IsPath, IsTextOfPath, text_of, EndsWith, IsFrontOf};
     ghost use Rattle.zpath.specs.support.Lists.{items_of};
 
-    /// The root, which has no name. Nothing is allocated.
+    /// Returns the root, which has no names. Allocates nothing.
     pub fn root(_alloc: Global) -> Path
         ensures { result ≡ [] }
     {
@@ -58,10 +58,10 @@ impl Path {
         }
     }
 
-    /// The path that a text spells, or the first fault of the text.
+    /// Parses a text: returns its path, the text's first fault, or `Memory`.
     pub fn parse(alloc: Global, text: &str) -> Result<Path, PathFault>
         ensures found { IfOk result (λ path. IsPath path × (text.now ≡ text_of path)) }
-        // No text of a path is refused, unless memory runs out.
+        // The text of a path is refused only for out of memory.
         ensures only { IfErr result (λ fault. IsTextOfPath text.now → fault ≡ PathFault.Memory) }
         ensures fault { IfErr result (IsMemoryOr (fault_of text.now)) }
     {
@@ -78,7 +78,7 @@ impl Path {
         Ok(Path::of(alloc, names)?)
     }
 
-    /// The names from the root down.
+    /// Returns the names from the root down.
     pub fn names(&self) -> &[Name]
         ensures names { result.now ≡ self.now }
         ensures path { IsPath self.now }
@@ -89,7 +89,7 @@ impl Path {
         }
     }
 
-    /// The last name; none at the root.
+    /// Returns the last name, or `None` at the root.
     pub fn name(&self) -> Option<&Name>
         ensures root { IfNone result (self.now ≡ []) }
         ensures last { IfSome result (λ name. EndsWith self.now name.now) }
@@ -97,7 +97,7 @@ impl Path {
         self.names().last()
     }
 
-    /// The path without its last name; none at the root.
+    /// Returns the path without its last name, or `None` at the root.
     pub fn parent(&self, _alloc: Global) -> Result<Option<Path>, Memory>
         ensures root { IfOk result (λ parent. IfNone parent (self.now ≡ [])) }
         ensures path { IsPath self.now }
@@ -109,7 +109,8 @@ impl Path {
         Ok(Some(self.front(self.depth - 1)?))
     }
 
-    /// The path with one more name, unless it is too long, too deep or reserved.
+    /// Returns the path extended by one name. Fails if it would be too long, too deep or reserved,
+    /// or if memory runs out.
     pub fn child(&self, alloc: Global, name: &Name) -> Result<Path, PathFault>
         ensures child { IfOk result (λ child. IsPath child × (child ≡ self.now ++ name.now ∷ [])) }
         ensures only { OnOk result (child_fault self.now name.now ≡ None) }
@@ -123,9 +124,13 @@ impl Path {
         Ok(Path::of(alloc, names)?)
     }
 
-    /// The path with a counter's `COUNTER_DIGITS` digits after its last name, as a sequential node is named ("n-" and 1
-    /// give "n-0000000001"; ZooKeeper Programmer's Guide, "Sequence Nodes -- Unique Naming"), or why there is none.
-    /// Of a counter with more digits the last ones are taken.
+    /// Returns the path with a counter appended to its last name, as `COUNTER_DIGITS` digits. This
+    /// names a sequential node: "n-" and 1 give "n-0000000001" (ZooKeeper Programmer's Guide,
+    /// "Sequence Nodes -- Unique Naming"). Of a counter with more digits only the last ones are
+    /// taken.
+    ///
+    /// Fails with `NameTooLong` or `PathTooLong` if the result would be over a limit, or with
+    /// `Memory`.
     pub fn numbered(&self, alloc: Global, counter: u64) -> Result<Path, PathFault>
         requires below_root { self.now ≢ [] }
         ensures numbered { IfOk result (λ path.
@@ -146,14 +151,14 @@ impl Path {
         Ok(Path::of(alloc, names)?)
     }
 
-    /// A second owner of the same path.
+    /// Returns a copy of the path that shares its list of names, or `Memory`.
     pub fn copied(&self, _alloc: Global) -> Result<Path, Memory>
         ensures { IfOk result (λ copy. copy ≡ self.now) }
     {
         Ok(self.front(self.depth)?)
     }
 
-    // The path of a list's names.
+    // Makes the path with a list's names.
     fn of(alloc: Global, names: NameList) -> Result<Path, Memory>
         requires { IsPath (items_of names) }
         ensures { IfOk result (λ path. IsPath path × (path ≡ items_of names)) }
@@ -166,7 +171,7 @@ impl Path {
         })
     }
 
-    // One more owner of the list, with the first names of the path.
+    // Shares the list, and shows the first `depth` names of the path.
     fn front(&self, depth: usize) -> Result<Path, AllocError>
         requires { depth ≤ length self.now }
         ensures { IfOk result (λ front. front ≡ take depth self.now) }
@@ -217,7 +222,7 @@ impl Eq for Path {
     ghost laws = { lists_equiv nat_list_eq_equiv };
 }
 
-// A path is hashed as its names: how many there are, and then each.
+// A path hashes as its names: how many there are, then each name.
 impl Hash for Path {
     ghost hash_input = { fed.slice fed.str };
 

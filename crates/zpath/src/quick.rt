@@ -1,5 +1,5 @@
-//! The quick way from a text to its names: one pass over the bytes, which tells the names' lengths, and then the cuts.
-//! Most texts of paths go it; any other text is looked through for its faults.
+//! The fast path from a text to its names: one pass over the bytes finds the names' lengths, then
+//! the names are cut out. Most texts take it. Any other text goes through the tests in `scan`.
 
 ghost use Rattle.std.specs.Prelude.{◌≡◌, ◌∷◌, [], ◌+◌, ◌-◌, ◌≤◌, length, take, drop, true, None, IfOk, IfSome};
 ghost use Rattle.std.specs.Bool.{OnTrue};
@@ -18,8 +18,8 @@ use crate::name::Name;
 use arrayvec::ArrayVec;
 use std::alloc::Global;
 
-// No name is empty, too long, has a bad byte or begins with a dot, and there are not too many. Their lengths come
-// into `lens`.
+// Whether every name is plain: not empty, not too long, without a bad byte and without a leading
+// dot. There may be at most `MAX_DEPTH` names. Pushes their lengths onto `lens`.
 fn has_plain_names(rest: &str, lens: &mut ArrayVec<u8, MAX_DEPTH>) -> bool
     requires { lens.old.items ≡ [] }
     ensures plain { OnTrue result (has_plain_names (MAX_DEPTH - 1) true rest.now ≡ true) }
@@ -47,7 +47,8 @@ fn has_plain_names(rest: &str, lens: &mut ArrayVec<u8, MAX_DEPTH>) -> bool
     true
 }
 
-/// What follows the first slash of a text whose names are plain. Their lengths come into `lens`.
+/// Returns what follows the first slash, if all the names are plain. Pushes their lengths onto
+/// `lens`.
 pub(crate) fn plain_rest<'a>(text: &'a str, lens: &mut ArrayVec<u8, MAX_DEPTH>) -> Option<&'a str>
     requires { lens.old.items ≡ [] }
     ensures text { IfSome result (λ rest. text.now ≡ 47 ∷ rest.now) }
@@ -56,14 +57,14 @@ pub(crate) fn plain_rest<'a>(text: &'a str, lens: &mut ArrayVec<u8, MAX_DEPTH>) 
     ensures lens { IfSome result (λ rest. lens.new.items ≡ lens_of 0 rest.now) }
 {
     let rest = text.strip_prefix('/')?;
-    // The first name may be the reserved one.
+    // The first name may be the reserved one; `scan` decides.
     if text.len() > MAX_NAME_LEN || rest.starts_with("zookeeper") || !has_plain_names(rest, lens) {
         return None;
     }
     Some(rest)
 }
 
-// The name of so many bytes that begins here.
+// Returns the name of `len` bytes at `begin`.
 fn name_at(alloc: Global, text: &str, begin: usize, len: u8) -> Result<Name, Memory>
     requires ascii { IsAscii text.now }
     requires within { begin + len ≤ length text.now }
@@ -73,7 +74,7 @@ fn name_at(alloc: Global, text: &str, begin: usize, len: u8) -> Result<Name, Mem
     Name::from_text(alloc, &text[begin..begin + len as usize])
 }
 
-/// The names of these lengths, with a byte between two.
+/// Returns the names with these lengths; one byte separates two names.
 pub(crate) fn names_by(alloc: Global, text: &str, lens: &[u8]) -> Result<NameList, Memory>
     requires ascii { IsAscii text.now }
     requires fit { FitInto text.now lens.now }

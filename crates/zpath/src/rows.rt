@@ -1,4 +1,5 @@
-//! Worked rows of the definitions, as clauses: the fault of a text, the text of a path, and the name of a sequential node.
+//! Worked examples of the definitions, as clauses: faults of texts, texts of paths, and names of
+//! sequential nodes.
 
 ghost use Rattle.std.specs.Prelude.{◌≡◌, ◌+◌, [], ◌∷◌, None, Some, codes, replicate};
 ghost use Rattle.zpath.specs.declared.fault.PathFault.TheVariants.{Empty, NotAbsolute, EmptyName, DotName, BadByte, NameTooLong, PathTooLong, TooDeep, Reserved};
@@ -23,7 +24,7 @@ pub fn faults_of_texts()
     ensures path { fault_of (codes "/a/zookeeper") ≡ None }
 {}
 
-/// Of each two faults that are next to each other the first one, where a text has both.
+/// For each two neighbours in the order of faults: a text with both has the first one.
 #[tactic(auto, unfolding(crate::specs::Faults::fault_of))]
 pub fn first_faults()
     ensures empty { fault_of (codes "") ≡ Some Empty }
@@ -36,7 +37,7 @@ pub fn first_faults()
     ensures deep { fault_of (text_of (codes "zookeeper" ∷ replicate 64 (97 ∷ []))) ≡ Some TooDeep }
 {}
 
-/// Why a path can't have one more name.
+/// The fault of a path extended by one name.
 #[tactic(auto, unfolding(crate::specs::Faults::child_fault))]
 pub fn faults_of_children()
     ensures reserved { child_fault [] (codes "zookeeper") ≡ Some Reserved }
@@ -57,7 +58,7 @@ pub fn numbered_paths()
     ensures text { text_of (numbered_path (codes "q" ∷ codes "n" ∷ []) 4) ≡ codes "/q/n0000000004" }
 {}
 
-/// The words for the faults.
+/// The text shown for each fault.
 pub fn names_of_faults()
     ensures empty { fault_name Empty ≡ codes "Empty" }
     ensures relative { fault_name NotAbsolute ≡ codes "NotAbsolute" }
@@ -71,7 +72,7 @@ pub fn names_of_faults()
     ensures memory { fault_name fault.Memory ≡ codes "Memory" }
 {}
 
-/// The limits, as numbers.
+/// The limits as numbers.
 pub fn limits_are_numbers()
     ensures name { MAX_NAME_LEN ≡ 255 }
     ensures text { MAX_TEXT_LEN ≡ 1024 }

@@ -1,6 +1,6 @@
-//! The tests of any text, each a pass over the whole of it, and the cut at its slashes.
+//! The tests of any text, each one pass over the whole text, and the split at its slashes.
 //!
-//! `rest` is what follows the first slash of a text.
+//! `rest` is the text after its first slash.
 
 ghost use Rattle.std.specs.Prelude.{◌≡◌, ◌∷◌, [], ◌++◌, ◌<◌, ◌≤◌, ◌+◌, ◌-◌, true, false, Some, None, IfOk, IfErr, OnOk, length};
 ghost use Rattle.std.specs.Bool.{OnTrue, OnFalse};
@@ -69,7 +69,7 @@ fn is_reserved(rest: &str) -> bool
     }
 }
 
-// The first fault of a text that has more than its first slash.
+// Returns the first fault of a text that goes on after its first slash.
 #[tactic(auto, unfolding(crate::specs::Faults::fault_of))]
 fn names_fault(text: &str, rest: &str) -> Option<PathFault>
     requires text { text.now ≡ 47 ∷ rest.now }
@@ -95,7 +95,7 @@ fn names_fault(text: &str, rest: &str) -> Option<PathFault>
     }
 }
 
-/// What follows the first slash of a text without a fault, or the text's first fault.
+/// Returns what follows the first slash, or the text's first fault.
 #[tactic(auto, unfolding(crate::specs::Faults::fault_of))]
 pub(crate) fn faultless_rest(text: &str) -> Result<&str, PathFault>
     ensures ok { IfOk result (λ rest. (fault_of text.now ≡ None) × (text.now ≡ 47 ∷ rest.now)) }
@@ -116,7 +116,7 @@ pub(crate) fn faultless_rest(text: &str) -> Result<&str, PathFault>
     }
 }
 
-/// The names that follow a first slash.
+/// Returns the names after the first slash.
 pub(crate) fn names_after(alloc: Global, rest: &str) -> Result<NameList, Memory>
     requires { AllByRecursion IsName (names_of (47 ∷ rest.now)) }
     ensures { IfOk result (λ list. items_of list ≡ names_of (47 ∷ rest.now)) }
@@ -142,7 +142,7 @@ fn push_name(alloc: Global, names: &mut Vec<Name>, text: &str) -> Result<(), Mem
     Ok(())
 }
 
-// The length of the names, each after its slash.
+// Returns the length of the names in bytes, each with its slash.
 fn text_len(names: &[Name]) -> usize
     requires { sum_by (λ name. length name + 1) names.now ≤ MAX_TEXT_LEN }
     ensures { result ≡ sum_by (λ name. length name + 1) names.now }
@@ -150,7 +150,7 @@ fn text_len(names: &[Name]) -> usize
     names.iter().map(|name| name.as_str().len() + 1).sum()
 }
 
-/// The length of the text of a path with one more name.
+/// Returns the length in bytes of the path's text with one more name.
 pub(crate) fn child_len(path: &[Name], name: &Name) -> usize
     requires { IsPath path.now }
     ensures { result ≡ length (text_of (path.now ++ name.now ∷ [])) }
@@ -166,7 +166,7 @@ fn is_reserved_child(path: &[Name], name: &Name) -> bool
     path.is_empty() && name.as_str() == "zookeeper"
 }
 
-/// Why a path can't have one more name.
+/// Returns why the path can't be extended by this name, if there is a reason.
 #[tactic(auto, using(crate::proofs::Family::child_depth), unfolding(crate::specs::Faults::child_fault))]
 pub(crate) fn child_fault(path: &[Name], name: &Name) -> Option<PathFault>
     requires { IsPath path.now }

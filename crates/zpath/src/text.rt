@@ -1,4 +1,4 @@
-//! Where the bytes of a name lie.
+//! How the bytes of a name are stored.
 
 ghost use Rattle.std.specs.Prelude.{◌≡◌, ◌++◌, IfOk};
 
@@ -6,10 +6,10 @@ use crate::memory::Memory;
 use arrayvec::ArrayString;
 use std::alloc::{AllocError, Global};
 
-// How many bytes lie in the name itself.
+// The most bytes that are stored inline.
 const IN_PLACE: usize = 16;
 
-// A text of few bytes takes no block of memory.
+// A short text is stored inline, without an allocation.
 #[derive(Debug, Drop)]
 pub(crate) enum Text {
     Short(ArrayString<IN_PLACE>),
@@ -28,7 +28,7 @@ impl Text {
         }
     }
 
-    // One text after another.
+    // Returns one text followed by another.
     pub(crate) fn joined(alloc: Global, front: &str, back: &str) -> Result<Text, Memory>
         ensures { IfOk result (λ made. bytes_of made ≡ front.now ++ back.now) }
     {
@@ -52,7 +52,7 @@ impl Text {
     }
 }
 
-// A long text's bytes are copied into the memory that they are in.
+// A long text is copied into an allocation of its own.
 impl Clone for Text {
     ghost use Rattle.zpath.specs.support.Texts.{bytes_of};
 

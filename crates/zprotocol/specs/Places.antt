@@ -1,22 +1,22 @@
--- The one order of processes: the master, then the servers and the clients, each by number. Settling delivers in it, and traces
--- are merged in it. It is this project's profile.
+-- The order of processes: the master, then the servers, then the clients, each by number. Settling
+-- delivers messages in this order, and traces are merged in it. It is this project's profile.
 use Rattle.std.specs.Prelude.{ℕ, ◌+◌, ◌-◌, ◌==◌, Bool, ◌&&◌, nat_lt, nat_le, if◌then◌else◌}
 use Rattle.ztree.specs.declared.limits.TheConstants.{MAX_CLIENTS}
 use Rattle.zprotocol.specs.declared.limits.TheConstants.{MAX_SERVERS, PROCESSES}
 use Rattle.zprotocol.specs.declared.process.Process.{Process}
 use Rattle.zprotocol.specs.declared.process.Process.TheVariants.{Master, Server, Client}
 
--- there are servers of these numbers
+-- the number is that of a server
 abbrev pub is_server : ℕ → Bool
 is_server s = nat_lt 0 s && nat_le s MAX_SERVERS
 
--- the place of a process; what is no process is behind them all
+-- the place of a process in the order; a number that is no process comes after them all
 abbrev pub place_of : Process → ℕ
 place_of Master = 0
 place_of (Server s) = if is_server s then s else PROCESSES
 place_of (Client c) = if nat_lt c MAX_CLIENTS then MAX_SERVERS + 1 + c else PROCESSES
 
--- the process of a place
+-- the process at a place in the order
 abbrev pub process_at : ℕ → Process
 process_at place =
     if place == 0 then Master else

@@ -1,4 +1,5 @@
-//! The core of a client: it numbers its calls, sends them to the chain, and sends them again: why none begins, its table's laws, and worked rows.
+//! The client's protocol: it numbers its calls, sends them to the chain, and resends them. Here are
+//! the faults of invoking a call, the laws of the client table, and worked examples.
 
 mod begin_fault;
 pub mod laws;

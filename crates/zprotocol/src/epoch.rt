@@ -1,13 +1,14 @@
-//! The epoch of two neighbours.
+//! The epoch of a pair of neighbours.
 
 ghost use Rattle.std.specs.Prelude.{◌≡◌, ◌<◌, ◌≤◌, IfNone, IfSome};
 
 use crate::limits::MAX_EPOCH;
 use std::marker::Model;
 
-/// The epoch of a pair of neighbours in the chain: the master gives each pair that it makes a number
-/// that is above all those before. Chain replication as published has none; they are this project's
-/// profile. It is below 2^62.
+/// The epoch of a pair of neighbours in the chain. The master gives each new pair a number above
+/// all earlier ones. It is below 2^62.
+///
+/// Published chain replication has no epochs; they are this project's profile.
 #[derive(Clone, Copy, Debug, PartialEq, Eq)]
 pub struct Epoch {
     number: u64,
@@ -27,7 +28,7 @@ impl Model for Epoch {
 }
 
 impl Epoch {
-    /// The one of that number; none above `MAX_EPOCH`.
+    /// Returns the epoch with this number, or `None` above `MAX_EPOCH`.
     pub fn new(number: u64) -> Option<Epoch>
         ensures same { IfSome result (λ n. (n ≡ number) × (number ≤ MAX_EPOCH)) }
         ensures none { IfNone result (MAX_EPOCH < number) }
@@ -39,14 +40,14 @@ impl Epoch {
         }
     }
 
-    /// The epoch of the opening chain.
+    /// Returns 0, the epoch of the initial chain.
     pub fn opening() -> Epoch
         ensures { result ≡ 0 }
     {
         Epoch { number: 0 }
     }
 
-    /// Its number.
+    /// Returns its number.
     pub fn number(self) -> u64
         ensures same { result ≡ self }
         ensures small { result ≤ MAX_EPOCH }

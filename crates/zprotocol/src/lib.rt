@@ -1,7 +1,9 @@
-//! The chain's protocol: its processes, the messages between them, and what each kind of process does with a message: types and definitions.
+//! The protocol of chain replication: the processes, their messages, and what each kind of process
+//! does with a message. This crate has the types and the definitions.
 //!
-//! What comes in is a message with its sender, or what a caller or an operator asks for; what goes out are messages with their receivers, as an
-//! `Out` lists them. The three tables are `specs/server/Table.antt`, `specs/master/Table.antt` and `specs/client/Table.antt`.
+//! A message with its sender comes in, or a request of a caller or an operator. Messages with their
+//! receivers go out, in an `Out`. The three tables are `specs/server/Table.antt`,
+//! `specs/master/Table.antt` and `specs/client/Table.antt`.
 #![tactic(auto)]
 
 pub mod client;

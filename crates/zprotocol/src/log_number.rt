@@ -1,11 +1,11 @@
-//! The log number.
+//! The number of a log entry.
 
 ghost use Rattle.std.specs.Prelude.{◌≡◌, ◌<◌, ◌≤◌, IfNone, IfSome};
 
 use crate::limits::MAX_LOG_NUMBER;
 use std::marker::Model;
 
-/// The number of an entry in the log of a server, from 1 on; 0 stands before the first. It is below
+/// The number of an entry in a server's log, from 1 on; 0 stands before the first. It is below
 /// 2^62.
 #[derive(Clone, Copy, Debug, PartialEq, Eq)]
 pub struct LogNumber {
@@ -26,7 +26,7 @@ impl Model for LogNumber {
 }
 
 impl LogNumber {
-    /// The one of that number; none above `MAX_LOG_NUMBER`.
+    /// Returns the log number with this value, or `None` above `MAX_LOG_NUMBER`.
     pub fn new(number: u64) -> Option<LogNumber>
         ensures same { IfSome result (λ n. (n ≡ number) × (number ≤ MAX_LOG_NUMBER)) }
         ensures none { IfNone result (MAX_LOG_NUMBER < number) }
@@ -38,7 +38,7 @@ impl LogNumber {
         }
     }
 
-    /// Its number.
+    /// Returns its value.
     pub fn number(self) -> u64
         ensures same { result ≡ self }
         ensures small { result ≤ MAX_LOG_NUMBER }

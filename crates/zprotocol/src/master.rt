@@ -1,4 +1,6 @@
-//! The master: it learns of failures, mends the chain, and adds servers to it, and orders them to leave: the faults of a join and of an order to leave, its table's laws, and worked rows.
+//! The master's protocol: it learns of failures, repairs the chain, adds servers, and orders
+//! servers to leave. Here are the faults of a join and of an order to leave, the laws of the master
+//! table, and worked examples.
 
 mod join_fault;
 pub mod laws;

@@ -1,4 +1,4 @@
-//! The list of what was put.
+//! The list of outgoing messages.
 
 ghost use Rattle.std.specs.Prelude.{◌≡◌, ◌+◌, ◌<◌, ◌≤◌, [], ◌∷◌, ◌++◌, IfErr, IfNone, IfSome, IsOk, OnErr, OnOk};
 
@@ -8,7 +8,7 @@ use std::collections::VecDeque;
 use std::marker::Model;
 use zpath::Memory;
 
-/// The messages that were put, each with its receiver, and the room that is kept for more.
+/// The outgoing messages, each with its receiver, and the room reserved for more.
 #[derive(Drop)]
 pub struct Out<T> {
     posts: VecDeque<(Process, Message<T>)>,
@@ -28,7 +28,7 @@ impl<T> Model for Out<T> {
 }
 
 impl<T: Drop> Out<T> {
-    /// The empty list. It takes no memory.
+    /// Returns an empty list. Allocates nothing.
     pub fn new(alloc: Global) -> Out<T>
         ensures { result.posts ≡ [] }
     {
@@ -37,7 +37,8 @@ impl<T: Drop> Out<T> {
         }
     }
 
-    /// Makes room for that many more, so that so many puts can't be refused.
+    /// Reserves room, so that the next `count` messages can't be refused. `Memory` is returned only
+    /// if there was too little room.
     pub fn reserve(&mut self, count: usize) -> Result<(), Memory>
         ensures posts { self.new.posts ≡ self.old.posts }
         ensures enough { OnOk result (count ≤ self.new.room) }
@@ -48,7 +49,7 @@ impl<T: Drop> Out<T> {
         Ok(())
     }
 
-    /// Puts a message at the end, or hands it back where there is no memory for it.
+    /// Appends a message. Returns it as the error for out of memory.
     pub fn put(&mut self, receiver: Process, message: Message<T>) -> Result<(), Message<T>>
         ensures put { OnOk result (self.new.posts ≡ self.old.posts ++ (receiver, message) ∷ []) }
         ensures back { IfErr result (λ back. back ≡ message) }
@@ -62,7 +63,7 @@ impl<T: Drop> Out<T> {
         }
     }
 
-    /// Puts a message at the end, where room is kept for it.
+    /// Appends a message within the reserved room.
     pub fn put_reserved(&mut self, receiver: Process, message: Message<T>)
         requires { 0 < self.old.room }
         ensures put { self.new.posts ≡ self.old.posts ++ (receiver, message) ∷ [] }
@@ -71,8 +72,8 @@ impl<T: Drop> Out<T> {
         self.posts.push_back_reserved((receiver, message));
     }
 
-    /// Takes the first message out, with its receiver. Its cost doesn't grow with the list, and its room
-    /// is free for another.
+    /// Removes and returns the first message with its receiver, or `None` if the list is empty. The
+    /// cost doesn't depend on the list's length. The freed room can be used again.
     pub fn next(&mut self) -> Option<(Process, Message<T>)>
         ensures none { IfNone result (self.old.posts ≡ []) }
         ensures same { IfNone result (self.new ≡ self.old) }

@@ -1,14 +1,14 @@
-//! Processes.
+//! The processes.
 
 use crate::server_id::ServerId;
 use zcalls::ClientId;
 
-/// One of the processes that send each other messages.
+/// A process that sends and receives messages.
 #[derive(Clone, Copy, Debug, PartialEq, Eq)]
 pub enum Process {
-    /// The master: it detects failures, and tells servers and clients what the chain is.
+    /// The master: it detects failures, and tells servers and clients about the chain.
     Master,
-    /// A server of the chain, a spare one, or one that failed.
+    /// A server: a member of the chain, a spare, or one that has failed.
     Server(ServerId),
     /// A client.
     Client(ClientId),

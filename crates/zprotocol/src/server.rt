@@ -1,4 +1,5 @@
-//! The server table, over any machine: its laws, and worked rows.
+//! The server's protocol, over any state machine: the laws of the server table, and worked
+//! examples.
 
 pub mod laws;
 mod rows;

@@ -1,11 +1,11 @@
-//! The number of a server.
+//! The id of a server.
 
 ghost use Rattle.std.specs.Prelude.{◌≡◌, ◌<◌, ◌≤◌, ◌⊎◌, IfNone, IfSome};
 
 use crate::limits::MAX_SERVERS;
 use std::marker::Model;
 
-/// One of the servers that there can be, by its number, from 1 up to `MAX_SERVERS`.
+/// The id of a server: 1 to `MAX_SERVERS`.
 #[derive(Clone, Copy, Debug, PartialEq, Eq)]
 pub struct ServerId {
     number: u8,
@@ -25,7 +25,7 @@ impl Model for ServerId {
 }
 
 impl ServerId {
-    /// The server of that number; none for 0 and above `MAX_SERVERS`.
+    /// Returns the server with this number, or `None` for 0 and above `MAX_SERVERS`.
     pub fn new(number: u8) -> Option<ServerId>
         ensures server { IfSome result (λ s. (s ≡ number) × (0 < number) × (number ≤ MAX_SERVERS)) }
         ensures none { IfNone result ((number ≡ 0) ⊎ (MAX_SERVERS < number)) }
@@ -37,14 +37,14 @@ impl ServerId {
         }
     }
 
-    /// The first one: the head of the opening chain.
+    /// Returns server 1: the head of the initial chain.
     pub fn first() -> ServerId
         ensures { result ≡ 1 }
     {
         ServerId { number: 1 }
     }
 
-    /// Its number.
+    /// Returns its number: 1 to `MAX_SERVERS`.
     pub fn number(self) -> u8
         ensures same { result ≡ self }
         ensures some { 0 < result }

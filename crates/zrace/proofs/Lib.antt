@@ -1,3 +1,4 @@
 pub mod Kept
+pub mod Seen
 pub mod Verdicts
 pub mod Lines

@@ -1,10 +1,14 @@
 -- What an audit finds of lawful traces.
 use Rattle.std.proofs.Common.{◌≡◌, Bool, true, false, true≢false, Result, Ok, Err, refl, sym, ap, ◌∙◌}
+use Rattle.std.specs.Prelude.{is_ok}
+use Rattle.zworld_model.specs.History.{History}
+use Rattle.zworld_model.specs.PlainTree.{IsExplained}
 use Rattle.ztraces.specs.declared.trace.Traces.{Traces}
-use Rattle.ztraces.specs.Audit.{is_any_cut}
+use Rattle.ztraces.specs.Audit.{is_any_cut, IsFound}
 use Rattle.ztraces.specs.Lawful.{AreLawful}
 use Rattle.zaudit.specs.declared.faults.AuditFault.{AuditFault}
 use Rattle.zaudit.specs.declared.faults.AuditFault.TheVariants.{Cut, Disorder, Mismatch, Memory}
+use Rattle.zrace.specs.Races.{IsAuditOf}
 
 -- it speaks against the run
 abbrev pub is_against : AuditFault → Bool
@@ -29,3 +33,27 @@ pub never_against : {X : Type 0} (t : Traces) (fault : AuditFault)
 never_against t fault lawful cut complete =
     let never = never_by t (is_any_cut t) refl fault lawful cut complete in
     (λ e. never (ap is_against e), λ e. never (ap is_against e))
+
+-- the audit of traces that it finds to be a run
+pub ok_audit : {X Y : Type 0} (t : Traces) (x : X) (y : Y) (history : History) → IsFound t history → IsExplained history
+    → (is_any_cut t ≡ true → ◌≡◌ {A = Result X AuditFault} (Ok x) (Err Cut)) → IsAuditOf {X = Y} t (Ok y)
+ok_audit t x y history found explained cut = record {
+  found = (history, found, explained);
+  cut = λ is. absurd (true≢false (ap is_ok (cut is)));
+  whole = λ is. tt;
+}
+
+-- the fault of an audit, if it has one
+abbrev fault_of : {X : Type 0} → Result X AuditFault → AuditFault
+fault_of (Ok x) = Memory
+fault_of (Err fault) = fault
+
+-- the audit of traces that are lawful, unless one is cut, where it has a fault
+pub err_audit : {X Y : Type 0} (t : Traces) (fault : AuditFault)
+    → (is_any_cut t ≡ false → ∥ AreLawful t ∥₁) → (is_any_cut t ≡ true → ◌≡◌ {A = Result X AuditFault} (Err fault) (Err Cut))
+    → (∥ AreLawful t ∥₁ → is_any_cut t ≡ false → fault ≡ Memory) → IsAuditOf {X = Y} t (Err fault)
+err_audit t fault lawful cut complete = record {
+  found = tt;
+  cut = λ is. ap Err (ap fault_of (cut is));
+  whole = λ is. complete (lawful is) is;
+}

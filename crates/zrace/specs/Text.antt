@@ -5,12 +5,12 @@ use Rattle.zaudit.specs.Faults.{fault_name}
 use Rattle.zaudit.specs.declared.faults.AuditFault.{AuditFault}
 use Rattle.zrace.specs.declared.outcome.Outcome.{Outcome}
 
--- the line of a node: the version that was seen of it, where there was an answer
+-- the line of a node: its version, if a client received one
 abbrev pub node_line : ℕ → Option ℕ → List ℕ
 node_line node (Some version) = codes "node /n" ++ decimal node ++ codes " version " ++ decimal version ++ 10 ∷ []
 node_line node None = codes "node /n" ++ decimal node ++ codes " unanswered" ++ 10 ∷ []
 
--- the lines of nodes, which are numbered from this one on
+-- the lines of nodes, numbered from this one on
 unfoldable pub node_lines : ℕ → List (Option ℕ) → List ℕ
 node_lines node [] = []
 node_lines node (seen ∷ rest) = node_line node seen ++ node_lines (suc node) rest

@@ -1,133 +1,128 @@
-//! Those that race, in their threads and out of them.
+//! The racing clients, in their threads and out of them.
 
-ghost use Rattle.std.specs.Prelude.{◌≡◌, ◌<◌, [], All, IfOk, IfSome, length};
-ghost use Rattle.std.specs.Arc.{arc_value};
+ghost use Rattle.std.specs.Prelude.{◌≡◌, ◌<◌, All, IfErr, IfOk, IfSome, length};
 ghost use Rattle.ztree.specs.declared.limits.TheConstants.{MAX_CLIENTS};
-ghost use Rattle.zwords.specs.Passes.{IsPassOf};
 ghost use Rattle.zrun.specs.Clients.{BelongsTo, SameClient};
 ghost use Rattle.zrun.specs.Members.{clients_run};
-ghost use Rattle.zrace.specs.Runners.{given_client, IsKeptBehind};
+ghost use Rattle.zrun.specs.declared.faults.StartFault.TheVariants.{Thread};
+ghost use Rattle.zrace.specs.Runners.{given_client};
+ghost use Rattle.zrace.specs.Seen.{AreSeenIn, KeepsSeen, NotesSeen};
 
+use crate::keeping::keep;
 use crate::plan::Race;
-use crate::runner::{Runner, Seen};
+use crate::racer::{Racer, Returns, Seen};
+use crate::room::Room;
+use crate::runner::{Runner, Seat};
 use std::alloc::Global;
-use std::sync::{Arc, Wait};
+use std::snapshot::Snapshot;
+use std::sync::Wait;
 use std::thread;
 use std::thread::{PromisedHandle, Threads};
 use zcalls::ClientId;
-use zpath::Memory;
-use zrun::{Client, Clients, HandsBack, StartFault};
-use zwords::tickets::{Pass, Tickets};
+use zrun::{Client, Clients, StartFault};
 
-/// Room for all that race.
-#[derive(Drop)]
-pub(crate) struct Room {
-    handles: Vec<PromisedHandle<(Client, Seen), HandsBack>>,
-    versions: Vec<Option<u64>>,
-    ghost none_runs: { handles.items ≡ [] },
-}
+/// The handle of a racing client's thread.
+pub(crate) type Racing = PromisedHandle<Racer, Returns>;
 
-/// Those that race, and what came back of them.
+/// The racing clients' threads, and what they handed back.
 #[derive(Drop)]
 pub(crate) struct Field {
-    handles: Vec<PromisedHandle<(Client, Seen), HandsBack>>,
-    /// The clients that are not in a thread.
+    handles: Vec<Racing>,
+    /// The clients that aren't in a thread.
     pub(crate) clients: Clients,
     /// Each node's version, as far as it is known.
     pub(crate) versions: Vec<Option<u64>>,
     ghost own: { All (λ handle.
         BelongsTo (clients_run clients) (given_client handle)) handles.items },
-}
-
-impl Room {
-    /// Room for the threads of a race, and its nodes.
-    pub(crate) fn new(alloc: Global, race: &Race) -> Result<Room, Memory>
-        ensures { IfOk result (λ room. length room.versions.items ≡ race.now.rounds) }
-    {
-        let mut versions = Vec::with_capacity(alloc, race.rounds as usize)?;
-        for _ in 0..race.rounds {
-            versions.push(None)?;
-        }
-        Ok(Room {
-            handles: Vec::with_capacity(alloc, race.clients as usize)?,
-            versions,
-        })
-    }
+    ghost told: { AreSeenIn (clients_run clients) versions.items },
 }
 
 impl Field {
-    /// Nobody races yet, of these clients.
-    pub(crate) fn new(room: Room, clients: Clients) -> Field
-        ensures clients { result.clients ≡ clients }
-        ensures versions { result.versions ≡ room.versions }
+    /// Returns a field in which no client races yet, and the seats of those that will.
+    pub(crate) fn new(room: Room, clients: Clients) -> (Field, Vec<Seat>)
+        ensures clients { result.0.clients ≡ clients }
+        ensures versions { result.0.versions ≡ room.versions }
     {
-        let Room { handles, versions } = room;
-        Field {
+        let Room {
+            seats,
+            handles,
+            versions,
+        } = room;
+        let field = Field {
             handles,
             clients,
             versions,
-        }
+        };
+        (field, seats)
     }
 
-    /// Starts a thread for each client but the first, while there are passes.
+    /// Starts a thread for each client but the first, while there are seats.
     pub(crate) fn start_all<R: Threads + Wait + Copy + Send + 'static>(
         &mut self,
         rt: R,
         alloc: Global,
         race: &Race,
-        tickets: &Arc<Tickets, Global>,
-        mut passes: Vec<Pass>,
+        mut seats: Vec<Seat>,
     ) -> Result<(), StartFault>
-        requires { All (λ pass. IsPassOf (arc_value tickets.now) pass) passes.items }
         ensures clients { clients_run self.new.clients ≡ clients_run self.old.clients }
         ensures versions { self.new.versions ≡ self.old.versions }
+        ensures fault { IfErr result (λ fault. fault ≡ Thread) }
     {
         for number in 0..race.clients {
-            let Some(pass) = passes.pop() else {
+            let Some(seat) = seats.pop() else {
                 return Ok(());
             };
-            let Some(client) = racer(&mut self.clients, number + 1) else {
+            let Some(client) = self.take_out(number + 1) else {
                 return Ok(());
             };
-            self.start(rt, alloc, race, tickets, pass, client)?;
+            self.start(rt, alloc, race, seat.taken_by(client))?;
         }
         Ok(())
     }
 
-    /// Waits for all threads.
+    /// Joins all threads, puts their clients back, and notes the versions that they received.
     pub(crate) fn join_all<R: Threads>(&mut self, rt: &R)
         ensures clients { clients_run self.new.clients ≡ clients_run self.old.clients }
         ensures nodes { length self.new.versions.items ≡ length self.old.versions.items }
     {
         while let Some(handle) = self.handles.pop() {
-            let (client, seen) = handle.join(rt);
-            note(&mut self.versions, &seen);
+            let Racer { client, seen } = handle.join(rt);
+            note_all(&mut self.versions, &seen);
             self.clients.put(client);
         }
     }
 
-    // A thread for one more.
+    // Takes out the client of this number, if it isn't in a thread.
+    fn take_out(&mut self, number: u8) -> Option<Client>
+        requires { number < MAX_CLIENTS }
+        ensures clients { clients_run self.new.clients ≡ clients_run self.old.clients }
+        ensures versions { self.new.versions ≡ self.old.versions }
+        ensures own { IfSome result (BelongsTo (clients_run self.old.clients)) }
+    {
+        racer(&mut self.clients, number)
+    }
+
+    // Starts a thread for one more.
     fn start<R: Threads + Wait + Copy + Send + 'static>(
         &mut self,
         rt: R,
         alloc: Global,
         race: &Race,
-        tickets: &Arc<Tickets, Global>,
-        pass: Pass,
-        client: Client,
+        runner: Runner,
     ) -> Result<(), StartFault>
-        requires pass { IsPassOf (arc_value tickets.now) pass }
-        requires own { BelongsTo (clients_run self.old.clients) client }
+        requires { BelongsTo (clients_run self.old.clients) runner.racer.client }
         ensures clients { clients_run self.new.clients ≡ clients_run self.old.clients }
         ensures versions { self.new.versions ≡ self.old.versions }
+        ensures fault { IfErr result (λ fault. fault ≡ Thread) }
     {
-        let handle = start_runner(rt, alloc, race, tickets, pass, client)?;
-        keep(&mut self.handles, handle);
+        let handle = start_runner(rt, alloc, race, runner)?;
+        // There is room for all clients that race.
+        let _ = keep(&mut self.handles, handle);
         Ok(())
     }
 }
 
-// The client of this number.
+// Takes the client of this number, if it is there.
 fn racer(clients: &mut Clients, number: u8) -> Option<Client>
     requires { number < MAX_CLIENTS }
     ensures run { clients_run clients.new ≡ clients_run clients.old }
@@ -139,71 +134,51 @@ fn racer(clients: &mut Clients, number: u8) -> Option<Client>
     }
 }
 
-// Notes each version at its node.
-fn note(versions: &mut Vec<Option<u64>>, seen: &Vec<(u64, u64)>)
-    ensures { length versions.new.items ≡ length versions.old.items }
+// Notes all versions that one client received.
+fn note_all(versions: &mut Vec<Option<u64>>, seen: &Seen)
+    ensures nodes { length versions.new.items ≡ length versions.old.items }
+    ensures told { KeepsSeen versions.old.items versions.new.items seen.now.items }
 {
-    for (node, version) in seen {
-        let node = *node as usize;
-        if node < versions.len() {
-            versions[node] = Some(*version);
-        }
+    for at in 0..seen.len() {
+        let (node, version) = seen[at];
+        note(versions, node, version);
     }
 }
 
-// Puts one more behind the others, for which there is room.
-fn keep<X: Drop>(all: &mut Vec<X>, one: X)
-    ensures { IsKeptBehind all.old.items all.new.items one }
+// Notes a node's version.
+fn note(versions: &mut Vec<Option<u64>>, node: u64, version: u64)
+    ensures nodes { length versions.new.items ≡ length versions.old.items }
+    ensures told { NotesSeen versions.old.items versions.new.items node version }
 {
-    if let Err(refused) = all.push(one) {
-        drop(refused);
+    let place = node as usize;
+    if place < versions.len() {
+        versions[place] = Some(version);
     }
 }
 
-// A thread for one that races.
+// Starts a thread in which this client races.
 fn start_runner<R: Threads + Wait + Copy + Send + 'static>(
     rt: R,
     alloc: Global,
     race: &Race,
-    tickets: &Arc<Tickets, Global>,
-    pass: Pass,
-    client: Client,
-) -> Result<PromisedHandle<(Client, Seen), HandsBack>, StartFault>
-    requires { IsPassOf (arc_value tickets.now) pass }
-    ensures { IfOk result (λ handle. given_client handle ≡ client) }
+    runner: Runner,
+) -> Result<Racing, StartFault>
+    ensures given { IfOk result (λ handle. given_client handle ≡ runner.racer.client) }
+    ensures fault { IfErr result (λ fault. fault ≡ Thread) }
 {
-    let promise = HandsBack::of(&client);
-    let runner = runner_of(alloc, race, tickets, pass, client)?;
+    let promise = Returns(Snapshot::of(&runner.racer.client));
     let (rounds, halt) = (race.rounds as u64, race.halt);
     match thread::spawn_with(
         &rt,
         promise,
-        move || -> (Client, Seen)
-            ensures { SameClient runner.client result.0 }
+        move || -> Racer
+            ensures { SameClient runner.racer.client result.client }
         { runner.run(alloc, rounds, halt) },
     ) {
         Ok(handle) => Ok(handle),
-        Err(_) => Err(StartFault::Thread),
+        Err(refused) => {
+            drop(refused);
+            Err(StartFault::Thread)
+        }
     }
-}
-
-// One that races, with room for what it sees.
-fn runner_of(
-    alloc: Global,
-    race: &Race,
-    tickets: &Arc<Tickets, Global>,
-    pass: Pass,
-    client: Client,
-) -> Result<Runner, Memory>
-    requires { IsPassOf (arc_value tickets.now) pass }
-    ensures { IfOk result (λ runner. runner.client ≡ client) }
-{
-    let tickets = Arc::try_clone(tickets)?;
-    let seen = Vec::with_capacity(alloc, race.rounds as usize)?;
-    Ok(Runner {
-        client,
-        tickets,
-        pass,
-        seen,
-    })
 }

@@ -1,4 +1,4 @@
-//! What came of a race.
+//! The outcome of a race.
 
 ghost use Rattle.std.specs.Prelude.{◌≡◌, ◌++◌, All, IfOk, IsErr, IsFalse, IsOk, IsSome, IsTrue, OnOk, string_bytes};
 ghost use Rattle.zrace.specs.Text.{audit_line, node_line, outcome_text};
@@ -6,17 +6,17 @@ ghost use Rattle.zrace.specs.Text.{audit_line, node_line, outcome_text};
 use std::alloc::{AllocError, Global};
 use zaudit::AuditFault;
 
-/// What came of a race.
+/// The outcome of a race.
 #[derive(Drop)]
 pub struct Outcome {
-    /// Each node's version, as the thread saw it that had its ticket; none where no thread has an answer.
+    /// Each node's version, as a client received it. `None` where no client received one.
     pub versions: Vec<Option<u64>>,
-    /// Whether the run was one of the proof's, as far as the audit can tell.
+    /// What the audit found of the run's traces.
     pub audit: Result<(), AuditFault>,
 }
 
 impl Outcome {
-    /// Whether each node was answered, and the audit is ok.
+    /// Returns whether each node was answered and the audit is ok.
     pub fn is_good(&self) -> bool
         ensures good { IsTrue result → All IsSome self.now.versions.items × IsOk self.now.audit }
         ensures bad { IsFalse result → All IsSome self.now.versions.items → IsErr self.now.audit }
@@ -29,7 +29,7 @@ impl Outcome {
         self.audit.is_ok()
     }
 
-    /// A line for each node, in the order of their numbers, and the audit's.
+    /// Returns a line for each node, in the order of their numbers, and then that of the audit.
     pub fn text(&self, alloc: Global) -> Result<String, AllocError>
         ensures { IfOk result (λ text. string_bytes text ≡ outcome_text self.now) }
     {

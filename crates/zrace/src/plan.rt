@@ -1,4 +1,4 @@
-//! What a race is run with.
+//! The settings of a race.
 
 ghost use Rattle.std.specs.Prelude.{◌≡◌, ◌<◌, ◌≤◌, IfNone, IfSome};
 ghost use Rattle.zrace.specs.declared.plan.TheConstants.{MAX_RACERS, MAX_ROUNDS};
@@ -6,13 +6,13 @@ ghost use Rattle.zrace.specs.declared.plan.TheConstants.{MAX_RACERS, MAX_ROUNDS}
 use zprotocol::ServerId;
 use ztree::limits::MAX_CLIENTS;
 
-/// The most clients that race: the client 0 stands aside.
+/// The most clients that race. Client 0 stands aside.
 pub const MAX_RACERS: u8 = MAX_CLIENTS - 1;
 
-/// The most nodes that are raced for.
+/// The most nodes of a race.
 pub const MAX_ROUNDS: u16 = 1_000;
 
-/// A race: over a chain of servers, between so many clients, for so many nodes.
+/// A race between clients for nodes, over a chain of servers.
 #[derive(Clone, Copy, Debug, PartialEq, Eq)]
 pub struct Race {
     /// The last server of the chain.
@@ -21,7 +21,7 @@ pub struct Race {
     pub clients: u8,
     /// How many nodes there are.
     pub rounds: u16,
-    /// The server that is halted halfway, if one is.
+    /// The server that is halted halfway, if any.
     pub halt: Option<ServerId>,
     ghost some_clients: { 0 < clients },
     ghost few_clients: { clients ≤ MAX_RACERS },
@@ -32,8 +32,10 @@ pub struct Race {
 impl Race {
     ghost use Rattle.zrace.specs.Ranges.{AreInRange, halted_server};
 
-    /// The race of these numbers, where 0 halts no server. None where one is out of its range: 1 to `MAX_RACERS` clients, 1 to
-    /// `MAX_ROUNDS` rounds, and to be halted a server of a chain of two and more.
+    /// Returns the race of these numbers, where 0 halts no server. `None` if one is out of range.
+    ///
+    /// There are 1 to `MAX_RACERS` clients and 1 to `MAX_ROUNDS` rounds. In a chain of two or more
+    /// servers, one of them may be halted.
     pub fn new(last: ServerId, clients: u8, rounds: u16, halt: u8) -> Option<Race>
         ensures known { IfSome result (λ _. AreInRange last clients rounds halt) }
         ensures refused { IfNone result (AreInRange last clients rounds halt → ⊥) }
@@ -60,7 +62,7 @@ impl Race {
     }
 }
 
-// The server that is to be halted, of a chain where another one is left.
+// Returns the server to be halted, if it is one of a chain of two or more.
 fn halted(last: ServerId, halt: u8) -> Option<ServerId>
     requires { 0 < halt }
     ensures known { IfSome result (λ server. (server ≡ halt) × (halt ≤ last) × (1 < last)) }

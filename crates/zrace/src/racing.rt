@@ -1,26 +1,36 @@
 //! A race from its start to its audit.
 
-ghost use Rattle.std.specs.Prelude.{◌≡◌, ◌≢◌, false, length, All, IfErr, IfOk};
+ghost use Rattle.std.specs.Prelude.{◌≡◌, ◌≢◌, false, length, IfErr, IfOk};
 ghost use Rattle.ztraces.specs.Audit.{is_any_cut};
 ghost use Rattle.ztraces.specs.Lawful.{AreLawful};
 ghost use Rattle.zaudit.specs.declared.faults.AuditFault.TheVariants.{Disorder, Mismatch};
-ghost use Rattle.std.specs.Arc.{arc_value};
-ghost use Rattle.zwords.specs.Passes.{IsPassOf};
+ghost use Rattle.zrace.specs.Races.{IsAuditOf, IsFinishOf, IsOutcomeOf};
 
-use crate::field::{Field, Room};
+use crate::field::Field;
 use crate::outcome::Outcome;
 use crate::plan::Race;
+use crate::room::Room;
 use std::alloc::Global;
-use std::sync::{Arc, Wait};
+use std::sync::Wait;
 use std::thread::Threads;
 use zaudit::{AuditFault, audit};
-use zpath::Memory;
 use zrun::{Cluster, StartFault, open_gates};
 use ztraces::Traces;
-use zwords::tickets::{Pass, Tickets};
 
-/// Runs a race over real threads, joins them, and audits the run. What the audit finds is never against the run: it is ok, or there
-/// was no memory for it, or a trace is cut.
+/// What a race leaves.
+#[derive(Drop)]
+pub struct Finish {
+    /// Each node's version, as a client received it. `None` where no client received one.
+    pub versions: Vec<Option<u64>>,
+    /// The traces of all processes.
+    pub traces: Traces,
+}
+
+/// Runs a race over real threads, joins them, and audits the run.
+///
+/// The audit is that of the traces of a run over the race's servers and clients. Each version is
+/// one that a client of that run received. The audit never refutes the run: it is ok, or a trace
+/// is cut, or memory ran out.
 pub fn race<R: Threads + Wait + Copy + Send + 'static>(
     rt: R,
     alloc: Global,
@@ -29,8 +39,23 @@ pub fn race<R: Threads + Wait + Copy + Send + 'static>(
     ensures nodes { IfOk result (λ outcome. length outcome.versions.items ≡ race.now.rounds) }
     ensures audit { IfOk result (λ outcome.
         IfErr outcome.audit (λ fault. (fault ≢ Disorder) × (fault ≢ Mismatch))) }
+    ensures run { IfOk result (IsOutcomeOf race.now) }
 {
-    let (tickets, passes) = shared_tickets(alloc, race)?;
+    let finish = run(rt, alloc, race)?;
+    let audit = audited(alloc, &finish.traces);
+    let Finish { versions, .. } = finish;
+    Ok(Outcome { versions, audit })
+}
+
+/// Runs a race over real threads, and joins them.
+pub fn run<R: Threads + Wait + Copy + Send + 'static>(
+    rt: R,
+    alloc: Global,
+    race: &Race,
+) -> Result<Finish, StartFault>
+    ensures nodes { IfOk result (λ finish. length finish.versions.items ≡ race.now.rounds) }
+    ensures run { IfOk result (IsFinishOf race.now) }
+{
     let room = Room::new(alloc, race)?;
     let gates = open_gates(alloc)?;
     let (cluster, console, clients) = Cluster::start(
@@ -40,8 +65,8 @@ pub fn race<R: Threads + Wait + Copy + Send + 'static>(
         race.clients + 1,
         gates,
     )?;
-    let mut field = Field::new(room, clients);
-    let started = field.start_all(rt, alloc, race, &tickets, passes);
+    let (mut field, seats) = Field::new(room, clients);
+    let started = field.start_all(rt, alloc, race, seats);
     field.join_all(&rt);
     let Field {
         versions,
@@ -50,14 +75,14 @@ pub fn race<R: Threads + Wait + Copy + Send + 'static>(
     } = field;
     let traces = cluster.join(&rt, alloc, console, clients)?;
     started?;
-    let audit = audited(alloc, &traces);
-    Ok(Outcome { versions, audit })
+    Ok(Finish { versions, traces })
 }
 
-// The audit of traces that are lawful, unless one is cut.
+// Audits traces that are lawful, unless one is cut.
 fn audited(alloc: Global, traces: &Traces) -> Result<(), AuditFault>
     requires { is_any_cut traces.now ≡ false → ∥ AreLawful traces.now ∥₁ }
-    ensures { IfErr result (λ fault. (fault ≢ Disorder) × (fault ≢ Mismatch)) }
+    ensures fault { IfErr result (λ fault. (fault ≢ Disorder) × (fault ≢ Mismatch)) }
+    ensures audit { IsAuditOf traces.now result }
 {
     match audit(alloc, traces) {
         Ok(history) => {
@@ -66,13 +91,4 @@ fn audited(alloc: Global, traces: &Traces) -> Result<(), AuditFault>
         }
         Err(fault) => Err(fault),
     }
-}
-
-// The tickets, and a pass for each that races.
-fn shared_tickets(alloc: Global, race: &Race) -> Result<(Arc<Tickets, Global>, Vec<Pass>), Memory>
-    ensures { IfOk result (λ shared.
-        All (λ pass. IsPassOf (arc_value shared.0) pass) shared.1.items) }
-{
-    let (tickets, passes) = Tickets::new(alloc, race.clients as usize)?;
-    Ok((Arc::new(alloc, tickets)?, passes))
 }

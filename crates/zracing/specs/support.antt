@@ -1,2 +1,2 @@
--- What serves worked rows alone.
+-- What serves the worked rows alone.
 pub mod Rows

@@ -8,19 +8,21 @@ ghost use Rattle.zrace.specs.declared.plan.Race.{Race};
 ghost use Rattle.zracing.specs.Asked.{IsRaceAsked};
 ghost use Rattle.zracing.specs.Run.{IsGoodRace, IsNotGood};
 
+use crate::reporting::{refuse_start, report};
 use crate::words::race_settings;
 use std::alloc::Global;
 use std::sync::Wait;
 use std::thread::Threads;
-use zcommand::{WordsFault, refuse, tell};
-use zdevices::{Sink, write_all};
-use zrace::{StartFault, race};
+use zcommand::refuse;
+use zdevices::Sink;
+use zrace::race;
 
-/// Runs the race that the words ask for, writes its lines to `sink`, says of a fault on `faults` what it is, and answers the
-/// exit status.
+/// Runs the race that the words ask for, and writes its lines to `sink`. A fault is written to
+/// `faults`. Returns the exit status.
 ///
-/// The status is 0 where each node was answered and the audit is ok; 1 after a device's fault, want of memory, a thread that
-/// could not be started, a node without an answer or an audit that isn't ok; and 2 where the words are not understood.
+/// The status is 0 where each node was answered and the audit is ok, and 2 where the words are not
+/// understood. It is 1 after a device's fault, where memory ran out, where a thread could not be
+/// started, where a node has no answer, and where the audit isn't ok.
 pub fn race_command<R: Threads + Wait + Copy + Send + 'static, K: Sink, F: Sink>(
     rt: R,
     alloc: Global,
@@ -30,7 +32,8 @@ pub fn race_command<R: Threads + Wait + Copy + Send + 'static, K: Sink, F: Sink>
 ) -> u8
     ensures status { result ≤ 2 }
 
-    // Each node of the race that the words ask for was answered, the audit is ok, and nothing was said.
+    // Each node of the race that the words ask for was answered, the audit is ok, and there was no
+    // fault.
     ensures good { result ≡ 0 → IsGoodRace (texts_of words.now)
         (sink_run K.took K.failed sink.old sink.new) }
     ensures silent { result ≡ 0 → F.took faults.old [] faults.new }
@@ -50,20 +53,8 @@ pub fn race_command<R: Threads + Wait + Copy + Send + 'static, K: Sink, F: Sink>
         Ok(race) => race,
         Err(fault) => return refuse(fault, faults),
     };
-    let outcome = match race(rt, alloc, &race_asked) {
-        Ok(outcome) => outcome,
-        Err(StartFault::Memory) => return refuse(WordsFault::Memory, faults),
-        Err(StartFault::Thread) => {
-            tell(faults, "zk: thread");
-            return 1;
-        }
-    };
-    let Ok(text) = outcome.text(alloc) else {
-        return refuse(WordsFault::Memory, faults);
-    };
-    if write_all(sink, text.as_bytes()).is_err() {
-        tell(faults, "zk: write failed");
-        return 1;
+    match race(rt, alloc, &race_asked) {
+        Ok(outcome) => report(alloc, &outcome, sink, faults),
+        Err(fault) => refuse_start(fault, faults),
     }
-    if outcome.is_good() { 0 } else { 1 }
 }

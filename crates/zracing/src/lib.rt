@@ -1,7 +1,8 @@
-//! The words `race ..` of the program: what they ask for, and a run of them without its devices.
+//! The command `race ..` of the program: what its words ask for, and its run without devices.
 #![tactic(auto)]
 
 mod command;
+mod reporting;
 pub mod rows;
 mod words;
 

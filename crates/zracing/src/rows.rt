@@ -5,7 +5,8 @@ ghost use Rattle.zrace.specs.declared.plan.Race.{Race};
 ghost use Rattle.zracing.specs.Asked.{IsRaceOf};
 ghost use Rattle.zracing.specs.support.Rows.{text_numbers};
 
-/// Words of the program, between spaces, and the numbers that they give: servers, clients, rounds, and the server to be halted.
+/// Words of the program, and the four numbers that they give: servers, clients, rounds, and the
+/// server to be halted.
 pub fn words_give_four_numbers()
     ensures none { text_numbers (codes "zk race") ≡ Some (3 ∷ 4 ∷ 100 ∷ 0 ∷ []) }
     ensures one { text_numbers (codes "zk race --halt 2") ≡ Some (3 ∷ 4 ∷ 100 ∷ 2 ∷ []) }
@@ -13,7 +14,7 @@ pub fn words_give_four_numbers()
         ≡ Some (16 ∷ 31 ∷ 7 ∷ 5 ∷ []) }
 {}
 
-/// Numbers that no race has: a server that is not of the chain is not halted, nor is the only one.
+/// Numbers that no race has. A server outside the chain is not halted, nor is the only one.
 pub fn numbers_are_in_their_ranges()
     ensures seventeen_servers { (r : Race) → IsRaceOf (Some (17 ∷ 4 ∷ 100 ∷ 0 ∷ [])) r → ⊥ }
     ensures no_client { (r : Race) → IsRaceOf (Some (3 ∷ 0 ∷ 100 ∷ 0 ∷ [])) r → ⊥ }

@@ -31,8 +31,10 @@ static RACE_OPTIONS: [NumberOption; 4] = [
     },
 ];
 
-/// Reads `NAME race [--servers N] [--clients C] [--rounds R] [--halt S]`: N is 1 to 16 (3), C 1 to 31 (4), R 1 to 1,000 (100),
-/// and S 0 to N (0, for none; 0 alone where N is 1).
+/// Reads `NAME race [--servers N] [--clients C] [--rounds R] [--halt S]`.
+///
+/// N is 1 to 16 (default 3), C is 1 to 31 (4), and R is 1 to 1,000 (100). S is 0 to N (0): 0 halts
+/// no server, and where N is 1 it is 0.
 ///
 /// All else is `BadWords`, a request for help too. `Memory` comes only where memory runs out.
 pub fn race_settings<'a>(alloc: Global, words: &'a [&'a str]) -> Result<Race, WordsFault>
@@ -49,7 +51,7 @@ pub fn race_settings<'a>(alloc: Global, words: &'a [&'a str]) -> Result<Race, Wo
     }
 }
 
-// The race of these numbers; none where one is out of its range.
+// Returns the race of these numbers; `None` where one is out of its range.
 fn race_of(numbers: &[u16]) -> Option<Race>
     ensures known { IfSome result (IsRaceOf (Some numbers.now)) }
     ensures refused { IfNone result ((race : Race) → IsRaceOf (Some numbers.now) race → ⊥) }
@@ -61,7 +63,7 @@ fn race_of(numbers: &[u16]) -> Option<Race>
     Race::new(last, small(*clients)?, *rounds, small(*halt)?)
 }
 
-// A number that a byte holds.
+// Returns the number if a byte holds it.
 fn small(number: u16) -> Option<u8>
     ensures same { IfSome result (λ byte. byte ≡ number) }
     ensures large { IfNone result (255 < number) }

@@ -1,18 +1,24 @@
-//! The two ends of a link.
+//! The two ends of a channel.
 ghost use Rattle.std.specs.Prelude.{◌≡◌, ◌≢◌, ◌++◌, [], ◌∷◌, length, option_to_list};
-ghost use Rattle.std.specs.Prelude.{IfErr, IfOk, IfSome, IsFalse, IsOk, IsTrue, OnOk};
-ghost use Rattle.zrings.specs.Ends.{AreEnds, HasLastPlace, in_ring, IsAllThere, put_of, ring_of_rx};
-ghost use Rattle.zrings.specs.Ends.{ring_of_tx, taken_of, waiting};
+ghost use Rattle.std.specs.Prelude.{IfErr, IfOk, IfSome, IsFalse, IsOk, IsTrue, OnErr, OnOk};
+ghost use Rattle.zrings.specs.Ends.{AreEnds, HasLastPlace, in_ring, IsAllThere, IsFlushed, put_of};
+ghost use Rattle.zrings.specs.Ends.{ring_of_rx, ring_of_tx, taken_of, waiting};
+ghost use Rattle.zrings.specs.declared.ends.TheConstants.{RING};
 
 use rtrb::{Consumer, Producer, PushError, RingBuffer};
 use std::alloc::{AllocFailed, Global};
 use std::collections::VecDeque;
 use zpath::Memory;
 
-/// How many messages the ring has room for. The outbox has room for as many as there is memory.
+/// The capacity of the ring, in messages. Only memory bounds the outbox.
 pub const RING: usize = 64;
 
-/// The end that puts. It has a place of its own for one last message, which so takes no memory.
+/// The limit is this number.
+pub fn limits_are_numbers()
+    ensures ring { RING ≡ 64 }
+{}
+
+/// The sending end. It keeps a slot for one last message, so that one takes no memory.
 #[derive(Drop)]
 pub struct Tx<M: Drop> {
     pub(crate) outbox: VecDeque<M>,
@@ -20,13 +26,13 @@ pub struct Tx<M: Drop> {
     pub(crate) ring: Producer<M>,
 }
 
-/// The end that takes.
+/// The receiving end.
 #[derive(Drop)]
 pub struct Rx<M: Drop> {
     pub(crate) ring: Consumer<M>,
 }
 
-/// A link, into which nothing was put. Err where there is no memory.
+/// Returns the two ends of an empty channel. The only error is out of memory.
 pub fn link<M: Drop>(alloc: Global) -> Result<(Tx<M>, Rx<M>), Memory>
     ensures ends { IfOk result (λ r. AreEnds r.0 r.1) }
     ensures empty { IfOk result (λ r. (put_of r.0 ≡ []) × (taken_of r.1 ≡ [])) }
@@ -45,12 +51,14 @@ pub fn link<M: Drop>(alloc: Global) -> Result<(Tx<M>, Rx<M>), Memory>
 }
 
 impl<M: Drop> Tx<M> {
-    /// Appends the message to the list put, or hands it back where there is no memory, or a last message waits.
+    /// Sends a message: it waits in the outbox for a flush. Hands it back if there is no memory, or
+    /// if a last message waits.
     pub fn put(&mut self, message: M) -> Result<(), M>
         ensures ok { OnOk result (put_of self.new ≡ put_of self.old ++ message ∷ []) }
         ensures err { IfErr result (λ m. (m ≡ message) × (put_of self.new ≡ put_of self.old)) }
         ensures ends { ring_of_tx self.new ≡ ring_of_tx self.old }
         ensures before_last { OnOk result (HasLastPlace self.old) }
+        ensures waits { OnErr result (waiting self.new ≡ waiting self.old) }
         ensures place { HasLastPlace self.old → HasLastPlace self.new }
     {
         if self.last.is_some() {
@@ -62,13 +70,14 @@ impl<M: Drop> Tx<M> {
         }
     }
 
-    /// Appends a last message, or hands it back where one waits already. It takes no memory.
+    /// Sends a last message, or hands it back if one waits already. It takes no memory.
     pub fn put_last(&mut self, message: M) -> Result<(), M>
         ensures ok { OnOk result (put_of self.new ≡ put_of self.old ++ message ∷ []) }
         ensures err { IfErr result (λ m. (m ≡ message) × (put_of self.new ≡ put_of self.old)) }
         ensures ends { ring_of_tx self.new ≡ ring_of_tx self.old }
         ensures place { HasLastPlace self.old → IsOk result }
         ensures one { OnOk result (HasLastPlace self.old) }
+        ensures waits { OnErr result (waiting self.new ≡ waiting self.old) }
     {
         if self.last.is_some() {
             return Err(message);
@@ -77,8 +86,10 @@ impl<M: Drop> Tx<M> {
         Ok(())
     }
 
-    /// Moves messages from the outbox into the ring while there is room, and a last message behind them.
+    /// Moves messages from the outbox into the ring while it has room, then the last message.
+    /// What still waits found no free slot.
     pub fn flush(&mut self)
+        ensures flushed { IsFlushed self.new }
         ensures put { put_of self.new ≡ put_of self.old }
         ensures ends { ring_of_tx self.new ≡ ring_of_tx self.old }
         ensures place { HasLastPlace self.old → HasLastPlace self.new }
@@ -92,7 +103,7 @@ impl<M: Drop> Tx<M> {
         }
     }
 
-    /// Whether something waits before the ring.
+    /// Returns whether a message waits before the ring.
     pub fn has_waiting(&self) -> bool
         ensures none { IsFalse result → waiting self.now ≡ [] }
         ensures some { IsTrue result → waiting self.now ≢ [] }
@@ -100,9 +111,10 @@ impl<M: Drop> Tx<M> {
         !self.outbox.is_empty() || self.last.is_some()
     }
 
-    // The last message goes behind all others.
+    // Moves the last message into the ring, if it has room. The outbox is empty.
     fn flush_last(&mut self)
         requires { self.old.outbox.items ≡ [] }
+        ensures flushed { IsFlushed self.new }
         ensures put { put_of self.new ≡ put_of self.old }
         ensures ends { ring_of_tx self.new ≡ ring_of_tx self.old }
         ensures place { HasLastPlace self.old → HasLastPlace self.new }
@@ -117,7 +129,7 @@ impl<M: Drop> Tx<M> {
 }
 
 impl<M: Drop> Rx<M> {
-    /// The oldest message in the ring. None where this end finds none.
+    /// Receives the oldest message in the ring. None if this end finds none.
     pub fn take(&mut self) -> Option<M>
         ensures taken { taken_of self.new ≡ taken_of self.old ++ option_to_list result }
         ensures ends { ring_of_rx self.new ≡ ring_of_rx self.old }
@@ -126,8 +138,8 @@ impl<M: Drop> Rx<M> {
     }
 }
 
-/// How many messages are in the ring. With both ends in one thread, what was put is what was taken, then what is in the
-/// ring, then what waits before it.
+/// Returns how many messages are in the ring. With both ends in one thread, what was sent is what
+/// was received, then what is in the ring, then what waits before it.
 pub fn told<M: Drop>(tx: &mut Tx<M>, rx: &mut Rx<M>) -> Option<u64>
     requires { AreEnds tx.old rx.old }
     ensures same { (put_of tx.new ≡ put_of tx.old) × (taken_of rx.new ≡ taken_of rx.old) }

@@ -1,4 +1,4 @@
--- What a clause says of a call that is sent again while it has no reply.
+-- What a clause says of a call that is sent again until its reply comes.
 use Rattle.std.specs.Prelude.{◌≡◌, ◌<◌, ◌⊎◌, ℕ, zero, suc, true}
 use Rattle.zcalls.specs.declared.call.Call.{Call}
 use Rattle.zcalls.specs.declared.reply.Reply.{Reply}
@@ -14,40 +14,40 @@ use Rattle.zrun.specs.Clients.{BeganThen, caller_of, TurnedInVain, TurnedUntil}
 abbrev pub SentAgain : Caller → Caller → Type 0
 SentAgain a b = Retried a b true ⊎ SameCaller a b
 
--- so many times it sent the call again and took so many turns, and none of them gave out a reply
+-- n times it sent the call again and took `turns` turns, and no turn returned a reply
 abbrev pub InsistedInVain : ℕ → ℕ → Caller → Caller → Type 0
 InsistedInVain turns zero a b = b ≡ a
 InsistedInVain turns (suc n) a b =
     (m sent : Caller) × InsistedInVain turns n a m × SentAgain m sent × TurnedInVain turns sent b
 
--- it did so in vain, fewer times than it may, and once more, which gave out this reply
+-- it did so in vain, fewer times than it may, and once more, which returned this reply
 abbrev pub InsistedUntil : Patience → Caller → Caller → Reply → Type 0
 InsistedUntil patience a b reply =
     (n : ℕ) × (n < patience.retries) × (m sent : Caller) × InsistedInVain patience.turns n a m
     × SentAgain m sent × TurnedUntil patience.turns sent b reply
 
--- it took its turns, and sent the call again as often as it may, and none of them gave out a reply
+-- it took its turns, and sent the call again as often as it may, and no turn returned a reply
 abbrev pub AskedInVain : Patience → Caller → Caller → Type 0
 AskedInVain patience a b =
     (m : Caller) × TurnedInVain patience.turns a m × InsistedInVain patience.turns patience.retries m b
 
--- one of them gave out this reply
+-- one of these turns returned this reply
 abbrev pub AskedUntil : Patience → Caller → Caller → Reply → Type 0
 AskedUntil patience a b reply =
     TurnedUntil patience.turns a b reply
     ⊎ ((m : Caller) × TurnedInVain patience.turns a m × InsistedUntil patience m b reply)
 
--- it began the call, and so it went on until this reply came
+-- it invoked the call, and went on like this until this reply came
 abbrev pub CalledPatientlyUntil : Patience → Call → Client → Client → Reply → Type 0
 CalledPatientlyUntil patience call a b reply =
     BeganThen (caller_of a) call (λ begun. AskedUntil patience begun (caller_of b) reply)
 
--- where it has no answer, it began the call, and so it went on in vain
+-- if the fault is that there is no reply, it invoked the call, and went on like this in vain
 abbrev pub CalledPatientlyInVain : Patience → Call → Client → Client → Unanswered → Type 0
 CalledPatientlyInVain patience call a b fault =
     fault ≡ NoAnswer → BeganThen (caller_of a) call (λ begun. AskedInVain patience begun (caller_of b))
 
--- it has no answer: it sent the call again as often as it may, in vain
+-- there is no reply: it sent the call again as often as it may, in vain
 abbrev pub GaveUp : Patience → Client → Client → Unanswered → Type 0
 GaveUp patience a b fault =
     (fault ≡ NoAnswer) × InsistedInVain patience.turns patience.retries (caller_of a) (caller_of b)

@@ -11,52 +11,57 @@ use Rattle.zdesks.specs.Desks as desk
 use Rattle.zdesks.specs.Endings.{HasEnded, SameWires}
 use Rattle.zcaller.specs.declared.caller.Caller.{Caller}
 use Rattle.zcaller.specs.Callers.{caller_desk, caller_id, caller_view, Began, MayRefuse, SameCaller, Turned}
+use Rattle.zwords.specs.declared.halts.HaltSeat.{HaltSeat}
 use Rattle.zrun.specs.declared.client.Client.{Client}
 use Rattle.zrun.specs.declared.faults.Unanswered.{Unanswered}
 use Rattle.zrun.specs.declared.faults.Unanswered.TheVariants.{NoAnswer}
 use Rattle.zrun.specs.Faults.{unanswered_by}
 use Rattle.zrun.specs.Origins.{desk_wiring, IsOneOf, Run, Wiring}
 
--- what it does, it does as this
+-- the caller that acts for it
 abbrev pub caller_of : Client → Caller
 caller_of c = c.caller
 
--- it took so many turns, and none of them gave out a reply
+-- it took that many turns, and none of them returned a reply
 abbrev pub TurnedInVain : ℕ → Caller → Caller → Type 0
 TurnedInVain zero a b = b ≡ a
 TurnedInVain (suc n) a b = (m : Caller) × TurnedInVain n a m × Turned m b None
 
--- it took at most so many turns, and the last one gave out this reply
+-- it took at most that many turns, and the last one returned this reply
 abbrev pub TurnedUntil : ℕ → Caller → Caller → Reply → Type 0
 TurnedUntil turns a b reply = (n : ℕ) × (n < turns) × (m : Caller) × TurnedInVain n a m × Turned m b (Some reply)
 
--- why a call has no reply that wasn't begun
+-- why a call wasn't invoked
 abbrev pub IsRefused : ClientView → Unanswered → Type 0
 IsRefused v fault = (by : BeginFault) × (fault ≡ unanswered_by by) × MayRefuse v by
 
--- it began the call, and then this was done
+-- it invoked the call, and this was done next
 abbrev pub BeganThen : Caller → Call → (Caller → Type 0) → Type 0
 BeganThen a call P = (m : Caller) × (number : ℕ) × Began a m call number × P m
 
--- it began the call, and took turns until one of so many gave out this reply
+-- it invoked the call, and took at most that many turns, the last of which returned this reply
 abbrev pub CalledUntil : ℕ → Call → Client → Client → Reply → Type 0
 CalledUntil turns call a b reply = BeganThen (caller_of a) call (λ begun. TurnedUntil turns begun (caller_of b) reply)
 
--- where it has no answer, it began the call, and took so many turns in vain
+-- if the fault is that there is no reply, it invoked the call, and took that many turns in vain
 abbrev pub CalledInVain : ℕ → Call → Client → Client → Unanswered → Type 0
 CalledInVain turns call a b fault =
     fault ≡ NoAnswer → BeganThen (caller_of a) call (λ begun. TurnedInVain turns begun (caller_of b))
 
--- with any other fault nothing was begun
+-- with any other fault nothing was invoked
 abbrev pub BeganNothing : Client → Client → Unanswered → Type 0
 BeganNothing a b fault =
     fault ≢ NoAnswer → IsRefused (caller_view (caller_of a)) fault × SameCaller (caller_of a) (caller_of b)
 
--- it has no answer: it took so many turns in vain
+-- there is no reply: it took that many turns in vain
 abbrev pub WaitedInVain : ℕ → Client → Client → Unanswered → Type 0
 WaitedInVain turns a b fault = (fault ≡ NoAnswer) × TurnedInVain turns (caller_of a) (caller_of b)
 
--- its number, and its desk
+-- its seat at the run's halt word
+abbrev pub halt_seat : Client → HaltSeat
+halt_seat c = c.seat
+
+-- its number, and its endpoint
 abbrev pub number_of : Client → ℕ
 number_of c = caller_id c.caller
 
@@ -75,7 +80,7 @@ pub record SameClient (a b : Client) : Type 0 where
   pub number : number_of b ≡ number_of a
   pub wiring : client_wiring b ≡ client_wiring a
 
--- it is the one of that number
+-- it is the client of that number
 abbrev pub IsClientOf : Run → ℕ → Client → Type 0
 IsClientOf run number c = BelongsTo run c × (number_of c ≡ number)
 
@@ -83,7 +88,7 @@ IsClientOf run number c = BelongsTo run c × (number_of c ≡ number)
 abbrev pub AreIn : Run → List (Option Client) → Type 0
 AreIn run places = Each (λ i place. (c : Client) → place ≡ Some c → IsClientOf run i c) places
 
--- it is what the client left; of one that isn't there the trace is cut
+-- it is what the client left; the trace of one that isn't there is cut
 abbrev pub IsLeftIn : Option Client → Ending → Type 0
 IsLeftIn None e = e.trace.is_cut ≡ true
 IsLeftIn (Some c) e =

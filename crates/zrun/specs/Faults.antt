@@ -1,4 +1,4 @@
--- Why a call has no reply, where it wasn't begun.
+-- Why a call wasn't invoked.
 use Rattle.zprotocol.specs.declared.client.begin_fault.BeginFault.{BeginFault}
 use Rattle.zprotocol.specs.declared.client.begin_fault.BeginFault.TheVariants as begin_fault
 use Rattle.zrun.specs.declared.faults.Unanswered.{Unanswered}

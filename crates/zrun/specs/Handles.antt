@@ -1,4 +1,4 @@
--- What the threads of a run were started with.
+-- What a run's threads were started with.
 use Rattle.std.specs.Prelude.{List, ◌∷◌, ◌++◌, map}
 use Rattle.std.specs.declared.thread.PromisedHandle.{PromisedHandle}
 use Rattle.zconsole.specs.declared.ends.Inbox.{Inbox}
@@ -16,13 +16,13 @@ ServerHandle = PromisedHandle ServerThread SameServer
 abbrev pub MasterHandle : Type 0
 MasterHandle = PromisedHandle (MasterThread × Inbox) SameMaster
 
--- the desk of what a thread was started with
+-- the endpoint that a thread was started with
 abbrev pub given_server : ServerHandle → Desk
 given_server h = server_desk h.promise.0.value
 
 abbrev pub given_master : MasterHandle → Desk
 given_master h = master_desk h.promise.0.value
 
--- the desks of all, by place
+-- the endpoints of all processes, by place
 abbrev pub given_desks : MasterHandle → List ServerHandle → Run → List Desk
 given_desks master servers run = given_master master ∷ (map given_server servers ++ client_desks run)

@@ -14,11 +14,11 @@ use Rattle.zrun.specs.Clients.{client_desk}
 abbrev pub client_at : Clients → ℕ → Option Client
 client_at cs i = get_or cs.places.items i None
 
--- the run that they belong to
+-- the run to which they belong
 abbrev pub clients_run : Clients → Run
 clients_run cs = cs.run.value.items
 
--- all of the first numbers are there
+-- the clients of the first n numbers are all there
 abbrev pub HasAll : ℕ → Clients → Type 0
 HasAll n cs = (i : ℕ) → i < n → IsSome (client_at cs i)
 
@@ -26,7 +26,8 @@ HasAll n cs = (i : ℕ) → i < n → IsSome (client_at cs i)
 abbrev pub is_cut_client : Traces → ℕ → Bool
 is_cut_client t i = get_or (map (λ (c : ClientTrace). c.trace.is_cut) t.clients.items) i false
 
--- the client's trace and record stand in the traces of the run; of one that isn't there the trace is cut
+-- the client's trace and record stand in the traces of the run; the trace of one that isn't there
+-- is cut
 abbrev pub IsTold : Traces → ℕ → Option Client → Type 0
 IsTold t i None = is_cut_client t i ≡ true
 IsTold t i (Some c) = (trace_of t (process.Client i) ≡ desk.trace_of (client_desk c)) × (record_of t i ≡ desk.seen_of (client_desk c))

@@ -1,4 +1,4 @@
--- What a clause says of processes at the opening, and of their links.
+-- What a clause says of processes in the initial state, and of their channels.
 use Rattle.std.specs.Prelude.{◌≡◌, ◌+◌, List, length, map}
 use Rattle.zprotocol.specs.declared.limits.TheConstants.{MAX_SERVERS}
 use Rattle.zprotocol.specs.declared.process.Process.{Process}
@@ -9,11 +9,11 @@ use Rattle.zrun.specs.declared.opening.Ends.{Ends}
 use Rattle.zrun.specs.declared.opening.Opening.{Opening}
 use Rattle.zrun.specs.Runs.{AreDesks, in_rings_of, IsRun, out_rings_of}
 
--- it is the desk of that process in a run with that opening
+-- it is the endpoint of that process in a run with that initial state
 abbrev pub IsDeskAt : Opening → Process → Desk → Type 0
 IsDeskAt opening p d = IsDeskOf p opening.last opening.clients d
 
--- they are those of its servers, of its clients, or of all its processes
+-- they are the endpoints of its servers, of its clients, or of all its processes
 abbrev pub AreServerDesks : Opening → List Desk → Type 0
 AreServerDesks opening desks = AreDesks opening.last opening.clients 1 desks
 
@@ -23,7 +23,7 @@ AreClientDesks opening desks = AreDesks opening.last opening.clients (MAX_SERVER
 abbrev pub IsRunFrom : Opening → List Desk → Type 0
 IsRunFrom opening desks = IsRun opening.last opening.clients desks
 
--- nothing was put on them, and there are as many from others as to others
+-- nothing was sent on them, and there are as many from others as to others
 abbrev pub AreFresh : Ends → Type 0
 AreFresh e = (length e.ins.items ≡ length e.outs.items) × AreFreshIns e.ins.items × AreFreshOuts e.outs.items
 
@@ -34,6 +34,6 @@ out_rings_in e = map ring_of_tx e.outs.items
 abbrev pub in_rings_in : Ends → List Ring
 in_rings_in e = map ring_of_rx e.ins.items
 
--- the desk has these links
+-- the endpoint has these channels
 abbrev pub HasEnds : Ends → Desk → Type 0
 HasEnds e d = (out_rings_of d ≡ out_rings_in e) × (in_rings_of d ≡ in_rings_in e)

@@ -10,7 +10,7 @@ use Rattle.zcaller.specs.Callers.{caller_desk}
 use Rattle.zrun.specs.declared.posts.ClientPost.{ClientPost}
 use Rattle.zrun.specs.Runs.{in_rings_of, out_rings_of}
 
--- who a process is, in which run, and on which rings it takes and puts: no call changes it
+-- who a process is, in which run, and on which rings it receives and sends: no call changes it
 pub record Wiring : Type 0 where
   pub me : Process
   pub last : ℕ
@@ -29,11 +29,11 @@ desk_wiring d = record {
   outs = out_rings_of d;
 }
 
--- a run, told by its clients
+-- a run, given by its clients
 abbrev pub Run : Type 0
 Run = List ClientPost
 
--- the desks that they were made with
+-- the endpoints that they were made with
 abbrev pub client_desks : Run → List Desk
 client_desks run = map (λ (p : ClientPost). caller_desk p.caller) run
 

@@ -6,14 +6,14 @@ use Rattle.zrun.specs.declared.posts.Posts.{Posts}
 use Rattle.zrun.specs.declared.posts.ServerPost.{ServerPost}
 use Rattle.zrun.specs.Origins.{client_desks, Run}
 
--- the desks of the servers, the first one first
+-- the endpoints of the servers, the first one first
 abbrev pub post_desks : List ServerPost → List Desk
 post_desks posts = map (λ (p : ServerPost). server_desk p.member) (reverse posts)
 
--- all desks, by place
+-- all endpoints, by place
 abbrev pub desks_in : Posts → List Desk
 desks_in p = master_desk p.master.chief ∷ (post_desks p.servers.items ++ client_desks p.run.value.items)
 
--- the run that they are of
+-- the run to which they belong
 abbrev pub run_in : Posts → Run
 run_in p = p.run.value.items

@@ -1,4 +1,4 @@
--- The desks of a run, by place, and what they left.
+-- The endpoints of a run, by place, and what they left.
 use Rattle.std.specs.Prelude.{◌≡◌, ◌⊎◌, ℕ, ◌+◌, true, List, [], ◌∷◌, length, map}
 use Rattle.zprotocol.specs.Places.{process_at}
 use Rattle.zrings.specs.Ends.{Ring, ring_of_rx, ring_of_tx}
@@ -8,33 +8,33 @@ use Rattle.zdesks.specs.declared.desk.Ending.{Ending}
 use Rattle.zdesks.specs.Desks.{Each, IsDeskOf, self_of, wires_of}
 use Rattle.zdesks.specs.Endings.{HasEnded, SameWires}
 
--- the rings on which a process puts, and those from which it takes
+-- the rings on which a process sends, and those from which it receives
 abbrev pub out_rings_of : Desk → List Ring
 out_rings_of d = map ring_of_tx (wires_of d).1
 
 abbrev pub in_rings_of : Desk → List Ring
 in_rings_of d = map ring_of_rx (wires_of d).0
 
--- they are the desks of the processes from that place on
+-- they are the endpoints of the processes from that place on
 abbrev pub AreDesks : ℕ → ℕ → ℕ → List Desk → Type 0
 AreDesks last clients place desks = Each (λ i d. IsDeskOf (process_at (place + i)) last clients d) desks
 
--- they are the desks of all processes of a run, with a link from each to each
+-- they are the endpoints of all processes of a run, with a channel from each to each
 pub record IsRun (last clients : ℕ) (desks : List Desk) : Type 0 where
   pub each : AreDesks last clients 0 desks
   pub wired : IsWoven (length desks) (map out_rings_of desks) (map in_rings_of desks)
 
--- it is what the desk left, or its trace is cut
+-- it is what the endpoint left, or its trace is cut
 abbrev pub IsLeftBy : Desk → Ending → Type 0
 IsLeftBy d e = (e.trace.is_cut ≡ true) ⊎ (HasEnded (self_of d) e × SameWires d e)
 
--- there are as many of the one as of the other, and this is between those at one place
+-- the lists have the same length, and the relation holds place by place
 abbrev pub Pairs : {X Y : Type 0} → (X → Y → Type 0) → List X → List Y → Type 0
 Pairs R [] [] = Unit {0}
 Pairs R [] (y ∷ ys) = ⊥
 Pairs R (x ∷ xs) [] = ⊥
 Pairs R (x ∷ xs) (y ∷ ys) = R x y × Pairs R xs ys
 
--- each is what the desk of its place left, or its trace is cut
+-- each is what the endpoint of its place left, or its trace is cut
 abbrev pub AreLeftBy : List Desk → List Ending → Type 0
 AreLeftBy desks endings = Pairs IsLeftBy desks endings

@@ -8,7 +8,7 @@ use Rattle.zrun.specs.declared.supply.Supply.{Supply}
 use Rattle.zrun.specs.Openings.{in_rings_in, out_rings_in}
 use Rattle.zrun.specs.Runs.{in_rings_of, out_rings_of}
 
--- for how many processes there is something left
+-- the number of processes for which something is left
 abbrev pub left : Supply → ℕ
 left s = length s.outs.items
 
@@ -19,16 +19,16 @@ out_rings_left s = out_rings s.outs.items
 abbrev pub in_rings_left : Supply → List (List Ring)
 in_rings_left s = in_rings s.ins.items
 
--- they go from each of so many processes to each
+-- they go from each of n processes to each
 abbrev pub IsWovenFor : ℕ → Supply → Type 0
 IsWovenFor n s = AreWoven n s.outs.items s.ins.items
 
--- it handed out the last links
+-- it handed out the last channels
 abbrev pub HandsEnds : Supply → Supply → Ends → Type 0
 HandsEnds a b e =
     (out_rings_left a ≡ out_rings_left b ++ out_rings_in e ∷ []) × (in_rings_left a ≡ in_rings_left b ++ in_rings_in e ∷ [])
 
--- it handed out the last links, for these desks
+-- it handed out the last channels, for these endpoints
 abbrev pub HandsOut : Supply → Supply → List Desk → Type 0
 HandsOut a b desks =
     (out_rings_left a ≡ out_rings_left b ++ map out_rings_of desks) × (in_rings_left a ≡ in_rings_left b ++ map in_rings_of desks)

@@ -2,9 +2,9 @@
 
 ghost use Rattle.std.specs.Prelude.{◌≡◌, IfErr, IfOk, OnErr, OnOk, Some, max};
 ghost use Rattle.std.specs.Arc.{arc_value};
-ghost use Rattle.zwords.specs.HaltSeats.{IsSeatOf};
+ghost use Rattle.zwords.specs.HaltSeats.{IsSeatOf, Knows};
 ghost use Rattle.zcaller.specs.Callers.{Began, caller_stamp, caller_view, IsUncut, MayRefuse};
-ghost use Rattle.zcaller.specs.Callers.{Retried, SameCaller, Turned};
+ghost use Rattle.zcaller.specs.Callers.{Retried, SameCaller, SameLearnt, Turned};
 
 use crate::faults::Unanswered;
 use crate::patience::Patience;
@@ -19,7 +19,7 @@ use zprotocol::ServerId;
 use ztraces::Stamp;
 use zwords::halts::{Halt, HaltSeat};
 
-/// A client of one run, which it stays through all calls. None of its calls waits.
+/// A client of one run, which it stays through all calls. None of its calls blocks.
 #[derive(Drop)]
 pub struct Client {
     pub(crate) caller: Caller,
@@ -30,63 +30,70 @@ pub struct Client {
 
 impl Client {
     ghost use Rattle.zrun.specs.Clients.{BeganNothing, CalledInVain, CalledUntil, caller_of};
-    ghost use Rattle.zrun.specs.Clients.{number_of, SameClient, TurnedUntil, WaitedInVain};
+    ghost use Rattle.zrun.specs.Clients.{halt_seat, number_of, SameClient, TurnedUntil};
+    ghost use Rattle.zrun.specs.Clients.{WaitedInVain};
     ghost use Rattle.zrun.specs.Asked.{CalledPatientlyInVain, CalledPatientlyUntil, GaveUp};
     ghost use Rattle.zrun.specs.Asked.{InsistedUntil, SentAgain};
 
-    /// Begins a call, and answers its number.
+    /// Invokes a call, and returns its number.
     pub fn begin(&mut self, call: Call) -> Result<CallNumber, BeginFault>
         ensures began { IfOk result (Began (caller_of self.old) (caller_of self.new) call) }
         ensures fault { IfErr result (MayRefuse (caller_view (caller_of self.old))) }
         ensures refused { OnErr result (SameCaller (caller_of self.old) (caller_of self.new)) }
         ensures whole { OnOk result (IsUncut (caller_of self.old) (caller_of self.new)) }
+        ensures learnt { SameLearnt (caller_of self.old) (caller_of self.new) }
         ensures same { SameClient self.old self.new }
     {
         self.caller.begin(call)
     }
 
-    /// Takes at most one message, and answers the reply that the client waited for, if the message brings it.
+    /// Receives at most one message. Returns the reply of the outstanding call, if that is it.
     pub fn turn(&mut self) -> Option<Reply>
         ensures turned { Turned (caller_of self.old) (caller_of self.new) result }
         ensures whole { IsUncut (caller_of self.old) (caller_of self.new) }
+        ensures learnt { SameLearnt (caller_of self.old) (caller_of self.new) }
         ensures same { SameClient self.old self.new }
     {
         self.caller.turn()
     }
 
-    /// Sends the call that has no answer yet once more. False where there is none.
+    /// Sends the outstanding call once more. Returns false where there is none.
     pub fn retry(&mut self) -> Result<bool, Memory>
         ensures retried { IfOk result (Retried (caller_of self.old) (caller_of self.new)) }
         ensures refused { OnErr result (SameCaller (caller_of self.old) (caller_of self.new)) }
         ensures whole { OnOk result (IsUncut (caller_of self.old) (caller_of self.new)) }
+        ensures learnt { SameLearnt (caller_of self.old) (caller_of self.new) }
         ensures same { SameClient self.old self.new }
     {
         self.caller.retry()
     }
 
-    /// Halts a server: once its thread sees it, the server takes nothing more, and the master hears that it is gone.
+    /// Halts a server by setting its bit. Once its thread sees the bit the server receives nothing
+    /// more, and the master hears that it is gone.
     pub fn halt(&mut self, server: ServerId)
+        ensures set { Knows (halt_seat self.new) server }
         ensures caller { caller_of self.new ≡ caller_of self.old }
         ensures same { SameClient self.old self.new }
     {
         self.halt.set(&mut self.seat, server.number() as u32);
     }
 
-    /// Its number.
+    /// Returns its number.
     pub fn id(&self) -> ClientId
         ensures { result ≡ number_of self.now }
     {
         self.caller.id()
     }
 
-    /// The last stamp that it knows.
+    /// Returns the last Lamport timestamp that it knows.
     pub fn stamp(&self) -> Stamp
         ensures { result ≡ caller_stamp (caller_of self.now) }
     {
         self.caller.stamp()
     }
 
-    /// From now on its events are later than this stamp. So what one client saw, another that learns of its stamp can't miss.
+    /// From now on its events are later than this timestamp, through whatever calls. So a client
+    /// that learns another's timestamp sees all that the other one saw.
     pub fn learn(&mut self, stamp: Stamp)
         ensures stamp { caller_stamp (caller_of self.new)
             ≡ max (caller_stamp (caller_of self.old)) stamp }
@@ -96,26 +103,29 @@ impl Client {
         self.caller.learn(stamp);
     }
 
-    /// Begins a call and takes at most so many turns for its reply.
+    /// Invokes a call, and takes at most `turns` turns for its reply.
     pub fn call(&mut self, call: Call, turns: u64) -> Result<Reply, Unanswered>
         ensures reply { IfOk result (CalledUntil turns call self.old self.new) }
         ensures unanswered { IfErr result (CalledInVain turns call self.old self.new) }
         ensures refused { IfErr result (BeganNothing self.old self.new) }
+        ensures learnt { SameLearnt (caller_of self.old) (caller_of self.new) }
         ensures same { SameClient self.old self.new }
     {
-        // (the number of the call is asked for by nobody here)
+        // The number of the call isn't needed here.
         let _ = self.begin(call)?;
         self.wait(turns)
     }
 
-    /// Begins a call, and waits for its reply. While it has none the call is sent again, the same, so that it acts once.
+    /// Invokes a call, and waits for its reply. While there is none the same call is sent again. It
+    /// takes effect at most once. A send for which there is no memory is left out.
     pub fn ask(&mut self, call: Call, patience: Patience) -> Result<Reply, Unanswered>
         ensures reply { IfOk result (CalledPatientlyUntil patience call self.old self.new) }
         ensures unanswered { IfErr result (CalledPatientlyInVain patience call self.old self.new) }
         ensures refused { IfErr result (BeganNothing self.old self.new) }
+        ensures learnt { SameLearnt (caller_of self.old) (caller_of self.new) }
         ensures same { SameClient self.old self.new }
     {
-        // (the number of the call is asked for by nobody here)
+        // The number of the call isn't needed here.
         let _ = self.begin(call)?;
         if let Ok(reply) = self.wait(patience.turns) {
             return Ok(reply);
@@ -128,6 +138,7 @@ impl Client {
         ensures reply { IfOk result
             (InsistedUntil patience (caller_of self.old) (caller_of self.new)) }
         ensures unanswered { IfErr result (GaveUp patience self.old self.new) }
+        ensures learnt { SameLearnt (caller_of self.old) (caller_of self.new) }
         ensures same { SameClient self.old self.new }
     {
         for _ in 0..patience.retries {
@@ -139,9 +150,11 @@ impl Client {
         Err(Unanswered::NoAnswer)
     }
 
-    // Sends the call again, if there is memory for it: the turns that follow may bring its answer even so.
+    // Sends the call again, if there is memory for it. The turns that follow may bring its reply
+    // even so.
     fn send_again(&mut self)
         ensures sent { SentAgain (caller_of self.old) (caller_of self.new) }
+        ensures learnt { SameLearnt (caller_of self.old) (caller_of self.new) }
         ensures same { SameClient self.old self.new }
     {
         match self.retry() {
@@ -150,10 +163,12 @@ impl Client {
         }
     }
 
-    /// Takes at most so many turns for the reply of the call that was begun. Its only fault is NoAnswer.
+    /// Takes at most `turns` turns for the reply of the outstanding call. The only error is
+    /// `NoAnswer`.
     pub fn wait(&mut self, turns: u64) -> Result<Reply, Unanswered>
         ensures reply { IfOk result (TurnedUntil turns (caller_of self.old) (caller_of self.new)) }
         ensures unanswered { IfErr result (WaitedInVain turns self.old self.new) }
+        ensures learnt { SameLearnt (caller_of self.old) (caller_of self.new) }
         ensures same { SameClient self.old self.new }
     {
         for _ in 0..turns {

@@ -13,7 +13,7 @@ use std::snapshot::Snapshot;
 use zcalls::ClientId;
 use zpath::Memory;
 
-/// The clients of one run that are not handed out. Each belongs into the place of its number.
+/// The clients of one run that aren't handed out. Each has the place of its number.
 #[derive(Drop)]
 pub struct Clients {
     pub(crate) places: Vec<Option<Client>>,
@@ -26,7 +26,7 @@ pub struct Clients {
 impl Clients {
     ghost use Rattle.zrun.specs.Members.{client_at, clients_run, HasAll};
 
-    /// All clients of a run.
+    /// Returns all clients of a run.
     pub(crate) fn new(alloc: Global, posts: Vec<ClientPost>) -> Result<Clients, Memory>
         requires { Each (λ i p. caller_id p.caller ≡ i) posts.items }
         ensures run { IfOk result (λ clients. clients_run clients ≡ posts.items) }
@@ -64,11 +64,11 @@ impl Clients {
         ensures run { clients_run self.new ≡ clients_run self.old }
     {
         let place = client.id().number() as usize;
-        self.places[place] = Some(client);
+        drop(self.places[place].replace(client));
     }
 }
 
-// The client that is made of this.
+// Returns the client that is made of this.
 fn introduce(post: ClientPost) -> Client
     ensures { result.caller ≡ post.caller }
 {

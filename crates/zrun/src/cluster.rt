@@ -1,4 +1,4 @@
-//! A cluster, and its join.
+//! A cluster, and how its threads are joined.
 
 ghost use Rattle.std.specs.Prelude.{◌≡◌, false, IfOk, length};
 ghost use Rattle.zprotocol.specs.declared.limits.TheConstants.{MAX_SERVERS};
@@ -41,8 +41,10 @@ impl Cluster {
     ghost use Rattle.zrun.specs.Clusters.{client_count, cluster_run, last_server};
     ghost use Rattle.zrun.specs.Members.{AreTold, clients_run};
 
-    /// Ends all threads, and answers the traces of all processes. They are lawful, unless one is cut: that of a client which isn't
-    /// among those that are handed in is. Err where there is no memory for them; the threads have ended then too.
+    /// Ends all threads, and returns the traces of all processes. They are lawful, unless one is
+    /// cut. The trace of a client that isn't among `clients` is cut.
+    ///
+    /// The only error is out of memory. Then too all threads have ended.
     pub fn join<R: Threads>(
         self,
         rt: &R,
@@ -68,18 +70,23 @@ impl Cluster {
         drop(console);
         let Ok(room) = Vec::with_capacity(alloc, MAX_SERVERS as usize) else {
             end_all(rt, halt, master, servers);
+            drop(clients);
             return Err(Memory);
         };
         halt.end();
+        drop(halt);
         let (chief, inbox) = master.join(rt);
         drop(inbox);
         let servers = join_servers(rt, servers, room);
-        let clients = end_clients(alloc, clients)?;
+        let Ok(clients) = end_clients(alloc, clients) else {
+            drop((chief, servers));
+            return Err(Memory);
+        };
         gather(alloc, opening.last, chief.into_ending(), servers, clients)
     }
 }
 
-/// Ends a run's threads, of which nothing more is wanted.
+/// Ends a run's threads, and drops what they hand back.
 pub(crate) fn end_all<R: Threads>(
     rt: &R,
     mut halt: HaltPost,

@@ -6,10 +6,10 @@ use thiserror::Error;
 use zclient::BeginFault;
 use zpath::Memory;
 
-/// Why no cluster was started. No thread of it is left.
+/// Why no cluster was started. None of its threads is left running.
 #[derive(Clone, Copy, Debug, Drop, PartialEq, Eq, Error)]
 pub enum StartFault {
-    /// There was no memory.
+    /// Out of memory.
     #[error("Memory")]
     Memory,
     /// A thread could not be started.
@@ -20,16 +20,16 @@ pub enum StartFault {
 /// Why a call has no reply.
 #[derive(Clone, Copy, Debug, Drop, PartialEq, Eq, Error)]
 pub enum Unanswered {
-    /// The client waits for the answer of another call: nothing was begun.
+    /// The client has an outstanding call. Nothing was invoked.
     #[error("Busy")]
     Busy,
-    /// There was no memory: nothing was begun.
+    /// Out of memory. Nothing was invoked.
     #[error("Memory")]
     Memory,
-    /// The client has no numbers left: nothing was begun.
+    /// The client has no call numbers left. Nothing was invoked.
     #[error("Exhausted")]
     Exhausted,
-    /// The call was begun, and has no answer yet.
+    /// The call was invoked, and has no reply yet.
     #[error("NoAnswer")]
     NoAnswer,
 }

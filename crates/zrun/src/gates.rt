@@ -1,4 +1,4 @@
-//! The gates of a cluster that nobody holds back.
+//! The gates of a cluster whose servers nobody holds.
 
 ghost use Rattle.std.specs.Prelude.{◌≡◌, IfOk, length};
 ghost use Rattle.zprotocol.specs.declared.limits.TheConstants.{MAX_SERVERS};
@@ -8,7 +8,7 @@ use zpath::Memory;
 use zprotocol::MAX_SERVERS;
 use zthreads::Open;
 
-/// A gate for each server, which lets all pass.
+/// Returns a gate for each server that lets all pass. The only error is out of memory.
 pub fn open_gates(alloc: Global) -> Result<Vec<Open>, Memory>
     ensures { IfOk result (λ gates. length gates.items ≡ MAX_SERVERS) }
 {

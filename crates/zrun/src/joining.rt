@@ -19,7 +19,7 @@ use zpath::Memory;
 use zthreads::ServerThread;
 use ztraces::Trace;
 
-/// What the servers left, the first one first.
+/// Joins the servers' threads. Returns what they left, the first one first.
 pub(crate) fn join_servers<R: Threads>(
     rt: &R,
     servers: Vec<PromisedHandle<ServerThread, SameServer>>,
@@ -37,7 +37,7 @@ pub(crate) fn join_servers<R: Threads>(
     endings
 }
 
-/// What the clients left, by number. Of a client that isn't here the trace is cut.
+/// Returns what the clients left, by number. The trace of a client that isn't here is cut.
 pub(crate) fn end_clients(alloc: Global, clients: Clients) -> Result<Vec<Ending>, Memory>
     ensures left { IfOk result (λ ended.
         AreLeftBy (client_desks (clients_run clients)) ended.items) }
@@ -51,7 +51,7 @@ pub(crate) fn end_clients(alloc: Global, clients: Clients) -> Result<Vec<Ending>
     Ok(endings)
 }
 
-// What a client left, if it is here.
+// Returns what a client left, if it is here, and a cut trace otherwise.
 fn end_client(alloc: Global, place: Option<Client>) -> Ending
     ensures { IsLeftIn place result }
 {
@@ -61,7 +61,7 @@ fn end_client(alloc: Global, place: Option<Client>) -> Ending
     }
 }
 
-// What is known of a client that isn't here.
+// Returns a cut trace, for a client that isn't here.
 fn missing(alloc: Global) -> Ending
     ensures { result.trace.is_cut ≡ true }
 {

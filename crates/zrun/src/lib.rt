@@ -1,5 +1,7 @@
-//! The service in threads: a thread for each server and one for the master, clients that their callers' threads own, and a
-//! cluster that is started and joined. What it hands back when joined are the traces of all, for the audit.
+//! The service in threads.
+//!
+//! A cluster has a thread for each server and one for the master. Its clients are owned by their
+//! callers' threads. When it is joined it returns the traces of all processes, for the audit.
 #![tactic(auto)]
 
 mod client;

@@ -1,4 +1,4 @@
-//! Where each process stands at the opening.
+//! Each process in its initial state.
 
 ghost use Rattle.std.specs.Prelude.{◌≡◌, ◌<◌, ◌≤◌, None, IfOk};
 ghost use Rattle.ztree.specs.declared.limits.TheConstants.{MAX_CLIENTS};
@@ -20,7 +20,7 @@ use zrings::ends::{Rx, Tx};
 use zserver::Server;
 use zthreads::{MasterThread, ServerThread};
 
-/// What all processes of a run know of its opening.
+/// What all processes of a run know of its initial state.
 #[derive(Clone, Copy)]
 pub(crate) struct Opening {
     /// The last server of the chain.
@@ -30,7 +30,7 @@ pub(crate) struct Opening {
     ghost few: { clients ≤ MAX_CLIENTS },
 }
 
-/// The links of one process, by place.
+/// The channels of one process, by place.
 #[derive(Drop)]
 pub(crate) struct Ends {
     pub(crate) ins: Vec<Rx<Stamped>>,
@@ -40,7 +40,7 @@ pub(crate) struct Ends {
 impl Opening {
     ghost use Rattle.zrun.specs.Openings.{AreFresh, HasEnds, IsDeskAt};
 
-    /// The master.
+    /// Returns the master.
     pub(crate) fn master(&self, alloc: Global, ends: Ends) -> MasterThread
         requires { AreFresh ends }
         ensures desk { IsDeskAt self.now process.Master (master_desk result) }
@@ -51,7 +51,7 @@ impl Opening {
         MasterThread::new(desk, Master::new(self.last, self.clients))
     }
 
-    /// The server of this number: a member of the chain, or a spare one.
+    /// Returns the server of this number: a member of the chain, or a spare one.
     pub(crate) fn server(
         &self,
         alloc: Global,
@@ -63,7 +63,7 @@ impl Opening {
             IsDeskAt self.now (process.Server id) (server_desk server)) }
         ensures ends { IfOk result (λ server. HasEnds ends (server_desk server)) }
     {
-        // The number of a server is one of a chain: its clause tells that.
+        // This call hands its clause to the prover: the number is one of a chain.
         let _ = id.number();
         let server = server_at(alloc, id, self.last)?;
         let Ends { ins, outs } = ends;
@@ -78,7 +78,7 @@ impl Opening {
         Ok(ServerThread::new(id, desk, server))
     }
 
-    /// The client of this number.
+    /// Returns the client of this number.
     pub(crate) fn caller(&self, alloc: Global, id: ClientId, ends: Ends) -> Caller
         requires fresh { AreFresh ends }
         requires known { id < self.now.clients }
@@ -98,7 +98,7 @@ impl Opening {
     }
 }
 
-// The server of this number, where the chain goes up to the last one.
+// Returns the server of this number, where the chain ends with `last`.
 fn server_at(alloc: Global, id: ServerId, last: ServerId) -> Result<Server, Memory>
     ensures view { IfOk result (λ server. server.view ≡ opening_server kept_tree last id) }
     ensures runs { IfOk result (λ server. server.stopped ≡ None) }

@@ -1,10 +1,10 @@
-//! How long a call is waited for.
+//! How long a client waits for a reply.
 
-/// How long a call is waited for, and how often it is sent again.
+/// How long a client waits for a call's reply, and how often it sends the call again.
 #[derive(Clone, Copy, Debug, PartialEq, Eq)]
 pub struct Patience {
-    /// The turns that are taken for its reply each time that it was sent.
+    /// How many turns are taken for the reply after each send.
     pub turns: u64,
-    /// How often it is sent again.
+    /// How often the call is sent again.
     pub retries: u64,
 }

@@ -1,4 +1,4 @@
-//! All that a run's threads and clients own, before any thread is started.
+//! What a run's threads and clients own, before any thread is started.
 
 ghost use Rattle.std.specs.Prelude.{◌≡◌, ◌≤◌, ◌+◌, IfOk, OnOk, length};
 ghost use Rattle.zprotocol.specs.declared.limits.TheConstants.{MAX_SERVERS};
@@ -23,7 +23,6 @@ use zthreads::{MasterThread, ServerThread};
 /// What a server's thread is started with.
 #[derive(Drop)]
 pub(crate) struct ServerPost {
-    pub(crate) id: ServerId,
     pub(crate) member: ServerThread,
     pub(crate) halt: HaltPost,
 }
@@ -43,21 +42,21 @@ pub(crate) struct ClientPost {
     pub(crate) halt: HaltPost,
 }
 
-/// All of a run.
+/// What all threads and clients of a run own.
 #[derive(Drop)]
 pub(crate) struct Posts {
     pub(crate) master: MasterPost,
-    /// The servers' by number, the last one first.
+    /// Those of the servers by number, the last one first.
     pub(crate) servers: Vec<ServerPost>,
     pub(crate) clients: Clients,
     /// What the clients were made of.
     pub(crate) run: Snapshot<Vec<ClientPost>>,
     pub(crate) console: Console,
-    /// That of whoever ends the run.
+    /// The seat of whoever ends the run.
     pub(crate) halt: HaltPost,
 }
 
-/// All that a run needs, or Memory.
+/// Returns all that a run needs. The only error is out of memory.
 pub(crate) fn prepare(alloc: Global, opening: &Opening) -> Result<Posts, Memory>
     ensures servers { IfOk result (λ posts. length posts.servers.items ≡ MAX_SERVERS) }
     ensures count { IfOk result (λ posts. length (run_in posts) ≡ opening.now.clients) }
@@ -67,13 +66,28 @@ pub(crate) fn prepare(alloc: Global, opening: &Opening) -> Result<Posts, Memory>
 {
     let count = 1 + MAX_SERVERS as usize + opening.clients as usize;
     let mut supply = Supply::new(alloc, count)?;
-    let callers = prepare_clients(alloc, opening, &mut supply)?;
-    let servers = prepare_servers(alloc, opening, &mut supply)?;
-    let (ends, halt) = supply.next()?;
-    let (console, inbox) = Console::open(alloc)?;
+    let Ok(callers) = prepare_clients(alloc, opening, &mut supply) else {
+        drop(supply);
+        return Err(Memory);
+    };
+    let Ok(servers) = prepare_servers(alloc, opening, &mut supply) else {
+        drop((supply, callers));
+        return Err(Memory);
+    };
+    let Ok((ends, halt)) = supply.next() else {
+        drop((supply, callers, servers));
+        return Err(Memory);
+    };
+    let Ok((console, inbox)) = Console::open(alloc) else {
+        drop((supply, callers, servers, ends, halt));
+        return Err(Memory);
+    };
     let chief = opening.master(alloc, ends);
     let run = Snapshot::of(&callers);
-    let clients = Clients::new(alloc, callers)?;
+    let Ok(clients) = Clients::new(alloc, callers) else {
+        drop((supply, servers, chief, inbox, console, halt, run));
+        return Err(Memory);
+    };
     Ok(Posts {
         master: MasterPost { chief, inbox, halt },
         servers,
@@ -84,7 +98,7 @@ pub(crate) fn prepare(alloc: Global, opening: &Opening) -> Result<Posts, Memory>
     })
 }
 
-// What the clients are made of, which have the last places.
+// Returns what the clients are made of. They have the last places.
 fn prepare_clients(
     alloc: Global,
     opening: &Opening,
@@ -111,7 +125,7 @@ fn prepare_clients(
     Ok(clients)
 }
 
-// The servers, which have the places before them: the last one first.
+// Returns the servers, the last one first. They have the places before the clients.
 fn prepare_servers(
     alloc: Global,
     opening: &Opening,
@@ -131,7 +145,7 @@ fn prepare_servers(
         };
         let (ends, halt) = supply.next()?;
         let member = opening.server(alloc, id, ends)?;
-        servers.push(ServerPost { id, member, halt })?;
+        servers.push(ServerPost { member, halt })?;
     }
     Ok(servers)
 }

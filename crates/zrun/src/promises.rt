@@ -1,4 +1,4 @@
-//! What the threads promise of what they hand back.
+//! What threads promise of what they hand back.
 
 ghost use Rattle.std.specs.Prelude.{◌≡◌};
 ghost use Rattle.zdesks.specs.Desks.{SameDesk};
@@ -11,7 +11,7 @@ use std::thread::Promise;
 use zconsole::ends::Inbox;
 use zthreads::{MasterThread, ServerThread};
 
-/// The server that comes back has the desk of the one that went.
+/// The server that comes back has the endpoint of the one that went.
 #[derive(Drop)]
 pub(crate) struct SameServer(pub(crate) Snapshot<ServerThread>);
 
@@ -19,7 +19,7 @@ impl Promise<ServerThread> for SameServer {
     ghost kept_by = { λ p r. SameDesk (server_desk p.0.value) (server_desk r) };
 }
 
-/// The master that comes back has the desk of the one that went.
+/// The master that comes back has the endpoint of the one that went.
 #[derive(Drop)]
 pub(crate) struct SameMaster(pub(crate) Snapshot<MasterThread>);
 
@@ -27,14 +27,15 @@ impl Promise<(MasterThread, Inbox)> for SameMaster {
     ghost kept_by = { λ p r. SameDesk (master_desk p.0.value) (master_desk r.0) };
 }
 
-/// The client that comes back is the one that went. A thread that is given a client promises it, with what else it hands back.
+/// The client that comes back is the one that went. A thread that is given a client can promise
+/// this, whatever else it hands back.
 #[derive(Drop)]
 pub struct HandsBack(pub(crate) Snapshot<Client>);
 
 impl HandsBack {
     ghost use Rattle.zrun.specs.Promised.{promised_client};
 
-    /// The promise to hand back this client.
+    /// Returns the promise to hand back this client.
     pub fn of(client: &Client) -> HandsBack
         ensures { promised_client result ≡ client.now }
     {

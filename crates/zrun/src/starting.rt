@@ -1,16 +1,18 @@
 //! The start of a cluster.
 
-ghost use Rattle.std.specs.Prelude.{◌≡◌, ◌≤◌, [], All, IfOk, length, map};
+ghost use Rattle.std.specs.Prelude.{◌≡◌, ◌≤◌, [], All, IfErr, IfOk, length, map};
 ghost use Rattle.std.specs.Vec.{vec_capacity};
 ghost use Rattle.std.specs.Arc.{arc_value};
 ghost use Rattle.zwords.specs.HaltSeats.{IsSeatOf};
-ghost use Rattle.zwords.specs.declared.limits.TheConstants.{LAST_BIT};
 ghost use Rattle.ztree.specs.declared.limits.TheConstants.{MAX_CLIENTS};
 ghost use Rattle.zprotocol.specs.declared.limits.TheConstants.{MAX_SERVERS};
 ghost use Rattle.zdesks.specs.Desks.{SameDesk};
 ghost use Rattle.zthreads.specs.Owned.{master_desk, server_desk};
 ghost use Rattle.zrun.specs.Handles.{given_master, given_server};
-ghost use Rattle.zrun.specs.Posts.{post_desks};
+ghost use Rattle.zrun.specs.Members.{clients_run, HasAll};
+ghost use Rattle.zrun.specs.Openings.{IsRunFrom};
+ghost use Rattle.zrun.specs.Posts.{desks_in, post_desks, run_in};
+ghost use Rattle.zrun.specs.declared.faults.StartFault.TheVariants.{Thread};
 
 use crate::clients::Clients;
 use crate::cluster::{Cluster, end_all};
@@ -30,11 +32,12 @@ use zthreads::{Gate, MasterThread, ServerThread, preside, serve};
 
 impl Cluster {
     ghost use Rattle.zrun.specs.Clusters.{client_count, cluster_run, last_server};
-    ghost use Rattle.zrun.specs.Members.{clients_run, HasAll};
 
-    /// Starts a thread for each of the sixteen servers, spare ones among them, and one for the master. The chain is the servers
-    /// up to the last one; there are so many clients, of the numbers from 0 on. Each server has the gate of its number.
-    /// At a refusal no thread is left.
+    /// Starts a thread for each of the sixteen servers, spare ones too, and one for the master.
+    ///
+    /// The chain is the servers up to `last`. There are `clients` clients, numbered from 0 on. The
+    /// gates are those of the servers, by number. At an error no thread is left running. Where a
+    /// thread can't be started the error is `Thread`: all memory is there before the first one.
     pub fn start<G: Gate + Send + 'static, R: Threads + Wait + Copy + Send + 'static>(
         rt: R,
         alloc: Global,
@@ -50,18 +53,52 @@ impl Cluster {
             (last_server run.0 ≡ last) × (client_count run.0 ≡ clients)) }
     {
         let opening = Opening { last, clients };
+        let posts = prepare(alloc, &opening)?;
+        let Ok(threads) = Vec::with_capacity(alloc, MAX_SERVERS as usize) else {
+            drop((posts, gates));
+            return Err(StartFault::Memory);
+        };
+        Cluster::start_over(rt, opening, posts, gates, threads)
+    }
+
+    // Starts the threads, for which all memory is there: the only fault is `Thread`.
+    fn start_over<G: Gate + Send + 'static, R: Threads + Wait + Copy + Send + 'static>(
+        rt: R,
+        opening: Opening,
+        posts: Posts,
+        gates: Vec<G>,
+        threads: Vec<PromisedHandle<ServerThread, SameServer>>,
+    ) -> Result<(Cluster, Console, Clients), StartFault>
+        requires servers { length posts.servers.items ≡ MAX_SERVERS }
+        requires count { length (run_in posts) ≡ opening.clients }
+        requires own { clients_run posts.clients ≡ run_in posts }
+        requires all { HasAll opening.clients posts.clients }
+        requires run { IsRunFrom opening (desks_in posts) }
+        requires gates { length gates.items ≡ MAX_SERVERS }
+        requires none { threads.items ≡ [] }
+        requires room { MAX_SERVERS ≤ vec_capacity threads }
+        ensures all { IfOk result (λ run. HasAll opening.clients run.2) }
+        ensures own { IfOk result (λ run. clients_run run.2 ≡ cluster_run run.0) }
+        ensures numbers { IfOk result (λ run.
+            (last_server run.0 ≡ opening.last) × (client_count run.0 ≡ opening.clients)) }
+        ensures fault { IfErr result (λ fault. fault ≡ Thread) }
+    {
         let Posts {
             master,
             servers,
-            clients: callers,
+            clients,
             run,
             console,
             halt,
-        } = prepare(alloc, &opening)?;
-        let Ok(threads) = Vec::with_capacity(alloc, MAX_SERVERS as usize) else {
-            return Err(StartFault::Memory);
+        } = posts;
+        let master = match start_master(rt, master) {
+            Ok(master) => master,
+            Err(fault) => {
+                drop((servers, gates, threads));
+                drop((halt, run, console, clients));
+                return Err(fault);
+            }
         };
-        let master = start_master(rt, master)?;
         match start_servers(rt, servers, gates, threads) {
             Ok(servers) => Ok((
                 Cluster {
@@ -72,22 +109,24 @@ impl Cluster {
                     run,
                 },
                 console,
-                callers,
+                clients,
             )),
             Err((fault, started)) => {
                 end_all(&rt, halt, master, started);
+                drop((run, console, clients));
                 Err(fault)
             }
         }
     }
 }
 
-// The master's thread.
+// Starts the master's thread.
 fn start_master<R: Threads + Wait + Copy + Send + 'static>(
     rt: R,
     post: MasterPost,
 ) -> Result<PromisedHandle<(MasterThread, Inbox), SameMaster>, StartFault>
-    ensures { IfOk result (λ handle. given_master handle ≡ master_desk post.chief) }
+    ensures given { IfOk result (λ handle. given_master handle ≡ master_desk post.chief) }
+    ensures fault { IfErr result (λ fault. fault ≡ Thread) }
 {
     let MasterPost {
         chief,
@@ -104,39 +143,45 @@ fn start_master<R: Threads + Wait + Copy + Send + 'static>(
         { preside(&rt, chief, inbox, &halt, seat) },
     ) {
         Ok(handle) => Ok(handle),
-        Err(_) => Err(StartFault::Thread),
+        Err(refused) => {
+            drop(refused);
+            Err(StartFault::Thread)
+        }
     }
 }
 
-// A server's thread.
+// Starts a server's thread.
 fn start_server<G: Gate + Send + 'static, R: Threads + Wait + Copy + Send + 'static>(
     rt: R,
     post: ServerPost,
     gate: G,
 ) -> Result<PromisedHandle<ServerThread, SameServer>, StartFault>
-    ensures { IfOk result (λ handle. given_server handle ≡ server_desk post.member) }
+    ensures given { IfOk result (λ handle. given_server handle ≡ server_desk post.member) }
+    ensures fault { IfErr result (λ fault. fault ≡ Thread) }
 {
     let ServerPost {
-        id,
         member,
         halt: HaltPost { halt, seat },
     } = post;
-    let bit = id.number() as u32;
     let promise = SameServer(Snapshot::of(&member));
     match thread::spawn_with(
         &rt,
         promise,
         move || -> ServerThread
-            requires { IsSeatOf (arc_value halt) seat × (bit ≤ LAST_BIT) }
+            requires { IsSeatOf (arc_value halt) seat }
             ensures { SameDesk (server_desk member) (server_desk result) }
-        { serve(&rt, member, gate, &halt, seat, bit) },
+        { serve(&rt, member, gate, &halt, seat) },
     ) {
         Ok(handle) => Ok(handle),
-        Err(_) => Err(StartFault::Thread),
+        Err(refused) => {
+            drop(refused);
+            Err(StartFault::Thread)
+        }
     }
 }
 
-// All servers' threads, of the first server first; or the fault, and those that were started.
+// Starts all servers' threads, the first one first. At an error it returns the fault, and the
+// threads that were started.
 fn start_servers<G: Gate + Send + 'static, R: Threads + Wait + Copy + Send + 'static>(
     rt: R,
     mut posts: Vec<ServerPost>,
@@ -153,6 +198,7 @@ fn start_servers<G: Gate + Send + 'static, R: Threads + Wait + Copy + Send + 'st
     ensures count { IfOk result (λ handles. length handles.items ≡ MAX_SERVERS) }
     ensures given { IfOk result (λ handles. map given_server handles.items
         ≡ post_desks posts.items) }
+    ensures fault { IfErr result (λ failed. failed.0 ≡ Thread) }
 {
     gates.reverse();
     for _ in 0..MAX_SERVERS {

@@ -1,4 +1,4 @@
-//! Links and seats, handed out to one process after the other, the last one first.
+//! Channels and seats, handed out to one process after the other, the last one first.
 
 ghost use Rattle.std.specs.Prelude.{◌≡◌, ◌<◌, ◌+◌, IfOk, OnOk, length, All};
 ghost use Rattle.std.specs.Arc.{arc_value};
@@ -14,7 +14,7 @@ use zpath::Memory;
 use zrings::ends::{Rx, Tx};
 use zwords::halts::{Halt, HaltSeat};
 
-/// A seat of the run's halt word.
+/// A seat at the run's halt word.
 #[derive(Drop)]
 pub(crate) struct HaltPost {
     pub(crate) halt: Arc<Halt, Global>,
@@ -23,13 +23,14 @@ pub(crate) struct HaltPost {
 }
 
 impl HaltPost {
-    /// Ends the run: no thread takes anything more.
+    /// Ends the run. A thread that sees this receives nothing more.
     pub(crate) fn end(&mut self) {
         self.halt.set(&mut self.seat, 0);
     }
 }
 
-/// What processes are handed: a link from each to each, and a seat each, with one more for whoever ends the run.
+/// What processes are handed: a channel from each to each, and a seat each. There is one more seat,
+/// for whoever ends the run.
 #[derive(Drop)]
 pub(crate) struct Supply {
     outs: Vec<Vec<Tx<Stamped>>>,
@@ -50,7 +51,7 @@ impl Supply {
     ghost use Rattle.zrun.specs.Supplies.{HandsEnds, IsWovenFor, left};
     ghost use Rattle.zrun.specs.Openings.{AreFresh};
 
-    /// For so many processes.
+    /// Returns the supply for `count` processes.
     pub(crate) fn new(alloc: Global, count: usize) -> Result<Supply, Memory>
         requires { count < 100 }
         ensures left { IfOk result (λ supply. left supply ≡ count) }
@@ -68,7 +69,7 @@ impl Supply {
         })
     }
 
-    /// The links and the seat of the next process.
+    /// Hands out the channels and the seat of the next process.
     pub(crate) fn next(&mut self) -> Result<(Ends, HaltPost), Memory>
         requires { 0 < left self.old }
         ensures fresh { IfOk result (λ parts. AreFresh parts.0) }
@@ -88,7 +89,7 @@ impl Supply {
         Ok((Ends { ins, outs }, HaltPost { halt, seat }))
     }
 
-    /// The seat of whoever ends the run.
+    /// Returns the seat of whoever ends the run.
     pub(crate) fn into_last(self) -> HaltPost {
         let Supply {
             outs,

@@ -55,6 +55,11 @@ impl Meeting {
         self.came.load(SeqCst) >= self.wanted
     }
 
+    /// Counts one more as come.
+    pub fn come(&self) {
+        self.came.fetch_add(1, SeqCst);
+    }
+
     /// How many gates saw all of them there.
     pub fn met(&self) -> usize {
         self.met.load(SeqCst)
@@ -62,7 +67,7 @@ impl Meeting {
 
     // Waits for all, a hundred million times at most.
     fn hold(&self) {
-        self.came.fetch_add(1, SeqCst);
+        self.come();
         for _ in 0..100_000_000u64 {
             if self.is_full() {
                 self.met.fetch_add(1, SeqCst);

@@ -8,11 +8,32 @@ use crate::calls::{ask, create, exists};
 use crate::runs::start_plain;
 use std::alloc::Global;
 use std::test::Fail;
+use std::thread;
+use zaudit::audit;
 use zliterals::{client, server};
 use zrun::{Client, Clients, Unanswered};
+use ztraces::{Act, Trace};
 
 // What an answer takes is far below; one that never comes is waited for so long.
-const TURNS: u64 = 10_000;
+const TURNS: u64 = 1_000_000;
+
+// Begins a call and takes turns until its reply comes. Whether it did. No turn gives way to other
+// threads, so a busy machine makes few of them late.
+fn is_answered(client: &mut Client, alloc: Global) -> Option<bool>
+    ensures { SameClient client.old client.new }
+{
+    let call = exists(alloc, "/")?;
+    if client.begin(call).is_err() {
+        return None;
+    }
+    for _ in 0..TURNS {
+        if let Some(reply) = client.turn() {
+            drop(reply);
+            return Some(true);
+        }
+    }
+    Some(false)
+}
 
 // How many of three calls are answered, and why the next one isn't.
 fn ask_halted(client: &mut Client, alloc: Global) -> Option<(u8, Option<Unanswered>)>
@@ -20,9 +41,8 @@ fn ask_halted(client: &mut Client, alloc: Global) -> Option<(u8, Option<Unanswer
 {
     let mut answered = 0u8;
     for _ in 0..3 {
-        let result = client.call(exists(alloc, "/")?, TURNS);
-        if let Err(fault) = result {
-            return Some((answered, Some(fault)));
+        if !is_answered(client, alloc)? {
+            return Some((answered, client.wait(1).err()));
         }
         answered = answered.saturating_add(1);
     }
@@ -63,5 +83,69 @@ fn halted(rt: HostRuntime) -> Result<(), Fail> {
     let traces = cluster.join(&rt, alloc, console, clients)?;
     drop(traces);
     assert!(rt; done == Some(true));
+    Ok(())
+}
+
+// Halts the first server, and takes turns until the master tells of the new chain. Whether it did.
+fn halt_and_hear(client: &mut Client) -> bool
+    ensures { SameClient client.old client.new }
+{
+    client.halt(server(1));
+    let before = client.stamp();
+    for _ in 0..TURNS {
+        if let Some(reply) = client.turn() {
+            drop(reply);
+        }
+        if client.stamp() != before {
+            return true;
+        }
+        thread::yield_now();
+    }
+    false
+}
+
+// Halts the first server. Whether the chain is mended then, and a call is answered.
+fn outlive_the_first(client: &mut Client, alloc: Global) -> Option<bool>
+    ensures { SameClient client.old client.new }
+{
+    if !halt_and_hear(client) {
+        return None;
+    }
+    Some(ask(client, create(alloc, "/a")?).is_some())
+}
+
+// The same, by one of the clients.
+#[tactic(auto, using(zrun::proofs::Still::still_belongs))]
+fn outlive_by_one(clients: &mut Clients, alloc: Global) -> Option<bool>
+    ensures { clients_run clients.new ≡ clients_run clients.old }
+{
+    let Some(mut one) = clients.take(client(1)) else {
+        return None;
+    };
+    let done = outlive_the_first(&mut one, alloc);
+    clients.put(one);
+    done
+}
+
+// Whether all that the server did is that it was halted.
+fn is_halted_alone(trace: &Trace) -> bool {
+    if trace.events.len() != 1 {
+        return false;
+    }
+    match &trace.events[0].act {
+        Act::Halted => true,
+        _ => false,
+    }
+}
+
+#[test]
+fn a_halted_server_receives_nothing(rt: HostRuntime) -> Result<(), Fail> {
+    let alloc = rt.alloc();
+    let (cluster, console, mut clients) = start_plain(rt, alloc, server(2), 2)?;
+    let done = outlive_by_one(&mut clients, alloc);
+    let traces = cluster.join(&rt, alloc, console, clients)?;
+    assert!(rt; done == Some(true));
+    assert!(rt; traces.servers.len() == 16 && is_halted_alone(&traces.servers[0]));
+    assert!(rt; audit(alloc, &traces).is_ok());
     Ok(())
 }

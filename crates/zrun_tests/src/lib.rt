@@ -1,11 +1,14 @@
-//! Tests of the service in threads: threads that meet, a server that joins late, one that leaves, halted servers, stamps that are
-//! learnt, and what the audit says of the traces of a cluster that was joined.
+//! Tests of the service in threads: threads that meet, a server that joins late, one that leaves,
+//! halted servers, a ring that is full, stamps that are learnt, a client that is not put back, and
+//! what the audit says of the traces of a cluster that was joined.
 #![tactic(auto)]
 
 #[cfg(test)]
 mod apart;
 #[cfg(test)]
 mod calls;
+#[cfg(test)]
+mod filled;
 #[cfg(test)]
 mod gates;
 #[cfg(test)]
@@ -16,6 +19,10 @@ mod joins;
 mod leavings;
 #[cfg(test)]
 mod meetings;
+#[cfg(test)]
+mod missing;
+#[cfg(test)]
+mod retries;
 #[cfg(test)]
 mod runs;
 #[cfg(test)]

@@ -1,4 +1,4 @@
--- What a device did between two of its states, told by the members of its trait at the device's type.
+-- What a device did between two of its states, by the members of its trait at the device's type.
 use Rattle.zdevices.specs.Device.{SourceRun, SinkRun, source_run, sink_run}
 use Rattle.zdevices.specs.declared.device.Source as source
 use Rattle.zdevices.specs.declared.device.Sink as sink

@@ -1,4 +1,4 @@
--- A line that was done, by a program that doesn't know beforehand what becomes of its events.
+-- A line that was executed, by a program that doesn't know beforehand what becomes of its events.
 use Rattle.std.specs.Prelude.{◌≡◌, ℕ, List, [], ◌++◌, String}
 use Rattle.zworld_model.specs.declared.outcome.Outcome.{Outcome}
 use Rattle.zworld.specs.Held.{Held, world_of}
@@ -10,7 +10,8 @@ use Rattle.zscript.specs.Line.{ServiceWorld, forgotten, script_state, answer, af
 abbrev pub world_between : Held → ServiceWorld
 world_between held = forgotten (world_of held [])
 
--- a line was done, and this written: these outcomes were met at it, whatever comes after them
+-- a line was executed, and this was written: these outcomes occurred at it, whatever comes after
+-- them
 pub record IsLineDone (old : ServiceWorld) (line : List ℕ) (new : ServiceWorld) (writes : List ℕ → Type 0) : Type 0 where
   pub told : List Outcome
   pub text : List ℕ
@@ -18,7 +19,7 @@ pub record IsLineDone (old : ServiceWorld) (line : List ℕ) (new : ServiceWorld
   pub left : (later : List Outcome) → after (script_state old (told ++ later)) line ≡ script_state new later
   pub answered : (later : List Outcome) → answer (script_state old (told ++ later)) line ≡ text
 
--- a line was done on a world, and its answer written
+-- a line was executed on a world, and its answer written
 abbrev pub AnswersLine : {A : Type 0} → List ℕ → WorldView → WorldView → String A → String A → Type 0
 AnswersLine line old new before after =
     IsLineDone (world_between old.held) line (world_between new.held) (Writes before after)

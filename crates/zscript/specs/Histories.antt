@@ -1,4 +1,4 @@
--- What holds of the text over the world: what it tells is the history of one run.
+-- What holds of the text over the world: its lines tell the history of one run.
 use Rattle.std.specs.Prelude.{◌≡◌, ◌⊎◌, ℕ, List, Some, codes}
 use Rattle.ztree.specs.declared.limits.TheConstants.{MAX_CLIENTS}
 use Rattle.zcalls.specs.Lists.{Among}
@@ -13,20 +13,22 @@ use Rattle.zworld_model.specs.Alike.{IsAlike}
 use Rattle.zlines.specs.Reply.{reply_text}
 use Rattle.zscript.specs.Line.{ServiceWorld, ScriptState, LineEffect, opening_script, effect_of, answer, after, histories}
 
--- there are events such that the histories of all lines, one after the other, are the history of their run
+-- there are events such that the histories of all lines, one after the other, are the history of
+-- their run
 abbrev pub LinesTellOneRun : Type 0
 LinesTellOneRun =
     (servers : ℕ) (outcomes : List Outcome) (lines : List (List ℕ))
     → (events : List Event) × ((run kept_tree (opening_world kept_tree servers MAX_CLIENTS) events).history ≡ histories (opening_script servers outcomes) lines)
 
--- a call is answered with a reply to it in the history; or `unanswered`, where the history has none
+-- a call is answered with a reply to it in the history, or with `unanswered` where the history has
+-- none
 abbrev pub IsAnsweredBy : LineEffect → Type 0
 IsAnsweredBy effect =
     (client number : ℕ) → effect.own ≡ Some (client, number)
     → ((reply : Reply) × Among (Answer client number reply) effect.did.world.history × (effect.result ≡ reply_text reply))
     ⊎ ((effect.result ≡ codes "unanswered") × ((reply : Reply) → Among (Answer client number reply) effect.did.world.history → ⊥))
 
--- so it is of every line
+-- the same, of every line
 abbrev pub CallsAreAnsweredByTheirReplies : Type 0
 CallsAreAnsweredByTheirReplies = (s : ScriptState) (line : List ℕ) → IsAnsweredBy (effect_of s line)
 

@@ -1,9 +1,10 @@
--- What holds of the definitions themselves: a line that has no LF is none before the source told its end.
+-- What holds of the definitions themselves: a line without LF has no answer before the source
+-- reported its end.
 use Rattle.std.specs.Prelude.{◌≡◌, List, ℕ, [], ◌∷◌}
 use Rattle.zdevices.specs.Device.{SourceRun, SinkRun}
 use Rattle.zscript.specs.Outcome.{IsCut}
 
--- A source that gave these bytes and did not tell its end.
+-- A source that gave these bytes and did not report its end.
 abbrev pub source_giving : List ℕ → SourceRun
 source_giving bytes = record { gave = λ given. given ≡ bytes; failed = λ count. count ≡ 0; ended = ⊥ }
 

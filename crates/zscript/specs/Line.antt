@@ -1,5 +1,6 @@
--- What a line does in a world of servers, master and clients, and what it is answered with. The lines and their texts are
--- this project's own profile. A line's answer is read off what its events added to the history.
+-- What a line does in a world of servers, master and clients, and what it is answered with. The
+-- lines and their texts are this project's own profile. A line's answer is read off what its events
+-- added to the history.
 use Rattle.std.specs.Prelude.{ℕ, ◌+◌, Bool, false, ◌&&◌, ◌==◌, nat_lt, List, [], ◌∷◌, ◌++◌, codes, Option, None, Some, Ok, Err, if◌then◌else◌}
 use Rattle.std.specs.Option.{option_map_or}
 use Rattle.std.specs.List.{flat_map}
@@ -44,21 +45,22 @@ use Rattle.zscript.specs.declared.limits.TheConstants.{MAX_EVENTS}
 abbrev pub ServiceWorld : Type 0
 ServiceWorld = World (KeptState Tree)
 
--- the state of a script: the world, and what will become of each event in turn; where nothing is told, it acts
+-- the state of a script: the world, and the outcome of each event to come; where none is given, the
+-- event's process acts
 pub record ScriptState : Type 0 where
   pub world : ServiceWorld
   pub outcomes : List Outcome
 
--- a world, and what will become of its events
+-- a world, and the outcomes of its events to come
 abbrev pub script_state : ServiceWorld → List Outcome → ScriptState
 script_state world outcomes = record { world = world; outcomes = outcomes }
 
--- a script with so many servers begins, with every client that there can be
+-- the initial state of a script with this many servers, and every possible client
 abbrev pub opening_script : ℕ → List Outcome → ScriptState
 opening_script servers outcomes = script_state (opening_world kept_tree servers MAX_CLIENTS) outcomes
 
--- what is left of a world between two lines: its history was told, and nothing is kept of servers that have failed, nor
--- on links into them, since nobody sees that again (Alike.antt of the world's model)
+-- what is left of a world between two lines: the history is cleared, and nothing is kept of failed
+-- servers, nor on channels into them. Nobody sees that again (Alike.antt of the world's model)
 abbrev pub forgotten : ServiceWorld → ServiceWorld
 forgotten w = record w {
   servers = λ s. if w.failed s then spare else w.servers s;
@@ -66,7 +68,8 @@ forgotten w = record w {
   history = [];
 }
 
--- what a line did: its events with the world that they led to, the call that it began and waited for, and its result
+-- what a line did: its events with the world that they led to, the call that it invoked and waited
+-- for, and its result
 pub record LineEffect : Type 0 where
   pub did : Settling (KeptState Tree)
   pub own : Option (ℕ × ℕ)
@@ -80,7 +83,7 @@ no_effect s result = record { did = opening_settling s.world 0 s.outcomes; own =
 abbrev pub after_try : ScriptState → Event → Settling (KeptState Tree)
 after_try s event = with_try kept_tree (opening_settling s.world 1 s.outcomes) event
 
--- a line of one event, and its result where the event is enabled, and where it isn't
+-- a line of one event: its result where the event is enabled, and where it isn't
 abbrev pub event_effect : ScriptState → Event → List ℕ → List ℕ → LineEffect
 event_effect s event done idle =
     record { did = after_try s event; own = None; result = if is_enabled s.world event then done else idle }
@@ -89,20 +92,20 @@ event_effect s event done idle =
 abbrev pub plain_effect : ScriptState → Event → LineEffect
 plain_effect s event = event_effect s event (codes "done") (codes "idle")
 
--- why a call can't begin; nothing refuses for memory here
+-- why a call can't be invoked; memory refuses none here
 abbrev pub begin_fault_text : BeginFault → List ℕ
 begin_fault_text begin.Busy = codes "busy"
 begin_fault_text begin.Memory = []
 begin_fault_text begin.Exhausted = codes "no Numbers"
 
--- the result where a call couldn't begin: its client's fault, or that there is no such client
+-- the result where a call couldn't be invoked: its client's fault, or that there is no such client
 abbrev pub not_begun_text : ScriptState → Request → List ℕ
 not_begun_text s request =
     if nat_lt request.client s.world.master.clients
     then option_map_or begin_fault_text (begin_fault (s.world.clients request.client)) (codes "idle")
     else codes "idle"
 
--- begin: the call begins, and no more
+-- begin: the call is invoked, and no more
 abbrev pub begin_effect : ScriptState → Request → LineEffect
 begin_effect s request = event_effect s (event.Begin request.client request.call) (codes "begun") (not_begun_text s request)
 
@@ -138,7 +141,7 @@ abbrev pub settled_text : Settled → List ℕ
 settled_text Quiet = codes "quiet"
 settled_text Limit = codes "limit"
 
--- the world settles, behind events that were done
+-- the world settles, after events that were done
 abbrev pub after_settling : Settling (KeptState Tree) → Settling (KeptState Tree)
 after_settling before =
     let did = settle kept_tree before.world MAX_EVENTS before.outcomes in
@@ -150,7 +153,7 @@ settle_effect s =
     let did = after_settling (opening_settling s.world 0 s.outcomes) in
     record { did = did; own = None; result = settled_text (settling_end did) }
 
--- the event is the answer to the call of this client and number
+-- the event is the response to the call of this client and number
 abbrev pub is_answer_to : Option (ℕ × ℕ) → ℕ → ℕ → Bool
 is_answer_to None client number = false
 is_answer_to (Some call) client number = (call.0 == client) && (call.1 == number)
@@ -165,11 +168,11 @@ reply_in call (Answer client number reply ∷ more) = if is_answer_to call clien
 abbrev pub own_reply_text : Option (ℕ × ℕ) → History → List ℕ
 own_reply_text call history = option_map_or reply_text (reply_in call history) (codes "unanswered")
 
--- a call that has begun and for which the world settled
+-- a call that was invoked and for which the world settled
 abbrev pub call_answered : Settling (KeptState Tree) → Option (ℕ × ℕ) → LineEffect
 call_answered did call = record { did = did; own = call; result = own_reply_text call did.world.history }
 
--- a client's call: it begins and the world settles, or it can't begin and nothing is done
+-- a client's call: it is invoked and the world settles, or it can't be invoked and nothing is done
 abbrev pub call_effect : ScriptState → Request → LineEffect
 call_effect s request =
     let begins = event.Begin request.client request.call in
@@ -177,7 +180,7 @@ call_effect s request =
     then call_answered (after_settling (after_try s begins)) (Some (request.client, (s.world.clients request.client).number + 1))
     else no_effect s (not_begun_text s request)
 
--- what a line asks for, done
+-- the effect of what a line asks for
 abbrev pub line_effect : ScriptState → Line → LineEffect
 line_effect s (asked.Call request) = call_effect s request
 line_effect s (asked.Begin request) = begin_effect s request
@@ -189,14 +192,14 @@ line_effect s (asked.Retire server) = retire_effect s server
 line_effect s (asked.Retry client) = plain_effect s (event.Retry client)
 line_effect s asked.Settle = settle_effect s
 
--- the answer to a line that asks for nothing; want of memory ends the script, and has none
+-- the answer to a line that asks for nothing; out of memory ends the script, and has none
 abbrev pub line_fault_text : LineFault → List ℕ
 line_fault_text BadLine = codes "bad line"
 line_fault_text (BadPath fault) = codes "bad path " ++ fault_name fault
 line_fault_text BadData = codes "bad data"
 line_fault_text Memory = []
 
--- what was read of a line, done
+-- the effect of what was read of a line
 abbrev pub read_effect : ScriptState → Read Line → LineEffect
 read_effect s (Err fault) = no_effect s (line_fault_text fault)
 read_effect s (Ok line) = line_effect s line
@@ -205,13 +208,13 @@ read_effect s (Ok line) = line_effect s line
 unfoldable pub effect_of : ScriptState → List ℕ → LineEffect
 effect_of s line = read_effect s (line_of line)
 
--- the line for an answer that a client took, but for the answer to the line's own call
+-- the line for a response that a client received, except the response to the line's own call
 abbrev pub taken_text : Option (ℕ × ℕ) → CallEvent → List ℕ
 taken_text own (Begin client number call) = []
 taken_text own (Answer client number reply) =
     if is_answer_to own client number then [] else codes "c" ++ decimal client ++ 32 ∷ reply_text reply ++ 10 ∷ []
 
--- what an effect is answered with: first the other answers that were taken, then the result
+-- the answer to an effect: first the other responses that were received, then the result
 abbrev pub effect_text : LineEffect → List ℕ
 effect_text effect = flat_map (taken_text effect.own) effect.did.world.history ++ effect.result ++ 10 ∷ []
 
@@ -225,7 +228,7 @@ after s line =
     let did = (effect_of s line).did in
     script_state (forgotten did.world) did.outcomes
 
--- the bytes that are written for some lines
+-- the bytes that are written for these lines
 abbrev pub answers : ScriptState → List (List ℕ) → List ℕ
 answers s [] = []
 answers s (line ∷ lines) = answer s line ++ answers (after s line) lines

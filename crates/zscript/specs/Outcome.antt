@@ -1,5 +1,5 @@
--- What a run of the player comes to, told by what its devices did from its start to its end. Each names the
--- outcomes of the run's events, in turn, under which the text was the one that was written.
+-- What a run of the player comes to, by what its devices did from its start to its end. Each names
+-- the outcomes of the run's events, in turn, under which the text was the one that was written.
 use Rattle.std.specs.Prelude.{◌≡◌, ℕ, ◌<◌, ◌⊎◌, List, [], ◌++◌, length, codes}
 use Rattle.zdevices.specs.Device.{SourceRun, SinkRun, Failed, TookBeginning}
 use Rattle.zworld_model.specs.declared.outcome.Outcome.{Outcome}
@@ -8,7 +8,8 @@ use Rattle.zscript.specs.Script.{opening_of, lines_of, whole_lines_of, text_of}
 use Rattle.zscript.specs.declared.fault.PlayFault.{PlayFault}
 use Rattle.zscript.specs.declared.fault.PlayFault.TheVariants.{Read, Write, Memory}
 
--- Every line was played: the source told its end, the sink took the text of all that it gave, and neither failed.
+-- Every line was played: the source reported its end, the sink took the text of all that it gave,
+-- and neither failed.
 pub record IsPlayed (servers : ℕ) (source : SourceRun) (sink : SinkRun) : Type 0 where
   pub bytes : List ℕ
   pub given : source.gave bytes
@@ -18,7 +19,7 @@ pub record IsPlayed (servers : ℕ) (source : SourceRun) (sink : SinkRun) : Type
   pub source_sound : source.failed 0
   pub sink_sound : sink.failed 0
 
--- Of these lines the first ones were played, and the sink took a beginning of their answers.
+-- The first ones of these lines were played, and the sink took a prefix of their answers.
 pub record IsStopped (world : ServiceWorld) (lines : List (List ℕ)) (took : List ℕ → Type 0) : Type 0 where
   pub played : List (List ℕ)
   pub rest : List (List ℕ)
@@ -26,7 +27,8 @@ pub record IsStopped (world : ServiceWorld) (lines : List (List ℕ)) (took : Li
   pub outcomes : List Outcome
   pub taken : TookBeginning took (answers (script_state world outcomes) played)
 
--- These lines of the bytes were read: each has its LF, or the source told its end, which ends the last one.
+-- These lines of the bytes were read: each has its LF, or the source reported its end, which ends
+-- the last one.
 abbrev pub AreRead : Type 0 → List ℕ → List (List ℕ) → Type 0
 AreRead ended bytes lines = (lines ≡ whole_lines_of bytes) ⊎ (ended × (lines ≡ lines_of bytes))
 
@@ -56,8 +58,8 @@ pub record AnswersWholeLines (servers : ℕ) (source : SourceRun) (sink : SinkRu
 abbrev pub IsIdle : SourceRun → SinkRun → Type 0
 IsIdle source sink = source.gave [] × sink.took []
 
--- What each fault means.
--- Of memory: the line that met the want of it was not played, or nothing was read or written at all.
+-- What each fault means. Of memory: the line at which it ran out was not played, or nothing was
+-- read or written at all.
 abbrev pub IsCutBy : ℕ → SourceRun → SinkRun → PlayFault → Type 0
 IsCutBy servers source sink Read = AnswersWholeLines servers source sink × Failed source.failed × sink.failed 0
 IsCutBy servers source sink Write = IsCut servers source sink × source.failed 0 × Failed sink.failed

@@ -1,5 +1,6 @@
--- What a script's bytes are answered with: line by line, each on the state that the lines before it left. What becomes of
--- each event in turn, where processes can want memory, is told beside the bytes.
+-- What a script's bytes are answered with: line by line, each on the state that the lines before it
+-- left. The outcomes of the events, where processes can run out of memory, are given beside the
+-- bytes.
 use Rattle.std.specs.Prelude.{ℕ, List, [], ◌∷◌, ◌==◌, if◌then◌else◌}
 use Rattle.std.specs.List.{onto_first}
 use Rattle.ztree.specs.declared.limits.TheConstants.{MAX_CLIENTS}
@@ -13,7 +14,7 @@ abbrev pub lines_of : List ℕ → List (List ℕ)
 lines_of [] = []
 lines_of (b ∷ bs) = if b == 10 then [] ∷ lines_of bs else onto_first b (lines_of bs)
 
--- A byte in front of the first of some lines, where there is one.
+-- A byte in front of the first of some lines, if there is one.
 abbrev pub onto_line : ℕ → List (List ℕ) → List (List ℕ)
 onto_line b [] = []
 onto_line b (line ∷ lines) = (b ∷ line) ∷ lines
@@ -23,10 +24,11 @@ abbrev pub whole_lines_of : List ℕ → List (List ℕ)
 whole_lines_of [] = []
 whole_lines_of (b ∷ bs) = if b == 10 then [] ∷ whole_lines_of bs else onto_line b (whole_lines_of bs)
 
--- The world that a script with so many servers begins in.
+-- The world that a script with this many servers begins in.
 abbrev pub opening_of : ℕ → ServiceWorld
 opening_of servers = opening_world kept_tree servers MAX_CLIENTS
 
--- The whole text that a script with so many servers is answered with, under what becomes of its events.
+-- The whole text that a script with this many servers is answered with, under the outcomes of its
+-- events.
 abbrev pub text_of : ℕ → List Outcome → List ℕ → List ℕ
 text_of servers outcomes bytes = answers (opening_script servers outcomes) (lines_of bytes)

@@ -1,39 +1,41 @@
-//! What holds of the definitions themselves: each function's contract is a law, and its body does nothing.
+//! What holds of the definitions themselves. Each function's contract is a law, and its body does
+//! nothing.
 
 ghost use Rattle.zscript.specs.Histories.{LinesTellOneRun, AlikeWorldsAnswerAlike};
 ghost use Rattle.zscript.specs.Histories.{AlikeWorldsLeaveOneState, CallsAreAnsweredByTheirReplies};
 ghost use Rattle.zscript.specs.Laws.{UnendedLinesHaveNoAnswer};
 ghost use Rattle.zscript.specs.Promise.{EveryScriptIsExplained};
 
-/// For every number of servers, all bytes of a script and whatever becomes of its events: the history that its text tells,
-/// line by line, has a legal order, of which the replies are the replies.
+/// For every number of servers, all bytes of a script and whatever becomes of its events: the
+/// history that its lines tell, one after the other, is linearizable.
 ///
-/// The text of a line is read off the same history (`effect_text` of specs/Line.antt), and a call is answered with a reply to
-/// it there (`calls_are_answered_by_their_replies`).
+/// The text of a line is read off the same history (`effect_text` of specs/Line.antt). A call is
+/// answered with a reply to it from that history (`calls_are_answered_by_their_replies`).
 pub fn every_script_is_explained()
     ensures { EveryScriptIsExplained }
 {}
 
-/// Whatever a script's lines are and whatever becomes of their events: what they tell, line by line, is the history of one
-/// run of the world from its opening, so all that holds of every run holds of a script.
+/// Whatever a script's lines are and whatever becomes of their events, what they tell, line by
+/// line, is the history of one run of the world from its initial state. So all that holds of every
+/// run holds of a script.
 pub fn lines_tell_one_run()
     ensures { LinesTellOneRun }
 {}
 
-/// A call that began is answered with a reply to it that its client took by the end of its line; or with `unanswered`, where
-/// its client took none.
+/// A call that was invoked is answered with a reply to it that its client received by the end of
+/// its line. Where its client received none, the answer is `unanswered`.
 pub fn calls_are_answered_by_their_replies()
     ensures { CallsAreAnsweredByTheirReplies }
 {}
 
-/// Worlds that differ at most in what failed servers held are answered alike, and one state is left of both: a program
-/// may drop what nobody can see.
+/// Worlds that are equal up to failed servers are answered alike, and one state is left of both. So
+/// a program may drop what nobody can see.
 pub fn alike_worlds_answer_alike()
     ensures answer { AlikeWorldsAnswerAlike }
     ensures after { AlikeWorldsLeaveOneState }
 {}
 
-/// A line that has no LF has no answer before the source told its end, whatever failed.
+/// A line without LF has no answer before the source reported its end, whatever failed.
 pub fn unended_lines_have_no_answer()
     ensures { UnendedLinesHaveNoAnswer }
 {}

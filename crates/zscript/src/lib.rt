@@ -1,8 +1,8 @@
 //! Plays a script of lines: bytes from a source become answers at a sink.
 //!
-//! `play` is the whole: over any `Source` and any `Sink` it writes the text of the bytes that it reads (`text_of`,
-//! specs/Script.antt), and says by a `PlayFault` why it stopped earlier (`IsCutBy`, specs/Outcome.antt). The devices
-//! are those of `zdevices`, and can be named here.
+//! `play` is the whole. Over any `Source` and any `Sink` it writes the text of the bytes that it
+//! reads (`text_of`, specs/Script.antt). It returns a `PlayFault` where it stopped earlier
+//! (`IsCutBy`, specs/Outcome.antt). The devices are those of `zdevices`, and are exported here too.
 //!
 //! ```text
 //! let mut source = SliceSource::new(b"1 create /a p aGk=\n1 get /a\n", 4096);
@@ -10,8 +10,8 @@
 //! play(rt.alloc(), &mut source, &mut sink, Servers::new(1))?;
 //! ```
 //!
-//! `answer_line` plays one line on a `World` of the caller's, which `script_world` makes: what a line does and what it is
-//! answered with is in specs/Line.antt.
+//! `answer_line` plays one line on a `World` of the caller's, which `script_world` makes. What a
+//! line does and what it is answered with is in specs/Line.antt.
 #![tactic(auto)]
 
 mod fault;

@@ -18,16 +18,16 @@ use ztree::limits::MAX_CLIENTS;
 use zworld::{Did, World};
 use zworld_model::Event;
 
-/// The world that a script begins in, whose chain is the servers up to this one: every client that there can be has asked
-/// for nothing yet.
+/// Returns the world that a script begins in. Its chain is the servers up to `last`, and no client
+/// has invoked a call yet.
 pub fn script_world(alloc: Global, last: ServerId) -> Result<World, Memory>
     ensures { IfOk result (λ world. world_between world.held ≡ opening_of last) }
 {
     World::new(alloc, last, MAX_CLIENTS)
 }
 
-/// Plays a line on a world: what it asks for is done, and its answer is written, with an LF. The world forgets what it told
-/// before.
+/// Executes a line on a world: does what it asks for, and appends its answer and an LF to `out`.
+/// The world's history before the line is cleared first. The only error is out of memory.
 pub fn answer_line(world: &mut World, line: &[u8], out: &mut String) -> Result<(), Memory>
     ensures done { OnOk result (AnswersLine line.now world.old world.new out.old out.new) }
 {
@@ -37,7 +37,7 @@ pub fn answer_line(world: &mut World, line: &[u8], out: &mut String) -> Result<(
     Ok(())
 }
 
-// The same on a world that has told nothing yet, and without the LF.
+// The same on a world with an empty history, and without the LF.
 fn play_line(world: &mut World, line: &[u8], out: &mut String) -> Result<(), Memory>
     requires { world.old.history ≡ [] }
     ensures { OnOk result (Plays (λ s. effect_of s line.now) world.old world.new out.old out.new) }
@@ -58,7 +58,7 @@ fn play_line(world: &mut World, line: &[u8], out: &mut String) -> Result<(), Mem
     }
 }
 
-// A call begins, and messages are delivered until none is left.
+// Invokes a call, and runs the world until it is quiescent.
 fn call(world: &mut World, request: Request, out: &mut String) -> Result<(), Memory>
     requires { world.old.history ≡ [] }
     ensures { OnOk result (Plays (λ s. call_effect s request) world.old world.new out.old out.new) }
@@ -71,7 +71,7 @@ fn call(world: &mut World, request: Request, out: &mut String) -> Result<(), Mem
     write_called(world.history(), out)
 }
 
-// A call begins.
+// Invokes a call.
 fn begin(world: &mut World, request: Request, out: &mut String) -> Result<(), Memory>
     requires { world.old.history ≡ [] }
     ensures { OnOk result
@@ -82,7 +82,7 @@ fn begin(world: &mut World, request: Request, out: &mut String) -> Result<(), Me
     write_begun(did, out)
 }
 
-// Another event is done.
+// Does another event.
 fn do_event(world: &mut World, event: Event, out: &mut String) -> Result<(), Memory>
     ensures { OnOk result (IsEventDone world.old world.new event (Writes out.old out.new)) }
 {
@@ -90,7 +90,7 @@ fn do_event(world: &mut World, event: Event, out: &mut String) -> Result<(), Mem
     write_did(did, world.history(), out)
 }
 
-// Messages are delivered until none is left.
+// Runs the world until it is quiescent.
 fn settle(world: &mut World, out: &mut String) -> Result<(), Memory>
     ensures { OnOk result (Plays settle_effect world.old world.new out.old out.new) }
 {

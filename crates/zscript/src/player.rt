@@ -1,4 +1,5 @@
-//! What plays a script: fed with its bytes block by block, it answers each line as soon as its LF is there.
+//! What plays a script: it is fed with bytes, block by block, and answers each line as soon as its
+//! LF is there.
 
 ghost use Rattle.std.specs.Prelude.{◌≡◌, ◌<◌, ◌≤◌, [], ◌++◌, length, IfOk, IfErr, OnOk, OnErr};
 ghost use Rattle.zdevices.specs.Device.{Between, TookBeginning, Failed};
@@ -18,12 +19,12 @@ use zdevices::{Sink, write_all};
 use zpath::Memory;
 use zworld::World;
 
-/// Plays a script, line by line, on a world with every client that there can be.
+/// Plays a script, line by line, on a world with every possible client.
 #[derive(Drop)]
 pub(crate) struct Player {
     world: World,
     line: Vec<u8>,
-    // What was not written yet.
+    // Replies that are not written yet.
     replies: String,
 }
 
@@ -42,7 +43,7 @@ impl Model for Player {
 }
 
 impl Player {
-    /// A player that has heard nothing.
+    /// Returns a player that has read nothing.
     pub(crate) fn new(alloc: Global, servers: Servers) -> Result<Player, Memory>
         ensures world { IfOk result (λ player. world_now player ≡ opening_of servers) }
         ensures fresh { IfOk result (λ player. IsFresh player) }
@@ -54,7 +55,8 @@ impl Player {
         })
     }
 
-    /// Plays the lines that end in these bytes, and writes their replies. What follows the last LF is kept.
+    /// Plays the lines that end in these bytes, and writes their replies. What follows the last LF
+    /// is kept.
     pub(crate) fn hear<K: Sink>(&mut self, sink: &mut K, bytes: &[u8]) -> Result<(), PlayFault>
         requires { self.old.held ≡ [] }
         ensures done { OnOk result
@@ -70,7 +72,7 @@ impl Player {
         Ok(())
     }
 
-    /// Plays a last line that has no LF, if it has a byte, and writes its reply.
+    /// Plays a last line without LF, if it has a byte, and writes its reply.
     pub(crate) fn finish<K: Sink>(&mut self, sink: &mut K) -> Result<(), PlayFault>
         requires { self.old.held ≡ [] }
         ensures done { OnOk result (PlaysLastLine self.old self.new K.took sink.old sink.new) }
@@ -85,7 +87,7 @@ impl Player {
         Ok(())
     }
 
-    // Plays each line that ends in these bytes, and answers what follows the last LF.
+    // Plays each line that ends in these bytes; returns what follows the last LF.
     fn play_lines<'a, K: Sink>(
         &mut self,
         sink: &mut K,
@@ -108,8 +110,8 @@ impl Player {
         Ok(rest)
     }
 
-    // Ends the line with these bytes, plays it, and writes the replies that are held once they fill a block. Where nothing is
-    // kept of the line, it is not copied.
+    // Ends the line with these bytes, plays it, and writes the held replies once they fill a block.
+    // Where nothing of the line is kept, it is not copied.
     fn end_line<K: Sink>(&mut self, sink: &mut K, end: &[u8]) -> Result<(), PlayFault>
         ensures done { OnOk result (TellsLine self.old end.now self.new K.took sink.old sink.new) }
         ensures line { OnOk result (self.new.line ≡ []) }
@@ -130,7 +132,7 @@ impl Player {
         Ok(())
     }
 
-    // Adds these bytes to the line that has begun, so far as they are kept.
+    // Appends these bytes to the line that has begun, as far as they are kept.
     fn keep(&mut self, part: &[u8]) -> Result<(), Memory>
         ensures line { OnOk result (self.new.line ≡ kept_front (self.old.line ++ part.now)) }
         ensures world { OnOk result (world_now self.new ≡ world_now self.old) }
@@ -145,7 +147,7 @@ impl Player {
         Ok(())
     }
 
-    // Writes the replies that are held.
+    // Writes the held replies.
     fn write_replies<K: Sink>(&mut self, sink: &mut K) -> Result<(), PlayFault>
         ensures written { OnOk result (self.new ≡ record self.old { held = [] }) }
         ensures took { OnOk result (K.took sink.old self.old.held sink.new) }

@@ -13,12 +13,12 @@ use crate::servers::Servers;
 use std::alloc::Global;
 use zdevices::{Sink, Source};
 
-/// Plays a script to the end that its source tells: each line as soon as its LF is read, and a last line
-/// without one at the end.
+/// Plays a script to the end that its source reports: each line as soon as its LF is read, and at
+/// the end a last line without LF.
 ///
-/// All replies to the lines that were read are written before more is read. After any fault the sink has
-/// taken a beginning of the answers to the lines that were played. The text is the one under the outcomes
-/// that the run met: what became of each event where a server could find no memory.
+/// All replies to the lines that were read are written before more is read. After any fault the
+/// sink has taken a prefix of the answers to the lines that were played. The text is the one under
+/// the run's outcomes: what became of each event where a server could run out of memory.
 pub fn play<S: Source, K: Sink>(
     alloc: Global,
     source: &mut S,
@@ -34,10 +34,13 @@ pub fn play<S: Source, K: Sink>(
 {
     let mut block = vec![in alloc; 0; BLOCK]?;
     let mut player = Player::new(alloc, servers)?;
-    play_blocks(&mut player, source, sink, &mut block)
+    let played = play_blocks(&mut player, source, sink, &mut block);
+    drop(player);
+    played
 }
 
-// Plays block by block, with a player that has heard nothing, however many servers it began with.
+// Plays block by block, with a player that has read nothing, whatever number of servers it began
+// with.
 fn play_blocks<S: Source, K: Sink>(
     player: &mut Player,
     source: &mut S,

@@ -5,7 +5,8 @@ ghost use Rattle.std.specs.Prelude.{◌≡◌};
 use std::marker::Model;
 use zprotocol::ServerId;
 
-/// How many servers the chain begins with: 1 to `zprotocol::MAX_SERVERS`. The others are spare, and can join.
+/// The number of servers that the chain begins with: 1 to `zprotocol::MAX_SERVERS`. The others are
+/// spare, and can join.
 #[derive(Clone, Copy, Debug, PartialEq, Eq)]
 pub struct Servers {
     count: u8,
@@ -27,7 +28,7 @@ impl Model for Servers {
 impl Servers {
     ghost use Rattle.zscript.specs.Servers.{IsServers};
 
-    /// So many servers.
+    /// Returns this number of servers.
     pub fn new(count: u8) -> Servers
         requires { IsServers count }
         ensures { result ≡ count }
@@ -35,7 +36,7 @@ impl Servers {
         Servers { count }
     }
 
-    /// How many they are.
+    /// Returns the number.
     pub fn count(self) -> u8
         ensures value { result ≡ self }
         ensures few { IsServers result }
@@ -43,7 +44,7 @@ impl Servers {
         self.count
     }
 
-    /// The last of them: they have the numbers from 1 on.
+    /// Returns the last of them: they are numbered from 1.
     pub(crate) fn last(self) -> ServerId
         ensures { result ≡ self }
     {

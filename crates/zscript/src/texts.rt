@@ -1,4 +1,4 @@
-//! The words of a line's answer.
+//! The texts of a line's answer.
 
 ghost use Rattle.std.specs.Prelude.{◌≡◌, ◌++◌, OnOk};
 ghost use Rattle.std.specs.List.{flat_map};
@@ -15,10 +15,10 @@ use zprotocol::{BeginFault, JoinFault, RetireFault};
 use zworld::{Did, IdleCause};
 use zworld_model::{CallEvent, Settled};
 
-// A call, by its client and its number there.
+// A call, by its client and that client's number of it.
 type Own = Option<(ClientId, CallNumber)>;
 
-/// Writes why a line asked for nothing, unless there was no memory for it.
+/// Writes why a line asked for nothing, unless it was out of memory.
 pub(crate) fn write_fault(fault: LineFault, out: &mut String) -> Result<(), Memory>
     ensures { OnOk result (WritesFault fault out.old out.new) }
 {
@@ -31,7 +31,7 @@ pub(crate) fn write_fault(fault: LineFault, out: &mut String) -> Result<(), Memo
     Ok(())
 }
 
-/// Writes the answers that clients took at an event, and what became of it.
+/// Writes the responses that clients received at an event, and what became of the event.
 pub(crate) fn write_did(did: Did, history: &[CallEvent], out: &mut String) -> Result<(), Memory>
     ensures { OnOk result (Writes out.old out.new (taken_lines history.now ++ did_text did)) }
 {
@@ -43,7 +43,7 @@ pub(crate) fn write_did(did: Did, history: &[CallEvent], out: &mut String) -> Re
     Ok(())
 }
 
-/// Writes what became of a call that was to begin.
+/// Writes what became of a call that was to be invoked.
 pub(crate) fn write_begun(did: Did, out: &mut String) -> Result<(), Memory>
     ensures { OnOk result (Writes out.old out.new (begun_text did)) }
 {
@@ -54,7 +54,7 @@ pub(crate) fn write_begun(did: Did, out: &mut String) -> Result<(), Memory>
     Ok(())
 }
 
-/// Writes the answers that clients took while the world settled, and how that ended.
+/// Writes the responses that clients received while the world settled, and how that ended.
 pub(crate) fn write_settled(
     settled: Settled,
     history: &[CallEvent],
@@ -71,8 +71,8 @@ pub(crate) fn write_settled(
     Ok(())
 }
 
-/// Writes the answers that clients took after a call began, and behind them the reply to that call, the first of the
-/// history, or that there is none.
+/// Writes the responses that clients received after a call was invoked. Then comes the reply to
+/// that call, the first of the history, or that there is none.
 pub(crate) fn write_called(history: &[CallEvent], out: &mut String) -> Result<(), Memory>
     ensures { OnOk result (Writes out.old out.new (called_text history.now)) }
 {
@@ -111,7 +111,7 @@ pub(crate) fn write_cause(cause: IdleCause, out: &mut String) -> Result<(), Memo
     Ok(())
 }
 
-// The name of a fault of a join.
+// Returns the name of a fault of a join.
 fn join_fault_name(fault: JoinFault) -> &'static str
     ensures { result.now ≡ join_fault_name fault }
 {
@@ -124,7 +124,7 @@ fn join_fault_name(fault: JoinFault) -> &'static str
     }
 }
 
-// The name of a fault of an order to leave.
+// Returns the name of a fault of an order to leave.
 fn retire_fault_name(fault: RetireFault) -> &'static str
     ensures { result.now ≡ retire_fault_name fault }
 {
@@ -136,7 +136,7 @@ fn retire_fault_name(fault: RetireFault) -> &'static str
     }
 }
 
-// The call that a history begins with.
+// Returns the call that a history begins with.
 fn own_call(history: &[CallEvent]) -> Own
     ensures { result ≡ own_call history.now }
 {
@@ -146,8 +146,8 @@ fn own_call(history: &[CallEvent]) -> Own
     }
 }
 
-// Writes the answers that clients took, each as a line, but for the one to the line's own call. That a call began is not
-// written.
+// Writes the responses that clients received, each as a line, except the one to the line's own
+// call. Invocations are not written.
 fn write_taken(history: &[CallEvent], own: &Own, out: &mut String) -> Result<(), Memory>
     ensures { OnOk result (Writes out.old out.new (flat_map (taken_text own.now) history.now)) }
 {
@@ -165,7 +165,7 @@ fn write_taken(history: &[CallEvent], own: &Own, out: &mut String) -> Result<(),
     Ok(())
 }
 
-// Whether a client's answer with this number is the one to this call.
+// Returns whether a client's response with this number is the one to this call.
 fn is_answer_to(own: &Own, client: &ClientId, number: &CallNumber) -> bool
     ensures { result ≡ is_answer_to own.now client.now number.now }
 {

@@ -1,4 +1,5 @@
-//! A line is played as soon as its LF is read: a source looks at what the sink took whenever it is asked for more.
+//! A line is played as soon as its LF is read: the source checks what the sink took whenever it is
+//! asked for more.
 
 ghost use Rattle.std.specs.Prelude.{◌≡◌, IsTrue, [], length};
 
@@ -11,7 +12,7 @@ const LINE: usize = "1 ls /\n".len();
 
 const ANSWER: usize = "ok 0\n".len();
 
-// Gives a line at each read, and looks whether all lines before it were answered.
+// Gives a line at each read, and checks whether all lines before it were answered.
 #[derive(Drop)]
 struct Watching<'a> {
     source: SliceSource<'a>,

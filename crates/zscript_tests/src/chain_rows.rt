@@ -1,5 +1,6 @@
-//! Worked scripts over chains: each kind of event is done once. An answer has the lines of the answers that clients took
-//! first. The stories of failures and joins stand in `rows/`, which the program plays.
+//! Worked scripts over chains: each kind of event is done once. An answer begins with the lines of
+//! the responses that clients received. The stories of failures and joins stand in `rows/`, which
+//! the program plays.
 
 use crate::playing::{Row, plays_rows};
 use zscript::Servers;
@@ -15,7 +16,8 @@ const OVER_ONE: &[Row] = &[
 ];
 
 const OVER_TWO: &[Row] = &[
-    // The tail fails while a server joins: the snapshot that was under way has an old epoch, and isn't taken.
+    // The tail fails while a server joins: the snapshot that was in flight has an old epoch, and is
+    // ignored.
     &[
         ("1 create /a p aGk=", "ok /a"),
         ("join s3", "done"),
@@ -42,6 +44,12 @@ const OVER_THREE: &[Row] = &[
         ("retry c1", "done"),
         ("settle", "c1 ok /q/n-0000000000\nquiet"),
         ("1 create /q/n- ps -", "ok /q/n-0000000001"),
+    ],
+    // The tail is ordered to leave.
+    &[
+        ("retire s3", "done"),
+        ("settle", "quiet"),
+        ("retire s3", "no NotMember"),
     ],
 ];
 

@@ -16,7 +16,7 @@ const SESSION: &str =
 const ITS_ANSWERS: &str =
     "ok session 1 timeout 2\nok /e\nok tick 1 ended 0\nok tick 2 ended 1\nno NoNode\nok stat 0 0 3 0 0 0 2 0 0 0\nno SessionGone\n";
 
-// The bytes are read one by one, and a read fails behind each of them, and at the end.
+// The bytes are read one by one, and a read fails after each of them, and at the end.
 #[test]
 fn each_read_fails_in_turn(rt: HostRuntime) {
     for reads in 0..=SESSION.len() {
@@ -29,7 +29,7 @@ fn each_read_fails_in_turn(rt: HostRuntime) {
     }
 }
 
-// The bytes are written one by one, and a write fails behind each of them but the last.
+// The bytes are written one by one, and a write fails after each of them except the last.
 #[test]
 fn each_write_fails_in_turn(rt: HostRuntime) {
     for writes in 0..ITS_ANSWERS.len() {

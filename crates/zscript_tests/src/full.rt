@@ -1,4 +1,5 @@
-//! A tree that is full: 4,096 nodes, the root among them, and `/a1` to `/a4095`, made in this order.
+//! A tree that is full: 4,096 nodes, the root among them, and `/a1` to `/a4095`, made in this
+//! order.
 
 use crate::pieces::Piece::{Each, Text};
 use crate::pieces::{Piece, plays_pieces};

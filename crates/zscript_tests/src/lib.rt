@@ -1,5 +1,6 @@
-//! Tests of what no clause says of a script: that calls succeed, what the definitions come to on worked scripts, and
-//! that the alphabet of base64 is the RFC's. There is no code here.
+//! Tests of what no clause says of a script: that calls succeed, and what the definitions come to
+//! on worked scripts. Also that the alphabet of base64 is the RFC's (RFC 4648). There is no code
+//! here.
 #![tactic(auto)]
 
 #[cfg(test)]

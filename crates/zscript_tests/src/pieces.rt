@@ -9,13 +9,13 @@ use std::process::Abort;
 pub(crate) enum Piece {
     /// This text.
     Text(&'static str),
-    /// This text, so many times.
+    /// This text, this many times.
     Times(&'static str, usize),
     /// Each number from 1 up to this one, between these texts.
     Each(&'static str, usize, &'static str),
 }
 
-/// Plays the script of these pieces over one server: its answer is of those.
+/// Plays the script of these pieces over one server, and asserts its answer, also in pieces.
 pub(crate) fn plays_pieces(rt: &impl Abort, alloc: Global, script: &[Piece], text: &[Piece]) {
     let script = built(rt, alloc, script);
     let text = built(rt, alloc, text);

@@ -6,10 +6,11 @@ use std::alloc::Global;
 use std::process::Abort;
 use zscript::{Servers, SliceSource, VecSink, play};
 
-/// Lines, and beside each its answer.
+/// Lines, each with its answer.
 pub(crate) type Row = &'static [(&'static str, &'static str)];
 
-/// Plays the lines of each row as a script of its own, over so many servers, in large blocks and byte by byte.
+/// Plays the lines of each row as a script of its own, over this many servers, in large blocks and
+/// byte by byte.
 pub(crate) fn plays_rows(rt: &impl Abort, alloc: Global, servers: Servers, rows: &[Row]) {
     for row in rows {
         let (script, text) = joined(rt, alloc, row);
@@ -27,8 +28,8 @@ pub(crate) fn plays(rt: &impl Abort, alloc: Global, script: &str, text: &str, at
     plays_over(rt, alloc, Servers::new(1), script, text, at_most);
 }
 
-// Plays a script over so many servers, by at most so many bytes a read and a write, and asserts that this is its
-// answer.
+// Plays a script over this many servers, by at most `at_most` bytes a read and a write, and asserts
+// that this is its answer.
 fn plays_over(
     rt: &impl Abort,
     alloc: Global,
@@ -47,7 +48,7 @@ fn plays_over(
     assert!(rt; result == Ok(()) && is_answer, "{script:?}");
 }
 
-// The lines of a row, and their answers.
+// Returns the lines of a row, and their answers.
 fn joined(rt: &impl Abort, alloc: Global, row: Row) -> (String, String) {
     let mut script = String::new(alloc);
     let mut text = String::new(alloc);
@@ -63,7 +64,7 @@ fn ends_line(rt: &impl Abort, text: &mut String, line: &str) {
     adds(rt, text, "\n");
 }
 
-/// Adds to a text.
+/// Appends to a text.
 pub(crate) fn adds(rt: &impl Abort, text: &mut String, more: &str) {
     text.push_str(more).expect(rt, "there is memory");
 }

@@ -1,10 +1,11 @@
-//! Worked scripts, each a script of its own: lines, and beside each its answer. Others stand in `rows/`, which the program
-//! plays.
+//! Worked scripts, each a script of its own: lines, each with its answer. Others stand in `rows/`,
+//! which the program plays.
 
 use crate::playing::{Row, plays_rows};
 use zscript::Servers;
 
-// No server fails and none joins: each row is answered alike over one server and over three.
+// No server fails and none joins: the answer of each row is the same over one server and over
+// three.
 const ROWS: &[Row] = &[
     // A node is made, and read.
     &[
@@ -34,7 +35,8 @@ const ROWS: &[Row] = &[
             "bad path TooDeep",
         ),
     ],
-    // Creates and deletes that are refused. A sequential create that is refused doesn't raise the counter.
+    // Creates and deletes that are refused. A sequential create that is refused doesn't raise the
+    // counter.
     &[
         ("1 create / p -", "no NodeExists"),
         ("1 create / ps -", "no NodeExists"),
@@ -57,7 +59,7 @@ const ROWS: &[Row] = &[
         ("1 set / 4611686018427387903 -", "no BadVersion"),
         ("1 delete /none 4611686018427387903", "no NoNode"),
     ],
-    // Lines that have not the shape of a line.
+    // Lines that don't have the form of a line.
     &[
         ("1 create /a p aGk", "bad data"),
         ("1 multi", "bad line"),
@@ -87,7 +89,7 @@ const ROWS: &[Row] = &[
         ("1 create /a s -", "bad line"),
         ("1 create a e: aGk", "bad line"),
     ],
-    // The leftmost path or data that is refused is told.
+    // The leftmost path or data that is refused is reported.
     &[
         ("1 create a p aGk", "bad path NotAbsolute"),
         ("1 create /a p aGk", "bad data"),

@@ -3,9 +3,10 @@
 use crate::playing::{Row, plays_rows};
 use zscript::Servers;
 
-// No server fails and none joins: each row is answered alike over one server and over three.
+// No server fails and none joins: the answer of each row is the same over one server and over
+// three.
 const ROWS: &[Row] = &[
-    // Client 0 is the clock: it gives `tick` alone, which no other client gives.
+    // Client 0 is the clock: it alone may call `tick`, and it calls nothing else.
     &[
         ("0 get /", "bad line"),
         ("0 get a", "bad line"),
@@ -16,7 +17,7 @@ const ROWS: &[Row] = &[
         ("0", "bad line"),
         ("0 tick", "ok tick 1 ended 0"),
     ],
-    // The number of a session has one spelling, and belongs to the shape of its line.
+    // The number of a session has one spelling, which is part of the form of its line.
     &[
         ("1 create a e: =", "bad line"),
         ("1 create a e:01 =", "bad line"),
@@ -41,7 +42,7 @@ const ROWS: &[Row] = &[
         ("1 close", "bad line"),
         ("1 close 1 1", "bad line"),
     ],
-    // No session has the number 0, which is well formed.
+    // No session has the number 0, though it is well formed.
     &[
         ("1 ping 0", "no SessionGone"),
         ("1 close 0", "no SessionGone"),

@@ -3,9 +3,10 @@
 use crate::playing::{Row, plays_rows};
 use zscript::Servers;
 
-// No server fails and none joins: each row is answered alike over one server and over three.
+// No server fails and none joins: the answer of each row is the same over one server and over
+// three.
 const ROWS: &[Row] = &[
-    // A node goes at the tick that finds it unwritten for so long.
+    // A tick removes a node that was not written for its time to live.
     &[
         ("1 create /t t:2 -", "ok /t"),
         ("0 tick", "ok tick 1 ended 0"),
@@ -15,7 +16,7 @@ const ROWS: &[Row] = &[
         ("1 exists /t", "no NoNode"),
         ("1 exists /", "ok stat 0 0 3 0 0 0 2 0 0 0"),
     ],
-    // What had a child before the tick stays, though the child goes.
+    // A node that had a child before the tick stays, though the child goes.
     &[
         ("1 create /t t:1 -", "ok /t"),
         ("1 create /t/u t:1 -", "ok /t/u"),

@@ -1,11 +1,11 @@
-//! A program's words, and what it tells.
+//! A program's words, and what it reports.
 
 use std::alloc::Global;
 use std::process::Abort;
 use zcommand::{Settings, WordsFault, command, settings};
 use zscript::{SliceSource, VecSink};
 
-// Words, and beside them how many servers they ask for.
+// Words, each with the number of servers that they ask for.
 const GOOD: &[(&str, u8)] = &[
     ("zk script", 1),
     ("zk script --servers 1", 1),
@@ -35,7 +35,8 @@ const BAD: &[&str] = &[
     "zk --servers 1 script",
 ];
 
-// Words, after how many reads one fails, and after how many writes; the status, and what is told.
+// Words, after how many reads one fails, and after how many writes; then the status, and what is
+// reported.
 const TOLD: &[(&str, u64, u64, u8, &str)] = &[
     ("zk script", 9, 9, 0, ""),
     ("zk script", 1, 9, 1, "zk: read failed\n"),
@@ -60,7 +61,7 @@ fn refuses_bad_words(rt: HostRuntime) {
     assert!(rt; settings(rt.alloc(), &[]) == Err(WordsFault::BadWords));
 }
 
-// How many servers these words ask for.
+// Returns how many servers these words ask for.
 fn servers_of(rt: &impl Abort, alloc: Global, text: &'static str) -> Result<u8, WordsFault> {
     let words = words_of(rt, alloc, text);
     let read = settings(alloc, &words);
@@ -94,7 +95,7 @@ fn tells_its_faults(rt: HostRuntime) {
     }
 }
 
-// Runs the program over memory by these words: one read fails, and one write, each after so many.
+// Runs the program over memory by these words. One read fails, and one write, each after this many.
 fn run(alloc: Global, words: &[&str], reads: u64, writes: u64, faults: &mut VecSink) -> u8 {
     let mut source = SliceSource::new(b"a\nb", 65536).failing_after(reads);
     let mut sink = VecSink::new(alloc, 65536).failing_after(writes);

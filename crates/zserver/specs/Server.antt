@@ -1,6 +1,7 @@
 -- A server as its owner sees it: its view of the server table, and whether it has stopped, and why.
--- Van Renesse and Schneider, "Chain Replication for Supporting High Throughput and Availability" (OSDI 2004),
--- section 2: servers are fail-stop, and a request may be ignored. The order to leave is this project's profile.
+-- Van Renesse and Schneider, "Chain Replication for Supporting High Throughput and Availability"
+-- (OSDI 2004), section 2: servers are fail-stop, and a request may be ignored. The order to leave
+-- is this project's profile.
 use Rattle.std.specs.Prelude.{◌≡◌, ◌⊎◌, ℕ, true, Option, None, Some}
 use Rattle.std.specs.Option.{option_map}
 use Rattle.ztree.specs.Tree.{Tree}
@@ -16,7 +17,7 @@ use Rattle.zserver.specs.declared.stopped.Stopped.TheVariants.{Memory, Retired}
 use Rattle.zserver.specs.declared.taken.Taken.{Taken}
 use Rattle.zserver.specs.declared.taken.Taken.TheVariants.{Acted, Unheard}
 
--- the view of a server whose machine is the plain tree with kept replies
+-- the view of a server whose machine is the sequential specification with its cached replies
 abbrev pub TreeView : Type 0
 TreeView = ServerView (KeptState Tree)
 
@@ -24,41 +25,42 @@ TreeView = ServerView (KeptState Tree)
 abbrev pub TreeMessage : Type 0
 TreeMessage = MessageOf (KeptState Tree)
 
--- what a message leads to at such a server: its view then, and what it puts
+-- what a message leads to at such a server: its new view, and what it sends
 abbrev pub TreeResult : Type 0
 TreeResult = ServerResult (KeptState Tree)
 
--- what was put by such a server
+-- what such a server has sent
 abbrev pub TreeOut : Type 0
 TreeOut = OutView (Transfer (KeptState Tree))
 
--- a server: its view, and why it has stopped, if it has. The view of one that has stopped says nothing
+-- a server: its view, and why it has stopped, if it has. The view of one that has stopped says
+-- nothing
 pub record ServerState : Type 0 where
   pub view : TreeView
   pub stopped : Option Stopped
 
--- a server that has this view, and goes on
+-- a running server with this view
 abbrev pub running : TreeView → ServerState
 running v = record { view = v; stopped = None }
 
--- a neighbour in the opening chain, where there is one
+-- a neighbour in the initial chain, if there is one
 abbrev pub first_neighbour : Option ℕ → Option Neighbour
 first_neighbour s = option_map (λ s. (s, 0)) s
 
--- the view of a member of the opening chain, between these neighbours
+-- the view of a member of the initial chain, between these neighbours
 abbrev pub first_view : Option ℕ → Option ℕ → TreeView
 first_view pred succ = member kept_tree (first_neighbour pred) (first_neighbour succ)
 
--- what a message did: what the server table says, or nothing, where it wasn't heard
+-- the effect of a message: what the server table says, or none where it was unheard
 abbrev pub taken_result : Taken → TreeView → Process → TreeMessage → TreeResult
 taken_result Acted v from m = server_step kept_tree v from m
 taken_result Unheard v from m = no_effect v
 
--- at a message a server becomes what that result says
+-- at a message, a server's view becomes what that effect says
 abbrev pub BecomesAt : TreeView → TreeView → Process → TreeMessage → Taken → Type 0
 BecomesAt old new from m taken = new ≡ (taken_result taken old from m).0
 
--- and it puts what that result says
+-- and it sends what that effect says
 abbrev pub PutsAt : TreeOut → TreeOut → TreeView → Process → TreeMessage → Taken → Type 0
 PutsAt old new v from m taken = Puts old new (taken_result taken v from m).1
 
@@ -70,11 +72,12 @@ IsHeardOr fact taken = taken ≡ Unheard → fact
 abbrev pub MayBeUnheard : TreeView → Process → TreeMessage → Type 0
 MayBeUnheard v from m = may_be_unheard kept_tree v from m ≡ true
 
--- why a server stops at a message: it may want memory for it, or it is the master's order to leave
+-- why a server stops at a message: it may run out of memory there, or it is the master's order to
+-- leave
 abbrev pub StopsAt : Stopped → TreeView → Process → TreeMessage → Type 0
 StopsAt Memory v from m = may_stop kept_tree v from m ≡ true
 StopsAt Retired v from m = is_retirement from m ≡ true
 
--- why a server takes a message no more: it had stopped before, or it stops at this one
+-- why a server refuses a message: it had stopped before, or it stops at this one
 abbrev pub IsStoppedAt : ServerState → Process → TreeMessage → Stopped → Type 0
 IsStoppedAt s from m why = (s.stopped ≡ Some why) ⊎ StopsAt why s.view from m

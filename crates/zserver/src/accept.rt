@@ -15,7 +15,7 @@ use zpath::Memory;
 use zprotocol::{Epoch, LogNumber, MAX_LOG_NUMBER, Message, Out, Process, ServerId};
 
 impl Replica {
-    /// Submit: a head accepts the update as its next entry.
+    /// `Submit`: a head accepts the update as its next entry.
     #[inline(always)]
     #[tactic(auto, unfolding(zprotocol::specs::server::Table::submit_row, crate::specs::support::Replicas::accept_row, crate::specs::support::Replicas::next_number))]
     pub(crate) fn submit(&mut self, entry: Entry, out: &mut Out<Snapshot>) -> Result<(), Memory>
@@ -42,7 +42,7 @@ impl Replica {
         }
     }
 
-    /// Update: the next entry, from the predecessor.
+    /// `Update`: accepts the next entry from the predecessor.
     #[inline(always)]
     #[tactic(auto, unfolding(zprotocol::specs::server::Table::update_row, crate::specs::support::Replicas::accept_row, crate::specs::support::Replicas::next_number))]
     pub(crate) fn update(
@@ -72,7 +72,7 @@ impl Replica {
         }
     }
 
-    // The number of the next entry, where the server has the state and a number is left.
+    // Returns the number of the next entry, where the server has the state and a number is left.
     #[tactic(auto, unfolding(crate::specs::support::Replicas::next_number))]
     fn next_number(&self) -> Option<LogNumber>
         ensures { result ≡ next_number self.now }
@@ -81,8 +81,8 @@ impl Replica {
         LogNumber::new(machine.applied() + 1)
     }
 
-    // accept, at a server with a successor: it keeps the entry, and forwards it. Inlined, as `process`
-    // and `apply` are, since a row is done in fewer instructions so.
+    // `accept` at a server with a successor: keeps the entry and forwards it. Inlined, as `process`
+    // and `apply` are: a row then takes fewer instructions.
     #[inline(always)]
     fn forward(
         &mut self,
@@ -109,7 +109,7 @@ impl Replica {
         Ok(())
     }
 
-    // accept, at a server without one: it answers the client, and acknowledges.
+    // `accept` at a server without a successor: answers the client, and acknowledges.
     #[inline(always)]
     fn process(
         &mut self,
@@ -137,7 +137,7 @@ impl Replica {
         Ok(())
     }
 
-    // The machine applies an entry. Where it met want of memory it is let go, and never seen again.
+    // Applies an entry to the machine. A machine that ran out of memory is dropped.
     #[inline(always)]
     #[tactic(auto, unfolding(crate::specs::support::Replicas::applied_result, zops::specs::Machine::entry_result))]
     fn apply(&mut self, entry: &Entry) -> Result<Option<Reply>, Memory>
@@ -155,7 +155,7 @@ impl Replica {
     }
 }
 
-// Lets a machine go. It happens once, so it stays out of the way of the other calls.
+// Drops a machine. Cold path: kept out of line, so that it costs the other calls nothing.
 #[cold]
 #[inline(never)]
 fn lose(machine: &mut Option<Machine>)

@@ -1,4 +1,4 @@
-//! The state of a server handed to one that has none.
+//! Handing the state of a server to one that has none.
 
 ghost use Rattle.std.specs.Prelude.{◌≡◌, ◌∷◌, [], OnErr, OnOk};
 ghost use Rattle.zprotocol.specs.Posts.{Puts};
@@ -14,7 +14,8 @@ use zpath::Memory;
 use zprotocol::{Epoch, Message, Out, Process, ServerId};
 
 impl Replica {
-    /// Snapshot: from the predecessor, at a server without state. It comes once, so it stays out of the way of the entries.
+    /// `Snapshot`: from the predecessor, at a server without state. Cold path: it comes once, so it
+    /// is kept out of line.
     #[cold]
     #[inline(never)]
     #[tactic(auto, unfolding(zprotocol::specs::server::Table::snapshot_row))]
@@ -48,7 +49,7 @@ impl Replica {
     }
 }
 
-/// Puts the whole state to the successor, which has none.
+/// Sends the whole state to the successor, which has none.
 pub(crate) fn hand_over(
     alloc: Global,
     machine: &Machine,

@@ -1,9 +1,10 @@
 //! One server of the chain.
 //!
-//! What comes in is a message with its sender; what goes out are messages with their receivers.
+//! It consumes a message with its sender, and produces messages with their receivers.
 //! `Server::take` is the server table (`zprotocol`, `specs/Table.antt`) over the machine of the
-//! service, the plain tree with kept replies. A server that finds no memory stops, and puts nothing: to
-//! the others it has failed. A query that finds none is ignored.
+//! service: the sequential specification with its cached replies. A server that runs out of memory
+//! stops and sends nothing: to the others it has crashed. A query for which memory runs out is
+//! ignored.
 #![tactic(auto)]
 
 mod accept;

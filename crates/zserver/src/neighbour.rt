@@ -21,7 +21,7 @@ impl Model for Neighbour {
     ghost view = { λ neighbour. (neighbour.id, neighbour.epoch) };
 }
 
-/// Whether the neighbour is this server, in this epoch.
+/// Returns whether the neighbour is this server, in this epoch.
 pub(crate) fn is_neighbour(neighbour: &Option<Neighbour>, server: ServerId, epoch: Epoch) -> bool
     ensures { result ≡ is_neighbour neighbour.now server epoch }
 {

@@ -1,4 +1,4 @@
-//! The rows in which acknowledgements go up the chain, and in which a server hears of its neighbours.
+//! The rows in which acknowledgements go up the chain, and in which a server learns its neighbours.
 
 ghost use Rattle.std.specs.Prelude.{◌≡◌, [], OnErr, OnOk};
 ghost use Rattle.zprotocol.specs.Posts.{Puts};
@@ -14,7 +14,8 @@ use zpath::Memory;
 use zprotocol::{Epoch, LogNumber, Message, Out, Process, ServerId};
 
 impl Replica {
-    /// Ack: from the successor; what the tail has processed leaves Sent, and the predecessor is told.
+    /// `Ack`, from the successor: removes what the tail has processed from Sent, and acknowledges
+    /// it to the predecessor.
     #[tactic(auto, unfolding(zprotocol::specs::server::Table::ack_row))]
     pub(crate) fn pass_ack_up(
         &mut self,
@@ -36,7 +37,7 @@ impl Replica {
         Ok(())
     }
 
-    /// NewPred: the new predecessor; the master is told what the server has.
+    /// `NewPred`: adopts the new predecessor, and tells the master what the server has.
     #[tactic(auto, unfolding(zprotocol::specs::server::Table::new_pred_row))]
     pub(crate) fn new_pred(
         &mut self,
@@ -55,7 +56,7 @@ impl Replica {
         Ok(())
     }
 
-    /// NewSucc: the new successor; what it lacks is put to it.
+    /// `NewSucc`: adopts the new successor, and sends it what it lacks.
     #[tactic(auto, unfolding(zprotocol::specs::server::Table::new_succ_row))]
     pub(crate) fn new_succ(
         &mut self,
@@ -82,7 +83,7 @@ impl Replica {
         Ok(())
     }
 
-    /// BecomeHead: no predecessor any more.
+    /// `BecomeHead`: there is no predecessor any more.
     #[tactic(auto, unfolding(zprotocol::specs::server::Table::become_head_row))]
     pub(crate) fn become_head(&mut self)
         ensures next { self.new ≡ (become_head_row self.old).0 }
@@ -91,7 +92,8 @@ impl Replica {
         self.pred = None;
     }
 
-    /// BecomeTail: no successor any more; all of Sent is processed now, which is acknowledged.
+    /// `BecomeTail`: there is no successor any more. All of Sent is processed now, which is
+    /// acknowledged.
     #[tactic(auto, unfolding(zprotocol::specs::server::Table::become_tail_row))]
     pub(crate) fn become_tail(&mut self, out: &mut Out<Snapshot>) -> Result<(), Memory>
         ensures next { OnOk result (self.new ≡ (become_tail_row self.old).0) }

@@ -15,8 +15,8 @@ use zops::Machine;
 use zpath::Memory;
 use zprotocol::{Epoch, LogNumber, Message, Out, Process, ServerId};
 
-/// What a server knows while it goes on. Its machine, where it has one, never met want of memory, and
-/// counts the entries: the number of the last one is no field of its own.
+/// What a running server knows. Its machine, if it has one, never ran out of memory. The machine
+/// counts the entries, so the number of the last one is no field.
 #[derive(Drop)]
 pub(crate) struct Replica {
     pub(crate) alloc: Global,
@@ -47,7 +47,7 @@ impl Model for Replica {
 }
 
 impl Replica {
-    /// A member of the opening chain.
+    /// Returns a member of the initial chain.
     pub(crate) fn member(
         alloc: Global,
         pred: Option<ServerId>,
@@ -64,7 +64,7 @@ impl Replica {
         })
     }
 
-    /// A server outside the chain.
+    /// Returns a server outside the chain.
     pub(crate) fn spare(alloc: Global) -> Replica
         ensures { result ≡ spare }
     {
@@ -77,7 +77,7 @@ impl Replica {
         }
     }
 
-    /// The number of its last entry, where it has the state.
+    /// Returns the number of its last entry, where it has the state.
     pub(crate) fn last(&self) -> Option<LogNumber>
         ensures { result ≡ last_number self.now }
     {
@@ -88,7 +88,8 @@ impl Replica {
     }
 }
 
-/// Acknowledges the entries up to this number, where there is a predecessor: it makes room for that first.
+/// Acknowledges the entries up to this number to the predecessor, if there is one. It reserves the
+/// room before it sends.
 pub(crate) fn acknowledge(
     pred: &Option<Neighbour>,
     n: LogNumber,
@@ -105,7 +106,7 @@ pub(crate) fn acknowledge(
     Ok(())
 }
 
-// A neighbour in the opening chain.
+// Returns a neighbour in the initial chain.
 fn first_neighbour(server: Option<ServerId>) -> Option<Neighbour>
     ensures { result ≡ first_neighbour server }
 {

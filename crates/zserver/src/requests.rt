@@ -12,7 +12,7 @@ use zcalls::{CallNumber, ClientId, Query};
 use zprotocol::{Message, Out, Process};
 
 impl Replica {
-    /// Query: a tail answers it; where there is no memory, it is as if it had been lost.
+    /// `Query`: a tail answers it. Out of memory it changes nothing, as if the query had been lost.
     #[inline(always)]
     #[tactic(auto, unfolding(zprotocol::specs::server::Table::query_row))]
     pub(crate) fn query(

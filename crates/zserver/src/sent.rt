@@ -1,4 +1,4 @@
-//! The entries that were forwarded, and that the tail may not have processed.
+//! The entries that were forwarded, and that the tail may not have processed yet.
 
 ghost use Rattle.std.specs.Prelude.{◌≡◌, ◌<◌, ◌≤◌, length, map, IfOk, OnErr, OnOk};
 ghost use Rattle.zprotocol.specs.Posts.{Puts};
@@ -16,7 +16,8 @@ use zprotocol::{LogNumber, Message, Out, Process};
 /// The entries, each with its number in the log.
 pub(crate) type Sent = Vec<(LogNumber, SharedEntry)>;
 
-/// Each entry above this number, with one more owner. It wants memory only where there are some.
+/// Returns each entry above this number, with one more owner. It allocates only where there are
+/// some.
 fn copies_above(
     alloc: Global,
     sent: &[(LogNumber, SharedEntry)],
@@ -35,7 +36,7 @@ fn copies_above(
     Ok(copies)
 }
 
-/// Puts each entry to the successor, in their order.
+/// Sends each entry to the successor, in order.
 fn put_all(
     mut entries: VecDeque<(LogNumber, SharedEntry)>,
     succ: &Neighbour,
@@ -52,7 +53,7 @@ fn put_all(
     }
 }
 
-/// Puts what the successor lacks, whose last entry has this number.
+/// Sends what the successor lacks, whose last entry has this number.
 pub(crate) fn send_above(
     alloc: Global,
     sent: &[(LogNumber, SharedEntry)],

@@ -13,11 +13,12 @@ use crate::stopped::Stopped;
 use crate::taken::Taken;
 use std::alloc::Global;
 use std::marker::Model;
+use std::mem::replace;
 use zpath::Memory;
 use zprotocol::{Message, Out, Process, ServerId};
 
-/// One server of the chain, or a spare one. It doesn't know its own number: no row of its table asks
-/// for it. One that has stopped has no replica: what it knew was let go.
+/// One server of the chain, or a spare one. It doesn't know its own number: no row of its table
+/// asks for it. One that has stopped has dropped its state.
 #[derive(Drop)]
 pub struct Server {
     replica: Result<Replica, Stopped>,
@@ -36,7 +37,7 @@ impl Model for Server {
 }
 
 impl Server {
-    /// A member of the opening chain, with an empty machine; these are its neighbours there.
+    /// Returns a member of the initial chain, with an empty machine, between these neighbours.
     pub fn first(
         alloc: Global,
         pred: Option<ServerId>,
@@ -50,7 +51,7 @@ impl Server {
         })
     }
 
-    /// A server outside the chain, which has no state. It takes no memory.
+    /// Returns a server outside the chain, which has no state. It allocates nothing.
     pub fn spare(alloc: Global) -> Server
         ensures { result ≡ running spare }
     {
@@ -59,9 +60,11 @@ impl Server {
         }
     }
 
-    /// Takes a message. Where there is no memory for what the table says, or the master orders it to
-    /// leave, the server stops, and its state is let go; a query is ignored where it finds no memory. It
-    /// wants memory only where it grows: for a longer log, or for what it puts.
+    /// Handles a received message by the server table.
+    ///
+    /// Out of memory stops a server only at a message that appends to its log or sends something.
+    /// An order of the master to retire stops it too. A server that stops drops its state and sends
+    /// nothing. A query never stops it: out of memory, it is dropped and reported as `Unheard`.
     pub fn take(
         &mut self,
         from: Process,
@@ -97,14 +100,14 @@ impl Server {
         }
     }
 
-    // Stops for good, and lets the state go. It happens once, so it stays out of the way of the messages that are taken.
+    // Stops for good, and drops the state. Cold path: kept out of line.
     #[cold]
     #[inline(never)]
     fn stop(&mut self, why: Stopped) -> Stopped
         ensures stopped { self.new.stopped ≡ Some why }
         ensures told { result ≡ why }
     {
-        self.replica = Err(why);
+        drop(replace(&mut self.replica, Err(why)));
         why
     }
 }

@@ -1,4 +1,4 @@
-//! What a `Snapshot` hands over.
+//! The payload of a `Snapshot`.
 
 ghost use Rattle.std.specs.Prelude.{◌≡◌, false, IfOk};
 ghost use Rattle.zserver.specs.support.Replicas.{transfer_of};
@@ -9,9 +9,9 @@ use zops::Machine;
 use zpath::Memory;
 use zprotocol::LogNumber;
 
-/// The whole state of a server, as it is handed to one that has none. Its machine has never met want of
-/// memory, and the number of its last entry is how many entries the machine applied. The machine is
-/// boxed, as every message has room for a snapshot.
+/// The whole state of a server, as it is handed to one that has none. Its machine has never run out
+/// of memory. The number of its last entry is the number of entries that the machine applied. The
+/// machine is boxed, because every message has room for a snapshot.
 #[derive(Drop)]
 pub struct Snapshot {
     machine: Box<Machine>,
@@ -35,7 +35,7 @@ impl Model for Snapshot {
 }
 
 impl Snapshot {
-    /// The state of a machine.
+    /// Returns a snapshot of this machine's state.
     pub(crate) fn of(alloc: Global, machine: &Machine) -> Result<Snapshot, Memory>
         ensures { IfOk result (λ snapshot. snapshot ≡ transfer_of machine.now) }
     {
@@ -44,14 +44,14 @@ impl Snapshot {
         })
     }
 
-    /// The number of its last entry.
+    /// Returns the number of its last entry.
     pub(crate) fn last(&self) -> LogNumber
         ensures { result ≡ self.now.last }
     {
         log_number(self.machine.as_ref())
     }
 
-    /// Its machine.
+    /// Returns its machine.
     pub(crate) fn into_machine(self) -> Machine
         ensures last { result.state.applied ≡ self.last }
         ensures machine { result.state.service ≡ self.machine }
@@ -61,7 +61,7 @@ impl Snapshot {
     }
 }
 
-/// How many entries the machine applied, as the number of the last one.
+/// Returns how many entries the machine applied, as the number of the last one.
 pub(crate) fn log_number(machine: &Machine) -> LogNumber
     ensures { result ≡ machine.now.state.applied }
 {

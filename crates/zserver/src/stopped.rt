@@ -1,11 +1,11 @@
-//! A server that has stopped.
+//! Why a server has stopped.
 
 use thiserror::Error;
 
-/// Why a server takes nothing more, and puts nothing. To the others it has failed.
+/// Why a server handles no more messages and sends nothing. To the others it has crashed.
 #[derive(Clone, Copy, Debug, PartialEq, Eq, Error)]
 pub enum Stopped {
-    /// It found no memory.
+    /// It ran out of memory.
     #[error("stopped: out of memory")]
     Memory,
     /// The master ordered it to leave.

@@ -13,8 +13,8 @@ use zpath::Memory;
 use zprotocol::{Message, Out, Process};
 
 impl Replica {
-    /// The server table. Where a growth is refused nothing is put, and the replica is of no use any
-    /// more. Inlined, as the rows of calls and entries are, so that a message is matched where it lies.
+    /// The server table. Out of memory it sends nothing, and the replica is of no more use.
+    /// Inlined, as the rows of calls and entries are, so that a message is matched in place.
     #[inline(always)]
     #[tactic(auto, unfolding(zprotocol::specs::server::Table::server_step, zprotocol::specs::server::Table::become_head_row))]
     pub(crate) fn take(

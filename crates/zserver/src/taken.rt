@@ -1,10 +1,10 @@
-//! What became of a message.
+//! What became of a received message.
 
-/// What became of a message that a server took.
+/// What became of a message that a server received.
 #[derive(Clone, Copy, Debug, PartialEq, Eq)]
 pub enum Taken {
     /// The server did what its table says.
     Acted,
-    /// The message was a query, for which there was no memory: it is as if it had been lost.
+    /// The message was a query for which memory ran out: it is as if it had been lost.
     Unheard,
 }

@@ -1,4 +1,4 @@
-//! What a server in the middle of a chain ignores: nothing changes, and nothing is put.
+//! What a server in the middle of a chain ignores: nothing changes, and nothing is sent.
 
 use crate::mending::{AS_BEFORE, SET_UP};
 use crate::play::{Rows, first, plays};
@@ -63,7 +63,7 @@ fn ignores_joined(rt: HostRuntime) {
     ignores(&rt, rt.alloc(), JOINED);
 }
 
-// A server in the middle ignores these messages, by what it does then.
+// A server in the middle ignores these messages, as what it does then shows.
 fn ignores(rt: &impl Abort, alloc: Global, rows: Rows) {
     let mut middle = first(rt, alloc, ServerId::new(1), ServerId::new(3));
     plays(rt, alloc, &mut middle, SET_UP);

@@ -1,4 +1,4 @@
-//! A join: a server without state takes a snapshot, and answers from then on.
+//! A join: a server without state receives a snapshot, and answers from then on.
 
 use crate::play::{Rows, first, gives, plays};
 use crate::shown::puts;
@@ -23,7 +23,7 @@ const JOINS: Rows = &[
     (Given::Query(2), &[("client", 1, "answer", 2, None)]),
 ];
 
-// A server that is a chain alone answers an update, and hands its state over to server 2.
+// A server that is the whole chain answers an update, and hands its state over to server 2.
 const HANDS_OVER: Rows = &[
     (Given::Submit(1), &[("client", 1, "answer", 1, None)]),
     (
@@ -47,7 +47,7 @@ fn is_silent_after_it_handed_over(rt: HostRuntime) {
     drop(only);
 }
 
-/// What server 1, alone and with one entry, hands over to server 2 in this epoch.
+/// Returns what server 1, alone and with one entry, hands over to server 2 in this epoch.
 pub(crate) fn handed_over(rt: &impl Abort, alloc: Global, epoch: Epoch) -> Message<Snapshot> {
     let mut only = first(rt, alloc, None, None);
     let mut out = Out::new(alloc);

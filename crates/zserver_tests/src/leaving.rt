@@ -40,7 +40,7 @@ fn is_ordered_to_leave_by_the_master_alone(rt: HostRuntime) {
     drop(middle);
 }
 
-// Why the server stopped at a message, if it has; it puts nothing.
+// Returns why the server stopped at a message, if it has; it sends nothing.
 fn ends(
     rt: &impl Abort,
     server: &mut Server,

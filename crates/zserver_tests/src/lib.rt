@@ -1,6 +1,8 @@
-//! Tests of what one process is made of: the machine and the values of its calls (`machine`), the lists of what is put, the master and a client's core
-//! (`tables`), the links, and a server: what it ignores, a join by a snapshot, a repair, and its leaving. What no clause says: each call that allocates can
-//! succeed, and its answer is compared.
+//! Tests of the parts of one process: the machine and the values of its calls (`machine`), and the
+//! lists of what is sent, the master and a client's core (`tables`). Then the channels, and a
+//! server: what it ignores, a join by a snapshot, a repair, and its leaving.
+//!
+//! They test what no clause says: each call that allocates can succeed, and its answer is compared.
 #![tactic(auto)]
 
 #[cfg(test)]

@@ -1,4 +1,4 @@
-//! What is put on a link is taken from it.
+//! What is sent on a channel is received from it.
 
 use std::test::Fail;
 use zcalls::{CallNumber, Update};

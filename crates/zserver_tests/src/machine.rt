@@ -1,4 +1,5 @@
-//! The machine, and the values of its calls: worked calls are answered as they should be, rows of lines, and beside each the line of its answer.
+//! The machine, and the values of its calls. Worked calls are answered as they should be: rows of
+//! lines, each with the line of its answer.
 
 mod calls;
 mod limits;

@@ -4,7 +4,7 @@ use crate::play::{Rows, first, plays};
 use crate::values::Given;
 use zprotocol::ServerId;
 
-/// A server stands between server 1, as a pair of epoch 4, and server 3, as a pair of epoch 5, and has one
+/// A server between server 1, as a pair of epoch 4, and server 3, as a pair of epoch 5. It has one
 /// entry, which the tail may not have processed.
 pub(crate) const SET_UP: Rows = &[
     (Given::NewPred(4, 1), &[("master", 0, "have", 4, Some(0))]),
@@ -15,7 +15,8 @@ pub(crate) const SET_UP: Rows = &[
     ),
 ];
 
-/// The server still has its one entry, and keeps it: it goes to a new successor, which has none.
+/// The server still has its one entry, and keeps it: it sends it to a new successor, which has
+/// none.
 pub(crate) const AS_BEFORE: Rows = &[
     (Given::NewPred(7, 2), &[("master", 0, "have", 7, Some(1))]),
     (
@@ -24,7 +25,7 @@ pub(crate) const AS_BEFORE: Rows = &[
     ),
 ];
 
-// A server in the middle takes a second entry, and sends it to a new successor that lacks it.
+// A server in the middle accepts a second entry, and sends it to a new successor that lacks it.
 const MENDS: Rows = &[
     (
         Given::Update(1, 4, 2),

@@ -1,4 +1,4 @@
-//! What the tests share: a server is given messages, and what it puts is compared.
+//! What the tests share: a server is given messages, and what it sends is compared.
 
 use crate::shown::{Shown, puts};
 use crate::values::{Given, message, sender};
@@ -7,10 +7,10 @@ use std::process::Abort;
 use zprotocol::{Message, Out, Process, ServerId};
 use zserver::{Server, Snapshot, Taken};
 
-/// What a server is given, and beside each message what it puts then.
+/// What a server is given, each message with what the server sends then.
 pub(crate) type Rows = &'static [(Given, &'static [Shown])];
 
-/// A server with these neighbours in the opening chain.
+/// Returns a server with these neighbours in the initial chain.
 pub(crate) fn first(
     rt: &impl Abort,
     alloc: Global,

@@ -1,17 +1,17 @@
-//! What was put, in words and numbers.
+//! What was sent, in words and numbers.
 
 use std::process::Abort;
 use zprotocol::{LogNumber, Message, Out, Process};
 use zserver::Snapshot;
 
-/// A message that was put: what its receiver is, and its number, 0 for the master; then what the message
-/// is, with its epoch or the number of its call, and its log number.
+/// A message that was sent: the kind of its receiver and its number, 0 for the master. Then the
+/// kind of the message, its epoch or the number of its call, and its log number.
 pub(crate) type Shown = (&'static str, u8, &'static str, u64, Option<u64>);
 
-// What stands for no message.
+// Stands for no message.
 const NOTHING: Shown = ("nobody", 0, "nothing", 0, None);
 
-/// These messages were put, in this order, and no more.
+/// Asserts that these messages were sent, in this order, and no others.
 pub(crate) fn puts(rt: &impl Abort, out: &mut Out<Snapshot>, wanted: &[Shown]) {
     for want in wanted {
         assert!(rt; next(out) == *want);
@@ -19,7 +19,7 @@ pub(crate) fn puts(rt: &impl Abort, out: &mut Out<Snapshot>, wanted: &[Shown]) {
     assert!(rt; next(out) == NOTHING);
 }
 
-// Takes the first message that was put.
+// Removes the first message that was sent, and returns it.
 fn next(out: &mut Out<Snapshot>) -> Shown {
     let post = out.next();
     let shown = match &post {

@@ -1,4 +1,5 @@
-//! The list of what a process puts, a client's core, the master, and the copies of calls and replies.
+//! The list of what a process sends, a client's core, the master, and the copies of calls and
+//! replies.
 
 mod client;
 mod copies;

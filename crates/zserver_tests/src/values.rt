@@ -25,11 +25,11 @@ pub(crate) enum Given {
     Joined(u8, u64),
     /// From client 1, with this number: a tick.
     Submit(u64),
-    /// From client 1, with this number: whether the root is there.
+    /// From client 1, with this number: whether the root exists.
     Query(u64),
 }
 
-/// Who sends a message.
+/// Returns who sends a message.
 pub(crate) fn sender(rt: &impl Abort, given: &Given) -> Process {
     match given {
         Given::NewPred(..) | Given::NewSucc(..) => Process::Master,
@@ -41,7 +41,7 @@ pub(crate) fn sender(rt: &impl Abort, given: &Given) -> Process {
     }
 }
 
-/// What is sent.
+/// Returns what is sent.
 pub(crate) fn message(rt: &impl Abort, alloc: Global, given: &Given) -> Message<Snapshot> {
     match given {
         Given::NewPred(at, pred) => Message::NewPred(epoch(rt, *at), server(rt, *pred)),

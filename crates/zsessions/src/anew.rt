@@ -1,4 +1,4 @@
-//! The rows of a table under Ids that are given anew.
+//! Copying a table's rows under new Ids.
 
 ghost use Rattle.std.specs.Prelude.{◌≡◌, ◌<◌, IfOk};
 ghost use Rattle.zslots.specs.declared.limits.TheConstants.{GIVEN_BOUND};
@@ -13,7 +13,7 @@ use zpath::Memory;
 use zslots::{Id, Slots};
 use ztree::SessionId;
 
-/// The same sessions, whose rows have Ids that were given for them alone.
+/// Returns a table with the same sessions, under freshly numbered Ids; or `Memory`.
 pub(crate) fn opened_anew(
     alloc: Global,
     rows: &Slots<SessionRow>,
@@ -24,7 +24,7 @@ pub(crate) fn opened_anew(
     ensures given { IfOk result (λ t. t.given < GIVEN_BOUND) }
 {
     let mut copy = Table::new(alloc);
-    // There are far fewer sessions than Ids that can be given.
+    // There are far fewer sessions than Ids to give out.
     let _ = ids.len();
     for (number, at) in ids {
         let Some(session) = session_of(rows, *at) else {

@@ -11,14 +11,14 @@ use crate::row::SessionRow;
 use zslots::{Id, List, Slots};
 use ztree::Session;
 
-/// Puts a row, which is in no bucket, into that of a deadline.
+/// Puts a row that is in no bucket into the bucket of a deadline.
 pub(crate) fn file(rows: &mut Slots<SessionRow>, buckets: &mut [List<0>; BUCKETS], due: u64, id: Id)
     requires { length_of (bucket buckets.old (bucket_number due)) < finite.len rows.old.items }
     ensures items { rows.new ≡ with_items rows.old
         (filed_items rows.old.items buckets.old due id) }
     ensures buckets { buckets.new ≡ filed_buckets buckets.old due id }
 {
-    // The bucket is shorter than there are rows, and these can be counted: so its length has room.
+    // The bucket has fewer rows than the table, so its length can grow.
     let _ = rows.len();
     let at = place(due);
     let mut list = buckets[at];
@@ -26,7 +26,7 @@ pub(crate) fn file(rows: &mut Slots<SessionRow>, buckets: &mut [List<0>; BUCKETS
     buckets[at] = list;
 }
 
-/// Takes a row out of the bucket of its deadline.
+/// Removes a row from the bucket of its deadline.
 pub(crate) fn unfile(
     rows: &mut Slots<SessionRow>,
     buckets: &mut [List<0>; BUCKETS],
@@ -43,7 +43,7 @@ pub(crate) fn unfile(
     buckets[at] = list;
 }
 
-/// Gives a row another deadline, and puts it into the bucket of that one.
+/// Changes a row's deadline, and moves the row to the bucket of that deadline.
 pub(crate) fn refile(
     rows: &mut Slots<SessionRow>,
     buckets: &mut [List<0>; BUCKETS],
@@ -61,7 +61,7 @@ pub(crate) fn refile(
     file(rows, buckets, to, id);
 }
 
-// Writes a row's deadline, and leaves it where it stands.
+// Writes a row's deadline without moving the row.
 fn set_deadline(rows: &mut Slots<SessionRow>, id: Id, deadline: u64)
     ensures { rows.new ≡ with_items rows.old (with_deadline_at rows.old.items id deadline) }
 {
@@ -70,7 +70,7 @@ fn set_deadline(rows: &mut Slots<SessionRow>, id: Id, deadline: u64)
     }
 }
 
-/// The session of a row.
+/// Returns the session of a row, if the row exists.
 pub(crate) fn session_of(rows: &Slots<SessionRow>, id: Id) -> Option<Session>
     ensures { result ≡ session_at rows.now.items id }
 {
@@ -80,7 +80,7 @@ pub(crate) fn session_of(rows: &Slots<SessionRow>, id: Id) -> Option<Session>
     }
 }
 
-/// The place of the bucket of a deadline.
+/// Returns the index of the bucket of a deadline.
 pub(crate) fn place(deadline: u64) -> usize
     ensures same { result ≡ bucket_number deadline }
     ensures within { result < BUCKETS }

@@ -1,9 +1,11 @@
-//! Sessions, found by their ids, and due by their deadlines.
+//! The sessions of a machine, found by id and by deadline.
 //!
-//! Each session stands in a slot of `zslots`, under an Id that a map of the sessions' ids finds, and
-//! in one of 32 lists: that of its deadline modulo 32. So a tick looks at one list alone, and a new
-//! deadline takes no memory. Contracts see the sessions as `ztree` does: a finite map from their ids
-//! (`specs/Deadlines.antt` has what is said besides).
+//! Each session is in a slot of `zslots`. A map from session ids finds its Id. It also stands in
+//! one of 32 lists, by its deadline modulo 32. So a tick looks at one list only, and a new deadline
+//! allocates nothing.
+//!
+//! Contracts see the sessions as `ztree` does: a finite map from their ids. `specs/Deadlines.antt`
+//! has the rest.
 #![tactic(auto)]
 
 mod anew;

@@ -1,4 +1,4 @@
-//! How many buckets there are.
+//! The number of buckets.
 
-/// The lists by deadlines.
+/// The number of lists by deadline.
 pub(crate) const BUCKETS: usize = 32;

@@ -1,4 +1,4 @@
-//! The sessions of a bucket that a tick reaches.
+//! The sessions of a bucket that expire at a tick.
 
 ghost use Rattle.std.specs.Prelude.{◌≡◌, IfOk, OnOk};
 ghost use Rattle.zslots.specs.Ids.{Ids};
@@ -11,7 +11,8 @@ use zpath::Memory;
 use zslots::{Id, List, Slots};
 use ztree::SessionId;
 
-/// The ids of the sessions of a bucket whose deadline a tick reaches, in the bucket's order.
+/// Returns the ids of the sessions in the bucket that expire at the tick, in the bucket's order; or
+/// `Memory`.
 pub(crate) fn reached(
     alloc: Global,
     rows: &Slots<SessionRow>,
@@ -30,7 +31,7 @@ pub(crate) fn reached(
     Ok(found)
 }
 
-/// Adds the id of a row's session, if the tick reaches its deadline.
+/// Appends the id of a row's session, if it expires at the tick.
 fn push_if_due(
     rows: &Slots<SessionRow>,
     id: Id,

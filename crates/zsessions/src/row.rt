@@ -3,7 +3,7 @@
 use zslots::{Linked, Links};
 use ztree::{Session, SessionId};
 
-/// A session, its id, and its neighbours in its bucket.
+/// A session, its id, and its links in its bucket.
 #[derive(Drop)]
 pub(crate) struct SessionRow {
     pub(crate) id: SessionId,

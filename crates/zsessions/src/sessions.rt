@@ -1,4 +1,4 @@
-//! The sessions.
+//! The sessions as one value.
 
 ghost use Rattle.std.specs.Prelude.{◌≡◌, None, IfOk, OnOk, OnErr, IsSome};
 ghost use Rattle.std.specs.FinMap as finite;
@@ -13,7 +13,7 @@ use zpath::Memory;
 use zslots::limits::GIVEN_BOUND;
 use ztree::{ClientId, Session, SessionId};
 
-/// Sessions by their ids.
+/// The sessions by id.
 #[derive(Drop)]
 pub struct Sessions {
     table: Table,
@@ -31,7 +31,7 @@ impl Model for Sessions {
 }
 
 impl Sessions {
-    /// No session. It takes no memory.
+    /// Returns an empty table of sessions. Allocates nothing.
     pub fn new(alloc: Global) -> Sessions
         ensures { result ≡ finite.empty }
     {
@@ -40,22 +40,22 @@ impl Sessions {
         }
     }
 
-    /// How many sessions there are.
+    /// Returns the number of sessions.
     pub fn len(&self) -> usize
         ensures { result ≡ finite.len self.now }
     {
         self.table.len()
     }
 
-    /// The session of an id.
+    /// Returns the session with this id, if it exists.
     pub fn get(&self, id: SessionId) -> Option<Session>
         ensures { result ≡ get self.now id }
     {
         self.table.get(id)
     }
 
-    /// The ids of the sessions whose deadline a tick reaches, in their order, where none is past.
-    /// Only sessions whose deadlines are equal to the tick modulo 32 are looked at.
+    /// Returns the ids of the sessions that expire at the tick, in order; or `Memory`. No deadline
+    /// may be before the tick. Looks only at sessions whose deadline equals the tick modulo 32.
     pub fn due(&self, tick: u64) -> Result<Vec<SessionId>, Memory>
         requires none_late { NoneLate self.now tick }
         ensures { IfOk result (λ ids. ids.items ≡ due_sessions self.now tick) }
@@ -63,20 +63,20 @@ impl Sessions {
         self.table.due(tick)
     }
 
-    /// One more session, whose id is free.
+    /// Adds a session under a free id. After `Memory` nothing has changed.
     pub fn open(&mut self, id: SessionId, session: Session) -> Result<(), Memory>
         requires free { get self.old id ≡ None }
         ensures ok { OnOk result (self.new ≡ finite.insert self.old id session) }
         ensures err { OnErr result (self.new ≡ self.old) }
     {
-        // Where all Ids are given, the rows get new ones.
+        // Once all Ids have been given out, the rows get new ones.
         if self.table.given() >= GIVEN_BOUND {
             self.table = self.table.copy()?;
         }
         self.table.open(id, session)
     }
 
-    /// Writes the deadline of a session. It takes no memory.
+    /// Writes the deadline of an existing session. Allocates nothing.
     pub fn renew(&mut self, id: SessionId, deadline: u64)
         requires live { IsSome (get self.old id) }
         ensures { self.new ≡ with_deadline self.old id deadline }
@@ -84,8 +84,9 @@ impl Sessions {
         self.table.renew(id, deadline);
     }
 
-    /// Keeps a client's session alive: its deadline is its timeout from this tick on. Answers whether
-    /// the client has it; else nothing changes. The session is looked up once. It takes no memory.
+    /// Renews a client's session: its deadline becomes its timeout from this tick on. Returns
+    /// whether the client has that session; if not, nothing changes. Looks the session up once, and
+    /// allocates nothing.
     pub fn keep_alive(&mut self, client: ClientId, id: SessionId, now: u64) -> bool
         requires deadline { HasTimeFor self.old id now }
         ensures held { result ≡ is_held_by self.old client id }
@@ -94,7 +95,7 @@ impl Sessions {
         self.table.keep_alive(client, id, now)
     }
 
-    /// One session fewer. It takes no memory.
+    /// Removes an existing session. Allocates nothing.
     pub fn end(&mut self, id: SessionId)
         requires live { IsSome (get self.old id) }
         ensures { self.new ≡ finite.remove self.old id }
@@ -102,7 +103,7 @@ impl Sessions {
         self.table.end(id);
     }
 
-    /// The same sessions once more.
+    /// Returns a copy of the sessions, or `Memory`.
     pub fn copy(&self) -> Result<Sessions, Memory>
         ensures { IfOk result (λ copy. copy ≡ self.now) }
     {

@@ -1,4 +1,4 @@
-//! The rows of sessions, by their ids and in their buckets.
+//! The rows of sessions, by id and by bucket.
 
 ghost use Rattle.std.specs.Prelude.{◌≡◌, ◌+◌, ◌<◌, ◌≤◌, None, IfOk, OnOk, OnErr, IsSome};
 ghost use Rattle.std.specs.FinMap as finite;
@@ -21,7 +21,7 @@ use zpath::Memory;
 use zslots::{Id, Links, List, Slots};
 use ztree::{ClientId, Session, SessionId};
 
-/// Rows of sessions, and how many Ids were given to them.
+/// The rows of sessions, and the number of Ids given out for them.
 #[derive(Drop)]
 pub(crate) struct Table {
     rows: Slots<SessionRow>,
@@ -46,7 +46,7 @@ impl Model for Table {
 }
 
 impl Table {
-    /// No session.
+    /// Returns a table without sessions.
     pub(crate) fn new(alloc: Global) -> Table
         ensures sessions { result.sessions ≡ finite.empty }
         ensures given { result.given ≡ 0 }
@@ -59,21 +59,21 @@ impl Table {
         }
     }
 
-    /// How many Ids were given to rows.
+    /// Returns the number of Ids given out for rows.
     pub(crate) fn given(&self) -> u128
         ensures { result ≡ self.now.given }
     {
         self.rows.given()
     }
 
-    /// How many sessions there are.
+    /// Returns the number of sessions.
     pub(crate) fn len(&self) -> usize
         ensures { result ≡ finite.len self.now.sessions }
     {
         self.ids.len()
     }
 
-    /// The session of an id.
+    /// Returns the session with this id, if it exists.
     pub(crate) fn get(&self, id: SessionId) -> Option<Session>
         ensures { result ≡ get self.now.sessions id }
     {
@@ -83,7 +83,7 @@ impl Table {
         }
     }
 
-    /// The ids of the sessions whose deadline a tick reaches, in their order.
+    /// Returns the ids of the sessions that expire at the tick, in order; or `Memory`.
     pub(crate) fn due(&self, tick: u64) -> Result<Vec<SessionId>, Memory>
         requires none_late { NoneLate self.now.sessions tick }
         ensures { IfOk result (λ ids. ids.items ≡ due_sessions self.now.sessions tick) }
@@ -93,7 +93,7 @@ impl Table {
         Ok(ids)
     }
 
-    /// The same sessions, whose rows have Ids that were given for them alone.
+    /// Returns a copy with the same sessions, under freshly numbered Ids; or `Memory`.
     pub(crate) fn copy(&self) -> Result<Table, Memory>
         ensures sessions { IfOk result (λ copy. copy.sessions ≡ self.now.sessions) }
         ensures given { IfOk result (λ copy. copy.given < GIVEN_BOUND) }
@@ -101,7 +101,7 @@ impl Table {
         opened_anew(self.alloc, &self.rows, &self.ids)
     }
 
-    /// One more session.
+    /// Adds a session. After `Memory` the sessions are unchanged.
     pub(crate) fn open(&mut self, id: SessionId, session: Session) -> Result<(), Memory>
         requires free { get self.old.sessions id ≡ None }
         requires given { self.old.given < GIVEN_BOUND }
@@ -143,7 +143,7 @@ impl Table {
         }
     }
 
-    /// Keeps a client's session alive, and answers whether the client has it.
+    /// Renews a client's session. Returns whether the client has it.
     pub(crate) fn keep_alive(&mut self, client: ClientId, id: SessionId, now: u64) -> bool
         requires { HasTimeFor self.old.sessions id now }
         ensures held { result ≡ is_held_by self.old.sessions client id }
@@ -157,7 +157,7 @@ impl Table {
             return false;
         }
         let deadline = now + session.timeout;
-        // Where it was kept alive at this tick before, there is nothing to write.
+        // If it was already renewed at this tick, there is nothing to write.
         if deadline != session.deadline {
             refile(
                 &mut self.rows,
@@ -170,7 +170,7 @@ impl Table {
         true
     }
 
-    /// One session fewer.
+    /// Removes a session.
     pub(crate) fn end(&mut self, id: SessionId)
         requires { IsSome (get self.old.sessions id) }
         ensures sessions { self.new.sessions ≡ finite.remove self.old.sessions id }
@@ -187,7 +187,7 @@ impl Table {
     }
 }
 
-// The Id of a session's row, and the session: the one look by which a call finds both.
+// Returns the Id of a session's row, and the session: a call finds both in one lookup.
 fn found(ids: &HashMap<u64, Id>, rows: &Slots<SessionRow>, id: SessionId) -> Option<(Id, Session)>
     ensures { result ≡ found_at ids.now.entries rows.now.items id }
 {

@@ -1,11 +1,11 @@
--- Generations, which tell the Ids of one slot apart.
+-- Generations: they tell apart the Ids that share a slot.
 use Rattle.std.specs.Prelude.{ℕ, ◌+◌, ◌*◌, ◌==◌, ◌&&◌, Bool}
 use Rattle.zslots.specs.declared.generation.Generation.{Generation}
 
--- a generation's number: how many Ids were given before
+-- a generation's number: how many Ids were given out before it
 abbrev pub generation_number : Generation → ℕ
 generation_number g = g.high * 4294967296 + g.low
 
--- the two are the same generation
+-- the two generations are equal
 abbrev pub is_same : Generation → Generation → Bool
 is_same g h = (g.high == h.high) && (g.low == h.low)

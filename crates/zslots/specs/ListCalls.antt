@@ -1,4 +1,4 @@
--- What a list's calls write, and what that leaves of a list that was in order.
+-- What a list's calls write, and their effect on a list in good order.
 use Rattle.std.specs.Prelude.{◌≡◌, ◌∷◌, ◌++◌, ℕ, Option, IsSome}
 use Rattle.std.specs.FinMap.{get}
 use Rattle.zslots.specs.declared.id.Id.{Id}
@@ -11,46 +11,46 @@ use Rattle.zslots.specs.Chains.{IsBetween}
 use Rattle.zslots.specs.Lists.{IsList, first_id}
 
 module _ {T : Type 0} (links : T → Links) (with_links : T → Links → T) (s : SlotsView T) where
-  -- the slots with one item's next Id written
+  -- the slots with one item's `next` written
   abbrev pub slots_with_next : Option Id → Option Id → SlotsView T
   slots_with_next at next = with_items s (with_next_at links with_links s.items at next)
 
-  -- the slots with one item's previous Id written
+  -- the slots with one item's `prev` written
   abbrev pub slots_with_prev : Option Id → Option Id → SlotsView T
   slots_with_prev at prev = with_items s (with_prev_at links with_links s.items at prev)
 
-  -- the slots with an item put before the first of a list
+  -- the slots with an item inserted before the first of a list
   abbrev pub slots_with_front : {L : ℕ} → IdList L → Id → SlotsView T
   slots_with_front list id = with_items s (with_front links with_links s.items (first_id list) id)
 
-  -- the slots with an item's neighbours made each other's
+  -- the slots with an item's neighbours linked to each other
   abbrev pub slots_without : Id → SlotsView T
   slots_without id = with_items s (without links with_links s.items id)
 
-  -- the slots with an item put between the neighbours that its own links name
+  -- the slots with an item inserted between the neighbours that its own links name
   abbrev pub slots_with_between : Id → SlotsView T
   slots_with_between id = with_items s (with_between links with_links s.items id)
 
 module _ {L : ℕ} {T : Type 0} (links : T → Links) (m : Items T) (list : IdList L) (id : Id) where
-  -- the item, which is there and wasn't in the list, is its first now
+  -- an existing item that wasn't in the list is now its first
   abbrev pub PutsFirst : Items T → IdList L → Type 0
   PutsFirst later new =
       (ids : Ids) → IsList links m list ids → NotIn id ids → IsSome (get m id) →
       IsList links later new (id ∷ ids)
 
-  -- the item, which was in the list, isn't any more
+  -- an item of the list is no longer in it
   abbrev pub TakesOut : Items T → IdList L → Type 0
   TakesOut later new =
       (front back : Ids) → IsList links m list (front ++ id ∷ back) →
       IsList links later new (front ++ back)
 
-  -- the item, which wasn't in the list, stands now between those that its own links name
+  -- an item that wasn't in the list is now between the neighbours that its own links name
   abbrev pub PutsBack : Items T → IdList L → Type 0
   PutsBack later new =
       (front back : Ids) → IsList links m list (front ++ back) → NotIn id (front ++ back) →
       IsBetween links m id front back → IsList links later new (front ++ id ∷ back)
 
-  -- the Id follows the item in the list, if one does
+  -- the Id that follows the item in the list, if any
   abbrev pub IsNext : Option Id → Type 0
   IsNext next =
       (front back : Ids) → IsList links m list (front ++ id ∷ back) → next ≡ first_of back

@@ -1,4 +1,4 @@
--- What holds of lists, however the links stand in the items.
+-- Laws of lists, whatever links the items have.
 use Rattle.std.specs.Prelude.{◌≡◌, ℕ, ◌∷◌, ◌++◌, Option}
 use Rattle.std.specs.Option.{option_map}
 use Rattle.std.specs.FinMap.{get}
@@ -10,20 +10,20 @@ use Rattle.zslots.specs.SlotsView.{Items}
 use Rattle.zslots.specs.Links.{with_front, without, with_between}
 use Rattle.zslots.specs.Lists.{IsList, list_without, list_with_between}
 
--- a list is one list of Ids alone
+-- a list stands for at most one sequence of Ids
 abbrev pub IsOneList : ℕ → {T : Type 0} → (T → Links) → Type 0
 IsOneList L {T} links =
     (m : Items T) (list : IdList L) (a b : Ids) → IsList links m list a →
     IsList links m list b → a ≡ b
 
--- a list begins with the first of its Ids
+-- a list's `first` is the first of its Ids
 abbrev pub BeginsWithFirst : ℕ → {T : Type 0} → (T → Links) → Type 0
 BeginsWithFirst L {T} links =
     (m : Items T) (list : IdList L) (ids : Ids) → IsList links m list ids →
     list.first ≡ first_of ids
 
 module _ {T : Type 0} (links : T → Links) (with_links : T → Links → T) where
-  -- an item that was taken out and put back leaves all items and the list as they were
+  -- an item that is unlinked and then relinked leaves all items and the list as they were
   abbrev pub RelinkUndoesUnlink : ℕ → Type 0
   RelinkUndoesUnlink L =
       (m : Items T) (list : IdList L) (front back : Ids) (id : Id) →
@@ -32,7 +32,7 @@ module _ {T : Type 0} (links : T → Links) (with_links : T → Links → T) whe
       × (list_with_between links (without links with_links m id) (list_without links m list id) id
       ≡ list)
 
-  -- no call of a list changes a part of an item that a write of its links leaves
+  -- no call of a list changes a part of an item that writing its links leaves alone
   abbrev pub LeavesOtherParts : Type 0 → Type 0
   LeavesOtherParts X =
       (part : T → X) → ((x : T) (to : Links) → part (with_links x to) ≡ part x) →
@@ -41,7 +41,7 @@ module _ {T : Type 0} (links : T → Links) (with_links : T → Links → T) whe
       × (option_map part (get (without links with_links m id) q) ≡ option_map part (get m q))
       × (option_map part (get (with_between links with_links m id) q) ≡ option_map part (get m q))
 
-  -- no call of a list changes another list, whose links a write of its own leaves
+  -- no call of a list changes another list, if writing this list's links leaves the other's alone
   abbrev pub LeavesOtherLists : ℕ → Type 0
   LeavesOtherLists K =
       (other : T → Links) → ((x : T) (to : Links) → other (with_links x to) ≡ other x) →

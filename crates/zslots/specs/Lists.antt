@@ -1,4 +1,4 @@
--- What a list is, and what its own two fields become.
+-- What a list is, and how its two fields change.
 use Rattle.std.specs.Prelude.{◌≡◌, ℕ, ◌+◌, ◌-◌, length, Option, Some, None}
 use Rattle.zslots.specs.declared.id.Id.{Id}
 use Rattle.zslots.specs.declared.linked.Links.{Links}
@@ -8,7 +8,7 @@ use Rattle.zslots.specs.SlotsView.{Items}
 use Rattle.zslots.specs.Links.{links_at}
 use Rattle.zslots.specs.Chains.{Chain}
 
--- the list is these Ids
+-- the list stands for these Ids
 pub record IsList {L : ℕ} {T : Type 0} (links : T → Links) (m : Items T) (list : IdList L)
     (ids : Ids) : Type 0 where
   pub chain : Chain links m None list.first ids
@@ -16,24 +16,24 @@ pub record IsList {L : ℕ} {T : Type 0} (links : T → Links) (m : Items T) (li
   pub count : list.len ≡ length ids
 
 module _ {L : ℕ} where
-  -- the Id that a list begins with
+  -- the first Id of a list
   abbrev pub first_id : IdList L → Option Id
   first_id list = list.first
 
-  -- how many items a list counts
+  -- the length of a list
   abbrev pub length_of : IdList L → ℕ
   length_of list = list.len
 
-  -- a list of nothing
+  -- the empty list
   abbrev pub empty_list : IdList L
   empty_list = record { first = None; len = 0 }
 
-  -- a list with an item before its first
+  -- the list with an item before its first
   abbrev pub list_with_front : IdList L → Id → IdList L
   list_with_front list id = record { first = Some id; len = list.len + 1 }
 
   module _ {T : Type 0} (links : T → Links) where
-    -- a list whose item was taken out
+    -- the list without this item
     abbrev pub list_without : Items T → IdList L → Id → IdList L
     list_without m list id =
         record {
@@ -41,7 +41,7 @@ module _ {L : ℕ} where
           len = list.len - 1;
         }
 
-    -- a list with an item between the neighbours that its own links name
+    -- the list with this item between the neighbours that its own links name
     abbrev pub list_with_between : Items T → IdList L → Id → IdList L
     list_with_between m list id =
         record {

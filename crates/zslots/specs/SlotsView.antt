@@ -8,17 +8,17 @@ use Rattle.zslots.specs.declared.id.Id.{Id}
 use Rattle.zslots.specs.Generations.{generation_number}
 use Rattle.zslots.specs.Ids.{id_cmp, coded_id}
 
--- items by their Ids
+-- items by Id
 abbrev pub Items : Type 0 → Type 0
 Items T = FinMap id_cmp T
 
--- the items, how many Ids were given, and how many items more fit with no memory
+-- the items, the number of Ids given out, and how many more items fit without allocating
 pub record SlotsView (T : Type 0) : Type 0 where
   pub items : Items T
   pub given : ℕ
   pub room : ℕ
 
--- how it is stored
+-- how the view is encoded
 abbrev pub coded_view : {T : Type 0} → Coded T → Coded (SlotsView T)
 coded_view {T} code =
     code_by (Items T × (ℕ × ℕ)) (coded× (finite.code coded_id code) (coded× coded_ℕ coded_ℕ))
@@ -26,26 +26,26 @@ coded_view {T} code =
     (λ p. record { items = p.0; given = p.1.0; room = p.1.1 }) (λ _. refl)
 
 module _ {T : Type 0} where
-  -- no item, and no Id given
+  -- no items, and no Id given out
   abbrev pub empty_slots : SlotsView T
   empty_slots = record { items = finite.empty; given = 0; room = 0 }
 
-  -- the Id was never given before, and names nothing
+  -- the Id was never given out before, and names nothing
   abbrev pub IsNew : SlotsView T → Id → Type 0
   IsNew s id = (generation_number id.generation ≡ s.given) × (get s.items id ≡ None)
 
-  -- all items that fit with no memory have indexes
+  -- there are enough indexes for every item that fits without allocating
   abbrev pub HasIndexes : SlotsView T → Type 0
   HasIndexes s = finite.len s.items + s.room ≤ MAX_SLOTS
 
-  -- each Id that names an item was given
+  -- each Id that names an item has been given out
   abbrev pub NamesGivenIds : SlotsView T → Type 0
   NamesGivenIds s = (id : Id) → IsSome (get s.items id) → generation_number id.generation < s.given
 
-  -- these items, and all else as it was
+  -- the view with other items
   abbrev pub with_items : SlotsView T → Items T → SlotsView T
   with_items s m = record s { items = m }
 
-  -- the Id names this item, and all else is as it was
+  -- the view with this item under the Id
   abbrev pub with_item : SlotsView T → Id → T → SlotsView T
   with_item s id item = with_items s (insert s.items id item)

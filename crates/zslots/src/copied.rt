@@ -8,12 +8,12 @@ use zpath::Memory;
 
 /// An item that can be copied.
 pub trait Copied: Sized {
-    /// An equal item, or the want of memory for it.
+    /// Returns an equal item, or `Memory`.
     fn copied(&self) -> Result<Self, Memory>
         ensures { IfOk result (λ copy. copy ≡ self.now) };
 }
 
-// A copied slot is the same slot.
+// The copy of a slot is equal to it.
 impl<T: Copied + Drop> Clone for Slot<T> {
     ghost is_clone = { λ slot copy. copy ≡ slot };
 
@@ -29,7 +29,8 @@ impl<T: Copied + Drop> Clone for Slot<T> {
 }
 
 impl<T: Copied + Drop> Slots<T> {
-    /// The same items under the same Ids, with the same count of Ids given.
+    /// Returns a copy with the same items under the same Ids, and the same number of Ids given out;
+    /// or `Memory`.
     pub fn copy(&self) -> Result<Slots<T>, Memory>
         ensures items { IfOk result (λ copy. copy.items ≡ self.now.items) }
         ensures given { IfOk result (λ copy. copy.given ≡ self.now.given) }

@@ -1,12 +1,12 @@
-//! The number that tells the Ids of one slot apart.
+//! The number that tells apart the Ids that share a slot.
 
 ghost use Rattle.std.specs.Prelude.{◌≡◌};
 ghost use Rattle.zslots.specs.Generations.{generation_number, is_same};
 
-/// How many Ids were given before one.
+/// The number of Ids that were given out before this one.
 ///
-/// It is kept in two halves, since what holds a `u64` is as wide as a multiple of 8: with them an Id takes 12 bytes, and
-/// an `Option<Id>` 16.
+/// It is stored in two halves, since a type that holds a `u64` has a size that is a multiple of 8.
+/// With the halves an Id takes 12 bytes, and an `Option<Id>` 16.
 #[derive(Clone, Copy, Debug, PartialEq, Eq)]
 pub struct Generation {
     high: u32,
@@ -16,7 +16,7 @@ pub struct Generation {
 const HALF: u64 = 1 << 32;
 
 impl Generation {
-    /// The generation of that number.
+    /// Returns the generation with this number.
     pub(crate) fn new(number: u64) -> Generation
         ensures { generation_number result ≡ number }
     {
@@ -26,7 +26,7 @@ impl Generation {
         }
     }
 
-    /// Whether it is the same.
+    /// Returns whether the two generations are equal.
     pub(crate) fn is(self, other: Generation) -> bool
         ensures { result ≡ is_same self other }
     {

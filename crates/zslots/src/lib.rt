@@ -1,4 +1,4 @@
-//! Items under Ids that are never given twice, and lists whose links stand in the items.
+//! A slab whose Ids are never given out twice, and intrusive lists over its items.
 //!
 //! ```
 //! let mut slots = Slots::new(alloc);
@@ -8,10 +8,11 @@
 //! list.unlink(&mut slots, id);
 //! ```
 //!
-//! Contracts see a `Slots` as a finite map from Ids (`specs/SlotsView.antt`) and a `List` as the list of Ids that its
-//! items' links spell (`specs/Chains.antt`, `specs/Lists.antt`). An item stands in as many lists as it has pairs of
-//! links; `Linked<L>` says which pair is that of list `L`. What a list's call writes is a total function of the map
-//! (`specs/Links.antt`), so a clause on one list says what becomes of all others too.
+//! Contracts see a `Slots` as a finite map from Ids (`specs/SlotsView.antt`). They see a `List` as
+//! the sequence of Ids that its items' links spell (`specs/Chains.antt`, `specs/Lists.antt`). An
+//! item can stand in as many lists as it has pairs of links. `Linked<L>` says which pair belongs to
+//! list `L`. A list's call writes a total function of the map (`specs/Links.antt`), so a clause on
+//! one list also says what happens to all others.
 #![tactic(auto)]
 
 mod copied;

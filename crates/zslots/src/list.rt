@@ -1,4 +1,4 @@
-//! Lists whose links stand in the items.
+//! Intrusive lists: the links stand in the items.
 
 ghost use Rattle.std.specs.Prelude.{◌≡◌, ◌<◌};
 ghost use Rattle.zslots.specs.declared.limits.TheConstants.{MAX_LENGTH};
@@ -9,10 +9,10 @@ use crate::linked::{Linked, Links};
 use crate::neighbours::{first_if, links_at, set_next, set_prev};
 use crate::slots::Slots;
 
-/// A list of items, linked by their links of list `L`. None of its calls takes memory.
+/// An intrusive list, by the items' links of list `L`. No call allocates.
 ///
-/// Each call's first clauses say what it writes, whatever the links are; its clause `list` says what that is where the
-/// list was in order.
+/// The first clauses of each call say what it writes, whatever the links are. The clause `list`
+/// says what that means for a list in good order.
 #[derive(Clone, Copy, Debug, PartialEq, Eq)]
 pub struct List<const L: usize> {
     pub(crate) first: Option<Id>,
@@ -25,7 +25,7 @@ impl<const L: usize> List<L> {
     ghost use Rattle.zslots.specs.ListCalls.{slots_with_front, slots_without, slots_with_between};
     ghost use Rattle.zslots.specs.ListCalls.{PutsFirst, TakesOut, PutsBack, IsNext};
 
-    /// No item.
+    /// Returns an empty list.
     pub fn new() -> List<L>
         ensures { result ≡ empty_list }
     {
@@ -35,21 +35,21 @@ impl<const L: usize> List<L> {
         }
     }
 
-    /// The first item's Id.
+    /// Returns the first item's Id, or `None` for an empty list.
     pub fn first(&self) -> Option<Id>
         ensures { result ≡ first_id self.now }
     {
         self.first
     }
 
-    /// How many items there are.
+    /// Returns the length.
     pub fn len(&self) -> usize
         ensures { result ≡ length_of self.now }
     {
         self.len
     }
 
-    /// Puts a live item, which stands in no list `L`, before the first.
+    /// Inserts an item at the front. The item must exist, and be in no list `L`.
     pub fn push_front<T: Linked<L>>(&mut self, slots: &mut Slots<T>, id: Id)
         requires { length_of self.old < MAX_LENGTH }
         ensures items { slots.new ≡ slots_with_front T.links T.with_links slots.old self.old id }
@@ -67,7 +67,7 @@ impl<const L: usize> List<L> {
         self.len += 1;
     }
 
-    /// Takes out an item of the list. Its own links stay as they are.
+    /// Unlinks an item of the list. Its own links stay as they are.
     pub fn unlink<T: Linked<L>>(&mut self, slots: &mut Slots<T>, id: Id)
         requires { 0 < length_of self.old }
         ensures items { slots.new ≡ slots_without T.links T.with_links slots.old id }
@@ -81,7 +81,8 @@ impl<const L: usize> List<L> {
         self.len -= 1;
     }
 
-    /// Puts an item that is in no list `L` between the neighbours, or ends, that its own links name.
+    /// Reinserts an item that is in no list `L`, between the neighbours, or ends, that its own
+    /// links name. Undoes `unlink`.
     pub fn relink<T: Linked<L>>(&mut self, slots: &mut Slots<T>, id: Id)
         requires { length_of self.old < MAX_LENGTH }
         ensures items { slots.new ≡ slots_with_between T.links T.with_links slots.old id }
@@ -95,7 +96,7 @@ impl<const L: usize> List<L> {
         self.len += 1;
     }
 
-    /// The Id that follows an item of the list.
+    /// Returns the Id that follows an item of the list, or `None` at its end.
     pub fn next<T: Linked<L>>(&self, slots: &Slots<T>, id: Id) -> Option<Id>
         ensures own { result ≡ (item_links T.links slots.now.items id).next }
         ensures list { IsNext T.links slots.now.items self.now id result }

@@ -1,4 +1,4 @@
-//! Reads and writes of an item's links, where the item is there.
+//! Reads and writes of an item's links, if the item exists.
 
 ghost use Rattle.std.specs.Prelude.{◌≡◌};
 ghost use Rattle.zslots.specs.Ids.{first_if as first_where};
@@ -9,7 +9,7 @@ use crate::id::Id;
 use crate::linked::{Linked, Links};
 use crate::slots::Slots;
 
-// An item's links.
+// Returns an item's links.
 pub(crate) fn links_at<const L: usize, T: Linked<L>>(slots: &Slots<T>, id: Id) -> Links
     ensures { result ≡ item_links T.links slots.now.items id }
 {
@@ -22,7 +22,7 @@ pub(crate) fn links_at<const L: usize, T: Linked<L>>(slots: &Slots<T>, id: Id) -
     }
 }
 
-// Writes an item's next Id.
+// Writes an item's `next`.
 pub(crate) fn set_next<const L: usize, T: Linked<L>>(
     slots: &mut Slots<T>,
     at: Option<Id>,
@@ -38,7 +38,7 @@ pub(crate) fn set_next<const L: usize, T: Linked<L>>(
     }
 }
 
-// Writes an item's previous Id.
+// Writes an item's `prev`.
 pub(crate) fn set_prev<const L: usize, T: Linked<L>>(
     slots: &mut Slots<T>,
     at: Option<Id>,
@@ -54,7 +54,7 @@ pub(crate) fn set_prev<const L: usize, T: Linked<L>>(
     }
 }
 
-// What a list begins with: what it did where there is something before, and else the other.
+// Returns the new first Id of a list: unchanged if something stands before, else the other one.
 pub(crate) fn first_if(before: Option<Id>, first: Option<Id>, other: Option<Id>) -> Option<Id>
     ensures { result ≡ first_where before first other }
 {

@@ -1,4 +1,4 @@
-//! Worked rows of the definitions: each function's contract is a table, and its body does nothing.
+//! Worked examples of the definitions. Each function's contract is a table; its body does nothing.
 
 ghost use Rattle.std.specs.Prelude.{◌≡◌, [], ◌∷◌, Some, None};
 ghost use Rattle.std.specs.declared.cmp.Ordering.TheVariants.{Less};
@@ -16,7 +16,7 @@ fn ends()
     ensures first_goes { first_if None (Some a) (Some b) ≡ Some b }
 {}
 
-// Ids of one slot, and the Ids that a run gave.
+// Ids that share a slot, and the Ids that a run returned.
 fn ids()
     ensures one_slot { id_cmp a c ≡ Less }
     ensures run { ids_of_run reuse ≡ a ∷ c ∷ [] }

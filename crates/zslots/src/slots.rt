@@ -1,4 +1,4 @@
-//! Items under Ids.
+//! The items by Id.
 
 ghost use Rattle.std.specs.Prelude.{◌≡◌, ◌+◌, ◌<◌, ◌≤◌, Some, IfOk, IfErr, OnOk, OnErr, OnSome, IfNone, IsOk, option_copied};
 ghost use Rattle.std.specs.Option.{option_copied_mut};
@@ -14,17 +14,17 @@ use std::alloc::Global;
 use std::marker::Model;
 use zpath::Memory;
 
-/// An item, and the generation of its Id.
+/// An item with the generation of its Id.
 #[derive(Drop)]
 pub(crate) struct Slot<T> {
     pub(crate) generation: Generation,
     pub(crate) item: T,
 }
 
-/// Items, each under an Id that is never given twice.
+/// Items by Id; an Id is never given out twice.
 ///
-/// A generation is the number of Ids that were given before it, so an Id whose item was removed names nothing from
-/// then on, whatever the slab puts into its slot.
+/// A generation is the number of Ids that were given out before it. So the Id of a removed item
+/// names nothing from then on, whatever the slab stores in its slot.
 #[derive(Drop)]
 pub struct Slots<T> {
     pub(crate) slab: Slab<Slot<T>>,
@@ -49,7 +49,7 @@ impl<T> Slots<T> {
     ghost use Rattle.zslots.specs.SlotsView.{empty_slots, IsNew, HasIndexes, NamesGivenIds};
     ghost use Rattle.zslots.specs.Lends.{lends_get};
 
-    /// No item, and no Id given. It takes no memory.
+    /// Returns an empty `Slots` that has given out no Id. Allocates nothing.
     pub fn new(alloc: Global) -> Slots<T>
         ensures { result ≡ empty_slots }
     {
@@ -59,7 +59,7 @@ impl<T> Slots<T> {
         }
     }
 
-    /// How many Ids were given so far.
+    /// Returns the number of Ids given out so far.
     pub fn given(&self) -> u128
         ensures given { result ≡ self.now.given }
         ensures known { NamesGivenIds self.now }
@@ -67,14 +67,14 @@ impl<T> Slots<T> {
         self.given
     }
 
-    /// How many items there are.
+    /// Returns the number of items.
     pub fn len(&self) -> usize
         ensures { result ≡ finite.len self.now.items }
     {
         self.slab.len()
     }
 
-    /// Makes room, so that the next `more` inserts succeed.
+    /// Reserves room, so that the next `more` inserts don't allocate.
     pub fn reserve(&mut self, more: usize) -> Result<(), Memory>
         ensures room { OnOk result (more ≤ self.new.room) }
         ensures rest { self.new ≡ record self.old { room = self.new.room } }
@@ -84,7 +84,8 @@ impl<T> Slots<T> {
         Ok(())
     }
 
-    /// Puts an item under a new Id, or hands it back where there is no memory, or where there are `MAX_SLOTS` slots.
+    /// Inserts an item and returns its new Id. Returns the item as the error for out of memory, or
+    /// if there are already `MAX_SLOTS` slots.
     pub fn insert(&mut self, item: T) -> Result<Id, T>
         requires { self.old.given < GIVEN_BOUND }
         ensures new { IfOk result (IsNew self.old) }
@@ -92,7 +93,7 @@ impl<T> Slots<T> {
         ensures given { OnOk result (self.new.given ≡ self.old.given + 1) }
         ensures room { OnOk result (self.old.room ≤ self.new.room + 1) }
         ensures had_room { 0 < self.old.room → OnOk result (self.new.room + 1 ≡ self.old.room) }
-        // It fails only where there was no room or no index, and then nothing else changes.
+        // It fails only without room or without an index, and then only the room may change.
         ensures succeeds { 0 < self.old.room → HasIndexes self.old → IsOk result }
         ensures back { IfErr result (λ same. same ≡ item) }
         ensures err { OnErr result (self.new ≡ record self.old { room = self.new.room }) }
@@ -112,7 +113,7 @@ impl<T> Slots<T> {
         })
     }
 
-    /// The item that the Id names.
+    /// Returns the item with this Id, if it exists.
     pub fn get(&self, id: Id) -> Option<&T>
         ensures { option_copied result ≡ finite.get self.now.items id }
     {
@@ -122,7 +123,7 @@ impl<T> Slots<T> {
         }
     }
 
-    /// The item that the Id names, for writing.
+    /// Returns the item with this Id for writing, if it exists.
     pub fn get_mut(&mut self, id: Id) -> Option<&mut T>
         ensures* writes_back { sem 𝓛 (lends_get T.row self.entry id result) }
         ensures value { option_copied_mut result ≡ finite.get self.old.items id }
@@ -134,7 +135,7 @@ impl<T> Slots<T> {
         Some(&mut slot.item)
     }
 
-    /// Takes out the item that the Id names. The Id names nothing from then on.
+    /// Removes and returns the item with this Id, if it exists. The Id names nothing from then on.
     pub fn remove(&mut self, id: Id) -> Option<T>
         ensures item { result ≡ finite.get self.old.items id }
         ensures items { self.new.items ≡ finite.remove self.old.items id }

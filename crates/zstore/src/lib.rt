@@ -1,9 +1,11 @@
-//! The znodes and sessions of one machine, its clock, and the changes since a mark.
+//! The store of one machine: its znodes, its sessions and its clock; and a savepoint, to roll back
+//! to.
 //!
-//! What comes in are paths and data that are tested already; what goes out are nodes, stats and
-//! counts. Every contract speaks of the plain tree that the store stands for (ztree's `specs/Tree.antt`),
-//! and of the Ids that name its nodes (`specs/StoreView.antt`): the meaning after a call is the plain
-//! tree's change of the meaning before it. A call costs by what it changes or hands out, whatever else is there.
+//! The caller has validated the paths and data that come in. Nodes, stats and counts come out.
+//! Every contract speaks of the tree that the store holds (ztree's `specs/Tree.antt`), and of the
+//! Ids of its nodes (`specs/StoreView.antt`). A call's effect is the sequential specification's
+//! change of that tree. The cost of a call depends on what it changes or returns, not on the size
+//! of the tree.
 #![tactic(auto)]
 
 pub mod limits;

@@ -1,4 +1,4 @@
 //! The limits that a store adds to those of the tree.
 
-/// The numbers of Ids stay below it.
+/// The bound on the numbers of Ids: each is below it.
 pub const ID_BOUND: u128 = 1 << 127;

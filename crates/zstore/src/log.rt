@@ -1,4 +1,4 @@
-//! What was changed since a mark.
+//! The undo log: the changes since a savepoint.
 
 ghost use Rattle.std.specs.Prelude.{◌≡◌, ◌<◌, ◌≤◌, ◌+◌, ◌++◌, ◌∷◌, []};
 ghost use Rattle.std.specs.Vec.{vec_len, vec_capacity};
@@ -9,7 +9,8 @@ use std::alloc::Global;
 use znodes::Nodes;
 use zpath::Memory;
 
-/// What undoes the changes since the mark, if one stands. Its room is made when the mark is set.
+/// The undo log since the savepoint, if one is set. Its memory is allocated when the savepoint is
+/// set.
 #[derive(Drop)]
 pub(crate) struct Log {
     pub(crate) undos: Vec<Undo>,
@@ -21,7 +22,7 @@ impl Log {
     ghost use Rattle.zstore.specs.support.Undoing.{notes_of, add_note, undos_in, nodes_noted, nodes_released, StartsWith, GivesUp};
     ghost use Rattle.zstore.specs.support.Undoing.{FitAll, parts_of, all_undone, all_returning, AllHeld};
 
-    /// No mark.
+    /// Returns a log without a savepoint.
     pub(crate) fn new(alloc: Global) -> Log
         ensures { notes_of result ≡ None }
     {
@@ -31,7 +32,8 @@ impl Log {
         }
     }
 
-    /// A mark here, with room for so many notes, and for as many nodes that come back; one that stood is given up.
+    /// Sets a savepoint with room for `steps` notes, and for the nodes that they bring back. Gives
+    /// up an earlier one. After `Memory` no savepoint is set.
     pub(crate) fn start(&mut self, nodes: &mut Nodes, steps: usize) -> Result<(), Memory>
         requires { AllHeld (undos_in self.old) nodes.old.held }
         ensures ok { OnOk result (StartsWith steps (notes_of self.new) nodes.new.room) }
@@ -45,7 +47,7 @@ impl Log {
         Ok(())
     }
 
-    /// Notes what undoes a change. A mark that has no room left is given up.
+    /// Notes what undoes a change. Gives up the savepoint if it has no room left.
     pub(crate) fn note(&mut self, nodes: &mut Nodes, undo: Undo)
         requires { AllHeld (undos_in self.old ++ undo ∷ []) nodes.old.held }
         ensures notes { notes_of self.new ≡ add_note undo (notes_of self.old) }
@@ -61,7 +63,7 @@ impl Log {
         self.stop(nodes);
     }
 
-    /// Undoes what was noted; then there is no mark any more. It takes no memory.
+    /// Rolls back to the savepoint, and removes it. Allocates nothing.
     pub(crate) fn undo(&mut self, nodes: &mut Nodes)
         requires fit { FitAll nodes.old.owners (undos_in self.old) (parts_of nodes.old) }
         requires room { all_returning (undos_in self.old) ≤ nodes.old.room }
@@ -76,7 +78,7 @@ impl Log {
         }
     }
 
-    /// No mark any more; what was done stays, and what was taken away is given up.
+    /// Gives up the savepoint: the changes stay, and the removed nodes are dropped.
     pub(crate) fn stop(&mut self, nodes: &mut Nodes)
         requires { AllHeld (undos_in self.old) nodes.old.held }
         ensures off { notes_of self.new ≡ None }
@@ -91,14 +93,14 @@ impl Log {
     }
 }
 
-// Adds a note for which there is room.
+// Appends a note for which there is room.
 fn push_within(undos: &mut Vec<Undo>, undo: Undo)
     requires { vec_len undos.old < vec_capacity undos.old }
     ensures undos { undos.new.items ≡ undos.old.items ++ undo ∷ [] }
     ensures len { vec_len undos.new ≡ vec_len undos.old + 1 }
     ensures room { vec_capacity undos.new ≡ vec_capacity undos.old }
 {
-    // Of `insert` it is known that it leaves the room as it is.
+    // `insert` is specified to leave the capacity as it is.
     if undos.insert(undos.len(), undo).is_err() {
         unreachable!();
     }

@@ -1,4 +1,4 @@
-//! How changes are given up.
+//! Savepoints: set, roll back, give up.
 
 ghost use Rattle.std.specs.Prelude.{◌≡◌, None, OnOk, OnErr, IsSome};
 ghost use Rattle.zstore.specs.StoreView.{AtMark, GoesBack, MarksHere, without_mark};
@@ -7,8 +7,9 @@ use crate::store::Store;
 use zpath::Memory;
 
 impl Store {
-    /// Sets a mark, with room for undoing so many steps: an `add` or a `drop_leaf` is two, a `put_data` one. A mark whose
-    /// steps are used up is given up, and so is one that stands where another is set, or where any other call writes.
+    /// Sets a savepoint, with room to roll back `steps` steps: `add` and `drop_leaf` take two
+    /// steps, `put_data` one. The savepoint is given up at a step that it has no room for, when
+    /// another one is set, and by any other call that writes. After `Memory` no savepoint is set.
     pub fn mark(&mut self, steps: usize) -> Result<(), Memory>
         ensures marked { OnOk result (MarksHere steps self.old self.new) }
         ensures err { OnErr result (self.new ≡ without_mark self.old) }
@@ -17,8 +18,8 @@ impl Store {
         Ok(())
     }
 
-    /// Undoes what was done since the mark: the tree and all Ids are as they were, but for the numbers of Ids that were
-    /// given since, which aren't given again. It takes no memory.
+    /// Rolls back to the savepoint, and removes it. The tree and all Ids are as they were; the Ids
+    /// given out since are not given out again. Allocates nothing.
     pub fn back(&mut self)
         requires marked { IsSome self.old.marked }
         ensures tree { AtMark self.old (GoesBack self.new) }
@@ -28,7 +29,7 @@ impl Store {
         self.log.undo(&mut self.nodes);
     }
 
-    /// Gives up the mark, if one stands: what was done stays.
+    /// Gives up the savepoint, if one is set: the changes stay.
     pub fn keep(&mut self)
         ensures { self.new ≡ without_mark self.old }
     {

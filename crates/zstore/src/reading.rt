@@ -1,4 +1,4 @@
-//! What is read of a store.
+//! Reading a store.
 
 ghost use Rattle.std.specs.Prelude.{◌≡◌, ◌+◌, Some, None, IfOk, IfSome, IfNone, OnSome, is_some, IsSome};
 ghost use Rattle.ztree.specs.Tree.{has_node};
@@ -12,7 +12,7 @@ use zpath::{Memory, Name, Path};
 use ztree::{Node, Stat};
 
 impl Store {
-    /// The node at a path; none where there is none. It is found by one look.
+    /// Returns the Id of the node at a path, or `None` if there is no such node. One lookup.
     pub fn find(&self, path: &Path) -> Option<Id>
         ensures found { IfSome result (λ id. path_of self.now id ≡ Some path.now) }
         ensures node { is_some result ≡ has_node self.now.tree.nodes path.now }
@@ -20,7 +20,7 @@ impl Store {
         self.nodes.find(path)
     }
 
-    /// The node that an Id names; none where it names none.
+    /// Returns the node with this Id, or `None` if there is no such node.
     pub fn node(&self, id: Id) -> Option<&Node>
         ensures node { IfSome result (λ n. node_of self.now id ≡ Some n.now) }
         ensures gone { IfNone result (path_of self.now id ≡ None) }
@@ -28,7 +28,7 @@ impl Store {
         self.nodes.node(id)
     }
 
-    /// The data of the node that an Id names; none where it names none.
+    /// Returns the data of the node with this Id, or `None` if there is no such node.
     pub fn data(&self, id: Id) -> Option<&[u8]>
         ensures bytes { IfSome result (λ bytes. data_of self.now id ≡ Some bytes.now) }
         ensures gone { IfNone result (path_of self.now id ≡ None) }
@@ -37,7 +37,7 @@ impl Store {
         Some(node.bytes.as_slice())
     }
 
-    /// What is told of the node that an Id names; none where it names none.
+    /// Returns the stat of the node with this Id, or `None` if there is no such node.
     pub fn stat(&self, id: Id) -> Option<Stat>
         ensures stat { IfSome result (IsStatOf self.now id) }
         ensures live { OnSome result (IsSome (path_of self.now id)) }
@@ -48,7 +48,7 @@ impl Store {
         Some(node.stat(children as u64))
     }
 
-    /// The counter of the node that an Id names; none where it names none.
+    /// Returns the counter of the node with this Id, or `None` if there is no such node.
     pub fn seq(&self, id: Id) -> Option<u64>
         ensures seq { IfSome result (λ seq. seq_of self.now id ≡ Some seq) }
         ensures gone { IfNone result (path_of self.now id ≡ None) }
@@ -56,7 +56,7 @@ impl Store {
         Some(self.node(id)?.seq)
     }
 
-    /// The time to live of the node that an Id names, 0 where it has none; none where it names none.
+    /// Returns the TTL of the node with this Id, 0 for no TTL; or `None` if there is no such node.
     pub fn ttl(&self, id: Id) -> Option<u64>
         ensures ttl { IfSome result (λ ttl. ttl_of self.now id ≡ Some ttl) }
         ensures gone { IfNone result (path_of self.now id ≡ None) }
@@ -64,8 +64,9 @@ impl Store {
         Some(self.node(id)?.ttl)
     }
 
-    /// The Ids of the nodes that the next tick removes, each once: those whose time to live it reaches, and that have no
-    /// children. It costs by the nodes with a time to live.
+    /// Returns the Ids of the nodes that the next tick removes, each once; or `Memory`. Their TTL
+    /// expires by that tick, and they have no children. The cost depends on the number of nodes
+    /// with a TTL.
     pub fn stale(&self, tick: u64) -> Result<Vec<Id>, Memory>
         requires next { tick ≡ self.now.tree.time + 1 }
         ensures { IfOk result (λ ids.
@@ -74,7 +75,7 @@ impl Store {
         self.nodes.stale(tick)
     }
 
-    /// The names of the children of the node that an Id names, in the order of their bytes.
+    /// Returns the names of a node's children in byte order, or `Memory`.
     pub fn children(&self, id: Id) -> Result<Vec<Name>, Memory>
         requires live { IsSome (path_of self.now id) }
         ensures { IfOk result (λ names. AreChildrenOf self.now id names.items) }
@@ -82,7 +83,7 @@ impl Store {
         self.nodes.children(id)
     }
 
-    /// A store of its own with the same tree and the same Ids; a mark isn't copied.
+    /// Returns a copy with the same tree and the same Ids, but without a savepoint; or `Memory`.
     pub fn copy(&self) -> Result<Store, Memory>
         ensures { IfOk result (λ copy. copy ≡ without_mark self.now) }
     {

@@ -1,4 +1,4 @@
-//! What is read of sessions, and done with them.
+//! Reading and changing sessions, and the clock.
 
 ghost use Rattle.std.specs.Prelude.{◌≡◌, ◌<◌, ◌+◌, [], None, Some, IsTrue, IsFalse, IfOk, IfSome, IfNone, OnOk, OnErr, IsSome};
 ghost use Rattle.std.specs.FinMap as finite;
@@ -18,15 +18,14 @@ use zpath::Memory;
 use ztree::{ClientId, Session, SessionId};
 
 impl Store {
-    /// The session of that id; none where there is none.
+    /// Returns the session with this id, if it exists.
     pub fn session(&self, id: SessionId) -> Option<Session>
         ensures { result ≡ get self.now.tree.sessions id }
     {
         self.sessions.get(id)
     }
 
-    /// The ids of the sessions that the next tick ends, in their order: those whose deadline it
-    /// reaches.
+    /// Returns the ids of the sessions that expire at the next tick, in order; or `Memory`.
     pub fn due(&self, tick: u64) -> Result<Vec<SessionId>, Memory>
         requires next { tick ≡ self.now.tree.time + 1 }
         ensures { IfOk result (λ ids. ids.items ≡ due_sessions self.now.tree.sessions tick) }
@@ -34,8 +33,8 @@ impl Store {
         self.sessions.due(tick)
     }
 
-    /// Opens a session, whose id is the number of the next change and whose deadline is its timeout
-    /// from now. The machine has tested what is asked for. After `Memory` nothing has changed.
+    /// Opens a session. Its id is the zxid of the next change, and its deadline is its timeout from
+    /// now. The caller has validated the request. After `Memory` nothing has changed.
     pub fn open_session(&mut self, client: ClientId, timeout: u64) -> Result<(), Memory>
         requires free { get self.old.tree.sessions (self.old.tree.zxid + 1) ≡ None }
         requires few { finite.len self.old.tree.sessions < MAX_SESSIONS }
@@ -62,7 +61,7 @@ impl Store {
         Ok(())
     }
 
-    /// Keeps a session alive: its deadline is its timeout from now. It takes no memory.
+    /// Renews a session: its deadline becomes its timeout from now. Allocates nothing.
     pub fn touch(&mut self, id: SessionId)
         requires live { IsSome (get self.old.tree.sessions id) }
         requires deadline { AtSession self.old id (λ s.
@@ -77,8 +76,9 @@ impl Store {
         }
     }
 
-    /// Keeps a client's session alive: its deadline is its timeout from now. Answers whether the client
-    /// has it; else nothing changes. The session is looked up once. It takes no memory.
+    /// Renews a client's session: its deadline becomes its timeout from now. Returns whether the
+    /// client has that session; if not, nothing changes. Looks the session up once, and allocates
+    /// nothing.
     pub fn keep_alive(&mut self, client: ClientId, id: SessionId) -> bool
         requires deadline { AtSession self.old id (λ s.
             HasRoomForDeadline self.old.tree.time s.timeout) }
@@ -95,9 +95,9 @@ impl Store {
         true
     }
 
-    /// Ends a session by the next change: it goes, and with it every node that it owns; the Ids of
-    /// these name nothing any more. It takes no memory. It costs by
-    /// these nodes.
+    /// Ends a session by the next change: removes it and every node that it owns. The Ids of these
+    /// nodes name nothing any more. Allocates nothing. The cost depends on the number of these
+    /// nodes.
     pub fn end_session(&mut self, id: SessionId)
         requires live { IsSome (get self.old.tree.sessions id) }
         requires counters { HasRoomForEnd self.old.tree id }
@@ -115,7 +115,7 @@ impl Store {
         self.forget(id);
     }
 
-    /// One tick more. No session may be due then.
+    /// Advances the clock by one tick. No session may expire at it: end those first.
     pub fn advance(&mut self)
         requires none_due { due_sessions self.old.tree.sessions (self.old.tree.time + 1) ≡ [] }
         requires ticks { self.old.tree.time + 1 < TICK_BOUND }
@@ -127,15 +127,15 @@ impl Store {
         self.log.stop(&mut self.nodes);
     }
 
-    // What every store keeps: an Id that names a path names a node that is there.
+    // An invariant of every store: an Id that names a path names an existing node.
     fn is_kept_named(&self)
         ensures { ForgetsGone self.now self.now }
     {
-        // The store is read, so that what it keeps is at hand.
+        // Reading the store brings its invariant into the proof.
         let _ = &self.time;
     }
 
-    // A node that a live session owns, if it owns one.
+    // Returns some node that a live session owns, or `None` if it owns none.
     fn first_owned(&self, session: SessionId) -> Option<Id>
         requires live { IsSome (get self.now.tree.sessions session) }
         ensures lawful { IsLawful self.now.tree }
@@ -145,7 +145,7 @@ impl Store {
         self.nodes.first_owned(session.number())
     }
 
-    // A session that owns no node gone.
+    // Removes a session that owns no node.
     fn forget(&mut self, session: SessionId)
         requires live { IsSome (get self.old.tree.sessions session) }
         requires owns_none { ephemerals self.old.tree.nodes session ≡ [] }

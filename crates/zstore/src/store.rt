@@ -11,7 +11,7 @@ use zpath::Memory;
 use zsessions::Sessions;
 use ztree::{Data, Node, Zxid};
 
-/// The znodes and sessions of one machine, its clock and the number of its last change.
+/// The znodes and sessions of one machine, its clock and the zxid of its last change.
 #[derive(Drop)]
 pub struct Store {
     pub(crate) nodes: Nodes,
@@ -41,7 +41,7 @@ impl Store {
     ghost use Rattle.ztree.specs.Tree.{opening_tree};
     ghost use Rattle.ztree.specs.Lawful.{IsLawful, HasPaths};
 
-    /// The opening: the root alone.
+    /// Makes a store in the initial state: the root alone.
     pub fn new(alloc: Global) -> Result<Store, Memory>
         ensures opening { IfOk result (λ s. s.tree ≡ opening_tree) }
         ensures given { IfOk result (λ s. s.given ≤ 1) }
@@ -59,51 +59,51 @@ impl Store {
         })
     }
 
-    /// The ticks so far.
+    /// Returns the current tick.
     pub fn now(&self) -> u64
         ensures { result ≡ self.now.tree.time }
     {
         self.time
     }
 
-    /// The number of the last change.
+    /// Returns the zxid of the last change.
     pub fn zxid(&self) -> Zxid
         ensures { result ≡ self.now.tree.zxid }
     {
         self.zxid
     }
 
-    /// How many nodes there are, the root among them.
+    /// Returns the number of nodes, the root included.
     pub fn nodes(&self) -> usize
         ensures { result ≡ finite.len self.now.tree.nodes }
     {
         self.nodes.len()
     }
 
-    /// How many sessions there are.
+    /// Returns the number of sessions.
     pub fn sessions(&self) -> usize
         ensures { result ≡ finite.len self.now.tree.sessions }
     {
         self.sessions.len()
     }
 
-    /// What every store keeps: its tree is lawful.
+    /// An invariant of every store: its tree is lawful. The function does nothing.
     pub fn keeps_lawful(&self)
         ensures { IsLawful self.now.tree }
     {
-        // The store is read, so that what it keeps is at hand.
+        // Reading the store brings its invariant into the proof.
         let _ = &self.time;
     }
 
-    /// What every store keeps: each key of its tree is a path.
+    /// An invariant of every store: each key of its tree is a path. The function does nothing.
     pub fn keeps_paths(&self)
         ensures { HasPaths self.now.tree.nodes }
     {
-        // The store is read, so that what it keeps is at hand.
+        // Reading the store brings its invariant into the proof.
         let _ = &self.time;
     }
 
-    /// How many Ids were given so far.
+    /// Returns the number of Ids given out so far.
     pub fn given(&self) -> u128
         ensures { result ≡ self.now.given }
     {

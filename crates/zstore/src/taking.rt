@@ -1,4 +1,4 @@
-//! How a node is taken away.
+//! Removing a node.
 
 ghost use Rattle.std.specs.Prelude.{◌≡◌, ◌≢◌, ◌<◌, ◌+◌, [], Some, IsSome};
 ghost use Rattle.ztree.specs.declared.limits.TheConstants.{ZXID_BOUND};
@@ -13,8 +13,8 @@ use crate::undo::Undo;
 use znodes::{Id, Marks};
 
 impl Store {
-    /// Takes away a node beneath which there is none, by the next change; its Id names nothing any
-    /// more. The machine has tested what is asked for. It takes no memory.
+    /// Removes a node without children, by the next change. Its Id names nothing any more. The
+    /// caller has validated the request. Allocates nothing.
     pub fn drop_leaf(&mut self, id: Id)
         requires live { IsSome (path_of self.old id) }
         requires below_root { AtPath self.old id (λ path. path ≢ []) }
@@ -32,7 +32,7 @@ impl Store {
         self.child_gone(parent);
     }
 
-    // The node right above a live one.
+    // Returns the parent of a live node.
     fn parent_id(&self, id: Id) -> Id
         requires live { IsSome (path_of self.now id) }
         requires below_root { AtPath self.now id (λ path. path ≢ []) }
@@ -44,7 +44,7 @@ impl Store {
         }
     }
 
-    // A live Id's node gone from beneath its parent.
+    // Removes a live node from beneath its parent, and notes how to undo that.
     fn take(&mut self, id: Id, parent: Id)
         requires live { IsSome (path_of self.old id) }
         requires below_root { AtPath self.old id (λ path. path ≢ []) }
@@ -61,7 +61,7 @@ impl Store {
         self.log.note(&mut self.nodes, Undo::Taken(id, parent));
     }
 
-    // The marks of the next change at a node beneath which a child went.
+    // Writes the next change into the fields of a node that lost a child.
     fn child_gone(&mut self, parent: Id)
         requires live { IsSome (path_of self.old parent) }
         requires counters { AtNode self.old parent (HasRoomForLosses 1) }

@@ -1,17 +1,17 @@
-//! What undoes one change of the nodes.
+//! The undo of one change of the nodes.
 
 use znodes::{Content, Id, Marks};
 
-/// What undoes one change of the nodes. Changes are undone from the last to the first, so each finds the nodes as its
-/// change left them.
+/// The undo of one change of the nodes. Changes are undone in reverse order, so each undo finds the
+/// nodes as its change left them.
 #[derive(Drop)]
 pub(crate) enum Undo {
-    /// A node was added under the Id: it goes.
+    /// A node was added under this Id: remove it.
     Added(Id),
-    /// The node of the first Id was taken away from beneath that of the second: it comes back there.
+    /// The first node was removed from beneath the second: bring it back there.
     Taken(Id, Id),
-    /// The marks of the children were written in the node of the Id: these come back.
+    /// The fields for its children were written in this node: restore these.
     Marked(Id, Marks),
-    /// The data was written in the node of the Id: this comes back.
+    /// The data of this node was written: restore this.
     Written(Id, Content),
 }

@@ -1,4 +1,4 @@
-//! How changes of the nodes are undone, and how they are kept.
+//! Undoing changes of the nodes, and giving the undo up.
 
 ghost use Rattle.std.specs.Prelude.{◌≡◌, ◌≤◌, ◌+◌};
 ghost use Rattle.zstore.specs.support.Undoing.{Fits, FitAll, parts_of, undone, all_undone, returning, all_returning};
@@ -7,7 +7,7 @@ ghost use Rattle.zstore.specs.support.Undoing.{release_all, AllHeld};
 use crate::undo::Undo;
 use znodes::Nodes;
 
-/// Undoes all changes that were noted, from the last to the first. It takes no memory.
+/// Undoes all noted changes in reverse order. Allocates nothing.
 pub(crate) fn undo_all(nodes: &mut Nodes, undos: &mut Vec<Undo>)
     requires fit { FitAll nodes.old.owners undos.old.items (parts_of nodes.old) }
     requires room { all_returning undos.old.items ≤ nodes.old.room }
@@ -44,7 +44,7 @@ fn undo_one(nodes: &mut Nodes, undo: Undo)
     }
 }
 
-/// Gives up what all these changes took away, from the last to the first: they won't be undone.
+/// Drops all nodes that these changes removed, in reverse order: they won't be undone.
 pub(crate) fn free_all(nodes: &mut Nodes, undos: &[Undo])
     requires { AllHeld undos.now nodes.old.held }
     ensures { nodes.new ≡ record nodes.old { held = release_all undos.now nodes.old.held } }

@@ -1,4 +1,4 @@
-//! What is changed in a store.
+//! Changing a store.
 
 ghost use Rattle.std.specs.Prelude.{◌≡◌, ◌≢◌, ◌⊎◌, ◌<◌, ◌+◌, [], Some, IfOk, OnOk, OnErr, IsSome, None, false};
 ghost use Rattle.std.specs.FinMap as finite;
@@ -18,7 +18,7 @@ use zpath::{Memory, Path};
 use ztree::{Data, Node};
 
 impl Store {
-    /// One more change: what was done since a mark stays. No other call changes the number.
+    /// Raises the zxid by one. The changes since a savepoint stay. No other call changes the zxid.
     pub fn raise(&mut self)
         requires { self.old.tree.zxid + 1 < ZXID_BOUND }
         ensures tree { self.new.tree ≡ with_next_zxid self.old.tree }
@@ -29,8 +29,9 @@ impl Store {
         self.log.stop(&mut self.nodes);
     }
 
-    /// Adds a node that the next change makes, beneath a live parent, at a path that is free; its owner is 0 for nobody, and
-    /// its time to live 0 for none. The machine has tested what is asked for. After `Memory` nothing has changed.
+    /// Adds a node beneath an existing parent, at a free path, by the next change; returns its Id.
+    /// Owner 0 means none, and TTL 0 means none. The caller has validated the request. After
+    /// `Memory` nothing has changed.
     pub fn add(
         &mut self,
         parent: Id,
@@ -57,7 +58,7 @@ impl Store {
         ensures marked { OnOk result (self.new.marked ≡ mark_left 2 self.old.marked) }
         ensures err { OnErr result (self.new ≡ self.old) }
     {
-        // A path's names are those of a path: the store keeps that.
+        // The names of a `Path` are a valid path: reading them brings that into the proof.
         let _ = path.names();
         let node = Node::new(bytes, owner, ttl, self.zxid.next(), self.time);
         let id = self.nodes.add(parent, path, node)?;
@@ -97,7 +98,7 @@ impl Store {
         Ok(())
     }
 
-    // The data of a live node written.
+    // Writes the content of a live node, and notes how to undo that.
     fn put_content(&mut self, id: Id, content: Content)
         requires live { IsSome (path_of self.old id) }
         ensures tree { WritesContent self.old self.new id content }

@@ -1,4 +1,4 @@
-//! One change each, of a store that is small.
+//! One change each, of a small store.
 
 ghost use Rattle.std.specs.Prelude.{◌≡◌, ◌≢◌, ◌<◌, [], Some, true, false, IsSome};
 ghost use Rattle.ztree.specs.Tree.{children, has_node, parent_of};
@@ -13,7 +13,7 @@ use std::process::Abort;
 use zpath::Path;
 use zstore::{Id, MAX_SESSIONS, SessionId, Store};
 
-/// Adds a node of a session, or of nobody, at a free path beneath one that is there.
+/// Adds a node of a session, or without an owner, at a free path beneath an existing one.
 pub(crate) fn add(
     rt: &impl Abort,
     alloc: Global,
@@ -36,7 +36,7 @@ pub(crate) fn add(
     store.raise();
 }
 
-/// Adds a node with a time to live, of nobody, at a free path beneath one that is there.
+/// Adds a node with a time to live and without an owner, at a free path beneath an existing one.
 pub(crate) fn add_timed(rt: &impl Abort, alloc: Global, store: &mut Store, text: &str, ttl: u64)
     requires small { IsSmall store.old }
     ensures low { IsLow store.old.tree → IsLow store.new.tree }
@@ -52,7 +52,7 @@ pub(crate) fn add_timed(rt: &impl Abort, alloc: Global, store: &mut Store, text:
     store.raise();
 }
 
-/// Takes away a node with none beneath it.
+/// Removes a node with none beneath it.
 pub(crate) fn take_away(rt: &impl Abort, alloc: Global, store: &mut Store, text: &str)
     requires small { IsSmall store.old }
     ensures low { IsLow store.old.tree → IsLow store.new.tree }
@@ -111,7 +111,7 @@ pub(crate) fn touch(rt: &impl Abort, store: &mut Store, id: u64)
     store.touch(id);
 }
 
-/// One tick more, at which no session is due.
+/// Advances by one tick, at which no session is due.
 pub(crate) fn tick(rt: &impl Abort, store: &mut Store)
     requires small { IsSmall store.old }
     ensures low { IsLow store.old.tree → IsLow store.new.tree }
@@ -121,14 +121,14 @@ pub(crate) fn tick(rt: &impl Abort, store: &mut Store)
     store.advance();
 }
 
-/// There were few changes.
+/// Returns whether there were few changes.
 pub(crate) fn is_small(store: &Store) -> bool
     ensures { result ≡ true → IsSmall store.now }
 {
     store.nodes() < 9 && store.given() < 9 && store.zxid().number() < 9 && store.now() < 9
 }
 
-// The node right above a path.
+// Returns the parent of a path.
 fn id_above(rt: &impl Abort, alloc: Global, store: &Store, path: &Path) -> Id
     ensures below_root { path.now ≢ [] }
     ensures above { path_of store.now result ≡ Some (parent_of path.now) }
@@ -140,7 +140,8 @@ fn id_above(rt: &impl Abort, alloc: Global, store: &Store, path: &Path) -> Id
     store.find(&above).expect(rt, "there is a parent")
 }
 
-// The node at the path that a text spells: none is beneath it, and the one above it has few changes.
+// Returns the node at the path that a text spells: none is beneath it, and its parent has few
+// changes.
 fn leaf_at(rt: &impl Abort, alloc: Global, store: &Store, text: &str) -> Id
     ensures live { IsSome (path_of store.now result) }
     ensures below_root { AtPath store.now result (λ path. path ≢ []) }
@@ -155,7 +156,7 @@ fn leaf_at(rt: &impl Abort, alloc: Global, store: &Store, text: &str) -> Id
     id
 }
 
-// A node of that owner may come beneath the node.
+// Asserts that a node of that owner may be added beneath the node.
 fn may_gain_a_child(rt: &impl Abort, store: &Store, parent: Id, owner: u64)
     requires live { IsSome (path_of store.now parent) }
     ensures parent { IsPersistent (node_of store.now parent) }
@@ -169,14 +170,14 @@ fn may_gain_a_child(rt: &impl Abort, store: &Store, parent: Id, owner: u64)
     assert!(rt; node.owner == 0 && node.cversion < 9 && node.seq < 9);
 }
 
-// There is no node at the path.
+// Asserts that there is no node at the path.
 fn is_free(rt: &impl Abort, store: &Store, path: &Path)
     ensures { has_node store.now.tree.nodes path.now ≡ false }
 {
     assert!(rt; store.find(path).is_none());
 }
 
-// There were few changes of the node's children.
+// Asserts that there were few changes of the node's children.
 fn has_few_changes(rt: &impl Abort, store: &Store, id: Id)
     ensures { AtNode store.now id (λ n. n.cversion < 9) }
 {
@@ -185,7 +186,7 @@ fn has_few_changes(rt: &impl Abort, store: &Store, id: Id)
     }
 }
 
-// There were few writes of the node.
+// Asserts that there were few writes of the node.
 fn has_few_writes(rt: &impl Abort, store: &Store, id: Id)
     ensures { AtNode store.now id (λ n. n.version < 9) }
 {
@@ -194,7 +195,7 @@ fn has_few_writes(rt: &impl Abort, store: &Store, id: Id)
     }
 }
 
-// There is no node beneath the node.
+// Asserts that there is no node beneath the node.
 fn is_leaf(rt: &impl Abort, store: &Store, id: Id)
     requires live { IsSome (path_of store.now id) }
     ensures { AtPath store.now id (λ path. children store.now.tree.nodes path ≡ []) }

@@ -1,4 +1,4 @@
-//! What a store shows, by words and numbers.
+//! What a store shows, in words and numbers.
 
 ghost use Rattle.zstore_tests.specs.Small.{IsSmall};
 
@@ -9,13 +9,13 @@ use std::alloc::Global;
 use std::process::Abort;
 use zstore::{Session, SessionId, Stat, Store, Zxid};
 
-/// What is to be so.
+/// What should hold.
 pub(crate) enum Fact {
     /// The node at this path has this data and this stat.
     At(&'static str, &'static str, [u64; 10]),
     /// There is no node at this path.
     Free(&'static str),
-    /// The names of the children of the node at this path, each with a space behind it.
+    /// The names of the children of the node at this path, each followed by a space.
     Lists(&'static str, &'static str),
     /// This session of client 3 has this timeout and this deadline.
     Lives(u64, u64, u64),
@@ -29,15 +29,15 @@ pub(crate) enum Fact {
     NoneStale,
     /// The node at this path has this time to live, 0 for none.
     Ttl(&'static str, u64),
-    /// There are so many nodes, and so many sessions.
+    /// There are this many nodes, and this many sessions.
     Sizes(usize, usize),
     /// The number of the last change, and the ticks so far.
     Numbers(u64, u64),
-    /// So many Ids were given.
+    /// This many Ids were given.
     Given(u128),
 }
 
-/// Asserts that it is so.
+/// Asserts that the fact holds.
 pub(crate) fn shows(rt: &impl Abort, alloc: Global, store: &Store, fact: &Fact)
     requires small { IsSmall store.now }
 {
@@ -133,7 +133,7 @@ fn counts(store: &Store, fact: &Fact) -> bool {
     }
 }
 
-// A stat by its numbers, in the order of the text.
+// Returns a stat by its numbers, in the order of the text.
 fn stat(numbers: [u64; 10]) -> Stat {
     let [
         czxid,

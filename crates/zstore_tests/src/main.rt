@@ -1,6 +1,8 @@
-//! What no clause of `zpath`, `zslots`, `zsessions`, `znodes`, `zstore` and of the values of `ztree` says: that each call that
-//! allocates can succeed, and what worked calls show. The tests play rows of steps. Each line of `stdin` is one call on a path, or
-//! behind the word `slots` one on slots whose items stand in two lists, and each line of `stdout` what it comes to.
+//! Tests of what no clause of `zpath`, `zslots`, `zsessions`, `znodes`, `zstore` and of the values
+//! of `ztree` says: that each call that allocates can succeed, and what worked calls show.
+//!
+//! The tests play rows of steps. Each line of `stdin` is one call on a path. After the word `slots`
+//! it is one on slots whose items stand in two lists. Each line of `stdout` is the result.
 #![tactic(auto)]
 
 #[cfg(test)]

@@ -1,4 +1,4 @@
-//! Nodes: adding, writing, taking away, listing, copying.
+//! Nodes: adding, writing, removing, listing, copying.
 
 use crate::facts::Fact::{At, Free, Given, Lists, Numbers, Sizes};
 use crate::steps::Step::{Add, Is, TakeAway, Write};

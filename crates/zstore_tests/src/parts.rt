@@ -8,12 +8,12 @@ use std::process::Abort;
 use zpath::Path;
 use zstore::{ClientId, Data, Id, Store};
 
-/// The path that a text spells.
+/// Returns the path that a text spells.
 pub(crate) fn path(rt: &impl Abort, alloc: Global, text: &str) -> Path {
     Path::parse(alloc, text).expect(rt, "the text spells a path")
 }
 
-/// The node at the path that a text spells.
+/// Returns the node at the path that a text spells.
 pub(crate) fn id_at(rt: &impl Abort, alloc: Global, store: &Store, text: &str) -> Id
     ensures { IsSome (path_of store.now result) }
 {
@@ -22,7 +22,7 @@ pub(crate) fn id_at(rt: &impl Abort, alloc: Global, store: &Store, text: &str) -
         .expect(rt, "there is a node")
 }
 
-/// Data with the bytes of a text.
+/// Returns data with the bytes of a text.
 pub(crate) fn data(rt: &impl Abort, alloc: Global, text: &str) -> Data {
     let bytes = text.as_bytes().to_vec(alloc).expect(rt, "there is memory");
     Data::new(alloc, bytes)
@@ -30,7 +30,7 @@ pub(crate) fn data(rt: &impl Abort, alloc: Global, text: &str) -> Data {
         .expect(rt, "there is memory, and the data isn't too long")
 }
 
-/// Client 3.
+/// Returns client 3.
 pub(crate) fn client(rt: &impl Abort) -> ClientId {
     ClientId::new(3).expect(rt, "there is such a client")
 }

@@ -11,21 +11,21 @@ use zstore::Store;
 
 /// One step of a test.
 pub(crate) enum Step {
-    /// A node comes to this path: its data, and the session that owns it, or 0.
+    /// Adds a node at this path: its data, and the session that owns it, or 0.
     Add(&'static str, &'static str, u64),
-    /// A node comes to this path, with this time to live.
+    /// Adds a node at this path, with this time to live.
     AddTimed(&'static str, u64),
-    /// The node at this path goes.
+    /// Removes the node at this path.
     TakeAway(&'static str),
-    /// The node at this path gets this data.
+    /// Writes this data to the node at this path.
     Write(&'static str, &'static str),
-    /// A session of client 3 is opened with this timeout.
+    /// Opens a session of client 3 with this timeout.
     Open(u64),
-    /// This session is kept alive.
+    /// Keeps this session alive.
     Touch(u64),
-    /// One tick more, at which no session is due.
+    /// Advances by one tick, at which no session is due.
     Tick,
-    /// This is so.
+    /// Asserts this fact.
     Is(Fact),
 }
 
@@ -34,7 +34,7 @@ pub(crate) fn plays_row(rt: &impl Abort, alloc: Global, steps: &[Step]) {
     drop(played(rt, alloc, steps));
 }
 
-/// A new store after these steps.
+/// Returns a new store after these steps.
 pub(crate) fn played(rt: &impl Abort, alloc: Global, steps: &[Step]) -> Store
     ensures low { IsLow result.tree }
 {
@@ -43,7 +43,7 @@ pub(crate) fn played(rt: &impl Abort, alloc: Global, steps: &[Step]) -> Store
     store
 }
 
-/// Steps on a store.
+/// Plays steps on a store.
 pub(crate) fn plays(rt: &impl Abort, alloc: Global, store: &mut Store, steps: &[Step])
     requires low { IsLow store.old.tree }
     ensures low { IsLow store.new.tree }

@@ -12,7 +12,7 @@ fn knows_its_clients(rt: HostRuntime) {
     assert!(rt; client_number(32).is_none() && client_number(255).is_none());
 }
 
-// The number of the client of this number, if there is one.
+// Returns the number of the client of this number, if there is one.
 fn client_number(number: u8) -> Option<u8> {
     Some(ClientId::new(number)?.number())
 }
@@ -24,7 +24,7 @@ fn data_has_a_limit(rt: HostRuntime) {
     assert!(rt; fault_at(&rt, rt.alloc(), MAX_DATA + 1) == Some(DataFault::TooLong));
 }
 
-// Why so many bytes aren't taken as data, if they aren't.
+// Returns why this many bytes aren't accepted as data, if they aren't.
 fn fault_at(rt: &impl Abort, alloc: Global, len: usize) -> Option<DataFault> {
     let text = "a".repeat(alloc, len).expect(rt, "there is memory");
     Data::new(alloc, text.into_bytes()).err()
@@ -35,7 +35,7 @@ fn copies_data(rt: HostRuntime) {
     assert!(rt; is_copied(&rt, rt.alloc(), "hi"));
 }
 
-// Whether a copy of data has the bytes of the text.
+// Returns whether a copy of data has the bytes of the text.
 fn is_copied(rt: &impl Abort, alloc: Global, text: &str) -> bool {
     let data = data(rt, alloc, text);
     let copy = data.copied(alloc).expect(rt, "there is memory");

@@ -6,25 +6,26 @@ ghost use Rattle.zstories.specs.declared.ended.Ended.TheVariants as ending;
 /// How a story ends.
 #[derive(Clone, Copy, Debug, PartialEq, Eq)]
 pub enum Ended {
-    /// There was no memory to begin it.
+    /// Memory ran out before it began.
     NotBegun,
     /// The call did what it was asked.
     Done,
-    /// It was refused memory, and all stands as it should.
+    /// The call ran out of memory, and the state is as it should be.
     Refused,
     /// None of these.
     Wrong,
 }
 
 impl Ended {
-    /// The end of a call that was done, where this holds then.
+    /// Returns how a story ended whose call was done: `Done` if the check holds, else `Wrong`.
     pub fn done(holds: bool) -> Ended
         ensures { result ≡ if holds then ending.Done else ending.Wrong }
     {
         if holds { Ended::Done } else { Ended::Wrong }
     }
 
-    /// The end of a call that was refused memory, where this holds then.
+    /// Returns how a story ended whose call ran out of memory: `Refused` if the check holds, else
+    /// `Wrong`.
     pub fn refused(holds: bool) -> Ended
         ensures { result ≡ if holds then ending.Refused else ending.Wrong }
     {

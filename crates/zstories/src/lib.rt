@@ -1,6 +1,8 @@
-//! How stories of refused allocations are told. A program of stories tells all of them, one after the other, and the input of a run says
-//! how many allocations are made before the first one: so a run in which one allocation fails, always the same one, refuses this one
-//! or that one of the stories (`bench/refusals`).
+//! Reports of stories in which an allocation is refused.
+//!
+//! A program runs all of its stories, one after the other. The input says how many allocations it
+//! makes before the first one. One allocation of the program fails, always the one of the same
+//! number. So the input decides which allocation of the stories that is (`bench/refusals`).
 #![tactic(auto)]
 
 mod ended;
@@ -10,7 +12,7 @@ use std::alloc::Global;
 use std::io;
 use std::io::{Input, Print, Read};
 
-/// Makes as many allocations as the input's digits say, none where it has none.
+/// Makes as many allocations as the input's digits say; none where it has no digits.
 pub fn spend(rt: &impl Input, alloc: Global) -> io::Result<()> {
     let mut input = [0u8; 16];
     let length = rt.reader().read(&mut input)?;
@@ -20,7 +22,7 @@ pub fn spend(rt: &impl Input, alloc: Global) -> io::Result<()> {
     Ok(())
 }
 
-// Makes one allocation, and lets it go; how that ended.
+// Makes one allocation and frees it. Returns how that ended.
 fn allocate(alloc: Global) -> Ended {
     let one: Result<Vec<u8>, _> = Vec::with_capacity(alloc, 1);
     match one {
@@ -32,7 +34,7 @@ fn allocate(alloc: Global) -> Ended {
     }
 }
 
-// The number whose digits are among these bytes.
+// Returns the number whose digits are among these bytes.
 fn number(bytes: &[u8]) -> u64 {
     let mut number = 0u64;
     for byte in bytes {
@@ -44,7 +46,7 @@ fn number(bytes: &[u8]) -> u64 {
     number
 }
 
-/// Tells how a story has ended.
+/// Prints how a story ended.
 pub fn tell(rt: &impl Print, name: &str, ended: Ended) -> io::Result<()> {
     let told = match ended {
         Ended::NotBegun => "not begun",
@@ -55,7 +57,8 @@ pub fn tell(rt: &impl Print, name: &str, ended: Ended) -> io::Result<()> {
     println!(rt; "{name}: {told}")
 }
 
-/// Makes one allocation more, and tells how it ended: where this one is refused, each one of the stories was.
+/// Makes one allocation behind all stories, and prints how it ended. Once this one is refused, each
+/// allocation of the stories was, in an earlier run.
 pub fn tell_end(rt: &impl Print, alloc: Global) -> io::Result<()> {
     tell(rt, "the end", allocate(alloc))
 }

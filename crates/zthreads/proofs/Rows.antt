@@ -9,7 +9,7 @@ use Rattle.zprotocol.specs.declared.process.Process.{Process}
 use Rattle.zprotocol.specs.declared.process.Process.TheVariants.{Master, Server, Client}
 use Rattle.zprotocol.specs.declared.process.Process.TheVariants as process
 use Rattle.zprotocol.specs.server.Machine.{kept_tree}
-use Rattle.zprotocol.specs.server.Memory.{may_be_unheard}
+use Rattle.zprotocol.specs.server.Memory.{may_be_unheard, may_stop}
 use Rattle.zprotocol.specs.server.View.{Transfer}
 use Rattle.zprotocol.specs.server.Table.{is_retirement}
 use Rattle.zprotocol.specs.declared.master.join_fault.JoinFault.{JoinFault}
@@ -41,10 +41,10 @@ module _ (me : Process) (last : ℕ) (v : TreeView) (is : IsServer me) where
         at = rw is.1 e;
       }
 
-  server_stops : (from : Process) (stamp n : ℕ) (m : TreeMessage) → n ≡ max last stamp + 1
+  server_stops : (from : Process) (stamp n : ℕ) (m : TreeMessage) → may_stop kept_tree v from m ≡ true → n ≡ max last stamp + 1
       → IsEvent me last (AtServer v) (Some (from, (stamp, m))) (Took from outcome.Stopped) n Out last_post []
-  server_stops from stamp n m e =
-      record { row = rw is.1 (ServerStops is.0 v from (stamp, m)); from = λ p. refl; at = rw is.1 e }
+  server_stops from stamp n m grows e =
+      record { row = rw is.1 (ServerStops is.0 v from (stamp, m) grows); from = λ p. refl; at = rw is.1 e }
 
   -- the order to leave, which the master alone gives
   server_leaves : (from : Process) (stamp n : ℕ) (m : TreeMessage) → is_retirement from m ≡ true → n ≡ max last stamp + 1
@@ -57,7 +57,7 @@ module _ (me : Process) (last : ℕ) (v : TreeView) (is : IsServer me) where
   -- a server ends at a message, for the one or the other
   pub server_ends : (from : Process) (stamp n : ℕ) (m : TreeMessage) (why : Stopped) → StopsAt why v from m → n ≡ max last stamp + 1
       → IsEvent me last (AtServer v) (Some (from, (stamp, m))) (end_of from why) n Out last_post []
-  server_ends from stamp n m stopped.Memory stops e = server_stops from stamp n m e
+  server_ends from stamp n m stopped.Memory stops e = server_stops from stamp n m stops e
   server_ends from stamp n m stopped.Retired stops e = server_leaves from stamp n m stops e
 
   pub server_halts : (n : ℕ) → n ≡ max last 0 + 1 → IsEvent me last (AtServer v) None Halted n Out last_post []

@@ -1,2 +1,3 @@
 pub mod Threads
 pub mod Owned
+pub mod Acts

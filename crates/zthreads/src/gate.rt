@@ -3,7 +3,8 @@
 use zprotocol::{Message, Process};
 use zserver::Snapshot;
 
-/// Called on a server's thread between taking a message and acting on it: so a test can hold a server there.
+/// Called on a server's thread between receiving a message and acting on it. So a test can hold a
+/// server there.
 pub trait Gate: Drop {
     /// Passes the message on; it is acted on once this returns.
     fn pass(&mut self, from: &Process, message: &Message<Snapshot>);

@@ -26,7 +26,7 @@ impl Idle {
         }
     }
 
-    /// Ends a round, in which it did something or not. A thread that goes on doing nothing costs the others nothing.
+    /// Ends a round, in which it did something or not. A thread that goes on doing nothing sleeps.
     pub(crate) fn end_round<R: Wait>(&mut self, rt: &R, was_busy: bool) {
         if was_busy {
             self.rounds = 0;

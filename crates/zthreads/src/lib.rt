@@ -1,7 +1,9 @@
-//! The servers' threads and the master's: what each owns, and what its body does until it is told to end.
+//! The servers' threads and the master's: what each owns, and what its body does until it is told
+//! to end.
 //!
-//! What a thread owns is one value with one invariant: its process went by its table from the opening through its trace. The
-//! bodies only go round.
+//! What a thread owns is one value with one invariant: its process went by its table from the
+//! initial state through its trace. The bodies only go round. A thread receives a message only
+//! after a look at the halt's bits that found neither the run ended nor its server halted.
 #![tactic(auto)]
 
 mod gate;

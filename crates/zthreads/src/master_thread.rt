@@ -1,13 +1,16 @@
 //! What the master's thread owns.
 
-ghost use Rattle.std.specs.Prelude.{◌≡◌, ◌<◌, ◌≤◌, None, [], true};
+ghost use Rattle.std.specs.Prelude.{◌≡◌, ◌<◌, ◌≤◌, IsFalse, IsTrue, None, [], true};
 ghost use Rattle.zprotocol.specs.declared.process.Process.TheVariants as process;
 ghost use Rattle.zmaster.specs.declared.limits.TheConstants.{MAX_POSTS};
+ghost use Rattle.zworld_model.specs.declared.outcome.Outcome.TheVariants.{Acted};
 ghost use Rattle.ztraces.specs.Deeds.{AtMaster};
+ghost use Rattle.ztraces.specs.declared.trace.Act.TheVariants.{Joined, Retired, Took};
 ghost use Rattle.zdesks.specs.Desks.{is_cut_of, IsAt, IsSettled, link_count, process_of, room_of};
-ghost use Rattle.zdesks.specs.Desks.{SameDesk, self_of, Stands, trace_of};
+ghost use Rattle.zdesks.specs.Desks.{SameBooks, SameDesk, self_of, Stands, trace_of};
 ghost use Rattle.zdesks.specs.Endings.{HasEnded, IsCutAsBefore, SameWires};
 ghost use Rattle.zthreads.specs.Threads.{MasterMoves};
+ghost use Rattle.zthreads.specs.Acts.{act_of, DidNext, MasterReceived};
 
 use crate::took::took;
 use zconsole::order::Order;
@@ -16,6 +19,7 @@ use zmaster::{MAX_POSTS, Master};
 use zprotocol::{Message, Process, ServerId};
 use zserver::Snapshot;
 use ztraces::{Act, Stamp};
+use zwords::looks::Look;
 use zworld_model::Outcome;
 
 /// The master with its desk. It went by the master table from its opening view through its trace.
@@ -28,7 +32,7 @@ pub struct MasterThread {
 }
 
 impl MasterThread {
-    ghost use Rattle.zthreads.specs.Owned.{master_desk};
+    ghost use Rattle.zthreads.specs.Owned.{master_desk, RunGoesOn};
 
     /// The master with a desk that has done nothing.
     pub fn new(desk: Desk, master: Master) -> MasterThread
@@ -46,8 +50,10 @@ impl MasterThread {
         self.desk.links()
     }
 
-    /// Puts what the last event put, and moves what waits into the rings: so none of it waits for the message that is taken next.
+    /// Sends what the last event sent, and moves what waits into the rings. So none of it waits for
+    /// the next message.
     pub fn flush(&mut self)
+        ensures idle { SameBooks (master_desk self.old) (master_desk self.new) }
         ensures same { SameDesk (master_desk self.old) (master_desk self.new) }
     {
         // What finds no memory now is kept for the next time.
@@ -55,11 +61,18 @@ impl MasterThread {
         self.desk.flush();
     }
 
-    /// Takes one message of a link and acts on it, once all is put that the last event put. False where nothing was taken.
-    pub fn turn(&mut self, link: usize) -> bool
-        requires { link < link_count (master_desk self.old) }
+    /// Receives one message of a link and acts on it, once all is sent that the last event sent.
+    /// False where nothing was received. It uses up a look, which found no end of the run.
+    pub fn turn(&mut self, link: usize, look: Look) -> bool
+        requires link { link < link_count (master_desk self.old) }
+        requires look { RunGoesOn look }
+        ensures idle { IsFalse result
+            → SameBooks (master_desk self.old) (master_desk self.new) }
+        ensures received { IsTrue result
+            → MasterReceived (master_desk self.old) (master_desk self.new) }
         ensures same { SameDesk (master_desk self.old) (master_desk self.new) }
     {
+        drop(look);
         if !self.desk.settle() {
             return false;
         }
@@ -75,6 +88,10 @@ impl MasterThread {
 
     /// Lets a server join, or refuses it. False where that has to be tried again, for memory.
     pub fn join(&mut self, server: ServerId) -> bool
+        ensures idle { IsFalse result
+            → SameBooks (master_desk self.old) (master_desk self.new) }
+        ensures done { IsTrue result
+            → DidNext (master_desk self.old) (master_desk self.new) (Joined server) }
         ensures same { SameDesk (master_desk self.old) (master_desk self.new) }
     {
         if !self.desk.settle() {
@@ -89,6 +106,10 @@ impl MasterThread {
 
     /// Orders a server to leave, or keeps it. False where that has to be tried again, for memory.
     pub fn retire(&mut self, server: ServerId) -> bool
+        ensures idle { IsFalse result
+            → SameBooks (master_desk self.old) (master_desk self.new) }
+        ensures done { IsTrue result
+            → DidNext (master_desk self.old) (master_desk self.new) (Retired server) }
         ensures same { SameDesk (master_desk self.old) (master_desk self.new) }
     {
         if !self.desk.settle() {
@@ -103,6 +124,10 @@ impl MasterThread {
 
     /// Follows an order of the console. False where that has to be tried again, for memory.
     pub fn follow(&mut self, order: &Order) -> bool
+        ensures idle { IsFalse result
+            → SameBooks (master_desk self.old) (master_desk self.new) }
+        ensures done { IsTrue result
+            → DidNext (master_desk self.old) (master_desk self.new) (act_of order.now) }
         ensures same { SameDesk (master_desk self.old) (master_desk self.new) }
     {
         match order {
@@ -137,6 +162,7 @@ fn hear(
     requires settled { IsSettled desk.old }
     requires room { MAX_POSTS ≤ room_of desk.old }
     ensures at { MasterMoves desk.old master.old desk.new master.new from (stamp, message) }
+    ensures did { DidNext desk.old desk.new (Took from Acted) }
     ensures same { SameDesk desk.old desk.new }
 {
     let next = desk.next_stamp(stamp);
@@ -152,6 +178,7 @@ fn admit(desk: &mut Desk, master: &mut Master, server: ServerId)
     requires room { MAX_POSTS ≤ room_of desk.old }
     ensures at { Stands desk.old (AtMaster master.old) None []
         → IsAt desk.new (AtMaster master.new) }
+    ensures did { DidNext desk.old desk.new (Joined server) }
     ensures same { SameDesk desk.old desk.new }
 {
     // The number of a server is one of a chain: its clause tells that.
@@ -170,6 +197,7 @@ fn dismiss(desk: &mut Desk, master: &mut Master, server: ServerId)
     requires room { MAX_POSTS ≤ room_of desk.old }
     ensures at { Stands desk.old (AtMaster master.old) None []
         → IsAt desk.new (AtMaster master.new) }
+    ensures did { DidNext desk.old desk.new (Retired server) }
     ensures same { SameDesk desk.old desk.new }
 {
     let _ = server.number();

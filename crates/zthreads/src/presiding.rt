@@ -1,9 +1,11 @@
 //! The body of the master's thread.
 
-ghost use Rattle.std.specs.Prelude.{◌≡◌};
+ghost use Rattle.std.specs.Prelude.{◌≡◌, ◌++◌, List, None, Option, option_to_list};
 ghost use Rattle.zwords.specs.HaltSeats.{IsSeatOf};
-ghost use Rattle.zconsole.specs.Ends.{IsSameInbox};
+ghost use Rattle.zconsole.specs.Ends.{IsSameInbox, taken_of};
+ghost use Rattle.zconsole.specs.declared.order.Order.{Order};
 ghost use Rattle.zdesks.specs.Desks.{SameDesk};
+ghost use Rattle.zthreads.specs.Acts.{HasFollowed};
 ghost use Rattle.zthreads.specs.Owned.{master_desk};
 
 use crate::idle::Idle;
@@ -13,8 +15,9 @@ use zconsole::ends::Inbox;
 use zconsole::order::Order;
 use zwords::halts::{Halt, HaltSeat};
 
-/// Goes over the links in turn, and takes the console's orders, until bit 0 is set, at which it looks before each take. An order
-/// for which there is no memory is tried again.
+/// Goes over the links in turn, and takes the console's orders, until bit 0 is set. It looks at the
+/// bit before each message. It follows the orders in turn, each once. One for which there is no
+/// memory is tried again, before any other is received.
 pub fn preside<R: Wait>(
     rt: &R,
     mut chief: MasterThread,
@@ -25,6 +28,9 @@ pub fn preside<R: Wait>(
     requires own { IsSeatOf halt.now seat }
     ensures desk { SameDesk (master_desk chief) (master_desk result.0) }
     ensures inbox { IsSameInbox inbox result.1 }
+    ensures orders { HasFollowed (master_desk chief) (taken_of inbox) None
+        → (waiting : Option Order)
+        × HasFollowed (master_desk result.0) (taken_of result.1) waiting }
 {
     let links = chief.links();
     let mut idle = Idle::new();
@@ -33,23 +39,46 @@ pub fn preside<R: Wait>(
         let mut is_busy = false;
         for link in 0..links {
             chief.flush();
-            if halt.is_set(&mut seat, 0) {
+            let look = halt.look(&mut seat);
+            if look.has(0) {
                 return (chief, inbox);
             }
-            is_busy |= chief.turn(link);
+            is_busy |= chief.turn(link, look);
         }
-        if asked.is_none() {
-            asked = inbox.take(rt);
-        }
-        let is_followed = match &asked {
-            Some(order) => chief.follow(order),
-            None => false,
-        };
-        if is_followed {
-            asked = None;
-            is_busy = true;
-        }
+        asked = next_order(rt, &mut inbox, asked);
+        let was_asked = asked.is_some();
+        asked = obey(&mut chief, asked);
+        is_busy |= was_asked & asked.is_none();
         idle.end_round(rt, is_busy);
     }
     unreachable!()
+}
+
+// Receives an order, unless one waits to be followed.
+fn next_order<R: Wait>(rt: &R, inbox: &mut Inbox, asked: Option<Order>) -> Option<Order>
+    ensures ends { IsSameInbox inbox.old inbox.new }
+    ensures taken { (before : List Order) → taken_of inbox.old ≡ before ++ option_to_list asked
+        → taken_of inbox.new ≡ before ++ option_to_list result }
+{
+    match asked {
+        Some(order) => Some(order),
+        None => inbox.take(rt),
+    }
+}
+
+// Follows the order that waits. Returns it where it has to be tried again, for memory.
+fn obey(chief: &mut MasterThread, asked: Option<Order>) -> Option<Order>
+    ensures same { SameDesk (master_desk chief.old) (master_desk chief.new) }
+    ensures followed { (received : List Order)
+        → HasFollowed (master_desk chief.old) received asked
+        → HasFollowed (master_desk chief.new) received result }
+{
+    let Some(order) = asked else {
+        return None;
+    };
+    if chief.follow(&order) {
+        None
+    } else {
+        Some(order)
+    }
 }

@@ -1,12 +1,15 @@
 //! What a server's thread owns.
 
-ghost use Rattle.std.specs.Prelude.{◌≡◌, ◌<◌, None, true, false};
+ghost use Rattle.std.specs.Prelude.{◌≡◌, ◌<◌, ◌≤◌, IsFalse, IsTrue, None, true, false};
+ghost use Rattle.zwords.specs.declared.limits.TheConstants.{LAST_BIT};
 ghost use Rattle.ztraces.specs.Deeds.{AtServer};
 ghost use Rattle.zdesks.specs.Desks.{is_cut_of, IsAt, IsSettled, link_count, process_of, SameDesk};
 ghost use Rattle.zdesks.specs.Desks.{self_of, trace_of};
+ghost use Rattle.ztraces.specs.declared.trace.Act.TheVariants.{Halted};
 ghost use Rattle.zdesks.specs.Endings.{HasEnded, IsCutAsBefore, SameWires};
 ghost use Rattle.zthreads.specs.Threads.{IsServer, end_of, outcome_of, ServerMoves, server_standing};
 ghost use Rattle.zthreads.specs.Threads.{ServerProcess};
+ghost use Rattle.zthreads.specs.Acts.{DidNext, ServerReceived};
 
 use crate::gate::Gate;
 use crate::took::took;
@@ -14,6 +17,7 @@ use zdesks::{Desk, Ending};
 use zprotocol::{Message, Process, ServerId};
 use zserver::{Server, Snapshot, Stopped, Taken};
 use ztraces::{Act, Stamp};
+use zwords::looks::Look;
 use zworld_model::Outcome;
 
 /// A server with its desk. It went by the server table from its opening view through its trace.
@@ -29,7 +33,7 @@ pub struct ServerThread {
 }
 
 impl ServerThread {
-    ghost use Rattle.zthreads.specs.Owned.{server_desk};
+    ghost use Rattle.zthreads.specs.Owned.{DidNothing, is_over_of, LetsTake, server_desk, server_number};
 
     /// A server with a desk that has done nothing.
     pub fn new(id: ServerId, desk: Desk, server: Server) -> ServerThread
@@ -37,6 +41,7 @@ impl ServerThread {
         requires at { IsAt desk (AtServer server.view) }
         requires runs { server.stopped ≡ None }
         ensures same { server_desk result ≡ desk }
+        ensures begins { is_over_of result ≡ false }
     {
         ServerThread {
             desk,
@@ -53,8 +58,18 @@ impl ServerThread {
         self.desk.links()
     }
 
-    /// Puts what the last event put, and moves what waits into the rings: so none of it waits for the message that is taken next.
+    /// The bit of a halt at which it stops: its number.
+    pub fn bit(&self) -> u32
+        ensures own { result ≡ server_number self.now }
+        ensures small { result ≤ LAST_BIT }
+    {
+        self.id.number() as u32
+    }
+
+    /// Sends what the last event sent, and moves what waits into the rings. So none of it waits for
+    /// the next message.
     pub fn flush(&mut self)
+        ensures idle { DidNothing self.old self.new }
         ensures same { SameDesk (server_desk self.old) (server_desk self.new) }
     {
         // What finds no memory now is kept for the next time.
@@ -62,11 +77,19 @@ impl ServerThread {
         self.desk.flush();
     }
 
-    /// Takes one message of a link and acts on it, once all is put that the last event put. False where nothing was taken.
-    pub fn turn<G: Gate>(&mut self, link: usize, gate: &mut G) -> bool
-        requires { link < link_count (server_desk self.old) }
+    /// Receives one message of a link and acts on it, once all is sent that the last event sent.
+    /// False where nothing was received, as by a server that is over. It uses up a look, which
+    /// found neither the run ended nor this server halted.
+    pub fn turn<G: Gate>(&mut self, link: usize, gate: &mut G, look: Look) -> bool
+        requires link { link < link_count (server_desk self.old) }
+        requires look { LetsTake look (server_number self.old) }
+        ensures idle { IsFalse result → DidNothing self.old self.new }
+        ensures runs { IsTrue result → is_over_of self.old ≡ false }
+        ensures received { IsTrue result
+            → ServerReceived (server_desk self.old) (server_desk self.new) }
         ensures same { SameDesk (server_desk self.old) (server_desk self.new) }
     {
+        drop(look);
         if self.is_over {
             return false;
         }
@@ -81,9 +104,14 @@ impl ServerThread {
         true
     }
 
-    /// Puts its last words, once all is put that the last event put. True once they are put; false where it has to be tried
-    /// again, for memory.
+    /// Sends its failure notice, once all is sent that the last event sent. True once it is over.
+    /// False where it has to be tried again, for memory.
     pub fn halt(&mut self) -> bool
+        ensures idle { IsFalse result → DidNothing self.old self.new }
+        ensures over { IsTrue result → is_over_of self.new ≡ true }
+        ensures once { is_over_of self.old ≡ true → DidNothing self.old self.new }
+        ensures halted { IsTrue result → is_over_of self.old ≡ false
+            → DidNext (server_desk self.old) (server_desk self.new) Halted }
         ensures same { SameDesk (server_desk self.old) (server_desk self.new) }
     {
         if self.is_over {
@@ -127,6 +155,7 @@ fn give(
     ensures runs { result ≡ false → server.new.stopped ≡ None }
     ensures at { ServerMoves desk.old server.old desk.new result server.new
         from (stamp, message) }
+    ensures received { ServerReceived desk.old desk.new }
     ensures same { SameDesk desk.old desk.new }
 {
     let next = desk.next_stamp(stamp);

@@ -1,8 +1,7 @@
 //! The body of a server's thread.
 
-ghost use Rattle.std.specs.Prelude.{◌≡◌, ◌≤◌};
+ghost use Rattle.std.specs.Prelude.{◌≡◌};
 ghost use Rattle.zwords.specs.HaltSeats.{IsSeatOf};
-ghost use Rattle.zwords.specs.declared.limits.TheConstants.{LAST_BIT};
 ghost use Rattle.zdesks.specs.Desks.{SameDesk};
 ghost use Rattle.zthreads.specs.Owned.{server_desk};
 
@@ -12,18 +11,16 @@ use crate::server_thread::ServerThread;
 use std::sync::Wait;
 use zwords::halts::{Halt, HaltSeat};
 
-/// Goes over the links in turn until bit 0 is set; at its own bit the server puts its last words and goes on taking nothing.
-/// It looks at the bits before each take.
+/// Goes over the links in turn until bit 0 is set. At its own bit the server sends its failure
+/// notice, and from then on it receives nothing. It looks at both bits before each message.
 pub fn serve<G: Gate, R: Wait>(
     rt: &R,
     mut member: ServerThread,
     mut gate: G,
     halt: &Halt,
     mut seat: HaltSeat,
-    bit: u32,
 ) -> ServerThread
     requires own { IsSeatOf halt.now seat }
-    requires bit { bit ≤ LAST_BIT }
     ensures { SameDesk (server_desk member) (server_desk result) }
 {
     let links = member.links();
@@ -32,13 +29,16 @@ pub fn serve<G: Gate, R: Wait>(
         let mut is_busy = false;
         for link in 0..links {
             member.flush();
-            if halt.is_set(&mut seat, 0) {
+            let look = halt.look(&mut seat);
+            if look.has(0) {
                 return member;
             }
-            if halt.is_set(&mut seat, bit) {
-                member.halt();
+            if look.has(member.bit()) {
+                // Where there is no memory for the notice, the next link tries again.
+                let _ = member.halt();
+                continue;
             }
-            is_busy |= member.turn(link, &mut gate);
+            is_busy |= member.turn(link, &mut gate, look);
         }
         idle.end_round(rt, is_busy);
     }

@@ -42,7 +42,7 @@ module _ {M : Type 0} (machine : Does M) (w : World M) where
   row_happens _ _ _ _ _ _ _ (ServerIgnores s v from m query) is arrives =
       let (alive, same) = server_view (is_server s && not (w.failed s)) (w.servers s) v is in
       server_ignores machine w s v from m.1 arrives.0 is (both_are _ _ alive).1 (both _ _ query).0 arrives.1
-  row_happens _ _ _ _ _ _ _ (ServerStops s v from m) is arrives =
+  row_happens _ _ _ _ _ _ _ (ServerStops s v from m grows) is arrives =
       let (alive, same) = server_view (is_server s && not (w.failed s)) (w.servers s) v is in
       server_fails machine w s (Took from Stopped) (both_are _ _ alive).0 (both_are _ _ alive).1 refl
   row_happens _ _ _ _ _ _ _ (ServerLeaves s v m order) is arrives =

@@ -202,7 +202,7 @@ module _ {M : Type 0} (machine : Does M) where
   row_told c _ _ _ _ _ _ _ (ServerTakes s v from m no_order) = refl
   row_told c _ _ _ _ _ _ _ (ClientTakes d v from m) = answer_of c d (client.client_step v from m.1).2
   row_told c _ _ _ _ _ _ _ (ServerIgnores s v from m query) = refl
-  row_told c _ _ _ _ _ _ _ (ServerStops s v from m) = refl
+  row_told c _ _ _ _ _ _ _ (ServerStops s v from m grows) = refl
   row_told c _ _ _ _ _ _ _ (ServerLeaves s v m order) = refl
   row_told c _ _ _ _ _ _ _ (ServerHalts s v) = refl
   row_told c _ _ _ _ _ _ _ (MasterJoins v s there none) = refl

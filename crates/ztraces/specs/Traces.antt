@@ -1,4 +1,5 @@
--- Traces as events of the world: the merge of all traces by stamps, and what it is for its events to be in their places.
+-- Traces as events of the world: the merge of all traces by timestamps, and what it is for its
+-- events to be in their places.
 use Rattle.std.specs.Prelude.{if◌then◌else◌, ◌≡◌, ℕ, zero, suc, Bool, true, false, ◌&&◌, ◌||◌, ◌==◌, nat_lt, List, [], ◌∷◌, ◌++◌, Option, None, Some, map, filter, length, get_or}
 use Rattle.zprotocol.specs.declared.process.Process.{Process}
 use Rattle.zprotocol.specs.declared.process.Process.TheVariants.{Master, Server, Client}
@@ -35,7 +36,8 @@ record_of t c = get_or (map (λ (client : ClientTrace). client.record.items) t.c
 abbrev pub client_count : Traces → ℕ
 client_count t = length t.clients.items
 
--- the event of the world that a process's act stands for; none for an act of another kind of process
+-- the event of the world that a process's act stands for; an act of another kind of process has
+-- none
 abbrev pub event_of : Process → Act → Option Event
 event_of p (Took from Acted) = Some (event.Take from p)
 event_of (Server s) (Took from Unheard) = Some (event.Ignore from (Server s))
@@ -53,7 +55,7 @@ pub record Step : Type 0 where
   pub process : Process
   pub event : TraceEvent
 
--- the order of steps: by stamp, and at one stamp by process
+-- the order of steps: by timestamp, and at one timestamp by process
 abbrev pub comes_before : Step → Step → Bool
 comes_before a b =
     nat_lt a.event.stamp b.event.stamp
@@ -63,8 +65,9 @@ comes_before a b =
 abbrev pub at_process : {A : Type 0} → Process → A → (Process → A) → Process → A
 at_process p x family q = if is_same q p then x else family q
 
--- the steps are the first events of all traces, by stamp and process, and these are left of the traces: the first step is an event
--- that begins its trace, no other trace begins with one that comes before it, and the other steps are the first of what is left
+-- the steps are the first events of all traces, by timestamp and process, and `left` is left of the
+-- traces; the first step begins its trace, and no trace begins with an event that comes before it;
+-- the other steps are the first events of what is left then
 abbrev pub Merges : (Process → List TraceEvent) → List Step → (Process → List TraceEvent) → Type 0
 Merges traces [] left = (p : Process) → traces p ≡ left p
 Merges traces (step ∷ steps) left =
@@ -73,7 +76,7 @@ Merges traces (step ∷ steps) left =
     → comes_before (record { process = q; event = e }) step ≡ false)
     × Merges (at_process step.process more traces) steps left
 
--- the steps are all events of the traces, by stamp and process
+-- the steps are all events of the traces, by timestamp and process
 abbrev pub IsMerge : Traces → List Step → Type 0
 IsMerge t steps = Merges (trace_of t) steps (λ p. [])
 
@@ -81,17 +84,18 @@ IsMerge t steps = Merges (trace_of t) steps (λ p. [])
 abbrev pub BeginsMerge : Traces → List Step → Type 0
 BeginsMerge t steps = (left : Process → List TraceEvent) × Merges (trace_of t) steps left
 
--- the stamps of a trace rise, from above this one on
+-- the timestamps of a trace rise, from above this one on
 abbrev pub stamps_rise_from : ℕ → List TraceEvent → Bool
 stamps_rise_from last [] = true
 stamps_rise_from last (e ∷ more) = nat_lt last e.stamp && stamps_rise_from e.stamp more
 
--- the stamps of a trace rise
+-- the timestamps of a trace rise
 abbrev pub stamps_rise : List TraceEvent → Bool
 stamps_rise [] = true
 stamps_rise (e ∷ more) = stamps_rise_from e.stamp more
 
--- an event is in its place where it is enabled, or is a join or an order to leave, which the master may refuse
+-- an event is in its place if it is enabled, or is a join or an order to leave, which the master
+-- may refuse
 abbrev pub is_in_place : {M : Type 0} → World M → Event → Bool
 is_in_place w (event.Join s) = true
 is_in_place w (event.Retire s) = true

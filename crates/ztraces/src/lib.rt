@@ -1,7 +1,8 @@
-//! What the threads of a run hand back, and what it means that it is lawful: types and definitions, with their laws.
+//! The traces that the threads of a run hand back, and what makes them lawful: types and
+//! definitions, with their laws.
 //!
-//! A trace is the list of what one process did, each with a stamp. The traces of all processes, merged by stamps, are a
-//! list of events of the world.
+//! A trace is the list of what one process did, each event with a Lamport timestamp. The traces of
+//! all processes, merged by timestamps, are a list of events of the world.
 #![tactic(auto)]
 
 mod laws;

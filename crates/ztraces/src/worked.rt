@@ -23,7 +23,7 @@ ghost use Rattle.ztraces.specs.support.TraceRows.{runs, runs_over_three, goes_on
 ghost use Rattle.ztraces.specs.support.TraceRows.{Stays, Ends, GoesThrough};
 ghost use Rattle.ztraces.specs.support.TraceRows.{is_server_cut, is_client_cut, AreWhole};
 
-/// The event that an act stands for; an act of another kind of process stands for none.
+/// The event that an act stands for. An act of another kind of process stands for none.
 pub fn acts_are_events()
     ensures take { event_of s1 (Took c0 Acted) ≡ Some (event.Take c0 s1) }
     ensures ignored_query { event_of s1 (Took c0 Unheard) ≡ Some (event.Ignore c0 s1) }
@@ -44,7 +44,8 @@ pub fn acts_are_events()
     ensures server_orders { event_of s1 (Retired 2) ≡ None }
 {}
 
-/// Steps come by their stamps, and at one stamp the master's first, then the servers' by number, then the clients'.
+/// Steps come by their timestamps. At one timestamp the master's come first, then the servers' by
+/// number, then the clients'.
 pub fn steps_are_ordered()
     ensures earlier { comes_before (tick_of c0 1) (tick_of Master 2) ≡ true }
     ensures later { comes_before (tick_of Master 2) (tick_of c0 1) ≡ false }
@@ -55,7 +56,7 @@ pub fn steps_are_ordered()
     ensures itself { comes_before (tick_of s1 1) (tick_of s1 1) ≡ false }
 {}
 
-/// The stamps of a trace rise where each is above the one before it; the first may be any.
+/// The timestamps of a trace rise if each is above the one before it. The first may be any.
 pub fn stamps_rise_by_events()
     ensures none { stamps_rise [] ≡ true }
     ensures first_of_all { stamps_rise (tick 0 ∷ []) ≡ true }
@@ -65,8 +66,8 @@ pub fn stamps_rise_by_events()
     ensures falls_at_the_end { stamps_rise (tick 1 ∷ tick 3 ∷ tick 2 ∷ []) ≡ false }
 {}
 
-/// A write and a read of one client at one server: each event is in its place, and the history is what the caller sees. A run may
-/// lose any request: that a server hears each update is told by its rows.
+/// A write and a read of one client at one server: each event is in its place, and the history is
+/// what the caller sees. A run may lose any request: a server's rows say that it hears each update.
 pub fn written_and_read_is_a_run()
     ensures in_place { runs written_and_read ≡ true }
     ensures told { told_of 0 (after_steps written_and_read).history ≡ seen }
@@ -85,8 +86,8 @@ pub fn written_and_read_is_a_run()
     ensures stopped { runs (begun write ∷ s1_takes 2 Stopped ∷ s1_takes 3 Acted ∷ []) ≡ false }
 {}
 
-/// A chain of three in which two servers are halted, the second of them while the chain is mended, is a run; it is none where
-/// a server that was halted takes once more.
+/// A chain of three is a run where two servers are halted, the second while the chain is repaired.
+/// It is none if a halted server receives again.
 pub fn mended_chain_is_a_run()
     ensures in_place { runs_over_three mended ≡ true }
     ensures nothing_after_the_halt { goes_on (take 6 mended) (s1_takes 7 Acted) ≡ false }
@@ -94,7 +95,8 @@ pub fn mended_chain_is_a_run()
         ≡ false }
 {}
 
-/// So is one in which a member is ordered to leave, and leaves; it is none where that server takes once more.
+/// A chain of three is a run where a member is ordered to leave, and leaves. It is none if that
+/// server receives again.
 pub fn retirement_is_a_run()
     ensures in_place { runs_over_three retirement ≡ true }
     ensures nothing_after_it_left { goes_on (take 3 retirement) (s1_takes 4 Acted) ≡ false }
@@ -102,8 +104,8 @@ pub fn retirement_is_a_run()
         ≡ false }
 {}
 
-/// What is in its place in the opening of one server and one client: a join or an order to leave too, which the master
-/// refuses.
+/// Which events are in their place in the initial state of one server and one client. A join or an
+/// order to leave is, even if the master refuses it.
 pub fn places_are_tested()
     ensures refused_join { is_in_place opening (event.Join 1) ≡ true }
     ensures refused_order { is_in_place opening (event.Retire 1) ≡ true }
@@ -115,15 +117,16 @@ pub fn places_are_tested()
     ensures no_event { is_step_in_place opening None ≡ false }
 {}
 
-/// At one stamp the merge goes by process: the server's event is before the client's, and not behind it.
+/// At one timestamp the merge goes by process: the server's event is before the client's, and not
+/// after it.
 pub fn one_stamp_is_by_process()
     ensures merge { Merges both_at_1 (tick_of s1 1 ∷ tick_of c0 1 ∷ []) (λ p. []) }
     ensures other_order { Merges both_at_1 (tick_of c0 1 ∷ tick_of s1 1 ∷ []) (λ p. []) → ⊥ }
     ensures not_all { Merges both_at_1 (tick_of s1 1 ∷ []) (λ p. []) → ⊥ }
 {}
 
-/// A write by what each process does at it: client and server go by their tables from the opening, and each takes what the
-/// other put.
+/// What each process does at a write. Client and server go by their tables from the initial state,
+/// and each receives what the other sent.
 pub fn write_goes_by_the_tables()
     ensures client { GoesThrough c0 (standing_in opening c0) 0 client_deeds }
     ensures server { GoesThrough s1 (standing_in opening s1) 0 server_deeds }
@@ -135,10 +138,14 @@ pub fn write_goes_by_the_tables()
     ensures seen { told_by client_deeds ≡ take 2 seen }
 {}
 
-/// How a server ends: it stops, leaves or is halted, its last words are all that it puts, and nothing follows. A number that isn't a
+/// How a server ends: it stops at a message by which it would grow, it leaves, or it is halted.
+/// Then its failure notice is all that it sends, and nothing follows. A number that isn't a
 /// server's or a client's of this world takes no part, nor does a server that has failed.
 pub fn servers_end_by_their_rows()
     ensures stops { Ends at_opening (Took c0 Stopped) (Some (1, request)) }
+    ensures stops_at_no_query { Ends at_opening (Took c0 Stopped) (Some (1, asked)) → ⊥ }
+    ensures stops_where_nothing_grows { Ends at_opening (Took Master Stopped)
+        (Some (1, message.BecomeHead 1)) → ⊥ }
     ensures leaves { Ends at_opening Left (Some (1, order)) }
     ensures acts_on_no_such_order { Stays at_opening (Took Master Acted) (Some (1, order)) → ⊥ }
     ensures leaves_at_no_other_order { Ends at_opening Left (Some (1, message.BecomeHead 1)) → ⊥ }
@@ -154,7 +161,8 @@ pub fn servers_end_by_their_rows()
     ensures failed { standing_in (record opening { failed = at 1 true opening.failed }) s1 ≡ Out }
 {}
 
-/// A stamp is one more than the greater of the process's last one and the message's; a client's may be above that.
+/// A timestamp is one more than the greater of the process's last one and the message's. A client's
+/// may be above that.
 pub fn stamps_go_by_their_rule()
     ensures by_the_message { IsStamped s1 3 5 6 }
     ensures by_its_own { IsStamped s1 5 3 6 }
@@ -165,7 +173,7 @@ pub fn stamps_go_by_their_rule()
     ensures client_above_the_message { IsStamped c0 3 5 5 → ⊥ }
 {}
 
-/// Traces are cut where one of them is: the master's, a server's or a client's.
+/// Traces are cut if one of them is: the master's, a server's or a client's.
 pub fn one_cut_is_enough()
     ensures master { (t : Traces) → t.master.is_cut ≡ true → is_any_cut t ≡ true }
     ensures server { (t : Traces) → is_server_cut t ≡ true → is_any_cut t ≡ true }

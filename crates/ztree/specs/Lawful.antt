@@ -1,6 +1,6 @@
--- The lawful tree: what holds of every plain tree that is ever shown.
--- ZooKeeper Programmer's Guide, "The ZooKeeper Data Model" ("ZNodes", "Ephemeral Nodes") and "ZooKeeper Sessions". The
--- limits, and deadlines in ticks, are this project's profile.
+-- The lawful tree: the invariant of every tree that the service can reach. The source is the
+-- ZooKeeper Programmer's Guide, "The ZooKeeper Data Model" ("ZNodes", "Ephemeral Nodes") and
+-- "ZooKeeper Sessions". The limits, and deadlines in ticks, are this project's profile.
 use Rattle.std.specs.Prelude.{◌≡◌, ℕ, ◌<◌, ◌≤◌, ◌⊎◌, true, [], Option, Some, IsSome}
 use Rattle.std.specs.FinMap as finite
 use Rattle.std.specs.FinMap.{get}
@@ -10,31 +10,31 @@ use Rattle.ztree.specs.declared.node.Node.{Node}
 use Rattle.ztree.specs.declared.session.Session.{Session}
 use Rattle.ztree.specs.Tree.{Tree, Path, Nodes, Sessions, parent_of, has_node}
 
--- a fact on every node
+-- every node has the property
 abbrev pub AllNodes : (Node → Type 0) → Nodes → Type 0
 AllNodes P nodes = (path : Path) (n : Node) → get nodes path ≡ Some n → P n
 
--- a fact on every session, with its id
+-- every session, with its id, has the property
 abbrev pub AllSessions : (ℕ → Session → Type 0) → Sessions → Type 0
 AllSessions P sessions = (id : ℕ) (s : Session) → get sessions id ≡ Some s → P id s
 
--- the node is there, and no session owns it
+-- the node exists, and no session owns it
 abbrev pub IsPersistent : Option Node → Type 0
 IsPersistent found = (n : Node) × (found ≡ Some n) × (n.owner ≡ 0)
 
--- an owner is nobody, or a session that lives
+-- the owner is 0 (nobody) or a live session
 abbrev pub IsOwner : Sessions → ℕ → Type 0
 IsOwner sessions owner = (owner ≡ 0) ⊎ IsSome (get sessions owner)
 
--- a session owns the node, or a time to live ends it, or neither
+-- the node doesn't have both an owner and a TTL
 abbrev pub HasOneEnd : Node → Type 0
 HasOneEnd n = (n.ttl ≡ 0) ⊎ (n.owner ≡ 0)
 
--- no time to live ends the node
+-- the node, if it exists, has no TTL
 abbrev pub Stays : Option Node → Type 0
 Stays found = (n : Node) → found ≡ Some n → n.ttl ≡ 0
 
--- the lawful tree (the root counts as its own parent; 0 is nobody, and no session)
+-- The lawful tree. Here the root is its own parent, and 0 means nobody: it is no session's id.
 pub record IsLawful (t : Tree) : Type 0 where
   pub root : IsPersistent (get t.nodes [])
   pub root_stays : Stays (get t.nodes [])
@@ -46,6 +46,6 @@ pub record IsLawful (t : Tree) : Type 0 where
   pub few_nodes : finite.len t.nodes ≤ MAX_NODES
   pub few_sessions : finite.len t.sessions ≤ MAX_SESSIONS
 
--- each key is a path, as the grammar has it
+-- every key is a path by the grammar
 abbrev pub HasPaths : Nodes → Type 0
 HasPaths nodes = (path : Path) → has_node nodes path ≡ true → IsPath path

@@ -1,6 +1,7 @@
--- The plain tree: the sequential specification's state. Every call of every layer is stated on it.
--- ZooKeeper Programmer's Guide, "The ZooKeeper Data Model" ("ZNodes", "ZooKeeper Stat Structure",
--- "Time in ZooKeeper"). Ticks, the counter of a node and zxids as a plain counter are this project's profile.
+-- The plain tree: the state of the sequential specification. Every call of every layer is specified
+-- on it. The source is the ZooKeeper Programmer's Guide, "The ZooKeeper Data Model" ("ZNodes",
+-- "ZooKeeper Stat Structure", "Time in ZooKeeper"). Ticks, the counter of a node, and zxids as a
+-- plain counter are this project's profile.
 use Rattle.std.specs.Prelude.{ℕ, ◌+◌, Bool, List, [], ◌∷◌, length, Option, None, Some, if◌then◌else◌, is_some, ◌==◌}
 use Rattle.std.specs.Option.{option_map, option_map_or}
 use Rattle.std.specs.Ordering.{nat_cmp}
@@ -17,26 +18,27 @@ use Rattle.ztree.specs.declared.session.Session.{Session}
 abbrev pub Name : Type 0
 Name = List ℕ
 
--- a path is the names from the root down
+-- a path is its names from the root down
 abbrev pub Path : Type 0
 Path = List Name
 
--- the znodes, by their paths
+-- the znodes by path
 abbrev pub Nodes : Type 0
 Nodes = FinMap path_cmp Node
 
--- the sessions, by their ids
+-- the sessions by id
 abbrev pub Sessions : Type 0
 Sessions = FinMap nat_cmp Session
 
--- the znodes and sessions, the clock in ticks, and the number of the last change
+-- the tree: znodes, sessions, the clock in ticks, and the zxid of the last change
 pub record Tree : Type 0 where
   pub nodes : Nodes
   pub sessions : Sessions
   pub time : ℕ
   pub zxid : ℕ
 
--- a node made by change z at a tick, which an owner or nobody has, and a time to live ends or nothing
+-- a new node: its data, its owner (0: none), its TTL in ticks (0: none), the zxid and the tick of
+-- its creation
 abbrev pub new_node : List ℕ → ℕ → ℕ → ℕ → ℕ → Node
 new_node bytes owner ttl z time =
     record {
@@ -53,21 +55,21 @@ new_node bytes owner ttl z time =
       ttl = ttl;
     }
 
--- the opening: the root alone, with no data and zeros, and no session
+-- the initial state: only the root, with no data and all zeros, and no session
 abbrev pub opening_tree : Tree
 opening_tree = record { nodes = insert finite.empty [] (new_node [] 0 0 0 0); sessions = finite.empty; time = 0; zxid = 0 }
 
--- the path without its last name, and the root's is the root
+-- the path without its last name; the root is its own parent
 abbrev pub parent_of : Path → Path
 parent_of [] = []
 parent_of (n ∷ []) = []
 parent_of (n ∷ (m ∷ path)) = n ∷ parent_of (m ∷ path)
 
--- there is a node
+-- the node exists
 abbrev pub has_node : Nodes → Path → Bool
 has_node nodes path = is_some (get nodes path)
 
--- the name that a path has beneath p: some where it is p with one more name
+-- the name of a path as a child of p: `Some` where the path is p with one more name
 abbrev pub child_name : Path → Path → Option Name
 child_name [] [] = None
 child_name [] (n ∷ []) = Some n
@@ -75,7 +77,7 @@ child_name [] (n ∷ (m ∷ path)) = None
 child_name (a ∷ p) [] = None
 child_name (a ∷ p) (b ∷ path) = if bytes_eq a b then child_name p path else None
 
--- the names of the children, in the order of their bytes
+-- the names of the children, in byte order
 abbrev pub children : Nodes → Path → List Name
 children nodes p = filter_map (child_name p) (keys nodes)
 
@@ -83,7 +85,7 @@ children nodes p = filter_map (child_name p) (keys nodes)
 abbrev pub ephemerals : Nodes → ℕ → List Path
 ephemerals nodes session = filter_map (λ e. if e.1.owner == session then Some e.0 else None) (entries nodes)
 
--- what is told of a node that has so many children
+-- the stat of a node that has this many children
 abbrev pub stat_with : Node → ℕ → Stat
 stat_with n children =
     record {
@@ -99,24 +101,25 @@ stat_with n children =
       children = children;
     }
 
--- what is told of a node
+-- the stat of a node
 abbrev pub stat_of : Nodes → Path → Node → Stat
 stat_of nodes p n = stat_with n (length (children nodes p))
 
--- the same, where there is a node
+-- the stat of the node at the path, if it exists
 abbrev pub stat_at : Nodes → Path → Option Stat
 stat_at nodes p = option_map (stat_of nodes p) (get nodes p)
 
--- a node after change z made a child beneath it
+-- the node after change z created a child of it
 abbrev pub with_child : ℕ → Bool → Node → Node
 with_child z sequential n =
     record n { pzxid = z; cversion = n.cversion + 1; seq = n.seq + (if sequential then 1 else 0) }
 
--- the nodes with the one at a path changed, where there is one
+-- the nodes with the one at the path changed, if it exists
 abbrev pub with_change_at : Nodes → Path → (Node → Node) → Nodes
 with_change_at nodes p f = option_map_or (λ n. insert nodes p (f n)) (get nodes p) nodes
 
--- one more node, made by the next change: the new node, and the marks at its parent
+-- the tree after the next change creates a node: the node is added, and its parent's fields for its
+-- children are updated
 abbrev pub with_node : Tree → Path → List ℕ → ℕ → ℕ → Bool → Tree
 with_node t path bytes owner ttl sequential =
     record t {
@@ -125,22 +128,23 @@ with_node t path bytes owner ttl sequential =
           (with_child (t.zxid + 1) sequential);
     }
 
--- a node after change z took a child from beneath it
+-- the node after change z removed a child of it
 abbrev pub without_child : ℕ → Node → Node
 without_child z n = record n { pzxid = z; cversion = n.cversion + 1 }
 
--- one node fewer, taken by the next change: the node gone, and the marks at its parent
+-- the tree after the next change removes a node: the node is gone, and its parent's fields for its
+-- children are updated
 abbrev pub without_node : Tree → Path → Tree
 without_node t path = record t { nodes = with_change_at (remove t.nodes path) (parent_of path) (without_child (t.zxid + 1)) }
 
--- a node after change z wrote its data at a tick
+-- the node after change z wrote its data at a tick
 abbrev pub with_data : List ℕ → ℕ → ℕ → Node → Node
 with_data bytes z time n = record n { bytes = bytes; mzxid = z; mtime = time; version = n.version + 1 }
 
--- the data of a node, written by the next change
+-- the tree after the next change writes the data of the node at the path
 abbrev pub with_data_at : Tree → Path → List ℕ → Tree
 with_data_at t path bytes = record t { nodes = with_change_at t.nodes path (with_data bytes (t.zxid + 1) t.time) }
 
--- one more change
+-- the tree with the zxid one higher
 abbrev pub with_next_zxid : Tree → Tree
 with_next_zxid t = record t { zxid = t.zxid + 1 }

@@ -1,4 +1,4 @@
-//! The number of a client.
+//! The id of a client.
 
 ghost use Rattle.std.specs.Prelude.{◌≡◌, ◌<◌, ◌≤◌, IfNone, IfSome};
 ghost use Rattle.ztree.specs.declared.limits.TheConstants.{MAX_CLIENTS};
@@ -6,7 +6,7 @@ ghost use Rattle.ztree.specs.declared.limits.TheConstants.{MAX_CLIENTS};
 use crate::limits::MAX_CLIENTS;
 use std::marker::Model;
 
-/// One of the 32 clients that this project's profile has, by its number: 0 to 31.
+/// The id of one of the 32 clients of this project's profile: 0 to 31.
 #[derive(Clone, Copy, Debug, PartialEq, Eq)]
 pub struct ClientId {
     number: u8,
@@ -26,7 +26,7 @@ impl Model for ClientId {
 }
 
 impl ClientId {
-    /// The client of that number; none above 31.
+    /// Returns the client with this number, or `None` above 31.
     pub fn new(number: u8) -> Option<ClientId>
         ensures client { IfSome result (λ c. (c ≡ number) × (number < MAX_CLIENTS)) }
         ensures none { IfNone result (MAX_CLIENTS ≤ number) }
@@ -38,7 +38,7 @@ impl ClientId {
         }
     }
 
-    /// Its number.
+    /// Returns its number: 0 to 31.
     pub fn number(self) -> u8
         ensures same { result ≡ self }
         ensures small { result < MAX_CLIENTS }

@@ -1,23 +1,23 @@
-//! Laws of the plain tree: theorems on its definitions. The functions do nothing.
+//! Laws of the tree: theorems about its definitions. The functions do nothing.
 
 ghost use Rattle.ztree.specs.Laws.{ListsChildren, IsParentOfChild, ListsEphemerals, ListsStale};
 
-/// A name is listed among the children of a path exactly where the path with it appended is a node.
+/// A name is listed as a child of a path exactly when the path extended by it is a node.
 pub fn children_are_listed()
     ensures { ListsChildren }
 {}
 
-/// The parent of a path with one more name is the path.
+/// The parent of a path extended by one name is the path.
 pub fn a_child_has_its_parent()
     ensures { IsParentOfChild }
 {}
 
-/// A path is among the ephemerals of a session exactly where its node is owned by that session.
+/// A path is an ephemeral of a session exactly when that session owns the node at it.
 pub fn ephemerals_are_listed()
     ensures { ListsEphemerals }
 {}
 
-/// A path is among those that a tick removes exactly where its node is due and has no children.
+/// A tick removes a path exactly when its node is due and has no children.
 pub fn stale_nodes_are_listed()
     ensures { ListsStale }
 {}

@@ -1,8 +1,13 @@
-//! The plain tree: the state of the sequential specification, and the values that it holds.
+//! The plain tree: the state of the sequential specification, and the types of the values in it.
 //!
-//! Here stand the definitions on which every call of every layer is stated (`specs/Tree.antt`, the znodes;
-//! `specs/Sessions.antt`; `specs/Stale.antt`, the znodes that a tick removes; `specs/Lawful.antt`, what holds of every tree that is ever shown), and the types of
-//! the values in it. How a machine keeps a tree is the business of a crate above.
+//! Every call of every layer is specified on these definitions:
+//!
+//! - `specs/Tree.antt`: the znodes.
+//! - `specs/Sessions.antt`: the sessions.
+//! - `specs/Stale.antt`: the znodes that a tick removes.
+//! - `specs/Lawful.antt`: the invariant of every tree that the service can reach.
+//!
+//! How a machine stores a tree is the business of the crates above.
 #![tactic(auto)]
 
 mod client;

@@ -1,28 +1,28 @@
-//! The limits of this project's profile, by which clauses and definitions name them.
+//! The limits of this project's profile. Clauses and definitions refer to them by name.
 
-/// The most bytes that a znode's data may have.
+/// The greatest size of a znode's data, in bytes.
 pub const MAX_DATA: usize = 65_536;
 
-/// The most znodes that a tree may have, the root among them.
+/// The greatest number of znodes in a tree, the root included.
 pub const MAX_NODES: usize = 4096;
 
-/// The most sessions that a tree may have.
+/// The greatest number of sessions in a tree.
 pub const MAX_SESSIONS: usize = 1024;
 
-/// How many clients there are.
+/// The number of clients.
 pub const MAX_CLIENTS: u8 = 32;
 
-/// The most ticks that a time to live may have.
+/// The greatest TTL, in ticks.
 pub const MAX_TTL: u64 = 1 << 20;
 
-/// The numbers of changes stay below it.
+/// The bound on zxids: each is below it.
 pub const ZXID_BOUND: u64 = 1 << 40;
 
-/// The ticks stay below it.
+/// The bound on ticks: each is below it.
 pub const TICK_BOUND: u64 = 1 << 40;
 
-/// The counters of a znode stay below it.
+/// The bound on a znode's counters: each is below it.
 pub const COUNTER_BOUND: u64 = 1 << 62;
 
-/// The deadlines of sessions stay below it.
+/// The bound on sessions' deadlines: each is below it.
 pub const DEADLINE_BOUND: u64 = 1 << 62;

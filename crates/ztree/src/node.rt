@@ -1,4 +1,4 @@
-//! A znode, and what is told of one.
+//! A znode and its stat.
 
 use crate::node_data::Data;
 use crate::zxid::Zxid;
@@ -6,56 +6,57 @@ use std::alloc::Global;
 use zpath::Memory;
 
 /// A znode: the fields of the stat structure (ZooKeeper Programmer's Guide, "ZooKeeper Stat
-/// Structure"), its data, and the counter that this project's profile gives each node.
+/// Structure"), its data, its TTL, and the counter that this project's profile gives each node.
 #[derive(Drop)]
 pub struct Node {
     /// The data.
     pub bytes: Data,
-    /// The number of the change that made the node.
+    /// The zxid of the change that created the node.
     pub czxid: Zxid,
-    /// The number of the last change of its data.
+    /// The zxid of the last change of its data.
     pub mzxid: Zxid,
-    /// The number of the last change of its children.
+    /// The zxid of the last change of its children.
     pub pzxid: Zxid,
-    /// The tick at which it was made.
+    /// The tick at which it was created.
     pub ctime: u64,
     /// The tick of the last change of its data.
     pub mtime: u64,
-    /// How often its data was changed.
+    /// The number of changes of its data.
     pub version: u64,
-    /// How often a child came or went.
+    /// The number of times a child was created or removed.
     pub cversion: u64,
-    /// The session that owns it, or 0: persistent.
+    /// The id of the session that owns it, or 0 for a persistent node.
     pub owner: u64,
-    /// What the next sequential create beneath it appends to the name.
+    /// The number that the next sequential create beneath it appends to the name.
     pub seq: u64,
-    /// How many ticks it lives after the last change of its data while it has no children, or 0: for good.
+    /// The TTL: how many ticks it lives after the last change of its data while it has no children.
+    /// 0 means no TTL.
     pub ttl: u64,
 }
 
-/// What is told of a node: the stat structure of the ZooKeeper Programmer's Guide, in the guide's
-/// order, without `aversion`, since a node has no access control list.
+/// A node's stat: the stat structure of the ZooKeeper Programmer's Guide, in the guide's order.
+/// There is no `aversion`, since a node has no access control list.
 #[derive(Clone, Copy, Debug, PartialEq, Eq)]
 pub struct Stat {
-    /// The number of the change that made the node.
+    /// The zxid of the change that created the node.
     pub czxid: Zxid,
-    /// The number of the last change of its data.
+    /// The zxid of the last change of its data.
     pub mzxid: Zxid,
-    /// The number of the last change of its children.
+    /// The zxid of the last change of its children.
     pub pzxid: Zxid,
-    /// The tick at which it was made.
+    /// The tick at which it was created.
     pub ctime: u64,
     /// The tick of the last change of its data.
     pub mtime: u64,
-    /// How often its data was changed.
+    /// The number of changes of its data.
     pub version: u64,
-    /// How often a child came or went.
+    /// The number of times a child was created or removed.
     pub cversion: u64,
-    /// The session that owns it, or 0: persistent.
+    /// The id of the session that owns it, or 0 for a persistent node.
     pub owner: u64,
-    /// How many bytes its data has.
+    /// The size of its data, in bytes.
     pub length: u64,
-    /// How many children it has.
+    /// The number of its children.
     pub children: u64,
 }
 
@@ -64,7 +65,8 @@ impl Node {
     ghost use Rattle.ztree.specs.Tree.{new_node, stat_with};
     ghost use Rattle.ztree.specs.Stale.{is_due};
 
-    /// A node made by this change, at this tick; its owner is a session, or 0, and it lives so many ticks, or for good where that is 0.
+    /// Makes a node created by change `zxid` at tick `time`. The owner is a session's id, or 0 for
+    /// none. The TTL is in ticks, or 0 for none.
     pub fn new(bytes: Data, owner: u64, ttl: u64, zxid: Zxid, time: u64) -> Node
         ensures { result ≡ new_node bytes owner ttl zxid time }
     {
@@ -83,7 +85,7 @@ impl Node {
         }
     }
 
-    /// What is told of the node where it has so many children.
+    /// Returns the stat of the node, given the number of its children.
     pub fn stat(&self, children: u64) -> Stat
         ensures { result ≡ stat_with self.now children }
     {
@@ -101,14 +103,14 @@ impl Node {
         }
     }
 
-    /// Whether a tick reaches the end of its time to live; of a node without one none does.
+    /// Returns whether the TTL has expired at the tick; false for a node without a TTL.
     pub fn is_due(&self, tick: u64) -> bool
         ensures { result ≡ is_due tick self.now }
     {
         self.ttl != 0 && tick.saturating_sub(self.mtime) >= self.ttl
     }
 
-    /// The same node once more.
+    /// Returns a copy of the node, or `Memory`.
     pub fn copied(&self, alloc: Global) -> Result<Node, Memory>
         ensures { IfOk result (λ copy. copy ≡ self.now) }
     {

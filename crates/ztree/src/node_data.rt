@@ -11,8 +11,8 @@ use std::sync::Arc;
 use thiserror::Error;
 use zpath::Memory;
 
-/// A znode's data: at most 65,536 bytes, which are read and written whole.
-// All owners of the data share its bytes. No bytes take no room.
+/// A znode's data: at most 65,536 bytes, read and written as a whole.
+// All copies share the bytes. Empty data takes no allocation.
 #[derive(Debug, Drop)]
 pub struct Data {
     bytes: Option<Arc<Vec<u8>>>,
@@ -30,19 +30,20 @@ impl Model for Data {
     ghost invariant = { λ d. length (shared_bytes d.bytes) ≤ MAX_DATA };
 }
 
-/// Why bytes are no znode's data.
+/// Why bytes can't be a znode's data.
 #[derive(Clone, Copy, Debug, PartialEq, Eq, Error)]
 pub enum DataFault {
-    /// There are more than 65,536.
+    /// There are more than 65,536 bytes.
     #[error("too long")]
     TooLong,
-    /// A growth was refused: there is no memory to share them.
+    /// Out of memory: the allocation that shares the bytes was refused.
     #[error("memory")]
     Memory,
 }
 
 impl Data {
-    /// Takes the bytes. Where there are more than 65,536, or no memory to share them, they are let go.
+    /// Makes data from the bytes. Fails, and drops them, if there are more than 65,536 or memory
+    /// runs out.
     pub fn new(alloc: Global, bytes: Vec<u8>) -> Result<Data, DataFault>
         ensures taken { IfOk result (λ d. d ≡ bytes.items) }
         ensures fits { OnOk result (length bytes.items ≤ MAX_DATA) }
@@ -66,14 +67,14 @@ impl Data {
         }
     }
 
-    /// No bytes. It allocates nothing.
+    /// Returns empty data. Allocates nothing.
     pub fn empty(_alloc: Global) -> Data
         ensures { result ≡ [] }
     {
         Data { bytes: None }
     }
 
-    /// The bytes.
+    /// Returns the bytes.
     pub fn as_slice(&self) -> &[u8]
         ensures bytes { result.now ≡ self.now }
         ensures short { length self.now ≤ MAX_DATA }
@@ -84,7 +85,7 @@ impl Data {
         }
     }
 
-    /// A second owner of the same bytes.
+    /// Returns a copy that shares the bytes, or `Memory`.
     pub fn copied(&self, _alloc: Global) -> Result<Data, Memory>
         ensures { IfOk result (λ d. d ≡ self.now) }
     {

@@ -1,4 +1,4 @@
-//! Worked rows of the definitions. The functions do nothing.
+//! Worked examples of the definitions. The functions do nothing.
 
 ghost use Rattle.std.specs.Prelude.{◌≡◌, [], ◌∷◌, None, Some, true, false};
 ghost use Rattle.ztree.specs.declared.limits.TheConstants.{MAX_DATA, MAX_NODES, MAX_SESSIONS, MAX_CLIENTS, MAX_TTL};
@@ -13,7 +13,7 @@ ghost use Rattle.ztree.specs.support.Samples.{b, at_a, at_a_b, some_node, some_s
 ghost use Rattle.ztree.specs.support.Samples.{after_numbered_child, written_node, made_node};
 ghost use Rattle.ztree.specs.support.Samples.{some_session, two_nodes, three_nodes};
 
-/// Who is whose parent and child.
+/// Parents and children of paths.
 pub fn families()
     ensures root { parent_of [] ≡ [] }
     ensures parent { parent_of at_a_b ≡ at_a }
@@ -22,7 +22,7 @@ pub fn families()
     ensures stranger { child_name at_a (b ∷ (b ∷ [])) ≡ None }
 {}
 
-/// What is told of a node, and what a change leaves of it.
+/// The stat of a node, and the node after each change.
 pub fn changes_of_a_node()
     ensures stat { stat_with some_node 11 ≡ some_stat }
     ensures child { with_child 20 false some_node ≡ after_change 20 }
@@ -31,7 +31,7 @@ pub fn changes_of_a_node()
     ensures data { with_data b 20 21 some_node ≡ written_node }
 {}
 
-/// When a node is due, and which of two due nodes a tick removes: the one that has no child.
+/// When a TTL has expired, and which of two such nodes a tick removes: the one without a child.
 pub fn times_to_live()
     ensures early { is_due 16 some_node ≡ false }
     ensures due { is_due 17 some_node ≡ true }
@@ -52,13 +52,13 @@ pub fn keys_are_paths()
     ensures { HasPaths (finite.insert finite.empty ([] ∷ []) some_node) → ⊥ }
 {}
 
-/// A new node has the number and the tick of the change that makes it, wherever it tells one.
+/// A new node has the zxid and the tick of its creation in every field for them.
 pub fn new_nodes()
     ensures { new_node b 9 12 20 21 ≡ made_node }
 {}
 
-/// What change 41, at tick 30, leaves of a tree of two nodes where it makes a node beneath the second one, or takes that
-/// one away.
+/// A tree of two nodes after change 41, at tick 30, creates a child of the second node, or removes
+/// that node.
 pub fn changes_of_a_tree()
     ensures made { finite.get (three_nodes false).nodes at_a_b ≡ Some (new_node b 9 12 41 30) }
     ensures parent { finite.get (three_nodes false).nodes at_a ≡ Some (after_change 41) }
@@ -69,7 +69,7 @@ pub fn changes_of_a_tree()
     ensures number_is_taken_later { (three_nodes true).zxid ≡ 40 }
 {}
 
-/// The limits, as numbers.
+/// The limits as numbers.
 pub fn limits_are_numbers()
     ensures data { MAX_DATA ≡ 65536 }
     ensures nodes { MAX_NODES ≡ 4096 }

@@ -2,15 +2,15 @@
 
 use crate::client::ClientId;
 
-/// A session (ZooKeeper Programmer's Guide, "ZooKeeper Sessions"; that time is counted in ticks is
-/// this project's profile). It ends at the tick that reaches its deadline, unless its client pings
+/// A session (ZooKeeper Programmer's Guide, "ZooKeeper Sessions"; counting time in ticks is this
+/// project's profile). It expires at the tick that reaches its deadline, unless its client pings
 /// before.
 #[derive(Clone, Copy, Debug, PartialEq, Eq)]
 pub struct Session {
     /// The client that opened it.
     pub client: ClientId,
-    /// How many ticks it lives without a ping.
+    /// The number of ticks it lives without a ping.
     pub timeout: u64,
-    /// The tick that ends it.
+    /// The tick at which it expires.
     pub deadline: u64,
 }

@@ -5,7 +5,7 @@ ghost use Rattle.std.specs.Prelude.{◌≡◌};
 use crate::zxid::Zxid;
 use std::marker::Model;
 
-/// The id of a session: the number of the change that opened it.
+/// The id of a session: the zxid of the change that opened it.
 #[derive(Clone, Copy, Debug, PartialEq, Eq, PartialOrd, Ord)]
 pub struct SessionId {
     number: u64,
@@ -22,14 +22,14 @@ impl Model for SessionId {
 }
 
 impl SessionId {
-    /// The session of that number.
+    /// Returns the id with this number.
     pub fn new(number: u64) -> SessionId
         ensures { result ≡ number }
     {
         SessionId { number }
     }
 
-    /// The session that a change opens.
+    /// Returns the id of the session that this change opens.
     pub fn of(zxid: Zxid) -> SessionId
         ensures { result ≡ zxid }
     {
@@ -38,7 +38,7 @@ impl SessionId {
         }
     }
 
-    /// Its number.
+    /// Returns its number.
     pub fn number(self) -> u64
         ensures { result ≡ self }
     {

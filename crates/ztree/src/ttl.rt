@@ -1,4 +1,4 @@
-//! How long a znode lives.
+//! The time to live of a znode.
 
 ghost use Rattle.std.specs.Prelude.{◌≡◌, IfNone, IfSome};
 ghost use Rattle.ztree.specs.Stale.{IsTtl};
@@ -6,8 +6,8 @@ ghost use Rattle.ztree.specs.Stale.{IsTtl};
 use crate::limits::MAX_TTL;
 use std::marker::Model;
 
-/// A time to live (ZooKeeper Programmer's Guide, "TTL Nodes"; that it is counted in ticks, 1 to 1,048,576, is this
-/// project's profile).
+/// A time to live (ZooKeeper Programmer's Guide, "TTL Nodes"). Counting it in ticks, from 1 to
+/// 1,048,576, is this project's profile.
 #[derive(Clone, Copy, Debug, PartialEq, Eq)]
 pub struct Ttl {
     ticks: u64,
@@ -27,7 +27,7 @@ impl Model for Ttl {
 }
 
 impl Ttl {
-    /// So many ticks; none for 0 and for more than 1,048,576.
+    /// Returns a TTL of this many ticks; `None` for 0 and above 1,048,576.
     pub fn new(ticks: u64) -> Option<Ttl>
         ensures ttl { IfSome result (λ ttl. (ttl ≡ ticks) × IsTtl ticks) }
         ensures none { IfNone result (IsTtl ticks → ⊥) }
@@ -39,7 +39,7 @@ impl Ttl {
         }
     }
 
-    /// How many ticks.
+    /// Returns the number of ticks.
     pub fn ticks(self) -> u64
         ensures same { result ≡ self }
         ensures within { IsTtl result }

@@ -1,12 +1,13 @@
-//! The number of a change.
+//! The zxid: the number of a change.
 
 ghost use Rattle.std.specs.Prelude.{◌≡◌, ◌+◌, ◌<◌};
 ghost use Rattle.ztree.specs.declared.limits.TheConstants.{ZXID_BOUND};
 
 use std::marker::Model;
 
-/// The number of a change: 1, 2 and so on, and 0 before the first (ZooKeeper Programmer's Guide, "Time in
-/// ZooKeeper"; that it is a plain counter is this project's profile).
+/// The zxid: the number of a change, counted from 1; 0 stands before the first change. The source
+/// is the ZooKeeper Programmer's Guide, "Time in ZooKeeper". A plain counter is this project's
+/// profile.
 #[derive(Clone, Copy, Debug, PartialEq, Eq, PartialOrd, Ord)]
 pub struct Zxid {
     number: u64,
@@ -23,21 +24,21 @@ impl Model for Zxid {
 }
 
 impl Zxid {
-    /// The change of that number.
+    /// Returns the zxid with this number.
     pub fn new(number: u64) -> Zxid
         ensures { result ≡ number }
     {
         Zxid { number }
     }
 
-    /// Its number.
+    /// Returns its number.
     pub fn number(self) -> u64
         ensures { result ≡ self }
     {
         self.number
     }
 
-    /// The change right after it.
+    /// Returns the zxid of the change right after it.
     pub fn next(self) -> Zxid
         requires { self + 1 < ZXID_BOUND }
         ensures { result ≡ self + 1 }

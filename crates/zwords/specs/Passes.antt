@@ -16,6 +16,6 @@ abbrev pub tickets_of_all : List Pass → List ℕ
 tickets_of_all [] = []
 tickets_of_all (p ∷ ps) = tickets_of p ++ tickets_of_all ps
 
--- how many passes its `new` made
+-- how many passes were made with the word
 abbrev pub passes_of : Tickets → ℕ
 passes_of t = t.passes

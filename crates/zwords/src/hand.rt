@@ -5,9 +5,9 @@ ghost use Rattle.zwords.specs.Given.{hand, Given};
 use atomic_table::{Join, Play, Split, TableRule};
 use std::collections::LinkedList;
 
-/// What a pass knows. No value of it is made.
+/// What a pass knows. It is never constructed.
 pub struct Hand {
-    /// Its parts of the right to know the whole.
+    /// How many parts it holds of the right to know the whole.
     pub parts: u64,
     /// The tickets that it has drawn, oldest first.
     pub drawn: LinkedList<u64>,
@@ -35,7 +35,7 @@ impl Play<(), Hand> for Draws {
     ghost then = { λ s v found w. w ≡ (hand v.0.parts (v.0.drawn ++ found ∷ []), v.1) };
 }
 
-/// One part is split off, with no tickets; or two passes become one.
+/// Splits off one part, with no tickets, or joins two passes into one.
 pub struct Deals;
 
 impl Split<Hand> for Deals {

@@ -1,7 +1,16 @@
-//! How many passes a ticket word has, and how many bits a halt word.
+//! How many passes a ticket word has at most, and how many bits a halt word has.
+ghost use Rattle.std.specs.Prelude.{◌≡◌};
+ghost use Rattle.zwords.specs.declared.limits.TheConstants.{LAST_BIT, MAX_PASSES};
 
-/// The most passes of one ticket word. Each draws less than 2^32 + 1 numbers, so the word never wraps.
+/// The maximum number of passes of one ticket word. Each draws at most 2^32 numbers, so the word
+/// never wraps.
 pub const MAX_PASSES: usize = 32;
 
 /// The last bit of a halt word. The first is 0.
 pub const LAST_BIT: u32 = 16;
+
+/// The limits are these numbers.
+pub fn limits_are_numbers()
+    ensures passes { MAX_PASSES ≡ 32 }
+    ensures last_bit { LAST_BIT ≡ 16 }
+{}

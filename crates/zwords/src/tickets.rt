@@ -1,4 +1,4 @@
-//! Numbers that threads draw, each once, by one step on a shared word.
+//! Numbers that threads draw, each once, by one atomic step on a shared word.
 ghost use Rattle.std.specs.Prelude.{◌≡◌, ◌≢◌, ◌^◌, ◌<◌, ◌≤◌, ◌++◌, [], ◌∷◌};
 ghost use Rattle.std.specs.Prelude.{length, vec_len, All, IfOk, IfNone, IfSome};
 ghost use Rattle.zwords.specs.Given.{hand};
@@ -10,7 +10,7 @@ use atomic_table::{Seat, Table};
 use std::alloc::Global;
 use zpath::Memory;
 
-/// The right to draw from one ticket word, and the count of what it drew.
+/// The right to draw from one ticket word, and the count of what was drawn with it.
 #[derive(Drop)]
 pub struct Pass {
     pub(crate) seat: Seat<(), Hand>,
@@ -32,7 +32,7 @@ pub struct Tickets {
     ghost few: { passes ≤ MAX_PASSES },
 }
 
-// A pass that has drawn nothing.
+// Returns a pass that has drawn nothing.
 fn fresh(seat: Seat<(), Hand>) -> Pass
     requires { seat.me ≡ (hand 1 [], []) }
     ensures { result.seat ≡ seat }
@@ -43,7 +43,7 @@ fn fresh(seat: Seat<(), Hand>) -> Pass
 impl Pass {
     ghost use Rattle.zwords.specs.Passes.{tickets_of};
 
-    /// How many tickets it has drawn.
+    /// Returns how many tickets it has drawn.
     pub fn count(&self) -> u64
         ensures { result ≡ length (tickets_of self.now) }
     {
@@ -55,7 +55,8 @@ impl Tickets {
     ghost use Rattle.zwords.specs.Given.{EachOnce, times};
     ghost use Rattle.zwords.specs.Passes.{IsPassOf, passes_of, tickets_of, tickets_of_all};
 
-    /// The word, at 0, and `n` passes, which have drawn nothing. Err where there is no memory.
+    /// Returns the word, at 0, and `n` passes that have drawn nothing. The only error is out of
+    /// memory.
     pub fn new(alloc: Global, n: usize) -> Result<(Tickets, Vec<Pass>), Memory>
         requires some { 0 < n }
         requires few { n ≤ MAX_PASSES }
@@ -76,7 +77,7 @@ impl Tickets {
         Ok((Tickets { table, passes: n }, passes))
     }
 
-    /// The number that one step on the word found, and 1 added to it. It is the pass's next ticket.
+    /// Draws the pass's next ticket. One atomic step reads it from the word and adds 1 to the word.
     pub fn draw(&self, pass: &mut Pass) -> u64
         requires own { IsPassOf self.now pass.old }
         requires room { length (tickets_of pass.old) < 2 ^ 32 }
@@ -88,8 +89,8 @@ impl Tickets {
         found
     }
 
-    /// How many numbers were drawn: the passes drew all the numbers below it, each once. None where not all passes of
-    /// the word came back.
+    /// Returns how many numbers were drawn: the passes drew all numbers below it, each once. None
+    /// if not all passes of the word came back.
     pub fn close(self, mut passes: Vec<Pass>) -> Option<u64>
         requires { All (λ p. IsPassOf self p) passes.items }
         ensures each { IfSome result (λ n.

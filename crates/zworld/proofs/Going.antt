@@ -52,7 +52,7 @@ run_both v [] more = refl
 run_both v (event ∷ events) more = run_both (happens kept_tree v event) events more
 
 -- worlds that are alike have one history
-same_history : (v w : World (KeptState Tree)) → IsAlike v w → w.history ≡ v.history
+pub same_history : (v w : World (KeptState Tree)) → IsAlike v w → w.history ≡ v.history
 same_history v w alike = ap (λ (x : World (KeptState Tree)). x.history) alike.rest
 
 -- where a run leads from the end of a past
@@ -244,7 +244,7 @@ on_err (Ok x) q = tt
 on_err (Err e) q = q
 
 -- whether an event can want memory doesn't hang on the history
-can_anyway : (held : Held) (history : History) (event : Event) → can_want_memory (world_of held history) event ≡ can_want_memory (world_of held []) event
+pub can_anyway : (held : Held) (history : History) (event : Event) → can_want_memory (world_of held history) event ≡ can_want_memory (world_of held []) event
 can_anyway held history (Fail s) = refl
 can_anyway held history (Ignore from to) = refl
 can_anyway held history (Begin c call) = enabled_anyway held history (Begin c call)

@@ -15,3 +15,4 @@ pub mod Skips
 pub mod Passes
 pub mod Going
 pub mod Settled
+pub mod Needs

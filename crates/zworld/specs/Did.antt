@@ -1,4 +1,4 @@
--- What is said of an event that was asked for, in the words of the definitions.
+-- What is said of an event that was asked for, in terms of the definitions.
 use Rattle.std.specs.Prelude.{◌≡◌, Bool, true, false, nat_lt, Some, []}
 use Rattle.zprotocol.specs.client.Table.{begin_fault}
 use Rattle.zprotocol.specs.master.Table.{join_fault, retire_fault}

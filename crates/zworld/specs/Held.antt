@@ -1,6 +1,6 @@
--- What the program holds of a world, and the world that it stands for.
--- Van Renesse and Schneider, "Chain Replication for Supporting High Throughput and Availability" (OSDI 2004), section 3:
--- a server that has failed is never heard of again, but for what it had put.
+-- What the program holds of a world, and the world that it stands for. Van Renesse and Schneider,
+-- "Chain Replication for Supporting High Throughput and Availability" (OSDI 2004), section 3: a
+-- failed server is never heard of again, except for what it had sent.
 use Rattle.std.specs.Prelude.{◌≡◌, ℕ, zero, suc, Bool, true, false, Option, None, Some, is_none, List, [], ◌∷◌, ◌++◌, get_or, if◌then◌else◌}
 use Rattle.ztree.specs.Tree.{Tree}
 use Rattle.zcalls.specs.Kept.{KeptState}
@@ -15,20 +15,21 @@ use Rattle.zworld_model.specs.History.{History}
 use Rattle.zworld_model.specs.Links.{Links}
 use Rattle.zworld_model.specs.World.{World}
 
--- one of the servers: its view, none where it has failed, and whether the master is still to hear that it has
+-- one of the servers: its view, or none where it has failed, and whether it still owes the master
+-- its failure notice
 pub record MemberView : Type 0 where
   pub view : Option (ServerView (KeptState Tree))
   pub owes_gone : Bool
 
--- all processes and links: the servers from 1 on, the clients from 0 on, the master, and the messages under way but for
--- Gone
+-- all processes and channels: the servers from 1 on, the clients from 0 on, the master, and the
+-- messages in flight except Gone
 pub record Held : Type 0 where
   pub members : List MemberView
   pub clients : List ClientView
   pub master : MasterView
   pub links : List (List (List (MessageOf (KeptState Tree))))
 
--- a server that goes on, with this view
+-- a running server with this view
 abbrev pub running : ServerView (KeptState Tree) → MemberView
 running view = record { view = Some view; owes_gone = false }
 
@@ -45,7 +46,7 @@ abbrev pub member_at : List MemberView → ℕ → MemberView
 member_at members zero = bystander
 member_at members (suc place) = get_or members place bystander
 
--- the view of a member; one that has failed has let go what it held
+-- the view of a member; one that has failed has dropped what it held
 abbrev pub view_of : MemberView → ServerView (KeptState Tree)
 view_of member = elim member.view [ None ↦ spare | Some view ↦ view ]
 
@@ -53,20 +54,20 @@ view_of member = elim member.view [ None ↦ spare | Some view ↦ view ]
 abbrev pub is_gone : MemberView → Bool
 is_gone member = is_none member.view
 
--- a member has failed, and the master is still to hear of it
+-- a member has failed, and still owes the master its failure notice
 abbrev pub owes : MemberView → Bool
 owes member = elim member.view [ None ↦ member.owes_gone | Some view ↦ false ]
 
--- the last words of a server that has failed, while the master is still to hear them
+-- the failure notice of a failed server, until the master has received it
 abbrev pub last_words : List MemberView → Links (KeptState Tree)
 last_words members (Server s) Master = if owes (member_at members s) then message.Gone ∷ [] else []
 last_words members from to = []
 
--- a client that there isn't
+-- a client that the world doesn't have
 abbrev pub nobody : ClientView
 nobody = record { number = 0; outstanding = None; epoch = 0; head = None; tail = None }
 
--- the world that is held, with this history; a server that has failed has let go what it held
+-- the world that is held, with this history; a failed server has dropped what it held
 abbrev pub world_of : Held → History → World (KeptState Tree)
 world_of held history = record {
   servers = λ s. elim (member_at held.members s).view [ None ↦ spare | Some view ↦ view ];
@@ -77,6 +78,6 @@ world_of held history = record {
   history = history;
 }
 
--- a process put nothing that is still under way
+-- no message that the process sent is still in flight
 abbrev pub SendsNothing : World (KeptState Tree) → Process → Type 0
 SendsNothing w from = (to : Process) → w.links from to ≡ []

@@ -1,14 +1,14 @@
--- What a world's calls say: each is the definition's, but for what failed servers held and what was put to them
--- (Alike.antt of the world's model), by a reading of the events, since processes can want memory.
--- Van Renesse and Schneider, "Chain Replication for Supporting High Throughput and Availability" (OSDI 2004), section 3:
--- servers are fail-stop.
-use Rattle.std.specs.Prelude.{◌≡◌, ℕ, Bool, true, false, not, List, [], ◌++◌}
+-- What a world's calls promise. Each does what the definition says, up to failed servers
+-- (Alike.antt of the world's model). The events are resolved first, since processes can run out of
+-- memory. Van Renesse and Schneider, "Chain Replication for Supporting High Throughput and
+-- Availability" (OSDI 2004), section 3: servers are fail-stop.
+use Rattle.std.specs.Prelude.{◌≡◌, ◌<◌, ℕ, Bool, true, false, not, List, [], ◌∷◌, ◌++◌}
 use Rattle.ztree.specs.Tree.{Tree}
 use Rattle.zcalls.specs.Kept.{KeptState}
 use Rattle.zprotocol.specs.server.Machine.{kept_tree}
 use Rattle.zprotocol.specs.declared.process.Process.{Process}
 use Rattle.zworld_model.specs.declared.event.Event.{Event}
-use Rattle.zworld_model.specs.declared.event.Event.TheVariants.{Take, Ignore, Fail}
+use Rattle.zworld_model.specs.declared.event.Event.TheVariants.{Retry, Take, Ignore, Fail}
 use Rattle.zworld_model.specs.declared.outcome.Outcome.{Outcome}
 use Rattle.zworld_model.specs.declared.settled.Settled.{Settled}
 use Rattle.zworld_model.specs.History.{History}
@@ -22,15 +22,15 @@ use Rattle.zworld.specs.declared.did.Did.{Did}
 use Rattle.zworld.specs.Held.{Held, world_of}
 use Rattle.zworld.specs.Did.{is_idle, outcome_of}
 
--- a world: all processes, what callers saw, whether a past was forgotten before that, and whether memory was ever refused:
--- then nothing is promised of the processes
+-- a world: all processes, what callers saw, whether a past before that was forgotten, and whether
+-- memory ever ran out. Once it did, nothing is promised of the processes
 pub record WorldView : Type 0 where
   pub held : Held
   pub history : History
   pub has_forgotten : Bool
   pub is_broken : Bool
 
--- memory was never refused
+-- memory never ran out
 abbrev pub IsSound : WorldView → Type 0
 IsSound w = w.is_broken ≡ false
 
@@ -38,8 +38,8 @@ IsSound w = w.is_broken ≡ false
 abbrev pub world_in : WorldView → World (KeptState Tree)
 world_in w = world_of w.held w.history
 
--- the plain tree explains all that callers saw: a past that was forgotten, and then the history. Where nothing was forgotten
--- there is no past
+-- all that callers saw is linearizable: a past that was forgotten, and then the history. Where
+-- nothing was forgotten there is no past
 abbrev pub IsExplainedWithPast : WorldView → Type 0
 IsExplainedWithPast w = (past : History) × (w.has_forgotten ≡ false → past ≡ []) × IsExplained (past ++ w.history)
 
@@ -47,49 +47,69 @@ IsExplainedWithPast w = (past : History) × (w.has_forgotten ≡ false → past 
 pub record HasHappened (v : World (KeptState Tree)) (event : Event) (did : Did) (w : World (KeptState Tree)) : Type 0 where
   -- it is idle exactly where it wasn't enabled
   pub idle : is_idle did ≡ not (is_enabled v event)
-  -- it can have the outcome that is answered
+  -- the outcome that is returned fits the event
   pub fits : is_fitting kept_tree v event (outcome_of did) ≡ true
-  -- it is the event of the definition, read by that outcome
+  -- it is the event of the definition, resolved by that outcome
   pub leads : IsAlike (happens kept_tree v (read kept_tree v event (outcome_of did))) w
 
 -- a world did an event, and this became of it
 abbrev pub HasDone : WorldView → WorldView → Event → Did → Type 0
 HasDone old new event did = HasHappened (world_in old) event did (world_in new)
 
--- an event can want memory: it is enabled, and it is neither a failure nor the loss of a request
+-- an event can run out of memory: it is enabled, and it is neither a failure nor the loss of a
+-- request
 abbrev pub can_want_memory : World (KeptState Tree) → Event → Bool
 can_want_memory w (Fail s) = false
 can_want_memory w (Ignore from to) = false
 can_want_memory w event = is_enabled w event
 
--- so a world can
+-- the same, of the program's world
 abbrev pub CanWantMemory : WorldView → Event → Type 0
 CanWantMemory w event = can_want_memory (world_in w) event ≡ true
 
--- events led from one world to another, by some reading of them
+-- the events of which settling is made: deliveries and retries
+abbrev pub is_of_settling : Event → Bool
+is_of_settling (Retry client) = true
+is_of_settling (Take from to) = true
+is_of_settling event = false
+
+-- settling with this limit can run out of memory: it may do an event, and a delivery or a retry can
+-- run out of memory
+abbrev pub CanWantMemoryToSettle : World (KeptState Tree) → ℕ → Type 0
+CanWantMemoryToSettle w limit = (0 < limit) × (event : Event) × (is_of_settling event ≡ true) × (can_want_memory w event ≡ true)
+
+-- events led from one world to another, resolved by some outcomes
 abbrev pub HasRun : World (KeptState Tree) → List Event → World (KeptState Tree) → Type 0
 HasRun v events w = (readings : List Event) × IsReading kept_tree v events readings × IsAlike (run kept_tree v readings) w
 
--- some of the events, from the first on, were done by a reading of them, and this is the history
+-- some of the events, from the first on, were done, resolved by some outcomes, and this is the
+-- history
 abbrev pub HasBegunToRun : World (KeptState Tree) → List Event → History → Type 0
 HasBegunToRun v events history =
     (front back : List Event) × (events ≡ front ++ back)
     × (readings : List Event) × IsReading kept_tree v front readings × ((run kept_tree v readings).history ≡ history)
 
--- a settling ended so, took all outcomes but these, and led to this world
+-- the same, and the next of the events can run out of memory where those led
+abbrev pub HasRunOut : World (KeptState Tree) → List Event → History → Type 0
+HasRunOut v events history =
+    (front back : List Event) × (event : Event) × (events ≡ front ++ event ∷ back)
+    × (readings : List Event) × IsReading kept_tree v front readings × ((run kept_tree v readings).history ≡ history)
+    × (can_want_memory (run kept_tree v readings) event ≡ true)
+
+-- a settling ended this way, used up all outcomes but these, and led to this world
 abbrev pub Ends : Settling (KeptState Tree) → Settled → List Outcome → World (KeptState Tree) → Type 0
 Ends did settled later w = (settled ≡ settling_end did) × (did.outcomes ≡ later) × IsAlike did.world w
 
--- settling led from one world to another, and ended so: it is that of the definition, by some outcomes of its events, all
--- of which it took, and none of those that would come later
+-- settling led from one world to another, and ended this way. It is that of the definition, by some
+-- outcomes of its events: it used up all of those, and none that would come later
 abbrev pub HasSettled : World (KeptState Tree) → ℕ → Settled → World (KeptState Tree) → Type 0
 HasSettled v limit settled w =
     (outcomes : List Outcome) × ((later : List Outcome) → Ends (settle kept_tree v limit (outcomes ++ later)) settled later w)
 
--- a world settled, with at most so many events, and ended so
+-- a world settled, with at most this many events, and ended this way
 abbrev pub IsSettled : WorldView → WorldView → ℕ → Settled → Type 0
 IsSettled old new limit settled = HasSettled (world_in old) limit settled (world_in new)
 
--- no message can be taken from any link
+-- no message can be delivered on any channel
 abbrev pub IsAtRest : World (KeptState Tree) → Type 0
 IsAtRest w = (from to : Process) → is_enabled w (Take from to) ≡ false

@@ -1,4 +1,4 @@
-//! Calls that begin, and calls that are sent once more.
+//! Calls that are invoked, and calls that are sent once more.
 
 ghost use Rattle.std.specs.Prelude.{◌≡◌, [], IfNone, IfOk, IfSome, OnErr};
 ghost use Rattle.zcalls.specs.declared.call.Call.{Call};
@@ -14,7 +14,8 @@ use zprotocol::Process;
 use zworld_model::CallEvent;
 
 impl Processes {
-    /// A client begins a call, where it can. The room to tell of it, and the copy that is told, come first.
+    /// A client invokes a call, if it can. The room for the history and the copy of the call are
+    /// allocated first.
     pub(crate) fn begin(
         &mut self,
         client: ClientId,
@@ -40,7 +41,7 @@ impl Processes {
         };
         let core = &mut self.clients[client.number() as usize];
         let Ok(number) = core.begin(call, &mut self.out) else {
-            // (nothing else refuses a call that can begin)
+            // Nothing else refuses a call that can be invoked.
             drop(told);
             return Err(Memory);
         };
@@ -59,7 +60,7 @@ impl Processes {
         Ok(Did::Done)
     }
 
-    // Why a client can't begin a call now.
+    // Returns why a client can't invoke a call now.
     fn begin_cause(&self, client: ClientId) -> Option<IdleCause>
         ensures can { IfNone result ((call : Call) → CanHappen self.now (Begin client call)) }
         ensures cannot { IfSome result
@@ -75,7 +76,7 @@ impl Processes {
         }
     }
 
-    /// A client sends the call that it waits for once more.
+    /// A client sends its outstanding call once more.
     pub(crate) fn retry(&mut self, client: ClientId) -> Result<Did, Memory>
         ensures stepped { IfOk result
             (λ did. HasStepped self.old self.new (Retry client) did []) }

@@ -22,7 +22,7 @@ use zserver::{Snapshot, Stopped, Taken};
 use zworld_model::CallEvent;
 
 impl Processes {
-    /// The front message of a link is delivered.
+    /// Delivers the front message of a channel.
     pub(crate) fn take(
         &mut self,
         from: Process,
@@ -47,7 +47,8 @@ impl Processes {
         }
     }
 
-    // Takes out the front of a link; behind all that a failed server had put comes its Gone.
+    // Removes the front of a channel and returns it. A failed server's `Gone` comes behind all that
+    // it had sent.
     fn next(&mut self, from: &Process, to: &Process) -> Option<Message<Snapshot>>
         ensures { HasPopped self.old from.now to.now result self.new }
     {
@@ -65,7 +66,8 @@ impl Processes {
         None
     }
 
-    // The master acts on a message. It seldom does, so what it needs room for stays out of the way of the other deliveries.
+    // The master acts on a message. It seldom does, so it is kept out of line: the room that it
+    // reserves costs the other deliveries nothing.
     #[cold]
     #[inline(never)]
     fn give_to_master(&mut self, from: Process, message: Message<Snapshot>) -> Result<Did, Memory>
@@ -87,8 +89,8 @@ impl Processes {
         Ok(Did::Done)
     }
 
-    // A server that has not failed acts on a message, stops or leaves at it, or doesn't hear it. Inlined, as are the
-    // others that hand the message on, so that it is not moved from one to the next.
+    // A running server acts on a message, stops or leaves at it, or doesn't hear it. Inlined, as
+    // are the others that pass the message on, so that it isn't moved from one to the next.
     #[inline(always)]
     fn give_to_server(
         &mut self,
@@ -120,7 +122,7 @@ impl Processes {
         }
     }
 
-    // A client acts on a message; the answer that it waited for is handed out.
+    // A client acts on a message, and the response to its outstanding call is handed out.
     #[inline(always)]
     fn give_to_client(
         &mut self,
@@ -163,7 +165,7 @@ impl Processes {
             return Ok(Did::Done);
         };
         let Some(number) = number else {
-            // (an answer has a number, and nothing else is handed out)
+            // A response has a number, and nothing else is handed out.
             drop(reply);
             return Ok(Did::Done);
         };
@@ -171,7 +173,7 @@ impl Processes {
         Ok(Did::Done)
     }
 
-    /// The front message of a link, a request of a client, is lost.
+    /// Loses the front message of a channel, a request of a client.
     pub(crate) fn ignore(&mut self, from: Process, to: Process) -> Did
         ensures { HasStepped self.old self.new (Ignore from to) result [] }
     {
@@ -182,7 +184,7 @@ impl Processes {
         Did::Done
     }
 
-    // Whether the front of a link is a request of a client.
+    // Returns whether the front of a channel is a request of a client.
     fn has_request(&self, from: &Process, to: &Process) -> bool
         ensures { result ≡ front_is is_request ((world_of self.now []).links from.now to.now) }
     {
@@ -194,7 +196,7 @@ impl Processes {
     }
 }
 
-// What became of a delivery at which a server stopped.
+// Returns what became of a delivery at which a server stopped.
 fn did_of(why: Stopped) -> Did
     ensures { result ≡ did_of why }
 {

@@ -6,13 +6,13 @@ use zmaster::{JoinFault, RetireFault};
 /// Why an event didn't happen.
 #[derive(Clone, Copy, Debug, PartialEq, Eq)]
 pub enum IdleCause {
-    /// There is no such client, server or message, or the taker has failed.
+    /// There is no such client, server or message, or the receiver has failed.
     Nothing,
     /// The client refused the call.
     Begin(BeginFault),
-    /// The master refused the server.
+    /// The master refused to let the server join.
     Join(JoinFault),
-    /// The master keeps the server.
+    /// The master refused to let the server leave.
     Retire(RetireFault),
 }
 
@@ -23,8 +23,8 @@ pub enum Did {
     Done,
     /// It wasn't enabled, and nothing changed.
     Idle(IdleCause),
-    /// A server found no memory for a query: the query is lost.
+    /// A server had no memory for a query: the query is lost.
     Unheard,
-    /// A server found no memory for a message: it stopped, and counts as failed.
+    /// A server stopped, and counts as failed: it ran out of memory at a message.
     Stopped,
 }

@@ -1,4 +1,4 @@
-//! Servers that fail, and servers that join. Both are rare, so they stay out of the way of the other events.
+//! Servers that fail, and servers that join. Both are rare, so they are kept out of line.
 
 ghost use Rattle.std.specs.Prelude.{[], IfOk, OnErr};
 ghost use Rattle.zworld_model.specs.declared.event.Event.TheVariants.{Fail, Join};
@@ -12,7 +12,7 @@ use zpath::Memory;
 use zprotocol::{Process, ServerId};
 
 impl Processes {
-    /// A server fails: it lets go what it held, and what is on links to it.
+    /// A server fails: it drops what it held, and what is on channels into it.
     #[cold]
     #[inline(never)]
     pub(crate) fn fail(&mut self, server: ServerId) -> Did

@@ -1,8 +1,10 @@
-//! The world as a program: all processes in one thread, one event at a time, with the history of what callers saw.
+//! The world as a program: all processes in one thread, one event at a time, with the history of
+//! what callers saw.
 //!
-//! What comes in are events (calls that begin, deliveries, failures, joins, orders to leave); what goes out is the history of calls
-//! and answers. Each event is what the definition of the world says, and whatever the events are, the plain tree
-//! explains the history: that is the promise of the whole chain, and a clause of `World`'s calls.
+//! It consumes events (calls, deliveries, failures, joins, orders to leave), and produces the
+//! history of calls and responses. Each event does what the definition of the world says. Whatever
+//! the events are, the history is linearizable: that is the promise of the whole chain, and a
+//! clause of `World`'s calls.
 #![tactic(auto)]
 
 mod calls;

@@ -1,14 +1,14 @@
-//! Whether a server lives.
+//! Whether a server is running.
 
 use zserver::Server;
 
-/// Whether a server lives.
+/// Whether a server is running.
 #[derive(Drop)]
 pub(crate) enum Life {
-    /// It goes on: in the chain, or outside it.
+    /// It is running, in the chain or outside it.
     Running(Server),
-    /// It has stopped, and the master is still to hear of it.
+    /// It has stopped, and the master has not received its failure notice yet.
     Owing,
-    /// It has stopped, and the master has heard of it.
+    /// It has stopped, and the master has received its failure notice.
     Gone,
 }

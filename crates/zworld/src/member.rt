@@ -9,11 +9,13 @@ ghost use Rattle.zworld.specs.support.Opening.{first_member};
 use crate::life::Life;
 use std::alloc::Global;
 use std::marker::Model;
+use std::mem::replace;
 use zpath::Memory;
 use zprotocol::{Message, Out, Process, ServerId};
 use zserver::{Server, Snapshot, Stopped, Taken};
 
-/// A server that goes on; or one that has stopped, and the word that it may still owe to the master.
+/// A running server, or one that has stopped, with the failure notice that it may still owe to the
+/// master.
 #[derive(Drop)]
 pub(crate) struct Member {
     life: Life,
@@ -34,7 +36,7 @@ impl Model for Member {
 }
 
 impl Member {
-    /// A member of the opening chain, with these neighbours.
+    /// Returns a member of the initial chain, with these neighbours.
     pub(crate) fn first(
         alloc: Global,
         pred: Option<ServerId>,
@@ -48,7 +50,7 @@ impl Member {
         })
     }
 
-    /// A server outside the chain.
+    /// Returns a server outside the chain.
     pub(crate) fn spare(alloc: Global) -> Member
         ensures { result ≡ bystander }
     {
@@ -57,7 +59,7 @@ impl Member {
         }
     }
 
-    /// Whether it has failed.
+    /// Returns whether it has failed.
     pub(crate) fn has_failed(&self) -> bool
         ensures { result ≡ is_gone self.now }
     {
@@ -67,7 +69,7 @@ impl Member {
         }
     }
 
-    /// Whether the master is still to hear that it has failed.
+    /// Returns whether the master has still to receive its failure notice.
     pub(crate) fn owes_gone(&self) -> bool
         ensures { result ≡ owes self.now }
     {
@@ -77,28 +79,28 @@ impl Member {
         }
     }
 
-    /// It fails, and lets go what it held; the master is to hear of it.
+    /// Fails: it drops what it held, and owes the master its failure notice.
     pub(crate) fn fail(&mut self)
         ensures { self.new ≡ gone_member }
     {
         end(&mut self.life);
     }
 
-    /// Whether the master was still to hear that it has failed; now it has.
+    /// Delivers its failure notice to the master; returns whether one was owed.
     pub(crate) fn tell(&mut self) -> bool
         ensures owed { result ≡ owes self.old }
         ensures told { result ≡ true → self.new ≡ record { view = None; owes_gone = false } }
         ensures same { result ≡ false → self.new ≡ self.old }
     {
         if self.owes_gone() {
-            self.life = Life::Gone;
+            drop(replace(&mut self.life, Life::Gone));
             return true;
         }
         false
     }
 
-    /// Takes a message. It fails where it finds no memory, but at a query, which it doesn't hear then; and it fails at the
-    /// master's order to leave.
+    /// Handles a received message. It fails where it runs out of memory, except at a query, which
+    /// it doesn't hear then. It also fails at the master's order to leave.
     #[inline(always)]
     pub(crate) fn take(
         &mut self,
@@ -122,11 +124,11 @@ impl Member {
     }
 }
 
-// Ends a life. It happens once, so it stays out of the way of the messages that are taken.
+// Ends a life. Cold path: kept out of line.
 #[cold]
 #[inline(never)]
 fn end(life: &mut Life)
     ensures { life.new ≡ Owing }
 {
-    *life = Life::Owing;
+    drop(replace(life, Life::Owing));
 }

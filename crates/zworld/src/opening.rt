@@ -1,4 +1,4 @@
-//! The opening.
+//! The initial state.
 
 ghost use Rattle.std.specs.Prelude.{◌≡◌, ◌<◌, ◌≤◌, ◌+◌, [], IfOk};
 ghost use Rattle.ztree.specs.declared.limits.TheConstants.{MAX_CLIENTS};
@@ -20,7 +20,8 @@ use zprotocol::{MAX_SERVERS, Out, ServerId};
 use ztree::limits::MAX_CLIENTS;
 
 impl Processes {
-    /// The opening: the chain is the servers up to this one, and there are so many clients.
+    /// Returns the initial state: the chain is the servers up to `last`, and there are this many
+    /// clients.
     pub(crate) fn new(alloc: Global, last: ServerId, clients: u8) -> Result<Processes, Memory>
         requires { clients ≤ MAX_CLIENTS }
         ensures { IfOk result (λ a. world_of a [] ≡ opening_world kept_tree last clients) }
@@ -41,7 +42,7 @@ impl Processes {
     }
 }
 
-// All servers, of which those up to this one are the chain.
+// Returns all servers, of which those up to `last` are the chain.
 fn opening_members(alloc: Global, last: u8) -> Result<Vec<Member>, Memory>
     requires { last ≤ MAX_SERVERS }
     ensures { IfOk result (λ members. members.items ≡ opening_members last) }
@@ -53,7 +54,7 @@ fn opening_members(alloc: Global, last: u8) -> Result<Vec<Member>, Memory>
     Ok(members)
 }
 
-// The server of this number.
+// Returns the server of this number.
 fn opening_server(alloc: Global, number: u8, last: u8) -> Result<Member, Memory>
     requires some { 0 < number }
     requires few { last ≤ MAX_SERVERS }
@@ -71,7 +72,7 @@ fn opening_server(alloc: Global, number: u8, last: u8) -> Result<Member, Memory>
     Member::first(alloc, pred, succ)
 }
 
-// All clients, of whom there are so many.
+// Returns the clients, of which this many take part.
 fn opening_clients(alloc: Global, last: ServerId, count: u8) -> Result<Vec<ClientCore>, Memory>
     ensures { IfOk result (λ clients. clients.items ≡ opening_clients last count) }
 {
@@ -82,7 +83,7 @@ fn opening_clients(alloc: Global, last: ServerId, count: u8) -> Result<Vec<Clien
     Ok(clients)
 }
 
-// The client of this number.
+// Returns the client of this number.
 fn opening_client(alloc: Global, number: u8, last: ServerId, count: u8) -> ClientCore
     ensures { result ≡ opening_client last count number }
 {

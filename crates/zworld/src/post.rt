@@ -1,4 +1,4 @@
-//! Putting messages on links.
+//! Sending messages on channels.
 
 ghost use Rattle.std.specs.Prelude.{◌≡◌, [], OnOk, length};
 ghost use Rattle.zprotocol.specs.declared.limits.TheConstants.{MAX_SERVERS};
@@ -11,7 +11,7 @@ use zpath::Memory;
 use zprotocol::{Out, Process};
 use zserver::Snapshot;
 
-/// Whether a process has failed, which only a server does.
+/// Returns whether a process has failed, which only a server does.
 pub(crate) fn is_lost(members: &[Member], process: &Process) -> bool
     requires { length members.now ≡ MAX_SERVERS }
     ensures { result ≡ is_lost members.now process.now }
@@ -22,8 +22,8 @@ pub(crate) fn is_lost(members: &[Member], process: &Process) -> bool
     }
 }
 
-/// Puts what is in the list on the links from a process, in order; what is for one that has failed is dropped. Nothing
-/// is left in the list, even where there is no memory.
+/// Sends the messages of the list from a process, in order; those to failed servers are dropped.
+/// The list is empty afterwards, even where memory ran out.
 pub(crate) fn post(
     alloc: Global,
     links: &mut Links<Snapshot>,

@@ -1,4 +1,4 @@
-//! All processes and their links.
+//! All processes and their channels.
 
 ghost use Rattle.std.specs.Prelude.{◌≡◌, [], true, IfOk, OnErr};
 ghost use Rattle.zworld.specs.Held.{world_of};
@@ -17,9 +17,10 @@ use zprotocol::Out;
 use zserver::Snapshot;
 use zworld_model::{CallEvent, Event};
 
-/// The servers from 1 on, the clients from 0 on, the master, and the messages under way but for `Gone`. The list for what
-/// an event puts is kept from one event to the next, and empty between them. How many members owe their last words, and
-/// how many clients wait for an answer, is counted, so that settling looks for them only where there are some.
+/// The servers from 1 on, the clients from 0 on, the master, and the messages in flight except
+/// `Gone`. The list of what an event sends is kept from one event to the next, and is empty between
+/// them. The numbers of owed failure notices and of waiting clients are counted, so that settling
+/// looks for them only where there are some.
 #[derive(Drop)]
 pub(crate) struct Processes {
     pub(crate) alloc: Global,
@@ -52,7 +53,8 @@ impl Model for Processes {
 }
 
 impl Processes {
-    /// One event, the one dispatch of them. What callers see at it is told behind what they saw before.
+    /// Does one event: the only dispatch of events. What callers see of it is appended to what they
+    /// saw before.
     pub(crate) fn step(&mut self, event: Event, seen: &mut Vec<CallEvent>) -> Result<Did, Memory>
         ensures goes { IfOk result (Goes self.old self.new event seen.old seen.new) }
         ensures stays { OnErr result (seen.new.items ≡ seen.old.items) }

@@ -1,4 +1,5 @@
-//! Settling: passes over all links, one retry of each client that waits, and passes again.
+//! Settling (running until quiescent): passes over all channels, one retry of each waiting client,
+//! and passes again.
 
 ghost use Rattle.std.specs.Prelude.{◌≡◌, ◌≤◌, ◌<◌, ◌-◌, [], IfOk, OnErr, if◌then◌else◌};
 ghost use Rattle.ztree.specs.declared.limits.TheConstants.{MAX_CLIENTS};
@@ -8,6 +9,7 @@ ghost use Rattle.zworld_model.specs.Settle.{deliveries, retry_events};
 ghost use Rattle.zworld.specs.Held.{SendsNothing, world_of};
 ghost use Rattle.zworld.specs.Did.{is_idle};
 ghost use Rattle.zworld.specs.support.Stepped.{Settles};
+ghost use Rattle.zworld.specs.support.Settling.{CanRunOut, StillOrCould};
 ghost use Rattle.zworld.specs.support.Settling.{GoOn, PassesBy, TriesBy, TriesUnseen};
 
 use crate::did::Did;
@@ -18,7 +20,8 @@ use zprotocol::{MAX_SERVERS, Process};
 use zworld_model::{CallEvent, Settled};
 
 impl Processes {
-    /// Settles, with at most so many events: passes, a retry of each client that waits, and passes again.
+    /// Settles, with at most `limit` events: passes, a retry of each waiting client, and passes
+    /// again.
     pub(crate) fn settle(
         &mut self,
         limit: usize,
@@ -27,6 +30,7 @@ impl Processes {
         ensures settled { IfOk result
             (Settles self.old self.new limit seen.old.items seen.new.items) }
         ensures partly { OnErr result (GoOn seen.new.items seen.old.items) }
+        ensures needed { OnErr result (CanRunOut self.old limit) }
     {
         let clients = self.master.clients();
         let mut left = self.passes(clients, limit, limit, seen)?;
@@ -40,7 +44,7 @@ impl Processes {
         Ok(Settled::Quiet)
     }
 
-    // Passes over all links until one does nothing, and how many events are left.
+    // Makes passes over all channels until one does nothing; returns how many events are left.
     fn passes(
         &mut self,
         clients: u8,
@@ -51,7 +55,9 @@ impl Processes {
         requires { clients ≤ MAX_CLIENTS }
         ensures done { IfOk result
             (PassesBy clients limit self.old self.new seen.old seen.new left) }
+        ensures moved { IfOk result (StillOrCould self.old self.new left) }
         ensures partly { OnErr result (GoOn seen.new.items seen.old.items) }
+        ensures needed { OnErr result (CanRunOut self.old left) }
     {
         for pass in 0..limit {
             let before = left;
@@ -63,9 +69,10 @@ impl Processes {
         Ok(left)
     }
 
-    // One pass: a message from each link, by sender and then by receiver, while more events may be done; and how many are
-    // left. It goes from one sender of which something is under way to the next, as they are when it comes there, and so
-    // from one receiver to the next. Last words go to the master, so it is tried where any server owes them.
+    // Makes one pass: a message from each channel, by sender and then by receiver, while more
+    // events may be done. Returns how many are left. It skips senders and receivers with nothing in
+    // flight, as they are when it comes there. Failure notices go to the master, so the master is
+    // tried where any server owes one.
     fn pass(
         &mut self,
         clients: u8,
@@ -75,7 +82,9 @@ impl Processes {
         requires { clients ≤ MAX_CLIENTS }
         ensures done { IfOk result
             (TriesBy (deliveries clients) self.old self.new seen.old seen.new left) }
+        ensures moved { IfOk result (StillOrCould self.old self.new left) }
         ensures partly { OnErr result (GoOn seen.new.items seen.old.items) }
+        ensures needed { OnErr result (CanRunOut self.old left) }
     {
         let count = 1 + MAX_SERVERS as usize + clients as usize;
         let mut sender = self.next_sender(0);
@@ -103,10 +112,13 @@ impl Processes {
         Ok(left)
     }
 
-    // Each client that waits sends its call once more, while more events may be done; and how many are left.
+    // Each waiting client sends its call once more, while more events may be done. Returns how many
+    // are left.
     fn retry_all(&mut self, clients: u8, mut left: usize) -> Result<usize, Memory>
         requires { clients ≤ MAX_CLIENTS }
-        ensures { IfOk result (TriesUnseen (retry_events clients) self.old self.new left) }
+        ensures done { IfOk result (TriesUnseen (retry_events clients) self.old self.new left) }
+        ensures moved { IfOk result (StillOrCould self.old self.new left) }
+        ensures needed { OnErr result (CanRunOut self.old left) }
     {
         for number in 0..clients {
             let Some(client) = ClientId::new(number) else {
@@ -121,7 +133,8 @@ impl Processes {
         Ok(left)
     }
 
-    // The first place, from this one on, of a process of which something is under way, its last words among it.
+    // Returns the first place, from `at` on, of a process with something in flight, a failure
+    // notice included.
     fn next_sender(&self, at: usize) -> usize
         ensures few { result ≤ PROCESSES }
         ensures ahead { at ≤ PROCESSES → at ≤ result }
@@ -140,7 +153,7 @@ impl Processes {
     }
 }
 
-// How many more events may be done after one that was tried.
+// Returns how many more events may be done after one that was tried.
 fn left_after(left: usize, did: Did) -> usize
     requires { 0 < left }
     ensures { result ≡ (if is_idle did then left else left - 1) }

@@ -7,8 +7,9 @@ ghost use Rattle.zworld_model.specs.PlainTree.{IsExplained};
 ghost use Rattle.zworld_model.specs.World.{opening_world};
 ghost use Rattle.zworld_model.specs.declared.settled.Settled.TheVariants.{Quiet};
 ghost use Rattle.zworld.specs.Did.{HasCause, is_idle};
-ghost use Rattle.zworld.specs.Steps.{HasBegunToRun, HasDone, HasRun, IsAtRest, IsExplainedWithPast, IsSettled};
-ghost use Rattle.zworld.specs.Steps.{CanWantMemory, IsSound, world_in};
+ghost use Rattle.zworld.specs.Steps.{CanWantMemory, CanWantMemoryToSettle, HasRunOut};
+ghost use Rattle.zworld.specs.Steps.{HasBegunToRun, HasDone, HasRun, IsAtRest, IsExplainedWithPast};
+ghost use Rattle.zworld.specs.Steps.{IsSettled, IsSound, world_in};
 
 use crate::did::Did;
 use crate::processes::Processes;
@@ -18,12 +19,14 @@ use zpath::Memory;
 use zprotocol::ServerId;
 use zworld_model::{CallEvent, Event, Settled};
 
-/// All processes with their links, and the history of what callers saw. After it met want of memory it answers
-/// `Memory` for good, and its history stays; but where a server finds none, that server stops, or doesn't hear a
+/// All processes with their channels, and the history of what callers saw.
+///
+/// After it ran out of memory itself, `step`, `run` and `settle` return `Memory` for good, and the
+/// history stays. Where a server runs out of memory, only that server stops, or doesn't hear a
 /// query.
 ///
-/// The history grows by each call that begins or is answered. A program that has told it may let the world forget it:
-/// what is told later goes on from there.
+/// The history grows by each call and each response. A program that has read it may let the world
+/// forget it: the history goes on from there.
 #[derive(Drop)]
 pub struct World {
     processes: Processes,
@@ -52,15 +55,16 @@ impl Model for World {
 }
 
 impl World {
-    /// The opening: the chain is the servers up to this one, the others are spare, there are so many clients with
-    /// numbers from 0, and the history is empty.
+    /// Returns the initial world: the chain is the servers up to `last`, and the others are spare.
+    /// There are `clients` clients, numbered from 0, and the history is empty.
     pub fn new(alloc: Global, last: ServerId, clients: u8) -> Result<World, Memory>
         requires { clients ≤ MAX_CLIENTS }
         ensures world { IfOk result (λ w. world_in w ≡ opening_world kept_tree last clients) }
         ensures whole { IfOk result (λ w. w.has_forgotten ≡ false) }
         ensures sound { IfOk result IsSound }
     {
-        // The number of a server is one of a chain, which the invariant asks for: its clause tells that.
+        // The invariant asks that the number of a server is one of a chain, and the clause of
+        // `number` says so.
         let _ = last.number();
         Ok(World {
             processes: Processes::new(alloc, last, clients)?,
@@ -70,13 +74,13 @@ impl World {
         })
     }
 
-    /// The allocator that it was made with.
+    /// Returns the allocator that it was made with.
     pub fn allocator(&self) -> Global {
         self.processes.alloc
     }
 
-    /// What callers saw: calls that began and answers that were taken, in the order of the events. After `Memory`
-    /// it is that of the events before.
+    /// Returns what callers saw since the last `forget`: calls and responses, in the order of the
+    /// events. After `Memory` it is the history before the call that failed.
     pub fn history(&self) -> &[CallEvent]
         ensures history { result.now ≡ self.now.history }
         ensures explained { IsExplainedWithPast self.now }
@@ -85,7 +89,7 @@ impl World {
         &self.history
     }
 
-    /// Its history, handed out for good.
+    /// Hands out the history, and drops the world.
     pub fn into_history(self) -> Vec<CallEvent>
         ensures history { result.items ≡ self.history }
         ensures explained { IsExplainedWithPast self }
@@ -95,7 +99,7 @@ impl World {
         history
     }
 
-    /// Forgets what callers saw, which is of the past from now on.
+    /// Clears the history. What was cleared still counts as the past of what follows.
     pub fn forget(&mut self)
         ensures { self.new ≡ record self.old { history = []; has_forgotten = true } }
     {
@@ -103,8 +107,8 @@ impl World {
         self.has_forgotten = true;
     }
 
-    /// Does one event, and says what became of it. Want of memory is met, for the first time, only at an event that is
-    /// enabled, and never at a failure or at the loss of a request.
+    /// Does one event, and returns what became of it. The first `Memory` comes only at an enabled
+    /// event, and never at a failure or at the loss of a request.
     pub fn step(&mut self, event: Event) -> Result<Did, Memory>
         ensures happened { IfOk result (HasDone self.old self.new event) }
         ensures same { IfOk result (λ did. is_idle did ≡ true → self.new ≡ self.old) }
@@ -126,8 +130,8 @@ impl World {
         did
     }
 
-    /// Does the events one after the other. After `Memory` the history is that of the events before the one that
-    /// met it.
+    /// Does the events one after the other. The first `Memory` comes only at an event at which
+    /// `step` may return it, and the history is then that of the events before it.
     pub fn run(&mut self, events: Vec<Event>) -> Result<(), Memory>
         ensures ran { OnOk result (HasRun (world_in self.old) events.items (world_in self.new)) }
         ensures explained { IsExplainedWithPast self.new }
@@ -137,6 +141,8 @@ impl World {
         ensures sound { OnOk result (IsSound self.old × IsSound self.new) }
         ensures broken { OnErr result (self.new.is_broken ≡ true) }
         ensures stays { self.old.is_broken ≡ true → IsErr result }
+        ensures needed { IsSound self.old → OnErr result
+            (HasRunOut (world_in self.old) events.items self.new.history) }
     {
         if self.is_broken {
             return Err(Memory);
@@ -147,9 +153,11 @@ impl World {
         Ok(())
     }
 
-    /// Delivers messages, link by link, until none can be taken; then each client that waits sends its call once
-    /// more, and messages are delivered again. It ends early once so many events were done. After `Memory` the
-    /// history is that of before.
+    /// Runs the world until it is quiescent: delivers messages, channel by channel, until none can
+    /// be delivered. Then each waiting client sends its call once more, and messages are delivered
+    /// again. It ends early, with `Limit`, once `limit` events were done. The first `Memory` comes
+    /// only where a message can be delivered or a client waits, and `limit` isn't 0. The history is
+    /// then as before.
     pub fn settle(&mut self, limit: usize) -> Result<Settled, Memory>
         ensures settled { IfOk result (IsSettled self.old self.new limit) }
         ensures quiet { IfOk result (λ settled. settled ≡ Quiet → IsAtRest (world_in self.new)) }
@@ -159,6 +167,8 @@ impl World {
         ensures sound { OnOk result (IsSound self.old × IsSound self.new) }
         ensures broken { OnErr result (self.new.is_broken ≡ true) }
         ensures stays { self.old.is_broken ≡ true → IsErr result }
+        ensures needed { IsSound self.old → OnErr result
+            (CanWantMemoryToSettle (world_in self.old) limit) }
     {
         if self.is_broken {
             return Err(Memory);

@@ -1,6 +1,7 @@
--- Worlds that are alike: they differ at most in what can't matter any more, the views of servers that have failed and the
--- messages on links into them. So a program may drop both, and the definition of the events keeps them.
--- That servers fail for good: van Renesse and Schneider, "Chain Replication for Supporting High Throughput and
+-- Worlds that are alike, that is equal up to failed servers. They differ at most in what can't
+-- matter any more: the views of failed servers, and the messages on channels into them. So a
+-- program may drop both, though the definition of the events keeps them. That servers fail for
+-- good: van Renesse and Schneider, "Chain Replication for Supporting High Throughput and
 -- Availability" (OSDI 2004), section 3.
 use Rattle.std.specs.Prelude.{◌≡◌, ℕ, true, false, List, ◌∷◌}
 use Rattle.ztree.specs.Tree.{Tree}
@@ -17,13 +18,13 @@ use Rattle.zworld_model.specs.declared.outcome.Outcome.{Outcome}
 use Rattle.zworld_model.specs.Events.{has_failed, is_enabled, happens, run}
 use Rattle.zworld_model.specs.Reading.{read, is_fitting}
 
--- the worlds are alike
+-- the worlds are equal up to failed servers
 pub record IsAlike {M : Type 0} (v w : World M) : Type 0 where
-  -- but for servers and links they are the same
+  -- except for servers and channels they are the same
   pub rest : w ≡ record v { servers = w.servers; links = w.links }
-  -- so are the views of the servers that have not failed
+  -- the views of the servers that have not failed are the same
   pub servers : (s : ℕ) → v.failed s ≡ false → v.servers s ≡ w.servers s
-  -- and the links into processes that have not failed
+  -- and so are the channels into processes that have not failed
   pub links : (from to : Process) → has_failed v to ≡ false → v.links from to ≡ w.links from to
 
 -- the same events are enabled in worlds that are alike
@@ -34,7 +35,7 @@ HaveTheSameEnabled = (v w : World (KeptState Tree)) (event : Event) → IsAlike 
 abbrev pub StayAlike : Type 0
 StayAlike = (v w : World (KeptState Tree)) (events : List Event) → IsAlike v w → IsAlike (run kept_tree v events) (run kept_tree w events)
 
--- an event reads alike in worlds that are alike, and can have the same outcomes
+-- an event resolves the same in worlds that are alike, and can have the same outcomes
 abbrev pub ReadAlike : Type 0
 ReadAlike = (v w : World (KeptState Tree)) (event : Event) (outcome : Outcome) → IsAlike v w → read kept_tree v event outcome ≡ read kept_tree w event outcome
 
@@ -43,14 +44,14 @@ HaveTheSameOutcomes =
     (v w : World (KeptState Tree)) (event : Event) (outcome : Outcome) → IsAlike v w
     → is_fitting kept_tree v event outcome ≡ is_fitting kept_tree w event outcome
 
--- a world is like itself, and what is like a world that is like a third one is like that one
+-- a world is like itself, and likeness is transitive
 abbrev pub AreAlikeThemselves : Type 0
 AreAlikeThemselves = (w : World (KeptState Tree)) → IsAlike w w
 
 abbrev pub AlikeIsTransitive : Type 0
 AlikeIsTransitive = (u v w : World (KeptState Tree)) → IsAlike u v → IsAlike v w → IsAlike u w
 
--- a server that takes an order to retire is like one that failed at that moment
+-- a server that receives an order to retire is like one that failed at that moment
 abbrev pub RetiredHaveFailed : Type 0
 RetiredHaveFailed =
     (w : World (KeptState Tree)) (s : ℕ) (more : List (MessageOf (KeptState Tree)))

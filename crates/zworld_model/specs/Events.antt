@@ -1,8 +1,9 @@
--- The events of the world, and its runs. Each event is one atomic step: one process takes the front message of one link,
--- or one outside input, changes its own view by its table, and puts messages on its outgoing links.
--- Van Renesse and Schneider, "Chain Replication for Supporting High Throughput and Availability" (OSDI 2004), sections 2
--- and 3: a request may be ignored, servers fail for good, links keep order. That a server can be ordered to stop for good is
--- this project's profile.
+-- The events of the world, and its runs. Each event is one atomic step. One process receives the
+-- front message of one channel, or one outside input. It changes its own view by its table, and
+-- sends messages on its outgoing channels. Van Renesse and Schneider, "Chain Replication for
+-- Supporting High Throughput and Availability" (OSDI 2004), sections 2 and 3: a request may be
+-- ignored, servers fail for good, channels keep order. That a server can be ordered to stop for
+-- good is this project's profile.
 use Rattle.std.specs.Prelude.{ℕ, Bool, true, false, ◌&&◌, not, nat_lt, is_some, is_none, if◌then◌else◌, List, [], ◌∷◌, ◌++◌, Option, None, Some}
 use Rattle.zcalls.specs.declared.call.Call.{Call}
 use Rattle.zcalls.specs.declared.reply.Reply.{Reply}
@@ -40,7 +41,7 @@ has_failed w Master = false
 has_failed w (Server s) = w.failed s
 has_failed w (Client c) = false
 
--- the event can happen
+-- the event is enabled
 abbrev pub is_enabled : {M : Type 0} → World M → Event → Bool
 is_enabled w (Begin c call) = nat_lt c w.master.clients && is_none (client.begin_fault (w.clients c))
 is_enabled w (Retry c) = is_some (w.clients c).outstanding
@@ -50,37 +51,39 @@ is_enabled w (Fail s) = is_server s && not (w.failed s)
 is_enabled w (Join s) = is_server s && is_none (master.join_fault w.master s)
 is_enabled w (Retire s) = is_server s && is_none (master.retire_fault w.master s)
 
--- a server's new view, and what it puts
+-- a server gets this view, and sends this
 abbrev pub server_does : {M : Type 0} → World M → ℕ → ServerView M × List (Post M) → World M
 server_does w s did = record w { servers = at s did.0 w.servers; links = put w.links (Server s) did.1 }
 
--- a server stops for good: it has failed, and its last message is Gone. It keeps its view and what is on links into it:
--- nobody sees them again (Alike.antt), and what it had put is still delivered
+-- a server stops for good: it has failed, and its last message is the failure notice Gone. It keeps
+-- its view and what is on channels into it: nobody sees them again (Alike.antt). What it had sent
+-- is still delivered; zorder/specs/Cuts.antt has the runs in which any end of it is lost
 abbrev pub server_stops : {M : Type 0} → World M → ℕ → World M
 server_stops w s = record w { failed = at s true w.failed; links = put w.links (Server s) ((Master, message.Gone) ∷ []) }
 
--- the master's new view, and what it puts
+-- the master gets this view, and sends this
 abbrev pub master_does : {M : Type 0} → World M → MasterView × List (Post M) → World M
 master_does w did = record w { master = did.0; links = put w.links Master did.1 }
 
--- a client's new view, and what it puts
+-- a client gets this view, and sends this
 abbrev pub client_does : {M : Type 0} → World M → ℕ → ClientView → List (Post M) → World M
 client_does w c view posts = record w { clients = at c view w.clients; links = put w.links (Client c) posts }
 
--- the history tells of the answer that a client hands out, if it does, under its call's number
+-- the history records the response that a client hands out, if it does, under its call's number
 abbrev pub with_answer : {M : Type 0} → World M → ℕ → Option (ℕ × Reply) → World M
 with_answer w c None = w
 with_answer w c (Some reply) = record w { history = w.history ++ call_event.Answer c reply.0 reply.1 ∷ [] }
 
--- a client's new view, what it puts, and the reply that it hands out
+-- a client gets this view, sends this, and hands out this reply
 abbrev pub client_took : {M : Type 0} → World M → ℕ → client.ClientResult (Transfer M) → World M
 client_took w c did = with_answer (client_does w c did.0 did.1) c did.2
 
--- a client's call begins: the history tells of it
+-- a client invokes a call, and the history records it
 abbrev pub client_began : {M : Type 0} → World M → ℕ → Call → ClientView × List (Post M) → World M
 client_began w c call did = record (client_does w c did.0 did.1) { history = w.history ++ call_event.Begin c did.0.number call ∷ [] }
 
--- the taker acts on a message by its table; a server that takes an order to retire stops for good
+-- the receiver acts on a message by its table; a server that receives an order to retire stops for
+-- good
 abbrev pub process_step : {M : Type 0} → Does M → World M → Process → Process → MessageOf M → World M
 process_step machine w from Master message = master_does w (master.master_step w.master from message)
 process_step machine w from (Server s) message =
@@ -88,7 +91,7 @@ process_step machine w from (Server s) message =
     else server_does w s (server.server_step machine (w.servers s) from message)
 process_step machine w from (Client c) message = client_took w c (client.client_step (w.clients c) from message)
 
--- the front of a link is taken, if there is one
+-- the front of a channel is delivered, if there is one
 abbrev pub front_step : {M : Type 0} → Does M → World M → Process → Process → List (MessageOf M) → World M
 front_step machine w from to [] = w
 front_step machine w from to (message ∷ more) = process_step machine (record w { links = without_front w.links from to }) from to message

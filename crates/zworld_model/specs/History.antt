@@ -1,5 +1,6 @@
--- The history of a run: what callers see of it, calls that begin and answers that are taken, in the order of events.
--- Herlihy and Wing, "Linearizability: A Correctness Condition for Concurrent Objects" (TOPLAS 1990), section 2.
+-- The history of a run: what callers see of it, the calls and their responses, in the order of
+-- events. Herlihy and Wing, "Linearizability: A Correctness Condition for Concurrent Objects"
+-- (TOPLAS 1990), section 2.
 use Rattle.std.specs.Prelude.{List}
 use Rattle.zcalls.specs.declared.call.Call.{Call}
 use Rattle.zcalls.specs.declared.call.Call.TheVariants.{Update, Query}
@@ -9,7 +10,7 @@ use Rattle.zworld_model.specs.declared.history.CallEvent.TheVariants.{Begin, Ans
 use Rattle.zcalls.specs.Lists.{Among, ComesBefore}
 use Rattle.zcalls.specs.Operation.{Operation}
 
--- calls that begin and answers that are taken, the first event first
+-- invocations and responses, the first event first
 abbrev pub History : Type 0
 History = List CallEvent
 
@@ -18,7 +19,7 @@ abbrev pub IsUpdate : Call → Type 0
 IsUpdate (Update update) = Unit {0}
 IsUpdate (Query query) = ⊥
 
--- the operation has begun
+-- the operation was invoked
 abbrev pub HasBegun : History → Operation → Type 0
 HasBegun history o = Among (Begin o.client o.number o.call) history
 
@@ -26,6 +27,6 @@ HasBegun history o = Among (Begin o.client o.number o.call) history
 abbrev pub IsAnswered : History → Operation → Type 0
 IsAnswered history o = (reply : Reply) × Among (Answer o.client o.number reply) history
 
--- the answer of the first operation stands before the beginning of the second
+-- the response to the first operation comes before the invocation of the second
 abbrev pub EndsBefore : History → Operation → Operation → Type 0
 EndsBefore history a b = (reply : Reply) × ComesBefore (Answer a.client a.number reply) (Begin b.client b.number b.call) history

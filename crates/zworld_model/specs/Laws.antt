@@ -1,4 +1,5 @@
--- What holds of settling and of readings, in every world: each statement is a contract in `src/laws.rt`.
+-- What holds of settling and of resolved events, in every world. Each statement is a contract in
+-- `src/laws.rt`.
 use Rattle.std.specs.Prelude.{◌≡◌, ◌⊎◌, ◌≤◌, ◌*◌, [], ℕ, ◌+◌, true, false, List, length}
 use Rattle.std.specs.List.{list_any}
 use Rattle.ztree.specs.Tree.{Tree}
@@ -27,42 +28,42 @@ SettlingIsARun =
     (w : World (KeptState Tree)) (limit : ℕ) (outcomes : List Outcome)
     → (settling_of w limit outcomes).world ≡ run kept_tree w (settling_of w limit outcomes).events
 
--- its events, and those that might still be done, are as many as the limit
+-- its events, and those that it might still do, are as many as the limit
 abbrev pub SettlingKeepsItsLimit : Type 0
 SettlingKeepsItsLimit =
     (w : World (KeptState Tree)) (limit : ℕ) (outcomes : List Outcome)
     → (settling_of w limit outcomes).left + length (settling_of w limit outcomes).events ≡ limit
 
--- where it ends quiet, no message can be taken
+-- where it ends Quiet, no message can be delivered
 abbrev pub QuietHasNothingToTake : Type 0
 QuietHasNothingToTake =
     (w : World (KeptState Tree)) (limit : ℕ) (outcomes : List Outcome)
     → settling_end (settling_of w limit outcomes) ≡ Quiet
     → list_any (is_enabled (settling_of w limit outcomes).world) (deliveries w.master.clients) ≡ false
 
--- where an outcome fits, the event reads as it says
+-- where an outcome fits, the event resolves as it says
 abbrev pub FittingOutcomesAreRead : Type 0
 FittingOutcomesAreRead =
     (w : World (KeptState Tree)) (event : Event) (outcome : Outcome)
     → is_fitting kept_tree w event outcome ≡ true → read kept_tree w event outcome ≡ reading_by event outcome
 
--- the world after events, from the opening with so many servers and clients
+-- the world after events, from the initial world with this many servers and clients
 abbrev pub world_after : ℕ → ℕ → List Event → World (KeptState Tree)
 world_after servers clients events = run kept_tree (opening_world kept_tree servers clients) events
 
--- from an opening, every link that holds a message is among those that settling visits
+-- from an initial world, every channel that holds a message is among those that settling visits
 abbrev pub LinksAreVisited : Type 0
 LinksAreVisited =
     (servers clients : ℕ) (events : List Event) (from to : Process) → is_server servers ≡ true
     → ((world_after servers clients events).links from to ≡ []) ⊎ Among (Take from to) (deliveries clients)
 
--- and the master gives at most three epochs for each server that there can be
+-- and the master gives at most three epochs for each possible server
 abbrev pub EpochsAreFew : Type 0
 EpochsAreFew =
     (servers clients : ℕ) (events : List Event) → is_server servers ≡ true
     → (world_after servers clients events).master.epoch ≤ 3 * MAX_SERVERS
 
--- so where settling ends quiet, no message on any link can be taken
+-- so where settling ends Quiet, no message can be delivered on any channel
 abbrev pub QuietIsQuiet : Type 0
 QuietIsQuiet =
     (servers clients limit : ℕ) (events : List Event) (outcomes : List Outcome) (from to : Process) → is_server servers ≡ true

@@ -1,6 +1,7 @@
--- The legal order of a history (a linearization): one order of its calls that explains every reply, as if one machine
--- had done one call after the other. It knows no chain, no log number, no epoch and no retry.
--- Herlihy and Wing, "Linearizability: A Correctness Condition for Concurrent Objects" (TOPLAS 1990), section 2.
+-- The legal order of a history is its linearization: one order of its calls that explains every
+-- reply, as if one machine had done one call after the other. It knows no chain, no log number, no
+-- epoch and no retry. Herlihy and Wing, "Linearizability: A Correctness Condition for Concurrent
+-- Objects" (TOPLAS 1990), section 2.
 use Rattle.std.specs.Prelude.{◌≡◌, ◌⊎◌, ℕ, List, [], ◌∷◌}
 use Rattle.std.specs.List.{AllByRecursion}
 use Rattle.zcalls.specs.declared.call.Call.{Call}
@@ -10,7 +11,8 @@ use Rattle.zcalls.specs.Lists.{Among, ComesBefore, NoTwo}
 use Rattle.zcalls.specs.Operation.{Operation, IsSameCall}
 use Rattle.zworld_model.specs.History.{History, IsUpdate, HasBegun, IsAnswered, EndsBefore}
 
--- a service that does one call after the other: its first state, and what a client's call does to it and is answered
+-- a sequential specification: its initial state, and what a client's call does to a state and is
+-- answered
 pub record Service (P : Type 0) : Type 0 where
   pub opening : P
   pub step : P → ℕ → Call → P × Reply
@@ -24,7 +26,7 @@ abbrev pub replies_from : {P : Type 0} → Service P → P → List Operation �
 replies_from service p [] = []
 replies_from service p (o ∷ os) = (o, (operation_step service p o).1) ∷ replies_from service (operation_step service p o).0 os
 
--- the states on the way, the first and the last among them
+-- the states on the way, including the first and the last
 abbrev pub states_from : {P : Type 0} → Service P → P → List Operation → List P
 states_from service p [] = p ∷ []
 states_from service p (o ∷ os) = p ∷ states_from service (operation_step service p o).0 os
@@ -34,17 +36,17 @@ abbrev pub IsReplayed : {P : Type 0} → Service P → List Operation → ℕ �
 IsReplayed service order client number reply =
     (o : Operation) × (o.client ≡ client) × (o.number ≡ number) × Among (o, reply) (replies_from service service.opening order)
 
--- the order explains the history
+-- the order is a linearization of the history
 pub record IsLegalOrder {P : Type 0} (Lawful : P → Type 0) (service : Service P) (history : History) (order : List Operation) : Type 0 where
-  -- it is made of calls of the history
+  -- it consists of calls of the history
   pub begun : (o : Operation) → Among o order → HasBegun history o
   -- each once
   pub once : NoTwo IsSameCall order
   -- every answered call is in it, and the replay gives it its reply
   pub answered : (client number : ℕ) (reply : Reply) → Among (Answer client number reply) history → IsReplayed service order client number reply
-  -- what isn't answered is an update
+  -- a call in it that isn't answered is an update
   pub unanswered : (o : Operation) → Among o order → IsUpdate o.call ⊎ IsAnswered history o
-  -- where the answer of one stands before the beginning of another, the first comes earlier
+  -- where the response to one comes before the invocation of another, the first comes earlier
   pub in_time : (a b : Operation) → EndsBefore history a b → Among a order → Among b order → ComesBefore a b order
   -- every state of the replay is lawful
   pub lawful : AllByRecursion Lawful (states_from service service.opening order)

@@ -1,6 +1,8 @@
--- Links: one list of messages for each ordered pair of processes. What is put goes last, and what is taken is the front,
--- so a link neither loses nor repeats, and keeps order.
--- Van Renesse and Schneider, "Chain Replication for Supporting High Throughput and Availability" (OSDI 2004), section 3.
+-- Channels: one list of messages for each ordered pair of processes. A message that is sent goes
+-- last, and the front is delivered. So a channel neither loses nor repeats messages, and keeps
+-- their order. Van Renesse and Schneider, "Chain Replication for Supporting High Throughput and
+-- Availability" (OSDI 2004), section 3. Runs in which channels lose their ends are in
+-- zorder/specs/Cuts.antt.
 use Rattle.std.specs.Prelude.{Bool, true, false, ◌&&◌, ◌==◌, if◌then◌else◌, List, [], ◌∷◌, ◌++◌, drop}
 use Rattle.zprotocol.specs.declared.process.Process.{Process}
 use Rattle.zprotocol.specs.declared.process.Process.TheVariants.{Master, Server, Client}
@@ -13,19 +15,19 @@ is_same (Server s) (Server t) = s == t
 is_same (Client c) (Client d) = c == d
 is_same p q = false
 
--- the messages on the link from one process to another, the front first
+-- the messages on the channel from one process to another, the front first
 abbrev pub Links : Type 0 → Type 0
 Links M = Process → Process → List (MessageOf M)
 
--- what is put for one receiver, in order
+-- what is sent to one receiver, in order
 abbrev pub messages_to : {M : Type 0} → Process → List (Post M) → List (MessageOf M)
 messages_to to [] = []
 messages_to to (post ∷ posts) = if is_same to post.0 then post.1 ∷ messages_to to posts else messages_to to posts
 
--- the links after a process put messages
+-- the channels after a process sent messages
 abbrev pub put : {M : Type 0} → Links M → Process → List (Post M) → Links M
 put links sender posts from to = if is_same from sender then links from to ++ messages_to to posts else links from to
 
--- the links after the front of one was taken
+-- the channels after the front of one was delivered
 abbrev pub without_front : {M : Type 0} → Links M → Process → Process → Links M
 without_front links sender taker from to = if is_same from sender && is_same to taker then drop 1 (links from to) else links from to

@@ -1,5 +1,5 @@
--- The plain tree as a service of one call after the other: the sequential specification of the legal order.
--- ZooKeeper Programmer's Guide, "The ZooKeeper Data Model".
+-- The plain tree as a service of one call after the other: the sequential specification of the
+-- legal order. ZooKeeper Programmer's Guide, "The ZooKeeper Data Model".
 use Rattle.std.specs.Prelude.{ℕ, List}
 use Rattle.ztree.specs.Tree.{Tree}
 use Rattle.ztree.specs.Lawful.{IsLawful}
@@ -12,7 +12,8 @@ use Rattle.zcalls.specs.Operation.{Operation}
 use Rattle.zworld_model.specs.History.{History}
 use Rattle.zworld_model.specs.LegalOrder.{Service, IsLegalOrder}
 
--- a call: an update by the plain service's step; a query is answered from the state, which stays
+-- a call: an update acts by the plain service's step; a query is answered from the state, and
+-- leaves it
 abbrev pub call_step : {P : Type 0} → Plain P → P → ℕ → Call → P × Reply
 call_step plain p client (Update update) = plain.update p client update
 call_step plain p client (Query query) = (p, plain.ask p query)
@@ -21,10 +22,11 @@ call_step plain p client (Query query) = (p, plain.ask p query)
 abbrev pub service_of : {P : Type 0} → Plain P → Service P
 service_of plain = record { opening = plain.opening; step = call_step plain }
 
--- what the plain tree does, as a service, with a client's call
+-- what the plain tree, as a service, does with a client's call
 abbrev pub serve : Tree → ℕ → Call → Tree × Reply
 serve t client call = (service_of plain_tree).step t client call
 
--- the plain tree explains a history: it has a legal order, and every tree on the way is lawful
+-- a history is linearizable over the plain tree: it has a legal order, and every tree on the way is
+-- lawful
 abbrev pub IsExplained : History → Type 0
 IsExplained history = (order : List Operation) × IsLegalOrder IsLawful (service_of plain_tree) history order

@@ -1,6 +1,7 @@
--- The world: what every process holds, what is on every link, who has failed, and what callers saw.
--- Van Renesse and Schneider, "Chain Replication for Supporting High Throughput and Availability" (OSDI 2004), section 3:
--- servers fail-stop, and a master that detects failures and doesn't fail. It is over any machine.
+-- The world: what every process holds, what is on every channel, who has failed, and what callers
+-- saw. Van Renesse and Schneider, "Chain Replication for Supporting High Throughput and
+-- Availability" (OSDI 2004), section 3: servers fail-stop, and a master that detects failures and
+-- doesn't fail. It is over any machine.
 use Rattle.std.specs.Prelude.{ℕ, Bool, false, ◌==◌, if◌then◌else◌, []}
 use Rattle.zprotocol.specs.server.Machine.{Does}
 use Rattle.zprotocol.specs.server.View.{ServerView, opening_server}
@@ -9,8 +10,8 @@ use Rattle.zprotocol.specs.client.View.{ClientView, opening_client}
 use Rattle.zworld_model.specs.History.{History}
 use Rattle.zworld_model.specs.Links.{Links}
 
--- the views of servers and clients by their numbers, the master's view, which knows how many clients there are, the servers
--- that have failed, the messages under way, and what callers saw
+-- the views of servers and clients by their numbers, and the master's view, which knows the number
+-- of clients. Then the servers that have failed, the messages in flight, and what callers saw
 pub record World (M : Type 0) : Type 0 where
   pub servers : ℕ → ServerView M
   pub clients : ℕ → ClientView
@@ -23,8 +24,9 @@ pub record World (M : Type 0) : Type 0 where
 abbrev pub at : {V : Type 0} → ℕ → V → (ℕ → V) → ℕ → V
 at n v family m = if m == n then v else family m
 
--- the opening: the chain is s1, s2, .. up to the number of servers, neighbours have epoch 0, all other servers are spare,
--- every client knows the first as head and the last as tail; nobody has failed and no message is under way
+-- the initial world: the chain is s1, s2, .. up to the number of servers, neighbours have epoch 0,
+-- and all other servers are spare. Every client knows the first server as head and the last as
+-- tail. No server has failed and no message is in flight
 abbrev pub opening_world : {M : Type 0} → Does M → ℕ → ℕ → World M
 opening_world machine server_count client_count = record {
   servers = opening_server machine server_count;

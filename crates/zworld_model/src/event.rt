@@ -3,25 +3,27 @@
 use zcalls::{Call, ClientId};
 use zprotocol::{Process, ServerId};
 
-/// One event: a call that begins, a delivery, a failure, a join or a retirement. Each is one atomic step: at most one
-/// process changes its state, takes at most one message and puts messages. An event that is not enabled changes nothing.
+/// One event: a call is invoked, a message is delivered, a server fails, joins or retires. Each is
+/// one atomic step: at most one process changes its state, receives at most one message, and sends
+/// messages. An event that is not enabled changes nothing.
 #[derive(Drop)]
 pub enum Event {
-    /// A client begins a call. Enabled where the client is one of the world's, has no outstanding call and has call
-    /// numbers left.
+    /// A client invokes a call. Enabled where the world has that client, it has no outstanding
+    /// call, and call numbers are left.
     Begin(ClientId, Call),
     /// A client sends its outstanding call once more. Enabled where it has one.
     Retry(ClientId),
-    /// The front message of the link from the first process to the second is delivered. Enabled where there is one and
-    /// the second has not failed.
+    /// The front message of the channel from the first process to the second is delivered. Enabled
+    /// where there is one and the second process has not failed.
     Take(Process, Process),
-    /// The front message of that link, a request of a client, is lost. Enabled where a delivery is, and the front is a
-    /// `Submit` or a `Query`.
+    /// The front message of that channel, a request of a client, is lost. Enabled where a delivery
+    /// is, and the front is a `Submit` or a `Query`.
     Ignore(Process, Process),
-    /// A server fails, for good; its last message is `Gone`. Enabled where it has not failed.
+    /// A server fails for good; its failure notice `Gone` is its last message. Enabled where it has
+    /// not failed.
     Fail(ServerId),
-    /// A server is asked to join behind the tail. Enabled where the master takes it.
+    /// A server is asked to join behind the tail. Enabled where the master accepts it.
     Join(ServerId),
-    /// A member of the chain is ordered to leave. Enabled where the master takes it.
+    /// A member of the chain is ordered to leave. Enabled where the master accepts it.
     Retire(ServerId),
 }

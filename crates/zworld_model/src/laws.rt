@@ -1,4 +1,5 @@
-//! What holds of the definitions themselves: each function's contract is a law, and its body does nothing.
+//! What holds of the definitions themselves. Each function's contract is a law, and its body does
+//! nothing.
 
 ghost use Rattle.std.specs.Prelude.{◌≡◌, ℕ};
 ghost use Rattle.ztree.specs.Tree.{Tree, opening_tree};
@@ -19,15 +20,15 @@ ghost use Rattle.zworld_model.specs.Laws.{EpochsAreFew};
 ghost use Rattle.zworld_model.specs.Laws.{SettlingIsARun, SettlingKeepsItsLimit, QuietHasNothingToTake};
 ghost use Rattle.zworld_model.specs.support.LogWorld.{LogWorldHasTheSameEnabled, LogWorldStandsForWorld};
 
-/// After every list of events the world over trees is the world over logs, each log replayed; the same events are
-/// enabled in both, and they have one history.
+/// After every list of events the world over trees is the world over logs, with each log replayed.
+/// The same events are enabled in both, and they have one history.
 pub fn log_world_stands_for_the_world()
     ensures world { LogWorldStandsForWorld }
     ensures enabled { LogWorldHasTheSameEnabled }
 {}
 
-/// Worlds that are alike have the same events enabled, and stay alike in every run; so they have one history. Events
-/// read alike in them, and can have the same outcomes.
+/// Worlds that are equal up to failed servers have the same events enabled, and stay so in every
+/// run. So they have one history. Events resolve alike in them, and can have the same outcomes.
 pub fn failed_servers_do_not_matter()
     ensures enabled { HaveTheSameEnabled }
     ensures alike { StayAlike }
@@ -37,33 +38,34 @@ pub fn failed_servers_do_not_matter()
     ensures through { AlikeIsTransitive }
 {}
 
-/// A server that takes an order to retire is like one that failed at that moment.
+/// A server that receives an order to retire is like one that failed at that moment.
 pub fn retired_servers_have_failed()
     ensures { RetiredHaveFailed }
 {}
 
-/// In every world settling is a run, and does no more events than its limit; where it ends quiet, no message can be
-/// taken.
+/// In every world settling is a run, and no longer than its limit. Where it ends `Quiet`, no
+/// message can be delivered.
 pub fn settling_is_a_run()
     ensures run { SettlingIsARun }
     ensures limit { SettlingKeepsItsLimit }
     ensures quiet { QuietHasNothingToTake }
 {}
 
-/// From an opening, settling visits every link that holds a message; so where it ends quiet, there is none left to
-/// take.
+/// From an initial world, settling visits every channel that holds a message. So where it ends
+/// `Quiet`, no message can be delivered on any channel.
 pub fn settling_visits_every_link()
     ensures visited { LinksAreVisited }
     ensures quiet { QuietIsQuiet }
 {}
 
-/// From an opening the master gives few epochs: three for each server that there can be.
+/// From an initial world the master gives few epochs: at most three for each possible server.
 pub fn epochs_are_few()
     ensures { EpochsAreFew }
 {}
 
-/// Settling and reading can learn each outcome when its event is done: the definition, given what was learnt and
-/// whatever follows, stands where a program stands that goes on with what follows.
+/// A program can settle, or resolve events, without knowing the outcomes beforehand. It learns each
+/// outcome when its event is done. The definition, given the outcomes learnt so far and any others,
+/// is where the program is, given those others.
 pub fn outcomes_are_learnt()
     ensures done { DoneIsLearnt kept_tree }
     ensures idle { IdleIsPassed kept_tree }
@@ -72,13 +74,14 @@ pub fn outcomes_are_learnt()
     ensures reading { ReadingIsLearnt kept_tree }
 {}
 
-/// Where an outcome fits, an event reads as it says: a server that stops has failed, a query unheard is ignored.
+/// Where an outcome fits, the event resolves as the outcome says: a server that stops has failed,
+/// and an unheard query is lost.
 pub fn fitting_outcomes_are_read()
     ensures { FittingOutcomesAreRead }
 {}
 
-/// The plain tree as a service of one call after the other: where it starts, an update by the plain step, and a
-/// query, which leaves the tree.
+/// The plain tree as a sequential specification: its initial state, an update by the plain step,
+/// and a query, which leaves the tree unchanged.
 pub fn calls_do_the_plain_step()
     ensures opening { (service_of plain_tree).opening ≡ opening_tree }
     ensures update { (t : Tree) (c : ℕ) (u : Update) → serve t c (call.Update u) ≡ step t c u }

@@ -11,7 +11,7 @@ use zworld_model::{CallEvent, Event, Settled};
 // Far more events than any settling here takes.
 const LIMIT: usize = 1000;
 
-/// A create of a node without data begins.
+/// Invokes a create of a node without data.
 pub fn creates(alloc: Global, path: &str, kind: Kind) -> Result<Event, Trouble> {
     let client = client()?;
     let path = Path::parse(alloc, path)?;
@@ -20,14 +20,14 @@ pub fn creates(alloc: Global, path: &str, kind: Kind) -> Result<Event, Trouble> 
     Ok(Event::Begin(client, call))
 }
 
-/// A look at the children of the parent begins.
+/// Invokes a query of the parent's children.
 pub fn lists(alloc: Global) -> Result<Event, Trouble> {
     let client = client()?;
     let path = Path::parse(alloc, "/q")?;
     Ok(Event::Begin(client, Call::Query(Query::GetChildren(path))))
 }
 
-/// The world settles, and is quiet then.
+/// Runs the world until it is quiescent.
 pub fn settles(world: &mut World) -> Result<(), Trouble> {
     match world.settle(LIMIT)? {
         Settled::Quiet => Ok(()),
@@ -35,7 +35,7 @@ pub fn settles(world: &mut World) -> Result<(), Trouble> {
     }
 }
 
-/// Whether every call was answered.
+/// Returns whether every call was answered.
 pub fn is_answered(history: &[CallEvent]) -> bool {
     let begun = history
         .iter()
@@ -44,7 +44,7 @@ pub fn is_answered(history: &[CallEvent]) -> bool {
     begun + begun == history.len()
 }
 
-/// Whether the last answer lists one child.
+/// Returns whether the last answer lists one child.
 pub fn has_one_child(history: &[CallEvent]) -> bool {
     match history.last() {
         Some(CallEvent::Answer(_, _, Reply::Children(names))) => names.as_slice().len() == 1,
@@ -52,7 +52,7 @@ pub fn has_one_child(history: &[CallEvent]) -> bool {
     }
 }
 
-/// Whether the last answer is of a node that was made.
+/// Returns whether the last answer is that of a node that was made.
 pub fn has_made(history: &[CallEvent]) -> bool {
     matches!(
         history.last(),

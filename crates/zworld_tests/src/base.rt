@@ -5,8 +5,8 @@ use std::alloc::Global;
 use zcalls::ClientId;
 use zprotocol::{Process, ServerId};
 
-/// One event of a base list, by the numbers of its processes; the call that begins is the client's sequential
-/// create.
+/// One event of a base list, by the numbers of its processes. The call that is invoked is the
+/// client's sequential create.
 #[derive(Clone, Copy)]
 pub enum Move {
     Begin,
@@ -17,19 +17,19 @@ pub enum Move {
     Retire(u8),
 }
 
-/// A base list: the last server of its opening chain, and the events.
+/// A base list: the last server of its initial chain, and the events.
 #[derive(Drop)]
 pub struct Base {
     pub last: u8,
     pub moves: Vec<Move>,
 }
 
-/// The server of that number.
+/// Returns the server of that number.
 pub fn server(number: u8) -> Result<ServerId, Trouble> {
     ServerId::new(number).ok_or(Trouble::NoSuchThing)
 }
 
-/// The client whose calls these are.
+/// Returns the client that invokes these calls.
 pub fn client() -> Result<ClientId, Trouble> {
     ClientId::new(1).ok_or(Trouble::NoSuchThing)
 }
@@ -37,7 +37,8 @@ pub fn client() -> Result<ClientId, Trouble> {
 /// The number of the client's process.
 pub const CLIENT: u8 = 5;
 
-/// The process of that number: 0 is the master, then come four servers, the client, and one that never calls.
+/// Returns the process of that number: 0 is the master, then come four servers, the client, and one
+/// that never invokes a call.
 pub fn process(number: u8) -> Result<Process, Trouble> {
     match number {
         0 => Ok(Process::Master),
@@ -47,7 +48,7 @@ pub fn process(number: u8) -> Result<Process, Trouble> {
     }
 }
 
-/// A call begins while a server joins behind a chain of three.
+/// A call is invoked while a server joins behind a chain of three.
 pub fn joining(alloc: Global) -> Result<Base, Trouble> {
     let moves = [
         Move::Begin,
@@ -64,7 +65,7 @@ pub fn joining(alloc: Global) -> Result<Base, Trouble> {
     })
 }
 
-/// A call is forwarded, the second server fails, and the chain is mended.
+/// A call is forwarded, the second server fails, and the chain is repaired.
 pub fn repaired(alloc: Global, last: u8) -> Result<Base, Trouble> {
     let moves = [
         Move::Begin,
@@ -83,7 +84,8 @@ pub fn repaired(alloc: Global, last: u8) -> Result<Base, Trouble> {
     })
 }
 
-/// A call is asked for four times, all are forwarded, the second server fails, and the chain is mended: four entries are owed.
+/// A call is sent four times, all are forwarded, the second server fails, and the chain is
+/// repaired: four entries are owed.
 pub fn owing(alloc: Global) -> Result<Base, Trouble> {
     let moves = [
         Move::Begin,

@@ -8,20 +8,21 @@ use zcalls::Kind;
 use zworld::World;
 use zworld_model::Event;
 
-/// How many lists were run, and in how many of them the state lived, so that all was answered.
+/// How many lists were run, and in how many of them the state lived and all was answered.
 #[derive(Clone, Copy, Default)]
 pub struct Counts {
     pub run: usize,
     pub answered: usize,
 }
 
-/// A loss of a server, which fails or is ordered to leave: before the event at that place, or at the end.
+/// A loss of a server, which fails or is ordered to leave: before the event at that place, or at
+/// the end.
 type Loss = (usize, Move);
 
 /// The last server that is lost: the base lists name four, so that this one is spare.
 const LAST_LOST: u8 = 5;
 
-/// Runs the list with each loss, and with each two of them: two at one place come in both orders.
+/// Runs the list with each loss, and with each two of them. Two at one place come in both orders.
 pub fn drilled(alloc: Global, base: &Base, counts: &mut Counts) -> Result<(), Trouble> {
     let losses = losses(alloc, base)?;
     for &first in &losses {
@@ -42,7 +43,7 @@ fn note(lives: bool, counts: &mut Counts) {
     }
 }
 
-// Each server at each place, the spare one among them: it fails, or it is ordered to leave.
+// Returns each server at each place, the spare one included: it fails, or it is ordered to leave.
 fn losses(alloc: Global, base: &Base) -> Result<Vec<Loss>, Trouble> {
     let mut all = Vec::new(alloc);
     for place in 0..=base.moves.len() {
@@ -54,7 +55,8 @@ fn losses(alloc: Global, base: &Base) -> Result<Vec<Loss>, Trouble> {
     Ok(all)
 }
 
-// One run with losses, in a world of its own: whether the state lived, and then all was answered.
+// Runs the list with losses, in a world of its own. Returns whether the state survived; then all
+// was answered.
 fn drill(alloc: Global, base: &Base, losses: &[Loss]) -> Result<bool, Trouble> {
     let mut world = World::new(alloc, server(base.last)?, 2)?;
     let lives = drill_in(&mut world, alloc, base, losses);
@@ -62,7 +64,7 @@ fn drill(alloc: Global, base: &Base, losses: &[Loss]) -> Result<bool, Trouble> {
     lives
 }
 
-// The run in this world.
+// Makes the run in this world.
 fn drill_in(
     world: &mut World,
     alloc: Global,
@@ -79,7 +81,7 @@ fn drill_in(
     Ok(true)
 }
 
-// Ten nodes stand beforehand, and the parent.
+// Makes ten nodes beforehand, and the parent.
 fn prepares(alloc: Global, world: &mut World) -> Result<(), Trouble> {
     for _ in 0..10 {
         world.step(creates(alloc, "/n-", Kind::PersistentSequential)?)?;
@@ -89,7 +91,7 @@ fn prepares(alloc: Global, world: &mut World) -> Result<(), Trouble> {
     settles(world)
 }
 
-// All is answered, the parent has one child, and can have another.
+// Checks that all is answered, and that the parent has one child and can have another.
 fn is_well(alloc: Global, world: &mut World) -> Result<(), Trouble> {
     if !is_answered(world.history()) {
         return Err(Trouble::NotAnswered);
@@ -108,7 +110,7 @@ fn is_well(alloc: Global, world: &mut World) -> Result<(), Trouble> {
     }
 }
 
-// The base list, with the losses in their places.
+// Returns the base list, with the losses in their places.
 fn events(alloc: Global, base: &Base, losses: &[Loss]) -> Result<Vec<Event>, Trouble> {
     let mut events = Vec::new(alloc);
     match add_events(&mut events, alloc, base, losses) {
@@ -120,7 +122,7 @@ fn events(alloc: Global, base: &Base, losses: &[Loss]) -> Result<Vec<Event>, Tro
     }
 }
 
-// Adds them to what is there.
+// Appends them to what is there.
 fn add_events(
     events: &mut Vec<Event>,
     alloc: Global,
@@ -134,7 +136,7 @@ fn add_events(
     lose_at(events, alloc, losses, base.moves.len())
 }
 
-// The losses at this place.
+// Adds the losses at this place.
 fn lose_at(
     events: &mut Vec<Event>,
     alloc: Global,
@@ -160,7 +162,7 @@ fn event(alloc: Global, each: Move) -> Result<Event, Trouble> {
     }
 }
 
-// Whether a server of the opening chain surely lives: each of them has the state.
+// Returns whether a server of the initial chain surely survives: each of them has the state.
 fn lives(base: &Base, losses: &[Loss]) -> bool {
     (1..=base.last).any(|number| !may_be_lost(base, losses, number))
 }

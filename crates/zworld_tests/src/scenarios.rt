@@ -1,4 +1,5 @@
-//! A call from its beginning to its answer, a join, a server that leaves, a call that settles, and a history that is forgotten.
+//! A call from its invocation to its response, a join, a server that leaves, a call that settles,
+//! and a history that is cleared.
 
 use Who::{Client, Master, Server};
 use std::alloc::Global;
@@ -16,7 +17,7 @@ enum Who {
     Client,
 }
 
-// Links, each of which has a message at its front when its turn comes.
+// Channels, each of which has a message at its front when its turn comes.
 type Links = &'static [(Who, Who)];
 
 const CALL: Links = &[(Client, Server(1)), (Server(1), Client)];
@@ -92,12 +93,12 @@ fn forgets_a_call(rt: HostRuntime) {
     drop(world);
 }
 
-// A world with one client, whose chain is so many servers.
+// Returns a world with one client, whose chain has this many servers.
 fn opened(rt: &impl Abort, alloc: Global, servers: u8) -> World {
     World::new(alloc, server(rt, servers), 1).expect(rt, "there is memory")
 }
 
-// The client begins a call, a tick.
+// The client invokes a call, a tick.
 fn begins(rt: &impl Abort, world: &mut World) {
     does(
         rt,
@@ -106,26 +107,26 @@ fn begins(rt: &impl Abort, world: &mut World) {
     );
 }
 
-// The front message of each link is delivered.
+// Delivers the front message of each channel.
 fn takes(rt: &impl Abort, world: &mut World, links: Links) {
     for (from, to) in links {
         does(rt, world, Event::Take(process(rt, *from), process(rt, *to)));
     }
 }
 
-// An event happens.
+// Asserts that an event happens.
 fn does(rt: &impl Abort, world: &mut World, event: Event) {
     let did = world.step(event);
     assert!(rt; did == Ok(Did::Done));
 }
 
-// An event is not enabled.
+// Asserts that an event is not enabled.
 fn refuses(rt: &impl Abort, world: &mut World, event: Event) {
     let did = world.step(event);
     assert!(rt; did != Ok(Did::Done));
 }
 
-// Whether the client's first call began and was answered, as a tick, and no more.
+// Returns whether the client's first call was invoked and answered, as a tick, and no more.
 fn is_of_the_tick(history: &[CallEvent]) -> bool {
     match history.last() {
         Some(CallEvent::Answer(_, number, Reply::Ticked(1, 0, 0))) => {

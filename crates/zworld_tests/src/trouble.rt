@@ -1,4 +1,4 @@
-//! What a drill can meet.
+//! What can go wrong in a drill.
 
 use std::alloc::{AllocError, AllocFailed};
 use thiserror::Error;
@@ -7,7 +7,7 @@ use zpath::{Memory, PathFault};
 /// Why a drill ended early.
 #[derive(Clone, Copy, Debug, PartialEq, Eq, Error)]
 pub enum Trouble {
-    /// A growth was refused.
+    /// Memory ran out.
     #[error("memory")]
     Memory,
     /// A number that isn't one of a process, or a text that isn't a path.

@@ -1,4 +1,4 @@
--- What the tests of traces look for.
+-- What the checks of traces look for.
 use Rattle.std.specs.Prelude.{◌≡◌, ℕ, Bool, true, nat_lt}
 use Rattle.std.specs.List.{list_any}
 use Rattle.zworld_model.specs.History.{History}

@@ -1,4 +1,5 @@
--- The next events of all traces, each as its stamp and the place of its trace, in a heap whose top is the least of them.
+-- The next events of all traces, each as its timestamp and the place of its trace, in a heap whose
+-- top is the least.
 use Rattle.std.specs.Prelude.{◌≡◌, ℕ, zero, suc, ◌+◌, Bool, false, Option, None, Some, List, get_or}
 use Rattle.std.specs.BinaryHeap.{heap_items}
 use Rattle.std.specs.List.{sum_by, AllByRecursion}
@@ -14,7 +15,7 @@ use Rattle.ztraces.specs.support.Places.{place_count, process_at, head_at, IsLea
 abbrev pub Head : Type 0
 Head = Reverse (ℕ × ℕ)
 
--- by stamp, and at one stamp by place
+-- by timestamp, and at one timestamp by place
 abbrev pub pair_cmp : ℕ × ℕ → ℕ × ℕ → Ordering
 pair_cmp x y = ordering_then (nat_cmp x.0 y.0) (nat_cmp x.1 y.1)
 
@@ -26,25 +27,25 @@ head_cmp x y = pair_cmp y.0 x.0
 abbrev pub is_before : ℕ × ℕ → ℕ × ℕ → Bool
 is_before x y = is_lt (pair_cmp x y)
 
--- what f counts over some of them
+-- the sum of f over these heads
 abbrev pub count_of : (ℕ × ℕ → ℕ) → List Head → ℕ
 count_of f heads = sum_by (λ (head : Head). f head.0) heads
 
--- at a place, where there is a next event
+-- f at a place, where there is a next event
 abbrev pub count_at : (ℕ × ℕ → ℕ) → ℕ → Option ℕ → ℕ
 count_at f place None = 0
 count_at f place (Some stamp) = f (stamp, place)
 
--- over the places below n
+-- the sum of f over the places below n
 abbrev pub count_below : Traces → List ℕ → (ℕ × ℕ → ℕ) → ℕ → ℕ
 count_below t read f zero = 0
 count_below t read f (suc n) = count_at f n (head_at t read n) + count_below t read f n
 
--- they are the next events of the places below n, each once: whatever is counted, it is counted alike
+-- the heads are the next events of the places below n, each once: every count agrees
 abbrev pub HoldsHeads : Traces → List ℕ → ℕ → List Head → Type 0
 HoldsHeads t read n heads = (f : ℕ × ℕ → ℕ) → count_of f heads ≡ count_below t read f n
 
--- this one is gone, and none of them comes before it
+-- this one is removed, and none of the others comes before it
 abbrev pub IsFirstTaken : ℕ × ℕ → List Head → List Head → Type 0
 IsFirstTaken first old new =
     ((f : ℕ × ℕ → ℕ) → count_of f new + f first ≡ count_of f old)
@@ -54,11 +55,11 @@ IsFirstTaken first old new =
 abbrev pub trace_at : Traces → ℕ → List TraceEvent
 trace_at t place = trace_of t (process_at t place)
 
--- this event is the next one there
+-- this event is the next one at that place
 abbrev pub IsNextAt : Traces → List ℕ → ℕ → TraceEvent → Type 0
 IsNextAt t read place event = event ≡ get_or (trace_at t place) (get_or read place 0) event
 
--- this event, at this place, is the next of all traces, and is gone from the heap
+-- this event, at this place, is the next of all traces, and is removed from the heap
 abbrev pub IsNext : Traces → List ℕ → ℕ → TraceEvent → List Head → List Head → Type 0
 IsNext t read place event old new =
     IsLeast t read (place_count t) (Some (place, event.stamp))
@@ -69,12 +70,12 @@ IsNext t read place event old new =
 abbrev pub HoldsAll : {A : Type 0} → Traces → List ℕ → BinaryHeap Head A → Type 0
 HoldsAll t read heads = HoldsHeads t read (place_count t) (heap_items heads)
 
--- the next event of this place is put in, where there is one
+-- the next event of this place is added, if there is one
 abbrev pub PutsHead : {A : Type 0} → Traces → List ℕ → ℕ → BinaryHeap Head A → BinaryHeap Head A → Type 0
 PutsHead t read place old new =
     (f : ℕ × ℕ → ℕ) → count_of f (heap_items new) ≡ count_at f place (head_at t read place) + count_of f (heap_items old)
 
--- the one that comes first is taken out
+-- the earliest is removed
 abbrev pub TakesFirst : {A : Type 0} → ℕ × ℕ → BinaryHeap Head A → BinaryHeap Head A → Type 0
 TakesFirst first old new = IsFirstTaken first (heap_items old) (heap_items new)
 

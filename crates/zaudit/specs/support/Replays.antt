@@ -1,4 +1,5 @@
--- What is replayed on a world: an event, the event that an act stands for, and all events of the traces.
+-- What is replayed on a world: an event, the event that a step stands for, and all events of the
+-- traces.
 use Rattle.std.specs.Prelude.{◌≡◌, ◌<◌, ℕ, true, false, List}
 use Rattle.zprotocol.specs.declared.process.Process.{Process}
 use Rattle.zprotocol.specs.server.Machine.{kept_tree}
@@ -20,13 +21,13 @@ HappensInPlace old event new =
 abbrev pub CannotHappen : WorldView → Event → Type 0
 CannotHappen world event = is_in_place (world_in world) event ≡ false
 
--- an act of a process stands for an event in its place, which happens
+-- a step of a process stands for an event in its place, which happens
 abbrev pub ActsInPlace : WorldView → Process → Act → WorldView → Type 0
 ActsInPlace old process act new =
     (is_step_in_place (world_in old) (event_of process act) ≡ true)
     × IsAlike (step_happens kept_tree (world_in old) (event_of process act)) (world_in new)
 
--- it stands for none, or for one that isn't in its place
+-- the step stands for none, or for one that isn't in its place
 abbrev pub CannotAct : WorldView → Process → Act → Type 0
 CannotAct world process act = is_step_in_place (world_in world) (event_of process act) ≡ false
 

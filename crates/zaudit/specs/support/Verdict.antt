@@ -7,7 +7,7 @@ use Rattle.zworld.specs.declared.did.Did.TheVariants as did
 use Rattle.zaudit.specs.declared.faults.AuditFault.{AuditFault}
 use Rattle.zaudit.specs.declared.faults.AuditFault.TheVariants.{Disorder, Memory}
 
--- it is asked of the master, which may refuse it
+-- the master is asked for the event, and may refuse it
 abbrev pub asks_the_master : Event → Bool
 asks_the_master (Join server) = true
 asks_the_master (Retire server) = true

@@ -1,4 +1,4 @@
--- A row of marks stands for the rising list of the numbers that are marked.
+-- A row of flags stands for the rising list of the numbers that are marked.
 use Rattle.std.specs.Prelude.{ℕ, ◌+◌, Bool, List, [], ◌∷◌, if◌then◌else◌}
 
 -- the marked numbers, where the row begins at this one

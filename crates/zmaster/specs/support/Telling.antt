@@ -1,4 +1,4 @@
--- What the first clients are told, on the way to telling all.
+-- The messages to the first clients, on the way to telling all.
 use Rattle.std.specs.Prelude.{ℕ, List, map}
 use Rattle.std.specs.List.{range_with_len}
 use Rattle.zprotocol.specs.declared.message.Message.TheVariants as message
@@ -6,6 +6,6 @@ use Rattle.zprotocol.specs.declared.process.Process.TheVariants.{Client}
 use Rattle.zprotocol.specs.server.View.{PostOf}
 use Rattle.zprotocol.specs.master.View.{MasterView, head_of, tail_of}
 
--- so many clients, by number, hear of the epoch, the head and the tail
+-- the epoch, the head and the tail, sent to the first n clients, by number
 abbrev pub config_posts_to : {T : Type 0} → MasterView → ℕ → List (PostOf T)
 config_posts_to v count = map (λ c. (Client c, message.Config v.epoch (head_of v) (tail_of v))) (range_with_len 0 count)

@@ -1,5 +1,6 @@
 -- The opening, and the steps that events are made of.
 pub mod Commits
+pub mod Cuts
 pub mod Drops
 pub mod Opening
 pub mod Puts

@@ -1,5 +1,5 @@
--- A run of the log world with what is told of it beside the world: the committed log, which is the log of the last server
--- that took a message as a tail, and the items.
+-- A run of the log world with an account beside it: the committed log, and the items. The committed
+-- log is that of the last server that received a message as a tail.
 use Rattle.std.specs.Prelude.{ℕ, if◌then◌else◌, None, Some, List, [], ◌∷◌, ◌++◌, length, is_none}
 use Rattle.zcalls.specs.declared.call.Call.TheVariants as call
 use Rattle.zcalls.specs.declared.call.Entry.{Entry}
@@ -20,7 +20,7 @@ use Rattle.zorder.specs.chain.Flow.{log_machine, LogWorld, LogMessage, Log}
 abbrev pub tail_log : ServerView (List Entry) → Log
 tail_log v = if is_none v.succ then v.machine else None
 
--- the committed log after a server took a message: its own where it is a tail now
+-- the committed log after a server received a message: its own where it is a tail now
 abbrev pub committed_after : Log → List Entry → List Entry
 committed_after None old = old
 committed_after (Some log) old = log
@@ -30,7 +30,7 @@ abbrev pub committed_by : LogWorld → Event → List Entry → List Entry
 committed_by w (Take from (Server s)) old = committed_after (tail_log (w.servers s)) old
 committed_by w event old = old
 
--- a query that a tail takes, with its answer
+-- a query that a tail receives, with its answer
 abbrev pub query_items : {P : Type 0} → Plain P → ℕ → Log → ℕ → ℕ → Query → List Item
 query_items plain time None c number query = []
 query_items plain time (Some log) c number query =
@@ -40,13 +40,13 @@ query_items plain time (Some log) c number query =
       time = time;
     } ∷ []
 
--- the same by the front of the link
+-- the same by the front of the channel
 abbrev pub query_items_of_front : {P : Type 0} → Plain P → ℕ → Log → ℕ → List LogMessage → List Item
 query_items_of_front plain time log c [] = []
 query_items_of_front plain time log c (message.Query number query ∷ more) = query_items plain time log c number query
 query_items_of_front plain time log c (other ∷ more) = []
 
--- the queries that an event answers, if it happens in this world
+-- the queries that an event answers, if it is enabled in this world
 abbrev pub query_items_by : {P : Type 0} → Plain P → LogWorld → Event → List Item
 query_items_by plain w (Take (Client c) (Server s)) =
     query_items_of_front plain (length w.history) (tail_log (w.servers s)) c (w.links (Client c) (Server s))

@@ -1,4 +1,5 @@
--- The chain as the master has it in mind, the links to and from the master, and what is said of two members.
+-- The chain as the master knows it, the channels to and from the master, and relations between two
+-- members.
 use Rattle.std.specs.Prelude.{◌≡◌, ◌⊎◌, ℕ, ◌≤◌, Bool, true, false, ◌&&◌, ◌==◌, if◌then◌else◌, Option, None, Some, List, [], ◌∷◌, is_none}
 use Rattle.zcalls.specs.declared.call.Entry.{Entry}
 use Rattle.zcalls.specs.Lists.{Among}
@@ -9,11 +10,11 @@ use Rattle.zprotocol.specs.master.View.{members, is_among}
 use Rattle.zorder.specs.legal.Prefix.{IsPrefix}
 use Rattle.zorder.specs.chain.Flow.{LogWorld, LogMessage, log_at, final_log}
 
--- what the master told a server that it hasn't taken yet, the first order first
+-- the master's messages in flight to a server, the first order first
 abbrev pub queue : LogWorld → ℕ → List LogMessage
 queue w s = w.links Master (Server s)
 
--- the number was used
+-- the number is used
 abbrev pub IsUsed : LogWorld → ℕ → Type 0
 IsUsed w s = is_among s w.master.used ≡ true
 
@@ -21,40 +22,41 @@ IsUsed w s = is_among s w.master.used ≡ true
 abbrev pub IsMember : LogWorld → ℕ → Type 0
 IsMember w s = Among s (members w.master)
 
--- a member's place: the one before it with the epoch of their pair, or none for the first
+-- a member's place: its predecessor with the epoch of their pair, or none for the head
 abbrev pub Place : Type 0
 Place = Option Neighbour
 
--- the place behind one member, in an epoch
+-- the place behind a member, in an epoch
 abbrev pub place_behind : Option ℕ → ℕ → Place
 place_behind None epoch = None
 place_behind (Some p) epoch = Some (p, epoch)
 
--- the place of a server in a chain that goes on behind one, where it has one
+-- the place of a server in a chain that goes on behind a member, if it has one
 abbrev pub place_from : Option ℕ → List Neighbour → ℕ → Option Place
 place_from before [] s = None
 place_from before (t ∷ rest) s = if t.0 == s then Some (place_behind before t.1) else place_from (Some t.0) rest s
 
--- the place that the master has in mind for a server, where it has one
+-- the place that the master knows for a server, if it has one
 abbrev pub place_in_chain : LogWorld → ℕ → Option Place
 place_in_chain w s = place_from None w.master.chain s
 
--- p stands right before t in the master's mind, as a pair of this epoch
+-- the master knows p as the predecessor of t, as a pair of this epoch
 abbrev pub IsPair : LogWorld → ℕ → ℕ → ℕ → Type 0
 IsPair w p t epoch = place_in_chain w t ≡ Some (Some (p, epoch))
 
--- a predecessor that can't put anything that matters any more: it was a member, and is none
+-- a predecessor that can't send anything that matters any more: it was a member, and isn't one now
 abbrev pub IsPast : LogWorld → Place → Type 0
 IsPast w None = ⊥
 IsPast w (Some pred) = IsUsed w pred.0 × (IsMember w pred.0 → ⊥)
 
--- the predecessor that an order tells, where it tells one or none
+-- the place that an order gives, if it gives one
 abbrev pub turn_of : LogMessage → Option Place
 turn_of (message.NewPred epoch p) = Some (Some (p, epoch))
 turn_of (message.BecomeHead epoch) = Some None
 turn_of other = None
 
--- orders that lead from one predecessor to another: each that one turns away from is past, but for a server that is fresh
+-- orders that lead from one predecessor to another: each that the server turns away from is past,
+-- unless the server is fresh
 abbrev pub LeadsTo : (Place → Type 0) → Bool → Place → List LogMessage → Place → Type 0
 LeadsTo Past fresh pred [] target = pred ≡ target
 LeadsTo Past fresh pred (m ∷ more) target =
@@ -67,7 +69,7 @@ LeadsTo Past fresh pred (m ∷ more) target =
 abbrev pub is_fresh : LogWorld → ℕ → Bool
 is_fresh w s = is_none (log_at w s) && is_none (w.servers s).pred
 
--- the epoch was given, and the server has taken it if it is one of its own
+-- the epoch was given, and if it is one of the server's own, the server has received it
 abbrev pub IsOpened : LogWorld → ℕ → ℕ → Type 0
 IsOpened w s k = (k ≤ w.master.epoch) × ((p : ℕ) → Among (message.NewPred k p) (queue w s) → ⊥)
 
@@ -75,8 +77,8 @@ IsOpened w s k = (k ≤ w.master.epoch) × ((p : ℕ) → Among (message.NewPred
 abbrev pub HasNoTailOrder : List LogMessage → Type 0
 HasNoTailOrder orders = (epoch : ℕ) → Among (message.BecomeTail epoch) orders → ⊥
 
--- an order that tells of a successor that the master still has in mind for this server isn't followed by an order to
--- become the tail
+-- after an order that names a successor which the master still knows for this server, there is no
+-- order to become the tail
 abbrev pub HoldsBehind : LogWorld → ℕ → LogMessage → List LogMessage → Type 0
 HoldsBehind w s (message.NewSucc epoch t last) more = IsPair w s t epoch → HasNoTailOrder more
 HoldsBehind w s other more = Unit {0}
@@ -94,7 +96,8 @@ abbrev pub HasDistinctEpochs : ℕ → List LogMessage → Type 0
 HasDistinctEpochs last [] = Unit {0}
 HasDistinctEpochs last (m ∷ more) = IsNewEpoch last m more × HasDistinctEpochs last more
 
--- a server is ahead of all this: it holds it, has a successor, and isn't about to become the tail
+-- a server is ahead of this log: it holds the log, has a successor, and isn't about to become the
+-- tail
 pub record IsAhead (w : LogWorld) (x : ℕ) (log : List Entry) : Type 0 where
   pub own : List Entry
   pub holds : log_at w x ≡ Some own
@@ -102,6 +105,6 @@ pub record IsAhead (w : LogWorld) (x : ℕ) (log : List Entry) : Type 0 where
   pub has_successor : is_none (w.servers x).succ ≡ false
   pub no_tail_order : HasNoTailOrder (queue w x)
 
--- whatever y has or could still take, x is ahead of it
+-- x is ahead of whatever y has or could still receive
 abbrev pub IsBehind : LogWorld → ℕ → ℕ → Type 0
 IsBehind w x y = (log : List Entry) → final_log w y ≡ Some log → IsAhead w x log

@@ -1,10 +1,10 @@
--- What it is that an event keeps a run sound.
+-- What it means that an event keeps a run sound.
 use Rattle.zcalls.specs.PlainTree.{plain_tree}
 use Rattle.zworld_model.specs.declared.event.Event.{Event}
 use Rattle.zorder.specs.chain.Last.{LastsAreLengths}
 use Rattle.zorder.specs.chain.Account.{Account, next_account}
 use Rattle.zorder.specs.chain.Sound.{IsSound, IsSoundAfter}
 
--- the event keeps a run sound, and what is committed
+-- the event keeps a run sound, and what is committed stays so
 abbrev pub KeepsSound : Event → Type 0
 KeepsSound event = (t : Account) → LastsAreLengths t.world → IsSound plain_tree t → IsSoundAfter plain_tree t (next_account plain_tree t event)

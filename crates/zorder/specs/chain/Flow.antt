@@ -1,5 +1,5 @@
--- What is under way to a server from its predecessor: the log that it would have after taking all of it, and the first
--- log that it would show.
+-- What is in flight to a server from its predecessor: the log that it would have after receiving
+-- all of it, and the first log that it would show.
 use Rattle.std.specs.Prelude.{ℕ, ◌+◌, ◌==◌, nat_lt, if◌then◌else◌, Option, None, Some, List, [], ◌∷◌, ◌++◌, length}
 use Rattle.zcalls.specs.declared.call.Entry.{Entry}
 use Rattle.zcalls.specs.Kept.{Plain}
@@ -10,7 +10,7 @@ use Rattle.zprotocol.specs.server.Machine.{Does, log_of, machine_of}
 use Rattle.zprotocol.specs.server.View.{MessageOf, Neighbour}
 use Rattle.zworld_model.specs.World.{World}
 
--- a log, where there is one
+-- a log, if there is one
 abbrev pub Log : Type 0
 Log = Option (List Entry)
 
@@ -21,11 +21,11 @@ LogMessage = MessageOf (List Entry)
 abbrev pub LogWorld : Type 0
 LogWorld = World (List Entry)
 
--- its machine: the log of entries, over that of a plain service
+-- the machine of the log world: the log of entries, over that of a plain service
 abbrev pub log_machine : {P : Type 0} → Plain P → Does (List Entry)
 log_machine plain = log_of (machine_of plain)
 
--- a log after an entry of this number, where it is the next one and there is room
+-- a log after an entry of this number, if it is the next one and there is room
 abbrev pub with_entry : List Entry → ℕ → Entry → List Entry
 with_entry log n entry =
     if n == length log + 1 then if nat_lt (length log) MAX_LOG_NUMBER then log ++ entry ∷ [] else log else log
@@ -35,7 +35,7 @@ abbrev pub log_with_entry : Log → ℕ → Entry → Log
 log_with_entry None n entry = None
 log_with_entry (Some log) n entry = Some (with_entry log n entry)
 
--- a log after a whole one came
+-- a log after a whole log was received
 abbrev pub log_with_snapshot : Log → List Entry → Log
 log_with_snapshot None log = Some log
 log_with_snapshot (Some old) log = Some old
@@ -61,7 +61,7 @@ abbrev pub or_else : Log → Log → Log
 or_else None other = other
 or_else (Some log) other = Some log
 
--- the first log that comes whole, in an epoch
+-- the first log that is received whole, in an epoch
 abbrev pub first_snapshot : ℕ → List LogMessage → Log
 first_snapshot k [] = None
 first_snapshot k (m ∷ more) = or_else (snapshot_of k m) (first_snapshot k more)
@@ -70,7 +70,7 @@ first_snapshot k (m ∷ more) = or_else (snapshot_of k m) (first_snapshot k more
 abbrev pub log_at : LogWorld → ℕ → Log
 log_at w s = (w.servers s).machine
 
--- what a server would hold after all that its predecessor put, from what it holds
+-- what a server would hold after all that its predecessor sent, from what it holds
 abbrev pub final_log_by : LogWorld → ℕ → Log → Option Neighbour → Log
 final_log_by w s log None = log
 final_log_by w s log (Some pred) = flow pred.1 log (w.links (Server pred.0) (Server s))
@@ -78,7 +78,7 @@ final_log_by w s log (Some pred) = flow pred.1 log (w.links (Server pred.0) (Ser
 abbrev pub final_log : LogWorld → ℕ → Log
 final_log w s = final_log_by w s (log_at w s) (w.servers s).pred
 
--- the first log that a server shows: its own, or the first that comes whole
+-- the first log that a server shows: its own, or the first that is received whole
 abbrev pub first_snapshot_by : LogWorld → ℕ → Option Neighbour → Log
 first_snapshot_by w s None = None
 first_snapshot_by w s (Some pred) = first_snapshot pred.1 (w.links (Server pred.0) (Server s))

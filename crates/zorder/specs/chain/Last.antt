@@ -11,12 +11,12 @@ use Rattle.zorder.specs.chain.Flow.{LogWorld, LogMessage, length_of}
 abbrev pub HasExactLast : ServerView (List Entry) → Type 0
 HasExactLast v = v.last ≡ length_of v.machine
 
--- so is a snapshot's
+-- the same of a snapshot
 abbrev pub IsExact : LogMessage → Type 0
 IsExact (message.Snapshot epoch transfer) = transfer.last ≡ length transfer.machine
 IsExact other = Unit {0}
 
--- so are all in a world
+-- the same of all in a world
 pub record LastsAreLengths (w : LogWorld) : Type 0 where
   pub views : (s : ℕ) → HasExactLast (w.servers s)
   pub under_way : (from to : Process) (m : LogMessage) → Among m (w.links from to) → IsExact m

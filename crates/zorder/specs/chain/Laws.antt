@@ -1,4 +1,5 @@
--- What holds before the first event, what each event keeps, and what holds of every list of events by it.
+-- What holds before the first event, what each event keeps, and what therefore holds of every list
+-- of events.
 use Rattle.std.specs.Prelude.{ℕ, List}
 use Rattle.zcalls.specs.PlainTree.{plain_tree}
 use Rattle.zprotocol.specs.declared.process.Process.{Process}
@@ -17,7 +18,7 @@ abbrev pub LastIsLength : Type 0
 LastIsLength =
     (servers clients : ℕ) (events : List Event) → LastsAreLengths (run (log_machine plain_tree) (opening_world (log_machine plain_tree) servers clients) events)
 
--- the opening is sound
+-- the initial state is sound
 abbrev pub OpeningIsSound : Type 0
 OpeningIsSound = (servers clients : ℕ) → IsSound plain_tree (opening_account plain_tree servers clients)
 

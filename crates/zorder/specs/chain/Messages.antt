@@ -1,4 +1,4 @@
--- What is said of each message under way.
+-- What holds of each message in flight.
 use Rattle.std.specs.Prelude.{◌≡◌, true, List}
 use Rattle.zcalls.specs.declared.call.Call.TheVariants as call
 use Rattle.zcalls.specs.Operation.{operation_of}
@@ -10,9 +10,10 @@ use Rattle.zorder.specs.legal.Items.{Item, IsGiven, AllBegun}
 use Rattle.zorder.specs.chain.Flow.{LogWorld, LogMessage}
 use Rattle.zorder.specs.chain.Chain.{IsOpened}
 
--- a request is a call that began; an answer is that of an item; a message of an epoch is there only once its receiver, and
--- an order or a report only once the server that it speaks of, has taken that epoch; entries and whole logs are of calls
--- that began; and who is gone has failed
+-- A request is a call that was invoked, and an answer is that of an item. A message of an epoch is
+-- there only once its receiver has received that epoch. An order or a report of an epoch is there
+-- only once the server that it is about has. Entries and whole logs are of calls that were invoked.
+-- Whoever is gone has failed
 abbrev pub IsJustified : LogWorld → List Item → Process → Process → LogMessage → Type 0
 IsJustified w items (Client c) to (message.Submit number update) =
     HasBegun w.history (record { client = c; number = number; call = call.Update update })

@@ -6,11 +6,11 @@ use Rattle.zprotocol.specs.declared.process.Process.TheVariants.{Client}
 use Rattle.zworld_model.specs.declared.event.Event.TheVariants.{Begin, Retry, Take, Fail}
 use Rattle.zorder.specs.chain.Events.{KeepsSound}
 
--- a client takes a message: Answer, Config, or one that doesn't count
+-- a client receives a message: Answer, Config, or one that doesn't count
 abbrev pub ClientsHear : Type 0
 ClientsHear = (from : Process) (c : ℕ) → KeepsSound (Take from (Client c))
 
--- a call begins
+-- a client invokes a call
 abbrev pub CallsBegin : Type 0
 CallsBegin = (c : ℕ) (call : Call) → KeepsSound (Begin c call)
 

@@ -1,5 +1,6 @@
--- The items of a run: the calls in the order in which they took effect, each with its reply and with the length that the
--- history had then. What is said of it here makes a legal order of it.
+-- The items of a run: the calls in the order in which they took effect, each with its reply and
+-- with the length of the history at that time. A list of items with the properties below makes a
+-- legal order.
 use Rattle.std.specs.Prelude.{◌≡◌, ℕ, ◌+◌, ◌≤◌, Bool, true, false, List, [], ◌∷◌, map, length, take, drop, if◌then◌else◌}
 use Rattle.zcalls.specs.declared.call.Call.{Call}
 use Rattle.zcalls.specs.declared.call.Call.TheVariants.{Update, Query}
@@ -57,18 +58,18 @@ IsGiven items client number reply = (i : Item) × Among i items × IsItemOf clie
 abbrev pub IsGivenBy : List Item → ℕ → ℕ → ℕ → Reply → Type 0
 IsGivenBy items time client number reply = (i : Item) × Among i items × IsItemOf client number reply i × (i.time ≤ time)
 
--- an event that is an answer is that of an item, no later than this
+-- an event that is a response is that of an item, no later than this
 abbrev pub IsAnsweredBy : List Item → ℕ → CallEvent → Type 0
 IsAnsweredBy items time (Begin client number call) = Unit {0}
 IsAnsweredBy items time (Answer client number reply) = IsGivenBy items time client number reply
 
--- each answer of a history is that of an item no later than the events before it, which are so many and those of the
--- history itself
+-- each response of a history is that of an item. The item is no later than the events before the
+-- response: this many, and those of the history itself
 abbrev pub AreAnsweredInTime : List Item → ℕ → History → Type 0
 AreAnsweredInTime items before [] = Unit {0}
 AreAnsweredInTime items before (event ∷ events) = IsAnsweredBy items before event × AreAnsweredInTime items (before + 1) events
 
--- both begin one call, or both answer one
+-- both invoke one call, or both answer one
 abbrev pub IsSameEvent : CallEvent → CallEvent → Type 0
 IsSameEvent (Begin c n call) (Begin d m other) = (c ≡ d) × (n ≡ m)
 IsSameEvent (Answer c n reply) (Answer d m other) = (c ≡ d) × (n ≡ m)
@@ -78,27 +79,27 @@ IsSameEvent event other = ⊥
 abbrev pub AreCommitted : {P : Type 0} → Plain P → List Entry → List Item → Type 0
 AreCommitted plain committed items = updates_of items ≡ acts_of plain committed
 
--- along the list times don't fall
+-- along the list the times don't fall
 abbrev pub TimesRise : List Item → Type 0
 TimesRise items = Pairwise (λ i j. i.time ≤ j.time) items
 
--- each item's time is past the beginning of its call, and is no later than now
+-- each item's time is past the invocation of its call, and is no later than now
 abbrev pub AreBegunInTime : History → List Item → Type 0
 AreBegunInTime history items =
     (i : Item) → Among i items → (i.time ≤ length history) × HasBegun (take i.time history) i.operation
 
--- no call begins twice, and none is answered twice
+-- no call is invoked twice, and none is answered twice
 abbrev pub EventsDiffer : History → Type 0
 EventsDiffer history = NoTwo IsSameEvent history
 
--- a call that has begun has a number up to the client's
+-- a call that was invoked has a number up to the client's
 abbrev pub AreNumbered : (ℕ → ClientView) → History → Type 0
 AreNumbered clients history = (o : Operation) → HasBegun history o → o.number ≤ (clients o.client).number
 
--- each entry is a call that began
+-- each entry is a call that was invoked
 abbrev pub AllBegun : History → List Entry → Type 0
 AllBegun history log = (e : Entry) → Among e log → HasBegun history (operation_of e)
 
--- the entries that acted, where a committed log grew to another
+-- the items of the entries that acted when one committed log grew to another
 abbrev pub new_items : {P : Type 0} → Plain P → ℕ → List Entry → List Entry → List Item
 new_items plain time old new = all_at_time time (acts_from plain.update (after_log plain old) (drop (length old) new))

@@ -7,7 +7,7 @@ use Rattle.zworld_model.specs.History.{History}
 use Rattle.zworld_model.specs.PlainTree.{IsExplained, service_of}
 use Rattle.zorder.specs.legal.Items.{Item, Replays, AreCommitted, TimesRise, AreBegunInTime, AreAnsweredInTime, EventsDiffer}
 
--- the plain tree explains a history where a list of items goes with it, and a committed log
+-- a history is linearizable over the plain tree where a list of items and a committed log fit it
 abbrev pub ItemsExplain : Type 0
 ItemsExplain =
     (history : History) (committed : List Entry) (items : List Item)

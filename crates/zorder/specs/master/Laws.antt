@@ -1,16 +1,16 @@
--- The events that repair and extend the chain: the master's orders at servers, what the master hears, joins, and
--- orders to leave.
+-- The events that repair and extend the chain: servers receive the master's orders, the master
+-- receives messages, servers join, and members are ordered to leave.
 use Rattle.std.specs.Prelude.{ℕ}
 use Rattle.zprotocol.specs.declared.process.Process.{Process}
 use Rattle.zprotocol.specs.declared.process.Process.TheVariants.{Master, Server}
 use Rattle.zworld_model.specs.declared.event.Event.TheVariants.{Take, Join, Retire}
 use Rattle.zorder.specs.chain.Events.{KeepsSound}
 
--- a server takes a message of the master, whatever it is
+-- a server receives any message of the master
 abbrev pub ServersHearMaster : Type 0
 ServersHearMaster = (s : ℕ) → KeepsSound (Take Master (Server s))
 
--- the master takes a message: Have, Joined, Gone, or one that doesn't count
+-- the master receives a message: Have, Joined, Gone, or one that doesn't count
 abbrev pub MasterHears : Type 0
 MasterHears = (from : Process) → KeepsSound (Take from Master)
 

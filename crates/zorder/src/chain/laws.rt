@@ -2,13 +2,13 @@
 
 ghost use Rattle.zorder.specs.chain.Laws.{LastIsLength, OpeningIsSound, RequestsAreLost};
 
-/// In every run of the log world the number of a server's last entry is the length of its log, and so is that of each
-/// snapshot under way.
+/// In every run of the log world, the number of a server's last entry is the length of its log. The
+/// same holds of each snapshot in flight.
 pub fn lasts_are_lengths()
     ensures { LastIsLength }
 {}
 
-/// The opening is sound.
+/// The initial state is sound.
 pub fn opening_is_sound()
     ensures { OpeningIsSound }
 {}

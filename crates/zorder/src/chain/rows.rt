@@ -1,4 +1,4 @@
-//! Wrong tables, each refuted by an invariant: each contract is a step that loses it.
+//! Wrong tables, each refuted by an invariant. Each contract is a step that loses it.
 
 ghost use Rattle.zorder.specs.chain.support.WrongTables.{
   AnyQueriesAreRefuted,
@@ -25,7 +25,7 @@ pub fn second_acts_are_refuted()
     ensures { SecondActsAreRefuted }
 {}
 
-/// Any initialised server takes a `Submit`.
+/// Any initialised server accepts a `Submit`.
 pub fn any_submits_are_refuted()
     ensures { AnySubmitsAreRefuted }
 {}
@@ -35,12 +35,12 @@ pub fn any_queries_are_refuted()
     ensures { AnyQueriesAreRefuted }
 {}
 
-/// An update is taken without its number being the next.
+/// An update is accepted though its number isn't the next.
 pub fn any_updates_are_refuted()
     ensures { AnyUpdatesAreRefuted }
 {}
 
-/// A snapshot is taken over a state that is there.
+/// A snapshot replaces a state that the server has.
 pub fn any_snapshots_are_refuted()
     ensures { AnySnapshotsAreRefuted }
 {}

@@ -2,12 +2,12 @@
 
 ghost use Rattle.zorder.specs.clients.Laws.{CallsAreSentAgain, CallsBegin, ClientsHear, ServersFail};
 
-/// A client takes an `Answer`, a `Config` or anything else.
+/// A client receives an `Answer`, a `Config` or anything else.
 pub fn clients_hear()
     ensures { ClientsHear }
 {}
 
-/// A call begins.
+/// A client invokes a call.
 pub fn calls_begin()
     ensures { CallsBegin }
 {}

@@ -2,7 +2,7 @@
 
 ghost use Rattle.zorder.specs.legal.Laws.{ItemsExplain};
 
-/// A list of items that goes with a history and a committed log makes a legal order of the history.
+/// A list of items that fits a history and a committed log makes a legal order of the history.
 pub fn items_explain()
     ensures { ItemsExplain }
 {}

@@ -2,12 +2,13 @@
 
 ghost use Rattle.zorder.specs.master.Laws.{MasterHears, ServersHearMaster, ServersJoin, MembersRetire};
 
-/// A server takes any message from the master: an order, also one to leave, or one that doesn't count.
+/// A server receives any message from the master: an order, also one to leave, or one that doesn't
+/// count.
 pub fn servers_hear_master()
     ensures { ServersHearMaster }
 {}
 
-/// The master takes a `Have`, a `Joined`, a `Gone` or anything else.
+/// The master receives a `Have`, a `Joined`, a `Gone` or anything else.
 pub fn master_hears()
     ensures { MasterHears }
 {}

@@ -2,12 +2,12 @@
 
 ghost use Rattle.zorder.specs.servers.Laws.{ServersHearClients, ServersHearServers};
 
-/// A server takes an `Update`, an `Ack`, a `Snapshot` or anything else from a server.
+/// A server receives an `Update`, an `Ack`, a `Snapshot` or anything else from a server.
 pub fn servers_hear_servers()
     ensures { ServersHearServers }
 {}
 
-/// A server takes a `Submit`, a `Query` or anything else from a client.
+/// A server receives a `Submit`, a `Query` or anything else from a client.
 pub fn servers_hear_clients()
     ensures { ServersHearClients }
 {}

@@ -1,13 +1,15 @@
--- The view of the master: what it knows of the chain.
--- Van Renesse and Schneider, "Chain Replication for Supporting High Throughput and Availability" (OSDI 2004),
--- section 3; epochs, orders to leave, and that no server's number is used again, are this project's profile.
+-- The view of the master: its state, apart from how it is stored. The source is van Renesse and
+-- Schneider, "Chain Replication for Supporting High Throughput and Availability" (OSDI 2004),
+-- section 3. Epochs, orders to leave, and never using a server's number again are this project's
+-- profile.
 use Rattle.std.specs.Prelude.{ℕ, Bool, false, not, Option, None, Some, List, [], ◌∷◌, ◌==◌, nat_lt, if◌then◌else◌, map, filter}
 use Rattle.std.specs.List.{list_any, range_with_len, last_or}
 use Rattle.zprotocol.specs.server.View.{Neighbour}
 
--- what the master knows: the chain from the head down, each member with the epoch of its pair with the one before it; the
--- member that has no state yet; the member that was ordered to leave, until its Gone is taken; the numbers of servers that
--- were ever used, a rising list; the last epoch that it gave; and how many clients there are, with numbers from 0
+-- The state of the master: the chain from the head down, each member with the epoch of its pair
+-- with its predecessor. Then the member without state, and the member that was ordered to leave,
+-- until its Gone arrives. Then the server numbers ever used, in rising order; the last epoch given;
+-- and the number of clients, which are numbered from 0.
 pub record MasterView : Type 0 where
   pub chain : List Neighbour
   pub joining : Option ℕ
@@ -16,7 +18,7 @@ pub record MasterView : Type 0 where
   pub epoch : ℕ
   pub clients : ℕ
 
--- the opening: the chain is the servers from 1 up to so many, and all pairs have epoch 0
+-- the initial view: the chain of servers 1 to `servers`, with epoch 0 for all pairs
 abbrev pub opening_master : ℕ → ℕ → MasterView
 opening_master servers clients =
     record {
@@ -28,11 +30,11 @@ opening_master servers clients =
       clients = clients;
     }
 
--- the number is one of these
+-- the number is in the list
 abbrev pub is_among : ℕ → List ℕ → Bool
 is_among s numbers = list_any (λ number. number == s) numbers
 
--- a rising list of numbers with this one in its place, once
+-- a rising list with this number inserted, once
 abbrev pub with_number : ℕ → List ℕ → List ℕ
 with_number s [] = s ∷ []
 with_number s (number ∷ numbers) =
@@ -52,15 +54,16 @@ is_joining v s = elim v.joining [ None ↦ false | Some joining ↦ joining == s
 abbrev pub is_retiring : MasterView → ℕ → Bool
 is_retiring v s = elim v.retiring [ None ↦ false | Some retiring ↦ retiring == s ]
 
--- the first of a list
+-- the first of a list, if any
 abbrev pub first_of : List ℕ → Option ℕ
 first_of [] = None
 first_of (s ∷ rest) = Some s
 
--- the head that clients are told: the first of the chain
+-- the head that clients are told: the first member of the chain
 abbrev pub head_of : MasterView → Option ℕ
 head_of v = first_of (members v)
 
--- the tail that clients are told: the last that isn't joining, or the first where there is no such member
+-- the tail that clients are told: the last member that isn't joining; if there is none, the first
+-- member
 abbrev pub tail_of : MasterView → Option ℕ
 tail_of v = last_or (head_of v) (filter (λ s. not (is_joining v s)) (members v))

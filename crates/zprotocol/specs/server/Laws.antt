@@ -1,4 +1,4 @@
--- What holds of the server table, over all views and messages.
+-- Laws of the server table, over all views and messages.
 use Rattle.std.specs.Prelude.{◌≡◌, ℕ, Bool, true, false, Option}
 use Rattle.std.specs.List.{list_any}
 use Rattle.ztree.specs.Tree.{Tree}
@@ -12,12 +12,12 @@ use Rattle.zprotocol.specs.server.Machine.{Does, kept_tree}
 use Rattle.zprotocol.specs.server.View.{ServerView, MessageOf, is_tail}
 use Rattle.zprotocol.specs.server.Table.{server_step}
 
--- the message answers a call
+-- the message is the reply to a call
 abbrev pub is_answer : {M : Type 0} → MessageOf M → Bool
 is_answer (message.Answer number reply) = true
 is_answer m = false
 
--- no server but a tail answers, whatever it takes
+-- only a tail sends replies, whatever message it handles
 abbrev pub OnlyTailsAnswer : {M : Type 0} → Does M → Type 0
 OnlyTailsAnswer {M} does =
     (v : ServerView M) (from : Process) (m : MessageOf M)
@@ -27,7 +27,7 @@ OnlyTailsAnswer {M} does =
 abbrev pub first_entry : ℕ → Update → Entry
 first_entry client update = record { client = client; number = 1; update = update }
 
--- what a client's first update makes of a tree, where no reply is kept, and what it is answered
+-- the tree and the reply after a client's first update, where no reply is cached
 abbrev pub first_step : Tree → ℕ → Update → Tree × Option Reply
 first_step t client update =
     let did = kept_tree.apply (nothing_kept t) (first_entry client update) in

@@ -1,7 +1,7 @@
--- What the server table asks of a machine, and the two machines that it is used with: the plain tree with kept
--- replies, and the log of entries.
--- Van Renesse and Schneider, "Chain Replication for Supporting High Throughput and Availability" (OSDI 2004),
--- sections 2 and 3. A copy of a machine is its value.
+-- What the server table requires of a state machine, and the two machines it is used with: the tree
+-- with cached replies, and the log of entries. The source is van Renesse and Schneider, "Chain
+-- Replication for Supporting High Throughput and Availability" (OSDI 2004), sections 2 and 3. A
+-- copy of a machine is the same value.
 use Rattle.std.specs.Prelude.{Option, List, [], ◌∷◌, ◌++◌}
 use Rattle.ztree.specs.Tree.{Tree}
 use Rattle.zcalls.specs.declared.call.Entry.{Entry}
@@ -11,13 +11,15 @@ use Rattle.zcalls.specs.Kept as kept
 use Rattle.zcalls.specs.Kept.{Plain, KeptState, nothing_kept, entry_step}
 use Rattle.zcalls.specs.PlainTree.{plain_tree}
 
--- what a machine does: where it starts, what an entry makes of it and the reply or none, and its reply to a query
+-- a state machine: its initial state, the effect of an entry with its reply, if any, and the reply
+-- to a query
 pub record Does (M : Type 0) : Type 0 where
   pub start : M
   pub apply : M → Entry → M × Option Reply
   pub ask : M → Query → Reply
 
--- a plain service with kept replies: entries act by the entry step over its updates, and queries are asked of its state
+-- a sequential service with cached replies: entries are applied by the entry step, and queries are
+-- answered from its state
 abbrev pub machine_of : {P : Type 0} → Plain P → Does (KeptState P)
 machine_of plain =
     record {
@@ -26,19 +28,20 @@ machine_of plain =
       ask = λ s query. plain.ask s.plain query;
     }
 
--- the plain tree with kept replies
+-- the tree with cached replies
 abbrev pub kept_tree : Does (KeptState Tree)
 kept_tree = machine_of plain_tree
 
--- a machine after more entries, one after the other
+-- a machine after these entries, one after the other
 abbrev pub after_entries : {M : Type 0} → Does M → M → List Entry → M
 after_entries does m entries = kept.after_entries does.apply m entries
 
--- a machine after a log, from its start
+-- a machine after a log, from its initial state
 abbrev pub replay : {M : Type 0} → Does M → List Entry → M
 replay does log = after_entries does does.start log
 
--- the log of entries as a machine: it keeps each entry, and replies as the machine after the log does
+-- the log of entries as a machine: it stores each entry, and replies as the machine after that log
+-- does
 abbrev pub log_of : {M : Type 0} → Does M → Does (List Entry)
 log_of does =
     record {

@@ -1,7 +1,8 @@
--- Where a server may want memory: at a message that makes it grow. Where it finds none for a query, the query is lost; at
--- any other message it stops.
--- Van Renesse and Schneider, "Chain Replication for Supporting High Throughput and Availability" (OSDI 2004), section 2:
--- a request may be ignored, and servers are fail-stop. That want of memory is one or the other is this project's profile.
+-- Where a server may run out of memory: only at a message that makes it grow. If there is no memory
+-- for a query, the query is lost; at any other message the server stops. The source is van Renesse
+-- and Schneider, "Chain Replication for Supporting High Throughput and Availability" (OSDI 2004),
+-- section 2. There, a request may be ignored, and servers are fail-stop. Treating out of memory as
+-- one or the other is this project's profile.
 use Rattle.std.specs.Prelude.{Bool, true, false, ◌&&◌, ◌||◌, not, nat_lt, length}
 use Rattle.zprotocol.specs.declared.message.Message.TheVariants as message
 use Rattle.zprotocol.specs.declared.process.Process.{Process}
@@ -9,19 +10,19 @@ use Rattle.zprotocol.specs.server.Machine.{Does}
 use Rattle.zprotocol.specs.server.View.{ServerView, MessageOf}
 use Rattle.zprotocol.specs.server.Table.{ServerResult, server_step}
 
--- a query of a client
+-- the message is a query of a client
 abbrev pub is_query : {M : Type 0} → MessageOf M → Bool
 is_query (message.Query number query) = true
 is_query other = false
 
--- by this row a server grows: its log gets longer, or it puts something
+-- the server grows: its log gets longer, or it sends something
 abbrev pub grows_by : {M : Type 0} → ServerView M → ServerResult M → Bool
 grows_by v did = nat_lt v.last did.0.last || nat_lt 0 (length did.1)
 
--- a server may stop at a message, which is no query, if it makes the server grow
+-- a server may stop at a message other than a query, if the message makes it grow
 abbrev pub may_stop : {M : Type 0} → Does M → ServerView M → Process → MessageOf M → Bool
 may_stop does v from m = not (is_query m) && grows_by v (server_step does v from m)
 
--- a server may not hear a query, if it would answer it
+-- a server may drop a query that it would otherwise answer
 abbrev pub may_be_unheard : {M : Type 0} → Does M → ServerView M → Process → MessageOf M → Bool
 may_be_unheard does v from m = is_query m && grows_by v (server_step does v from m)

@@ -1,7 +1,8 @@
--- The server table: what a server does with each message, over any machine. A row for each message, in their order;
--- a row's conditions stand before its effect.
--- Van Renesse and Schneider, "Chain Replication for Supporting High Throughput and Availability" (OSDI 2004),
--- section 3; epochs, Have, Joined, the one Snapshot for a new server and Retire are this project's profile.
+-- The server table: what a server does with each message, over any state machine. There is one row
+-- for each message, in their order; a row's conditions come before its effect. The source is van
+-- Renesse and Schneider, "Chain Replication for Supporting High Throughput and Availability" (OSDI
+-- 2004), section 3. Epochs, Have, Joined, the one Snapshot for a new server, and Retire are this
+-- project's profile.
 use Rattle.std.specs.Prelude.{ℕ, ◌+◌, Bool, true, false, Option, None, Some, List, [], ◌∷◌, ◌++◌, if◌then◌else◌, is_none, nat_lt, ◌==◌, map, filter}
 use Rattle.zcalls.specs.declared.call.Entry.{Entry}
 use Rattle.zcalls.specs.declared.call.Update.{Update}
@@ -14,47 +15,48 @@ use Rattle.zprotocol.specs.declared.process.Process.TheVariants.{Master, Server,
 use Rattle.zprotocol.specs.server.Machine.{Does}
 use Rattle.zprotocol.specs.server.View.{ServerView, Neighbour, Transfer, MessageOf, Post}
 
--- the view after a message, and what is put
+-- the view after a message, and the messages sent
 abbrev pub ServerResult : Type 0 → Type 0
 ServerResult M = ServerView M × List (Post M)
 
--- nothing changes, and nothing is put
+-- nothing changes, and nothing is sent
 abbrev pub no_effect : {M : Type 0} → ServerView M → ServerResult M
 no_effect v = (v, [])
 
--- a row for initialised servers alone
+-- a row for initialised servers only
 abbrev pub if_initialised : {M : Type 0} → ServerView M → (M → ServerResult M) → ServerResult M
 if_initialised v row = elim v.machine [ None ↦ no_effect v | Some m ↦ row m ]
 
--- the neighbour is this server, and their epoch is this
+-- the neighbour is this server, and their pair has this epoch
 abbrev pub is_neighbour : Option Neighbour → ℕ → ℕ → Bool
 is_neighbour None s epoch = false
 is_neighbour (Some neighbour) s epoch = if neighbour.0 == s then neighbour.1 == epoch else false
 
--- there is a number for one more entry
+-- a log number is left for one more entry
 abbrev pub has_room : {M : Type 0} → ServerView M → Bool
 has_room v = nat_lt v.last MAX_LOG_NUMBER
 
--- an acknowledgement of the entries up to a number, to the predecessor where there is one
+-- an acknowledgement of the entries up to n, sent to the predecessor if there is one
 abbrev pub ack_posts : {M : Type 0} → Option Neighbour → ℕ → List (Post M)
 ack_posts None n = []
 ack_posts (Some pred) n = (Server pred.0, message.Ack pred.1 n) ∷ []
 
--- the reply to an entry, to its client where there is one
+-- the reply to an entry, if any, sent to its client
 abbrev pub answer_posts : {M : Type 0} → Entry → Option Reply → List (Post M)
 answer_posts entry None = []
 answer_posts entry (Some reply) = (Client entry.client, message.Answer entry.number reply) ∷ []
 
--- an entry on its way to the successor
+-- an entry forwarded to the successor
 abbrev pub forward_post : {M : Type 0} → Neighbour → ℕ × Entry → Post M
 forward_post succ e = (Server succ.0, message.Update succ.1 e.0 e.1)
 
--- the entries above a number, in their order
+-- the entries with a number above n, in order
 abbrev pub entries_above : ℕ → List (ℕ × Entry) → List (ℕ × Entry)
 entries_above n sent = filter (λ e. nat_lt n e.0) sent
 
--- accept: the machine applies the entry, whose number is the last one now. A server with a successor keeps it in Sent and
--- forwards it; one without answers its client, and acknowledges to its predecessor
+-- Accept: the machine applies the entry, and its number becomes the last one. With a successor, the
+-- server adds the entry to Sent and forwards it. Without one, it sends the reply to the client, and
+-- an acknowledgement to its predecessor.
 unfoldable pub accept_result : {M : Type 0} → Does M → ServerView M → M → ℕ → Entry → ServerResult M
 accept_result does v m n entry =
     let did = does.apply m entry in
@@ -63,7 +65,7 @@ accept_result does v m n entry =
       | Some succ ↦ (record v { machine = Some did.0; last = n; sent = v.sent ++ (n, entry) ∷ [] }, forward_post succ (n, entry) ∷ [])
     ]
 
--- Submit from a client, at a head with a number left
+-- Submit from a client, at a head with a log number left
 unfoldable pub submit_row : {M : Type 0} → Does M → ServerView M → ℕ → ℕ → Update → ServerResult M
 submit_row does v client number update =
     if_initialised v (λ m.
@@ -78,7 +80,8 @@ query_row does v client number query =
     if is_none v.succ then (v, (Client client, message.Answer number (does.ask m query)) ∷ [])
     else no_effect v)
 
--- Update from the predecessor in their epoch, at an initialised server whose next number it has
+-- Update from the predecessor in their epoch, at an initialised server, if it carries the next
+-- number
 unfoldable pub update_row : {M : Type 0} → Does M → ServerView M → ℕ → ℕ → ℕ → Entry → ServerResult M
 update_row does v p epoch n entry =
     if_initialised v (λ m.
@@ -87,7 +90,8 @@ update_row does v p epoch n entry =
     if has_room v then accept_result does v m n entry
     else no_effect v else no_effect v else no_effect v)
 
--- Ack from the successor in their epoch: what the tail has processed leaves Sent, and the predecessor is told
+-- Ack from the successor in their epoch: the acknowledged entries leave Sent, and the predecessor,
+-- if any, is sent an acknowledgement
 unfoldable pub ack_row : {M : Type 0} → ServerView M → ℕ → ℕ → ℕ → ServerResult M
 ack_row v t epoch n =
     if is_neighbour v.succ t epoch then (record v { sent = entries_above n v.sent }, ack_posts v.pred n)
@@ -106,38 +110,42 @@ snapshot_row v p epoch transfer =
           else no_effect v
     ]
 
--- the last number of a server's log; none where it has no state
+-- the last number of a server's log, or none if it has no state
 abbrev pub last_number : {M : Type 0} → ServerView M → Option ℕ
 last_number v = elim v.machine [ None ↦ None | Some m ↦ Some v.last ]
 
--- NewPred from the master, always: the new predecessor, and the master is told what the server has
+-- NewPred from the master, always: set the new predecessor, and report the last number to the
+-- master
 unfoldable pub new_pred_row : {M : Type 0} → ServerView M → ℕ → ℕ → ServerResult M
 new_pred_row v epoch p = (record v { pred = Some (p, epoch) }, (Master, message.Have epoch (last_number v)) ∷ [])
 
--- what a new successor lacks: the entries of Sent above its last number, or the whole state where it has none
+-- what a new successor is missing: the entries of Sent above its last number, or the whole state if
+-- it has none
 abbrev pub missing_posts : {M : Type 0} → ServerView M → M → Neighbour → Option ℕ → List (Post M)
 missing_posts v m succ (Some n) = map (forward_post succ) (entries_above n v.sent)
 missing_posts v m succ None = (Server succ.0, message.Snapshot succ.1 (record { last = v.last; machine = m })) ∷ []
 
--- NewSucc from the master, at an initialised server: the new successor, and what it lacks is put to it; Sent stays
+-- NewSucc from the master, at an initialised server: set the new successor, and send what it is
+-- missing; Sent stays
 unfoldable pub new_succ_row : {M : Type 0} → ServerView M → ℕ → ℕ → Option ℕ → ServerResult M
 new_succ_row v epoch t last = if_initialised v (λ m. (record v { succ = Some (t, epoch) }, missing_posts v m (t, epoch) last))
 
--- BecomeHead from the master, always
+-- BecomeHead from the master, always: there is no predecessor any more
 unfoldable pub become_head_row : {M : Type 0} → ServerView M → ServerResult M
 become_head_row v = (record v { pred = None }, [])
 
--- BecomeTail from the master, always: all of Sent is processed now, which an initialised server acknowledges
+-- BecomeTail from the master, always: there is no successor any more, and all of Sent is processed
+-- now. An initialised server acknowledges that.
 unfoldable pub become_tail_row : {M : Type 0} → ServerView M → ServerResult M
 become_tail_row v = (record v { sent = []; succ = None }, elim v.machine [ None ↦ [] | Some m ↦ ack_posts v.pred v.last ])
 
--- Retire from the master: it changes nothing and puts nothing, and the server that takes it has stopped for good, as if it
--- had failed
+-- Retire from the master. The row changes nothing and sends nothing; the server that handles it
+-- stops for good, as if it had failed.
 abbrev pub is_retirement : {M : Type 0} → Process → MessageOf M → Bool
 is_retirement Master message.Retire = true
 is_retirement from other = false
 
--- the table; every other message changes nothing and puts nothing, and so does one whose conditions don't hold
+-- the table; any other message is ignored, and so is one whose conditions don't hold
 unfoldable pub server_step : {M : Type 0} → Does M → ServerView M → Process → MessageOf M → ServerResult M
 server_step does v (Client c) (message.Submit number update) = submit_row does v c number update
 server_step does v (Client c) (message.Query number query) = query_row does v c number query

@@ -1,13 +1,13 @@
-//! Why a call can't begin.
+//! Why a call can't be invoked.
 
-/// Why a call can't begin. `Busy` is tested first and then `Exhausted`; `Memory` is met where a growth
-/// is refused. A refused call changes nothing.
+/// Why a call can't be invoked. `Busy` is tested first, then `Exhausted`; `Memory` is returned
+/// where an allocation is refused. A refused call changes nothing.
 #[derive(Clone, Copy, Debug, PartialEq, Eq)]
 pub enum BeginFault {
-    /// The client waits for the reply to another call.
+    /// Another call of the client is outstanding.
     Busy,
-    /// There is no memory for the call.
+    /// Out of memory.
     Memory,
-    /// The client has used all of its call numbers.
+    /// The client has used up its call numbers.
     Exhausted,
 }

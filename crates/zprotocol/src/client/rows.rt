@@ -1,5 +1,5 @@
-//! Worked rows of the client table: each clause is one, and the bodies do nothing. The clients are those
-//! of `specs/support/Rows.antt`, and the messages those between servers whose machine is a number.
+//! Worked examples of the client table. Each clause is one; the bodies do nothing. The clients are
+//! those of `specs/support/Rows.antt`. The machine of the servers in the messages is a number.
 
 ghost use Rattle.std.specs.Prelude.{◌≡◌, ◌-◌, None, Some, [], ◌∷◌};
 ghost use Rattle.zcalls.specs.declared.limits.TheConstants.{MAX_CALL_NUMBER};
@@ -15,7 +15,7 @@ ghost use Rattle.zprotocol.specs.client.support.Rows.{with_calls, headless, told
 ghost use Rattle.zprotocol.specs.client.support.Rows.{submit_to, query_to, Ignores, after_call};
 ghost use Rattle.zprotocol.specs.client.support.Rows.{after_retry, after_answer, hears, hears_of_none};
 
-/// How a call begins: an update goes to the head and a query to the tail; and why it can't.
+/// Invoking a call: an update goes to the head, a query to the tail; and why a call is refused.
 pub fn calls_begin()
     ensures first_call { after_call newcomer update_call ≡ (beginner, submit_to 1 1 ∷ []) }
     ensures update { after_call idle update_call ≡ (eighth update_call, submit_to 1 8 ∷ []) }
@@ -28,7 +28,7 @@ pub fn calls_begin()
     ensures last_number { begin_fault (with_calls (MAX_CALL_NUMBER - 1) idle) ≡ None }
 {}
 
-/// What a client does with a server's answer, and with what it is told of the chain.
+/// What a client does with an Answer of a server, and with a Config.
 pub fn answers_are_taken()
     ensures answer { after_answer updating 3 ≡ (idle, [], Some (7, Deleted)) }
     ensures answer_of_any_server { after_answer updating 2 ≡ (idle, [], Some (7, Deleted)) }
@@ -44,13 +44,13 @@ pub fn answers_are_taken()
     ensures other_message { Ignores asking (Server 1) (message.Ack 4 7) }
 {}
 
-/// The opening: a client of the world knows the chain, and a number beyond them has the view of nobody.
+/// The initial views: a client knows the chain; a number beyond the clients has a view without one.
 pub fn opening_views()
     ensures client { opening_client 2 3 1 ≡ newcomer }
     ensures nobody { opening_client 2 3 3 ≡ outsider }
 {}
 
-/// A retry sends the call again, under its number.
+/// A retry sends the outstanding call again, under its number.
 pub fn calls_are_retried()
     ensures update { after_retry updating ≡ submit_to 1 7 ∷ [] }
     ensures query { after_retry asking ≡ query_to 3 7 ∷ [] }

@@ -1,16 +1,18 @@
 //! Why a server can't join.
 
-/// Why a server can't join: the first that holds, in this order. A refused join changes nothing.
+/// Why a server can't join: the first that holds, in the order of the variants. A refused join
+/// changes nothing.
 #[derive(Clone, Copy, Debug, PartialEq, Eq)]
 pub enum JoinFault {
-    /// The server was a member of the chain, or it failed as a spare one: no number is used again.
+    /// The server was a member of the chain before, or it failed as a spare. No number is used
+    /// again.
     Used,
-    /// A server is joining beneath another member.
+    /// A server is joining, and it isn't the only member.
     Joining,
-    /// The chain has no member.
+    /// The chain has no members.
     NoChain,
-    /// The chain's only member is joining, and there is nobody to give it the state.
+    /// The only member of the chain is joining, so nobody can give it the state.
     Lost,
-    /// A member was ordered to leave, and the master hasn't heard that it is gone.
+    /// A member was ordered to leave, and its Gone hasn't reached the master.
     Retiring,
 }

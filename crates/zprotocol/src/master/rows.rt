@@ -1,5 +1,5 @@
-//! Worked rows of the master table: each clause is one, and the bodies do nothing. The chains are those
-//! of `specs/support/Rows.antt`, and the messages those between servers whose machine is a number.
+//! Worked examples of the master table. Each clause is one; the bodies do nothing. The chains are
+//! those of `specs/support/Rows.antt`. The machine of the servers in the messages is a number.
 
 ghost use Rattle.std.specs.Prelude.{◌≡◌, None, Some, [], ◌∷◌};
 ghost use Rattle.zprotocol.specs.declared.message.Message.TheVariants as message;
@@ -17,7 +17,7 @@ ghost use Rattle.zprotocol.specs.master.support.Rows.{without_joining, tells, te
 ghost use Rattle.zprotocol.specs.master.support.Rows.{new_head, new_tail, new_pred, Ignores, after_join};
 ghost use Rattle.zprotocol.specs.master.support.Rows.{after_retire, after_have, after_joined, after_gone};
 
-/// What the master does with a server's report of its log, and when a new server has the state.
+/// What the master does with a server's Have, and with the Joined of a new server.
 pub fn reports_are_passed_on()
     ensures have { after_have three (Some 9) ≡ (three, passed_on (Some 9) ∷ []) }
     ensures have_no_state { after_have growing None ≡ (growing, passed_on None ∷ []) }
@@ -31,7 +31,7 @@ pub fn reports_are_passed_on()
     ensures order_of_a_server { Ignores three (Server 1) (message.BecomeTail 7) }
 {}
 
-/// How the master mends the chain when a server has failed, and whom it tells.
+/// How the master repairs the chain when a server has failed, and whom it tells.
 pub fn chain_is_mended()
     ensures first { after_gone three 1 ≡ (three_without_1, new_head 2 4) }
     ensures last { after_gone three 4 ≡ (three_without_4, new_tail 1 2) }
@@ -45,7 +45,7 @@ pub fn chain_is_mended()
     ensures spare { after_gone three 5 ≡ (record three { used = 1 ∷ 2 ∷ 3 ∷ 4 ∷ 5 ∷ [] }, []) }
 {}
 
-/// How a server joins, and why it can't.
+/// How a server joins, and why a join is refused.
 pub fn servers_join()
     ensures joins { after_join three 5 ≡ (with_fifth, (Server 5, message.NewPred 7 4) ∷ []) }
     ensures allowed { join_fault three 5 ≡ None }
@@ -61,7 +61,7 @@ pub fn servers_join()
     ensures lost_before_retiring { join_fault (retiring 4 lost) 5 ≡ Some Lost }
 {}
 
-/// How a member is ordered to leave, and why it isn't.
+/// How a member is ordered to leave, and why an order is refused.
 pub fn servers_retire()
     ensures head { after_retire three 1 ≡ (retiring 1 three, (Server 1, message.Retire) ∷ []) }
     ensures middle { after_retire three 2 ≡ (retiring 2 three, (Server 2, message.Retire) ∷ []) }
@@ -79,8 +79,8 @@ pub fn servers_retire()
     ensures retiring_itself { retire_fault (retiring 1 three) 1 ≡ Some retire.Retiring }
 {}
 
-/// When the one that was ordered to leave is gone, the chain is mended as for any other, and another may be ordered to
-/// leave, or join; when another one is gone, the order stands.
+/// When the member ordered to leave is gone, the chain is repaired as for any other. Then another
+/// may be ordered to leave, or join. When another member is gone, the order stands.
 pub fn retired_servers_are_gone()
     ensures head { after_gone (retiring 1 three) 1 ≡ (three_without_1, new_head 2 4) }
     ensures middle { after_gone (retiring 2 three) 2 ≡ (three_without_2, new_pred 4 1 1 4) }
@@ -93,8 +93,8 @@ pub fn retired_servers_are_gone()
     ensures gone_one_joins { join_fault (after_gone (retiring 1 three) 1).0 1 ≡ Some Used }
 {}
 
-/// The opening of a chain of two with three clients, the head and tail that clients are told, and the used
-/// numbers with one more.
+/// The initial view of two servers and three clients, the head and tail that clients are told, and
+/// the used numbers with one more.
 pub fn opening_and_ends()
     ensures opening { opening_master 2 3 ≡ opening_of_two }
     ensures head { head_of three ≡ Some 1 }

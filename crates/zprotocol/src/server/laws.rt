@@ -1,4 +1,4 @@
-//! What holds of the definitions themselves: each function's contract is a law, and its body does nothing.
+//! Laws of the definitions. Each function's contract is a law; its body does nothing.
 
 ghost use Rattle.std.specs.Prelude.{◌≡◌, ℕ, Some};
 ghost use Rattle.ztree.specs.Tree.{Tree, opening_tree};
@@ -10,21 +10,21 @@ ghost use Rattle.zprotocol.specs.server.Machine.{kept_tree};
 ghost use Rattle.zprotocol.specs.server.support.Homomorphism.{LogStandsForMachine, TableKeepsLogs};
 ghost use Rattle.zprotocol.specs.server.Laws.{OnlyTailsAnswer, first_step};
 
-/// A log of entries stands for the tree with kept replies that it leads to: the log replies as that tree
-/// does, and a server does the same with either. So what holds of a chain of logs holds of a chain of
-/// trees.
+/// A log of entries stands for the tree with cached replies that it leads to. The log replies as
+/// that tree does, and a server does the same with either. So what holds of a chain of logs holds
+/// of a chain of trees.
 pub fn logs_stand_for_trees()
     ensures log { LogStandsForMachine kept_tree }
     ensures table { TableKeepsLogs kept_tree }
 {}
 
-/// No server but a tail answers a client, whatever message it takes.
+/// Only a tail sends replies to clients, whatever message it handles.
 pub fn only_tails_answer()
     ensures { OnlyTailsAnswer kept_tree }
 {}
 
-/// The machine that servers hold is the plain tree with kept replies: where it starts, what a client's first
-/// update does to it and is answered, and what a query is answered.
+/// The machine of a server is the tree with cached replies. The clauses give its initial state, the
+/// effect and the reply of a client's first update, and the reply to a query.
 pub fn machine_does_the_plain_step()
     ensures start { kept_tree.start ≡ nothing_kept opening_tree }
     ensures first_update { (t : Tree) (c : ℕ) (u : Update) → (first_step t c u).0 ≡ (step t c u).0 }

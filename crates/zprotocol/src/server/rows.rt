@@ -1,5 +1,5 @@
-//! Worked rows of the server table, of views and of machines: each clause is one, and the bodies do
-//! nothing. The machine counts its entries, and the servers are those of `specs/support/Rows.antt`.
+//! Worked examples of the server table, of views and of machines. Each clause is one; the bodies do
+//! nothing. The machine counts its entries. The servers are those of `specs/support/Rows.antt`.
 
 ghost use Rattle.std.specs.Prelude.{◌≡◌, ◌+◌, ◌-◌, ℕ, true, false, None, Some, [], ◌∷◌, ◌++◌};
 ghost use Rattle.ztree.specs.declared.limits.TheConstants.{MAX_CLIENTS};
@@ -28,7 +28,7 @@ ghost use Rattle.zprotocol.specs.server.support.Rows.{after_head, after_tail, af
 ghost use Rattle.zprotocol.specs.server.support.Rows.{stops, is_unheard};
 ghost use Rattle.zprotocol.specs.server.support.Rows.{one, two, counted_log, on_one, on_two};
 
-/// What an initialised server between two others ignores: it changes nothing, and nothing is put.
+/// What an initialised server between two others ignores: nothing changes, and nothing is sent.
 pub fn middle_ignores()
     ensures update_of_old_epoch { Ignores middle (Server 1) (update_of 3 8) }
     ensures update_beyond_the_next { Ignores middle (Server 1) (update_of 4 9) }
@@ -46,7 +46,7 @@ pub fn middle_ignores()
     ensures answer { Ignores middle (Server 3) (message.Answer 17 (number_reply 7)) }
 {}
 
-/// Updates go down the chain: a head forwards and answers nobody, and a tail answers the client and
+/// Updates go down the chain: a head forwards and doesn't reply; a tail replies to the client and
 /// acknowledges.
 pub fn updates_go_down()
     ensures head_forwards { after_submit head ≡ (with_entry_kept head, update_to 3 5 8 ∷ []) }
@@ -64,7 +64,7 @@ pub fn updates_go_down()
     ensures spare_has_no_state { Ignores spare (Client 5) submit }
 {}
 
-/// Queries are answered by a tail alone, and acknowledgements go up the chain.
+/// Only a tail answers queries, and acknowledgements go up the chain.
 pub fn tail_answers()
     ensures tail_answers { after_ask tail ≡ (tail, answer 7 ∷ []) }
     ensures alone_answers { after_ask single ≡ (single, answer 7 ∷ []) }
@@ -77,7 +77,7 @@ pub fn tail_answers()
     ensures tail_has_no_successor { Ignores tail (Server 3) (message.Ack 5 7) }
 {}
 
-/// What a server does when the master tells it a new neighbour, or that it has none.
+/// What a server does when the master gives it a new neighbour, or none.
 pub fn neighbours_change()
     ensures new_pred { after_pred middle ≡ (behind_2 middle, have 8 (Some 7) ∷ []) }
     ensures new_pred_without_state { after_pred joining ≡ (behind_2 joining, have 8 None ∷ []) }
@@ -94,8 +94,8 @@ pub fn neighbours_change()
     ensures joining_becomes_tail { Ignores joining Master (message.BecomeTail 8) }
 {}
 
-/// What a server without state takes, and that the old tail answers nobody from the moment on that it
-/// handed over its state.
+/// Which Snapshots a server without state accepts. The old tail stops replying once it has handed
+/// over its state.
 pub fn state_is_handed_over()
     ensures snapshot_is_taken { after_snapshot joining ≡ (has_joined, joined_posts) }
     ensures nothing_stays_in_sent { after_snapshot joining_with_sent ≡ (has_joined, joined_posts) }
@@ -107,7 +107,7 @@ pub fn state_is_handed_over()
         ≡ (with_entry_kept old_tail, to_4 8 ∷ []) }
 {}
 
-/// Which servers have the state, which is a head and which a tail.
+/// Which servers have the state, and which are heads and tails.
 pub fn roles_of_servers()
     ensures middle_has_the_state { is_initialised middle ≡ true }
     ensures joining_has_no_state { is_initialised joining ≡ false }
@@ -121,7 +121,7 @@ pub fn roles_of_servers()
     ensures alone_is_tail { is_tail single ≡ true }
 {}
 
-/// The servers at the opening of a chain of three, and of a chain of one.
+/// The initial views of the servers in a chain of three, and in a chain of one.
 pub fn opening_views()
     ensures first { opening 3 1 ≡ opening_member None (Some (2, 0)) }
     ensures second { opening 3 2 ≡ opening_member (Some (1, 0)) (Some (3, 0)) }
@@ -131,7 +131,7 @@ pub fn opening_views()
     ensures empty_log { opening 1 1 ≡ at_start }
 {}
 
-/// The log of entries as a machine: it keeps the entries, and replies as the counting machine does
+/// The log of entries as a machine: it stores the entries, and replies as the counting machine does
 /// after them.
 pub fn log_replies_as_its_machine()
     ensures replayed { replay counting_machine (call 11 ∷ call 0 ∷ call 12 ∷ []) ≡ 3 }
@@ -143,8 +143,8 @@ pub fn log_replies_as_its_machine()
     ensures goes_by_the_table { after_call_12 on_one ≡ (on_two, update_to 3 5 2 ∷ []) }
 {}
 
-/// At which messages a server may want memory, and stop: those that make its log longer, or at which it puts
-/// something.
+/// The messages at which a server may run out of memory and stop: those that make its log longer,
+/// or at which it sends something.
 pub fn servers_stop_where_they_grow()
     ensures next_entry { stops middle (Server 1) (update_of 4 8) ≡ true }
     ensures entry_without_reply { stops single (Client 5) silent_submit ≡ true }
@@ -161,7 +161,8 @@ pub fn servers_stop_where_they_grow()
     ensures becomes_head_and_tail { stops head Master (message.BecomeTail 8) ≡ false }
 {}
 
-/// An order to retire comes from the master alone. It changes nothing and puts nothing, and no memory is wanted for it.
+/// An order to retire comes only from the master. It changes nothing, sends nothing, and needs no
+/// memory.
 pub fn servers_are_retired()
     ensures middle { is_retirement {M = ℕ} Master message.Retire ≡ true }
     ensures changes_nothing { Ignores middle Master message.Retire }
@@ -171,7 +172,7 @@ pub fn servers_are_retired()
     ensures other_order { is_retirement {M = ℕ} Master (message.BecomeTail 8) ≡ false }
 {}
 
-/// Where there is no memory for a query, it is lost at a tail, and no server stops at it.
+/// A query without memory for its reply is lost at a tail. No server stops at it.
 pub fn queries_are_lost_at_a_tail()
     ensures unheard { is_unheard tail (Client 5) ask ≡ true }
     ensures heard_by_others { is_unheard middle (Client 5) ask ≡ false }
@@ -179,7 +180,7 @@ pub fn queries_are_lost_at_a_tail()
     ensures stops_nobody { stops tail (Client 5) ask ≡ false }
 {}
 
-/// Which messages answer a call.
+/// Which messages are replies to calls.
 pub fn answers_are_told_apart()
     ensures answer { is_answer {M = ℕ} (message.Answer 18 (number_reply 7)) ≡ true }
     ensures submit { is_answer {M = ℕ} submit ≡ false }
@@ -190,14 +191,15 @@ pub fn answers_are_told_apart()
     ensures gone { is_answer {M = ℕ} message.Gone ≡ false }
 {}
 
-/// The limits, as numbers.
+/// The limits as numbers.
 pub fn limits_are_numbers()
     ensures servers { MAX_SERVERS ≡ 16 }
     ensures log_number { MAX_LOG_NUMBER ≡ 4611686018427387903 }
     ensures epoch { MAX_EPOCH ≡ 4611686018427387903 }
 {}
 
-/// The order of processes: the master, the servers, the clients. What is no process is behind them all.
+/// The order of processes: the master, the servers, the clients. A number that is no process comes
+/// after them all.
 pub fn processes_stand_in_order()
     ensures server_0 { is_server 0 ≡ false }
     ensures first_server { is_server 1 ≡ true }

@@ -1,4 +1,4 @@
--- What a world brings about of a line's effect, and the words that are written for it.
+-- What a world brings about of a line's effect, and the text that is written for it.
 use Rattle.std.specs.Prelude.{◌≡◌, ℕ, List, [], ◌∷◌, ◌++◌, codes, Option, None, Some, String}
 use Rattle.std.specs.List.{flat_map}
 use Rattle.zworld_model.specs.declared.event.Event.{Event}
@@ -17,7 +17,7 @@ use Rattle.zworld.specs.Did.{IsCause}
 use Rattle.zworld.specs.Steps.{WorldView, HasHappened, world_in}
 use Rattle.zscript.specs.Line.{ServiceWorld, ScriptState, script_state, LineEffect, begin_fault_text, join_fault_name, retire_fault_name, line_fault_text, taken_text, own_reply_text}
 
--- why a line asked for nothing was written, and it isn't that there was no memory for it
+-- the reason why a line asked for nothing was written, and it isn't out of memory
 abbrev pub WritesFault : {A : Type 0} → LineFault → String A → String A → Type 0
 WritesFault fault before after = (fault ≡ line_fault.Memory → ⊥) × Writes before after (line_fault_text fault)
 
@@ -33,12 +33,12 @@ abbrev pub did_text : Did → List ℕ
 did_text (became.Idle why) = cause_text why
 did_text other = codes "done"
 
--- what became of a call that was to begin
+-- what became of a call that was to be invoked
 abbrev pub begun_text : Did → List ℕ
 begun_text (became.Idle why) = cause_text why
 begun_text other = codes "begun"
 
--- the lines for all answers that clients took, where the line has no call of its own
+-- the lines for all responses that clients received, where the line has no call of its own
 abbrev pub taken_lines : History → List ℕ
 taken_lines history = flat_map (taken_text None) history
 
@@ -48,20 +48,21 @@ own_call [] = None
 own_call (call_event.Begin client number call ∷ more) = Some (client, number)
 own_call (other ∷ more) = None
 
--- what is written for a call that began and for which the world settled, with this history
+-- what is written for a call that was invoked and for which the world settled, with this history
 abbrev pub called_text : History → List ℕ
 called_text history =
     let own = own_call history in
     flat_map (taken_text own) history ++ own_reply_text own history
 
--- the effect led to a world, and takes none of the outcomes that follow
+-- the effect led to a world, and used up none of the outcomes that follow
 pub record LeadsTo (effect : LineEffect) (new : ServiceWorld) (own : Option (ℕ × ℕ)) (result : List ℕ) (later : List Outcome) : Type 0 where
   pub alike : IsAlike effect.did.world new
   pub left : effect.did.outcomes ≡ later
   pub owned : effect.own ≡ own
   pub answered : effect.result ≡ result
 
--- the effect was brought about from one world to another, with these outcomes, and answered so, but for the LF
+-- the effect was brought about from one world to another, with these outcomes, and answered this
+-- way, except for the LF
 pub record IsEffectDone (old new : ServiceWorld) (effect : ScriptState → LineEffect) (writes : List ℕ → Type 0) : Type 0 where
   pub told : List Outcome
   pub own : Option (ℕ × ℕ)
@@ -69,11 +70,11 @@ pub record IsEffectDone (old new : ServiceWorld) (effect : ScriptState → LineE
   pub leads : (later : List Outcome) → LeadsTo (effect (script_state old (told ++ later))) new own result later
   pub written : writes (flat_map (taken_text own) new.history ++ result)
 
--- the effect was brought about on a world, and its answer written, but for the LF
+-- the effect was brought about on a world, and its answer written, except for the LF
 abbrev pub Plays : {A : Type 0} → (ScriptState → LineEffect) → WorldView → WorldView → String A → String A → Type 0
 Plays effect old new before after = IsEffectDone (world_in old) (world_in new) effect (Writes before after)
 
--- an event was done, and this written
+-- an event was done, and this was written
 pub record IsEventDone (old new : WorldView) (event : Event) (writes : List ℕ → Type 0) : Type 0 where
   pub did : Did
   pub happened : HasHappened (world_in old) event did (world_in new)

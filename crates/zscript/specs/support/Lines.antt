@@ -1,4 +1,4 @@
--- Lines as a player meets them: a line that has begun is carried on from block to block.
+-- Lines as a player meets them: a line that has begun goes on from block to block.
 use Rattle.std.specs.Prelude.{◌≡◌, ℕ, false, List, [], ◌∷◌, ◌++◌, ◌==◌, if◌then◌else◌}
 use Rattle.zworld_model.specs.declared.outcome.Outcome.{Outcome}
 use Rattle.zscript.specs.Line.{ServiceWorld, ScriptState, script_state, after, answers}
@@ -14,7 +14,7 @@ abbrev pub line_left : List ℕ → List ℕ → List ℕ
 line_left line [] = line
 line_left line (b ∷ bs) = if b == 10 then line_left [] bs else line_left (line ++ b ∷ []) bs
 
--- A line that the end of the script ends: there is none where no byte stands behind the last LF.
+-- The line that the end of the script ends: there is none where no byte follows the last LF.
 abbrev pub last_line : List ℕ → List (List ℕ)
 last_line [] = []
 last_line (b ∷ bs) = (b ∷ bs) ∷ []
@@ -28,7 +28,8 @@ abbrev pub after_all : ScriptState → List (List ℕ) → ScriptState
 after_all state [] = state
 after_all state (line ∷ lines) = after_all (after state line) lines
 
--- Lines were done, one after the other, and this written: these outcomes were met at them, whatever comes after them.
+-- Lines were executed, one after the other, and this was written: these outcomes occurred at them,
+-- whatever comes after them.
 pub record AreLinesDone (old : ServiceWorld) (lines : List (List ℕ)) (new : ServiceWorld) (writes : List ℕ → Type 0) : Type 0 where
   pub told : List Outcome
   pub text : List ℕ
@@ -36,7 +37,7 @@ pub record AreLinesDone (old : ServiceWorld) (lines : List (List ℕ)) (new : Se
   pub left : (later : List Outcome) → after_all (script_state old (told ++ later)) lines ≡ script_state new later
   pub answered : (later : List Outcome) → answers (script_state old (told ++ later)) lines ≡ text
 
--- No LF is in these bytes.
+-- These bytes have no LF.
 abbrev pub IsPart : List ℕ → Type 0
 IsPart [] = Unit {0}
 IsPart (b ∷ bs) = ((b == 10) ≡ false) × IsPart bs

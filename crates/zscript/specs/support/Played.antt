@@ -5,27 +5,27 @@ use Rattle.zscript.specs.Done.{IsLineDone}
 use Rattle.zscript.specs.support.Lines.{whole_lines_after, line_left, last_line, AreLinesDone}
 use Rattle.zscript.specs.support.PlayerView.{PlayerView, world_now, Tells}
 
--- The line that has begun, and not ended, behind these bytes.
+-- The line that has begun, and not ended, after these bytes.
 abbrev pub line_at : PlayerView → List ℕ → List ℕ
 line_at p bytes = line_left p.line bytes
 
--- It plays the lines that end in these bytes, and their answers go out.
+-- It plays the lines that end in these bytes, and their answers are written.
 abbrev pub PlaysLines : {K : Type 0} → PlayerView → List ℕ → PlayerView → (K → List ℕ → K → Type 0) → K → K → Type 0
 PlaysLines old bytes new took before after =
     AreLinesDone (world_now old) (whole_lines_after old.line bytes) (world_now new) (Between took before after)
 
--- It plays the line that the end of the script ends, and its answer goes out.
+-- It plays the line that the end of the script ends, and its answer is written.
 abbrev pub PlaysLastLine : {K : Type 0} → PlayerView → PlayerView → (K → List ℕ → K → Type 0) → K → K → Type 0
 PlaysLastLine old new took before after =
     AreLinesDone (world_now old) (last_line old.line) (world_now new) (Between took before after)
 
--- It plays the lines that end in these bytes, and tells their answers.
+-- It plays the lines that end in these bytes, and writes or holds their answers.
 abbrev pub TellsLines : {K : Type 0} → PlayerView → List ℕ → PlayerView → (K → List ℕ → K → Type 0) → K → K → Type 0
 TellsLines old bytes new took before after =
     AreLinesDone (world_now old) (whole_lines_after old.line bytes) (world_now new)
     (λ text. Tells (Between took before after) text new.held)
 
--- It plays the line that ends so, and tells its answer behind what was held.
+-- It plays the line that ends with these bytes, and writes or holds its answer after what was held.
 abbrev pub TellsLine : {K : Type 0} → PlayerView → List ℕ → PlayerView → (K → List ℕ → K → Type 0) → K → K → Type 0
 TellsLine old end new took before after =
     IsLineDone (world_now old) (old.line ++ end) (world_now new)

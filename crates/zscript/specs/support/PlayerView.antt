@@ -8,7 +8,8 @@ use Rattle.zscript.specs.Line.{ServiceWorld}
 use Rattle.zscript.specs.Done.{world_between}
 use Rattle.zscript.specs.declared.limits.TheConstants.{KEPT}
 
--- What its world holds, what is kept of the line that has begun, and the replies that were not written yet.
+-- What its world holds, what is kept of the line that has begun, and the replies that are not
+-- written yet.
 pub record PlayerView : Type 0 where
   pub world : Held
   pub line : List ℕ
@@ -28,7 +29,7 @@ coded_player_view = code_by (Held × (List ℕ × List ℕ)) (coded× coded_held
 abbrev pub world_now : PlayerView → ServiceWorld
 world_now p = world_between p.world
 
--- A player that has heard nothing yet, or keeps nothing of what it has heard.
+-- A player that has read nothing yet, or keeps nothing of what it has read.
 abbrev pub IsFresh : PlayerView → Type 0
 IsFresh p = (p.line ≡ []) × (p.held ≡ [])
 
@@ -36,7 +37,7 @@ IsFresh p = (p.line ≡ []) × (p.held ≡ [])
 unfoldable pub kept_front : List ℕ → List ℕ
 kept_front line = take KEPT line
 
--- A text was told: its front went out, and the rest is held.
+-- The front of a text was written, and the rest is held.
 pub record Tells (took : List ℕ → Type 0) (text held : List ℕ) : Type 0 where
   pub front : List ℕ
   pub taken : took front

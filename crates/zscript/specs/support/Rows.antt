@@ -8,11 +8,11 @@ use Rattle.zscript.specs.Line.{opening_script, answers}
 abbrev pub Row : Type 0
 Row = List ℕ × List ℕ
 
--- this line is answered so
+-- this line, and its answer
 abbrev pub row : String → String → Row
 row line answer = (codes line, codes answer)
 
--- client 1 begins a call, its request is taken at the head, and then there is none to take
+-- client 1 invokes a call, its request is delivered to the head, and then there is none to deliver
 abbrev pub begins : Row
 begins = row "1 begin get /" "begun"
 
@@ -22,7 +22,7 @@ takes = row "take c1 s1" "done"
 abbrev pub takes_none : Row
 takes_none = row "take c1 s1" "idle"
 
--- the lines of a script on one server, where nothing wants memory, are answered so
+-- the lines of a script on one server, where memory never runs out, are answered this way
 abbrev pub AreAnswered : List Row → Type 0
 AreAnswered rows = answers (opening_script 1 []) (map (λ row. row.0) rows) ≡ flat_map (λ row. row.1 ++ 10 ∷ []) rows
 

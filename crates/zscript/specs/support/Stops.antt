@@ -18,7 +18,8 @@ IsStoppedBy world whole all took failed Read = ⊥
 IsStoppedBy world whole all took failed Write = IsStopped world whole took × Failed failed
 IsStoppedBy world whole all took failed Memory = (stopped : IsStopped world all took) × (0 < length stopped.rest) × failed 0
 
--- In a block, among the lines that end in it; the line that it leaves may find no memory.
+-- In a block, among the lines that end in it; memory may run out at the line that is left after
+-- them.
 abbrev pub IsBlockStoppedBy : PlayerView → List ℕ → SinkRun → PlayFault → Type 0
 IsBlockStoppedBy p bytes sink =
     IsStoppedBy (world_now p) (whole_lines_after p.line bytes) (lines_after p.line bytes) sink.took sink.failed
@@ -32,7 +33,7 @@ AreLinesStoppedBy p bytes sink =
 abbrev pub IsEndStoppedBy : PlayerView → SinkRun → PlayFault → Type 0
 IsEndStoppedBy p sink = IsStoppedBy (world_now p) (last_line p.line) (last_line p.line) sink.took sink.failed
 
--- Within one line, where what is held, and its reply at the end, is to be told.
+-- Within one line, where what is held, and then its reply, is to be written.
 abbrev pub IsLineStoppedBy : PlayerView → List ℕ → SinkRun → PlayFault → Type 0
 IsLineStoppedBy p line sink Read = ⊥
 IsLineStoppedBy p line sink Write =
@@ -50,6 +51,6 @@ StopsInLines p bytes members before after = AreLinesStoppedBy p bytes (sink_did 
 abbrev pub StopsAtEnd : {K : Type 0} → PlayerView → sink.Ghosts K → K → K → PlayFault → Type 0
 StopsAtEnd p members before after = IsEndStoppedBy p (sink_did members before after)
 
--- and within the line that ends so.
+-- and within the line that these bytes end.
 abbrev pub StopsInLine : {K : Type 0} → PlayerView → List ℕ → sink.Ghosts K → K → K → PlayFault → Type 0
 StopsInLine p end members before after = IsLineStoppedBy p (p.line ++ end) (sink_did members before after)

@@ -27,7 +27,7 @@ pub fn chain_lines()
     ensures nothing_outstanding { AreAnswered (row "retry c1" "idle" ∷ []) }
 {}
 
-/// Calls that begin alone, and are delivered, lost and sent again; and joins.
+/// Calls that are invoked without settling, and are delivered, lost and sent again; and joins.
 pub fn chain_calls()
     ensures begun { AreAnswered (begins ∷ row "1 begin ls /" "busy" ∷ []) }
     ensures taken { AreAnswered (begins ∷ takes ∷ takes_none ∷ row "retry c1" "done" ∷ []) }
@@ -35,7 +35,8 @@ pub fn chain_calls()
     ensures joins { AreAnswered (row "join s2" "done" ∷ row "join s3" "no Joining" ∷ []) }
 {}
 
-/// An answer that a client took is told under its name, but for the answer to the line's own call.
+/// A response that a client received is written under the client's name, except the one to the
+/// line's own call.
 pub fn answers_are_told()
     ensures told { taken_text None (Answer 1 2 (Children [])) ≡ text_line "c1 ok 0" }
     ensures other_call { taken_text call_3 (Answer 1 2 Deleted) ≡ text_line "c1 ok deleted" }
@@ -45,8 +46,8 @@ pub fn answers_are_told()
     ensures no_reply { reply_in call_2 (Answer 2 2 Deleted ∷ []) ≡ None }
 {}
 
-/// The words for refused joins and calls, for the ends of settling and for lines that ask for nothing, those too that no
-/// script brings about.
+/// The texts for refused joins and calls, for the ends of settling and for lines that ask for
+/// nothing. Among them are those that no script brings about.
 pub fn words_of_answers()
     ensures used { join_fault_name Used ≡ codes "Used" }
     ensures joining { join_fault_name Joining ≡ codes "Joining" }

@@ -11,7 +11,7 @@ use Rattle.zserver.specs.declared.stopped.Stopped.{Stopped}
 use Rattle.zserver.specs.contracts.stopped.Stopped as stopped
 use Rattle.zserver.specs.Server.{ServerState, TreeView}
 
--- how what a Snapshot hands over is stored
+-- how the payload of a Snapshot is stored
 abbrev pub coded_transfer : Coded (Transfer (KeptState Tree))
 coded_transfer = code_by (ℕ × KeptState Tree) (coded× coded_ℕ coded_service) (λ t. (t.last, t.machine)) (λ p. record { last = p.0; machine = p.1 }) (λ _. refl)
 

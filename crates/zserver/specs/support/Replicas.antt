@@ -1,5 +1,5 @@
--- How a server's replica makes its state, and how the fields of the replica make its view; and the rows of its table, over
--- the plain tree.
+-- How a server's replica makes its state, and how the fields of the replica make its view. Also the
+-- rows of its table, over the plain tree.
 use Rattle.std.specs.Prelude.{◌≡◌, ℕ, ◌+◌, true, false, Option, None, Some, List, map, Result, Ok, Err, if◌then◌else◌}
 use Rattle.ztree.specs.Tree.{Tree}
 use Rattle.zcalls.specs.declared.call.Entry.{Entry}
@@ -17,26 +17,26 @@ use Rattle.zprotocol.specs.server.View.{Neighbour, Post, Transfer, spare}
 use Rattle.zserver.specs.declared.stopped.Stopped.{Stopped}
 use Rattle.zserver.specs.Server.{ServerState, TreeView, TreeResult, running}
 
--- a server that has stopped has no replica
+-- the state of a server, by its replica or by why it stopped: one that has stopped has no replica
 abbrev pub server_of : Result TreeView Stopped → ServerState
 server_of (Err why) = record { view = spare; stopped = Some why }
 server_of (Ok v) = running v
 
--- the tree with kept replies that the machine stands for, where there is one
+-- the tree with cached replies that the machine stands for, if there is one
 abbrev pub state_of : Option MachineView → Option (KeptState Tree)
 state_of None = None
 state_of (Some m) = Some m.state.service
 
--- the number of the last entry: the machine counts them
+-- the number of the last entry, which the machine counts
 abbrev pub last_of : Option MachineView → ℕ
 last_of None = 0
 last_of (Some m) = m.state.applied
 
--- what a machine hands over
+-- the payload that a machine hands over
 abbrev pub transfer_of : MachineView → Transfer (KeptState Tree)
 transfer_of m = record { last = m.state.applied; machine = m.state.service }
 
--- a machine that is held still answers
+-- a machine that is held hasn't run out of memory
 abbrev pub IsWhole : Option MachineView → Type 0
 IsWhole None = Unit {0}
 IsWhole (Some m) = m.is_broken ≡ false
@@ -68,14 +68,14 @@ query_at v client number query = query_row kept_tree v client number query
 abbrev pub update_at : TreeView → ℕ → ℕ → ℕ → Entry → TreeResult
 update_at v p epoch n entry = update_row kept_tree v p epoch n entry
 
--- by this row a server grows
+-- at this row a server grows: its log gets longer, or it sends something
 abbrev pub GrowsBy : TreeView → TreeResult → Type 0
 GrowsBy v did = grows_by v did ≡ true
 
--- the entries above a number, on their way to the successor
+-- the messages that forward the entries above a number to the successor
 abbrev pub posts_above : ℕ → List (ℕ × Entry) → Neighbour → List (Post (KeptState Tree))
 posts_above n sent succ = map (forward_post succ) (entries_above n sent)
 
--- the state of a machine on its way to the successor
+-- the message that sends the state of a machine to the successor
 abbrev pub snapshot_post : Neighbour → MachineView → Post (KeptState Tree)
 snapshot_post succ m = (Server succ.0, message.Snapshot succ.1 (transfer_of m))

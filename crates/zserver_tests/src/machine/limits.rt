@@ -66,11 +66,11 @@ fn adds_no_digits_to_a_long_name(rt: HostRuntime) {
     drop(machine);
 }
 
-// A client, what stands before a long name, the kind of the node, and the answer.
+// A client, what precedes a long name, the kind of the node, and the answer.
 type LongName = (usize, &'static str, &'static str, &'static str);
 
-// Creates to whose paths no ten digits can be added, some of which are refused for another reason
-// before that one.
+// Creates to whose paths no ten digits can be added. Some are refused for another reason that comes
+// first.
 const LONG_NAMES: &[LongName] = &[
     (7, "/", "ps", "no PathLimit"),
     (1, "/e/", "ps", "no NoChildrenForEphemerals"),
@@ -85,7 +85,7 @@ fn plays_long_names(rt: &impl Abort, alloc: Global, machine: &mut Machine, rows:
     }
 }
 
-// A create of a name of 246 bytes behind the front.
+// Returns a create of a name of 246 bytes after the front.
 fn long_line(rt: &impl Abort, alloc: Global, client: usize, front: &str, kind: &str) -> String {
     let name = "a".repeat(alloc, 246).expect(rt, "there is memory");
     format!(in alloc; "{client} create {front}{name} {kind} aGk=").expect(rt, "there is memory")

@@ -7,7 +7,7 @@ use zops::{Check, Expected, MAX_PARTS, Multi, Part};
 use zpath::Path;
 
 const ROWS: [Row; 3] = [
-    // One that is refused leaves all as it was, and takes no number.
+    // A multi that is refused leaves all as it was, and takes no number.
     &[
         (
             "7 multi create /n- ps aGk= ; delete /none any ; check / any",
@@ -17,7 +17,7 @@ const ROWS: [Row; 3] = [
         ("7 multi create /n- ps aGk=", "ok multi /n-0000000000"),
         ("7 ls /", "ok 1 n-0000000000"),
     ],
-    // One that is done takes one zxid.
+    // A multi that is done takes one zxid.
     &[
         (
             "7 multi create /b p aGk= ; create /a p - ; check /a 0 ; set /a 0 - ; create /a/c p - ; delete /a/c any",
@@ -26,7 +26,7 @@ const ROWS: [Row; 3] = [
         ("7 exists /", "ok stat 0 0 1 0 0 0 2 0 0 2"),
         ("7 get /b", "ok data aGk= stat 1 1 1 0 0 0 0 0 2 0"),
     ],
-    // One that is refused at its end brings back what its parts took away, wrote and counted.
+    // A multi that is refused at its end restores what its parts removed, wrote and counted.
     &[
         ("7 create /q p -", "ok /q"),
         ("7 create /q/e p aGk=", "ok /q/e"),
@@ -55,7 +55,7 @@ fn takes_1_to_64_parts(rt: HostRuntime) {
     }
 }
 
-// Whether so many checks are taken as a multi, and how many of them are there then.
+// Returns whether this many checks are accepted as a multi, and how many of them it has then.
 fn taken(rt: &impl Abort, alloc: Global, count: usize) -> (bool, usize) {
     match Multi::new(checks(rt, alloc, count)) {
         Ok(multi) => (true, multi.as_slice().len()),
@@ -63,7 +63,7 @@ fn taken(rt: &impl Abort, alloc: Global, count: usize) -> (bool, usize) {
     }
 }
 
-// So many checks of the root.
+// Returns this many checks of the root.
 fn checks(rt: &impl Abort, alloc: Global, count: usize) -> Vec<Part> {
     let mut parts = Vec::new(alloc);
     for _ in 0..count {

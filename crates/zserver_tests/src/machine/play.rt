@@ -5,11 +5,11 @@ use std::process::Abort;
 use zlines::{Line, Request, read_line, write_reply};
 use zops::{Call, CallNumber, ClientId, Entry, MAX_APPLIED, Machine, Query, Reply, Update};
 
-/// Lines of calls, and beside each its answer.
+/// Lines of calls, each with its answer.
 pub type Row = &'static [(&'static str, &'static str)];
 
-/// Lines of calls, before each the number of its entry, and behind it its answer: none where there is no
-/// reply.
+/// Lines of calls, each preceded by the number of its entry and followed by its answer, which is
+/// empty where there is no reply.
 pub type Entries = &'static [(u64, &'static str, &'static str)];
 
 /// Plays rows, each on a machine of its own.
@@ -21,7 +21,7 @@ pub(crate) fn plays_rows(rt: &impl Abort, alloc: Global, rows: &[Row]) {
     }
 }
 
-/// A new machine.
+/// Returns a new machine.
 pub(crate) fn machine(rt: &impl Abort, alloc: Global) -> Machine {
     Machine::new(alloc).expect(rt, "there is memory")
 }
@@ -70,7 +70,7 @@ pub(crate) fn same(rt: &impl Abort, place: &str, text: &str, want: &str) {
     assert!(rt; text == want, "{place}: {text}, not {want}");
 }
 
-// The call that a line asks for.
+// Returns the call that a line asks for.
 fn request(rt: &impl Abort, alloc: Global, line: &str) -> Request {
     match read_line(alloc, line.as_bytes()) {
         Ok(Line::Call(request)) => request,
@@ -78,7 +78,7 @@ fn request(rt: &impl Abort, alloc: Global, line: &str) -> Request {
     }
 }
 
-// The text of what a call is answered with.
+// Returns the text of a call's answer.
 fn answer(
     rt: &impl Abort,
     alloc: Global,

@@ -6,7 +6,7 @@ use std::process::Abort;
 use zops::Machine;
 
 const ROWS: [(Entries, u64); 3] = [
-    // An update acts once: it is answered again while its reply is kept, and later has none.
+    // An update acts once: it is answered again while its reply is cached, and later not at all.
     (
         &[
             (1, "2 create /q p aGk=", "ok /q"),
@@ -91,7 +91,7 @@ fn copies_answer_alike_and_go_their_own_way(rt: HostRuntime) {
     drop(machine);
 }
 
-// A machine on which these entries were played.
+// Returns a machine on which these entries were played.
 fn played(rt: &impl Abort, alloc: Global, entries: Entries) -> Machine {
     let mut machine = machine(rt, alloc);
     plays_entries(rt, alloc, &mut machine, entries);

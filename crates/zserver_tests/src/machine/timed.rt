@@ -3,7 +3,7 @@
 use crate::machine::play::{Row, plays_rows};
 
 const ROWS: [Row; 4] = [
-    // A node goes at the tick that finds it unwritten for so long; a set puts that off.
+    // A tick removes a node that was not written for its time to live; a set restarts that time.
     &[
         ("1 create /t t:2 aGk=", "ok /t"),
         ("0 tick", "ok tick 1 ended 0"),
@@ -13,7 +13,7 @@ const ROWS: [Row; 4] = [
         ("1 exists /t", "no NoNode"),
         ("1 exists /", "ok stat 0 0 3 0 0 0 2 0 0 0"),
     ],
-    // What had a child before the tick stays, though the child goes.
+    // A node that had a child before the tick stays, though the child goes.
     &[
         ("1 create /t t:1 aGk=", "ok /t"),
         ("1 create /t/u t:1 aGk=", "ok /t/u"),

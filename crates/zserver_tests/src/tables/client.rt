@@ -1,4 +1,4 @@
-//! A client asks, asks again, and is answered.
+//! A client invokes calls, sends them again, and is answered.
 
 use crate::tables::posts::{Outbox, next_server, server};
 use std::alloc::Global;
@@ -43,23 +43,23 @@ fn hands_out_the_reply(rt: HostRuntime) {
     drop(out);
 }
 
-// A tick begins.
+// Invokes a tick.
 fn begins_tick(rt: &impl Abort, client: &mut ClientCore, out: &mut Outbox) {
     assert!(rt; client.begin(Call::Update(Update::Tick), out).is_ok());
 }
 
-// A query begins.
+// Invokes a query.
 fn begins_query(rt: &impl Abort, alloc: Global, client: &mut ClientCore, out: &mut Outbox) {
     let query = Call::Query(Query::Exists(Path::root(alloc)));
     assert!(rt; client.begin(query, out).is_ok());
 }
 
-// Whether there was something to send again.
+// Returns whether there was something to send again.
 fn retries(rt: &impl Abort, client: &mut ClientCore, out: &mut Outbox) -> bool {
     client.retry(out).expect(rt, "there is memory")
 }
 
-// The client takes, without an answer, that this server is the tail now.
+// The client learns, without an answer, that this server is the tail now.
 fn hears_of_tail(rt: &impl Abort, client: &mut ClientCore, tail: u8, out: &mut Outbox) {
     let epoch = Epoch::new(1).expect(rt, "there is such an epoch");
     let config = Message::Config(epoch, ServerId::new(2), ServerId::new(tail));
@@ -69,7 +69,7 @@ fn hears_of_tail(rt: &impl Abort, client: &mut ClientCore, tail: u8, out: &mut O
     assert!(rt; is_taken);
 }
 
-// The time that the client is told, where its first call was a tick.
+// Returns the time that the client receives, where its first call was a tick.
 fn tick_told(rt: &impl Abort, client: &mut ClientCore, out: &mut Outbox) -> Option<u64> {
     let first = CallNumber::new(1).expect(rt, "there is such a number");
     let answer = Message::Answer(first, Reply::Ticked(1, 0, 0));
@@ -82,7 +82,7 @@ fn tick_told(rt: &impl Abort, client: &mut ClientCore, out: &mut Outbox) -> Opti
     time
 }
 
-// The first message goes to this server.
+// Asserts that the first message goes to this server.
 fn goes_to(rt: &impl Abort, out: &mut Outbox, number: u8) {
     assert!(rt; next_server(out) == Some(number));
 }

@@ -1,4 +1,4 @@
-//! Copies have what they were copied from.
+//! Copies equal what they were copied from.
 
 use std::alloc::Global;
 use std::process::Abort;

@@ -1,4 +1,4 @@
-//! What was put is taken in its order.
+//! What was sent is received in the same order.
 
 use crate::tables::posts::{Outbox, next_config, next_server, server};
 use std::alloc::Global;
@@ -13,7 +13,7 @@ fn takes_in_the_order_of_puts(rt: HostRuntime) {
     drop(out);
 }
 
-// A configuration, in reserved room, and behind it a message to server 2.
+// Returns a configuration, in reserved room, and after it a message to server 2.
 fn two_posts(rt: &impl Abort, alloc: Global) -> Outbox {
     let server = server(rt, 2);
     let epoch = Epoch::new(1).expect(rt, "there is such an epoch");

@@ -1,4 +1,4 @@
-//! The master mends a chain, lets servers join it and orders them to leave, or says why not.
+//! The master repairs a chain, lets servers join it and orders them to leave, or says why not.
 
 use crate::tables::posts::{Outbox, next_config, next_server, server};
 use Act::{Gone, Join, Retire};
@@ -7,7 +7,7 @@ use std::process::Abort;
 use zmaster::{JoinFault, MAX_POSTS, Master, RetireFault};
 use zprotocol::{Epoch, Message, Out, Process};
 
-// The server that is told, and the epoch and the tail of which a client hears.
+// The server that receives a message, and the epoch and the tail that a client receives.
 type Posts = (Option<u8>, Option<(u64, u8)>);
 
 // How many servers there are, what happens to them, and why the last of it is refused.
@@ -19,7 +19,8 @@ const REFUSED: [(u8, [Act; 3], JoinFault); 5] = [
     (1, [Join(2), Gone(1), Join(3)], JoinFault::Lost),
 ];
 
-// How many servers there are, what happens to them, and which of them isn't ordered to leave then, and why.
+// How many servers there are, what happens to them, and which of them isn't ordered to leave then,
+// and why.
 const STAYS: [(u8, [Act; 2], u8, RetireFault); 5] = [
     (3, [Gone(4), Gone(2)], 2, RetireFault::NotMember),
     (2, [Gone(4), Join(3)], 1, RetireFault::Joining),
@@ -79,7 +80,7 @@ enum Act {
     Retire(u8),
 }
 
-// Why the last of these acts was refused, on a chain of so many servers.
+// Returns why the last of these acts was refused, on a chain of this many servers.
 fn last_fault(rt: &impl Abort, alloc: Global, servers: u8, acts: &[Act]) -> Option<JoinFault> {
     let mut master = Master::new(server(rt, servers), 1);
     let mut out: Outbox = Out::new(alloc);
@@ -108,7 +109,7 @@ fn act_on(rt: &impl Abort, master: &mut Master, act: Act, out: &mut Outbox) -> O
     }
 }
 
-// Why this member isn't ordered to leave after these acts, on a chain of so many servers.
+// Returns why this member isn't ordered to leave after these acts, on a chain of this many servers.
 fn leaves_after(
     rt: &impl Abort,
     alloc: Global,
@@ -127,7 +128,7 @@ fn leaves_after(
     fault
 }
 
-// Whom the master tells where the second of three servers is ordered to leave.
+// Returns whom the master tells where the second of three servers is ordered to leave.
 fn posts_of_retirement(rt: &impl Abort, alloc: Global) -> Option<u8> {
     let mut master = Master::new(server(rt, 3), 1);
     let mut out: Outbox = Out::new(alloc);
@@ -137,7 +138,7 @@ fn posts_of_retirement(rt: &impl Abort, alloc: Global) -> Option<u8> {
     told
 }
 
-// What the master puts where this one of three servers fails.
+// Returns what the master sends where this one of three servers fails.
 fn posts_of_repair(rt: &impl Abort, alloc: Global, gone: u8) -> Posts {
     let mut master = Master::new(server(rt, 3), 1);
     let mut out: Outbox = Out::new(alloc);
@@ -147,7 +148,7 @@ fn posts_of_repair(rt: &impl Abort, alloc: Global, gone: u8) -> Posts {
     posts
 }
 
-// What it puts where a third server joins.
+// Returns what it sends where a third server joins.
 fn posts_of_join(rt: &impl Abort, alloc: Global) -> Posts {
     let mut master = Master::new(server(rt, 2), 1);
     let mut out: Outbox = Out::new(alloc);
@@ -159,7 +160,7 @@ fn posts_of_join(rt: &impl Abort, alloc: Global) -> Posts {
     (told, tail)
 }
 
-// The master hears that a server has joined in epoch 1.
+// The master learns that a server has joined in epoch 1.
 fn has_joined(rt: &impl Abort, master: &mut Master, number: u8, out: &mut Outbox) {
     let epoch = Epoch::new(1).expect(rt, "there is such an epoch");
     out.reserve(MAX_POSTS).expect(rt, "there is memory");

@@ -1,12 +1,12 @@
-//! What was put, as these tests look at it.
+//! What was sent, as these tests look at it.
 
 use std::process::Abort;
 use zprotocol::{Message, Out, Process, ServerId};
 
-/// What a process put, where no Snapshot is.
+/// What a process sends, where no Snapshot is among it.
 pub(crate) type Outbox = Out<()>;
 
-/// The server to which the first message goes.
+/// Returns the server to which the first message goes.
 pub(crate) fn next_server(out: &mut Outbox) -> Option<u8> {
     let post = out.next();
     let told = match &post {
@@ -17,7 +17,7 @@ pub(crate) fn next_server(out: &mut Outbox) -> Option<u8> {
     told
 }
 
-/// The epoch and the tail that the first message tells.
+/// Returns the epoch and the tail in the first message.
 pub(crate) fn next_config(out: &mut Outbox) -> Option<(u64, u8)> {
     let post = out.next();
     let told = match &post {
@@ -42,7 +42,7 @@ fn config_of(message: &Message<()>) -> Option<(u64, u8)> {
     }
 }
 
-/// The server of this number.
+/// Returns the server of this number.
 pub(crate) fn server(rt: &impl Abort, number: u8) -> ServerId {
     ServerId::new(number).expect(rt, "there is such a server")
 }

@@ -1,4 +1,4 @@
-//! Steps on nodes that nobody or session 7 owns.
+//! Steps on nodes that have no owner, or that session 7 owns.
 
 ghost use Rattle.std.specs.Prelude.{◌≡◌, ◌≢◌, [], Some, true, false, IsSome};
 ghost use Rattle.std.specs.FinMap.{get};
@@ -12,7 +12,7 @@ use znodes::{Id, Nodes};
 use zpath::Path;
 use ztree::{Data, Node, Zxid};
 
-/// A root alone, and session 7.
+/// Returns a root alone, and session 7.
 pub(crate) fn opened(rt: &impl Abort, alloc: Global) -> Nodes
     ensures { IsSome (get result.owners 7) }
 {
@@ -21,7 +21,7 @@ pub(crate) fn opened(rt: &impl Abort, alloc: Global) -> Nodes
     nodes
 }
 
-/// Beneath a root these nodes, each of an owner, and session 7.
+/// Returns these nodes, each of an owner, beneath a root, and session 7.
 pub(crate) fn opened_with(rt: &impl Abort, alloc: Global, rows: &[(&str, u64)]) -> Nodes
     ensures { IsSome (get result.owners 7) }
 {
@@ -32,7 +32,7 @@ pub(crate) fn opened_with(rt: &impl Abort, alloc: Global, rows: &[(&str, u64)]) 
     nodes
 }
 
-// A node of an owner, with a time to live or none.
+// Returns a node of an owner, with a time to live or none.
 fn node(alloc: Global, owner: u64, ttl: u64) -> Node
     ensures owner { result.owner ≡ owner }
     ensures ttl { result.ttl ≡ ttl }
@@ -53,7 +53,7 @@ fn add(rt: &impl Abort, alloc: Global, nodes: &mut Nodes, path: Path, owner: u64
         .expect(rt, "there is memory");
 }
 
-/// Takes a leaf away.
+/// Removes a leaf.
 pub(crate) fn take(rt: &impl Abort, nodes: &mut Nodes, path: &Path) -> Id
     requires { IsSome (get nodes.old.owners 7) }
     ensures taken { IsTakenFrom nodes.new result path.now }
@@ -67,7 +67,7 @@ pub(crate) fn take(rt: &impl Abort, nodes: &mut Nodes, path: &Path) -> Id
     id
 }
 
-/// Puts back what was taken away.
+/// Puts back what was removed.
 pub(crate) fn put_back(rt: &impl Abort, alloc: Global, nodes: &mut Nodes, path: &Path, id: Id)
     requires { IsTakenFrom nodes.old id path.now }
 {
@@ -77,12 +77,12 @@ pub(crate) fn put_back(rt: &impl Abort, alloc: Global, nodes: &mut Nodes, path: 
     nodes.put_back(id, parent);
 }
 
-/// The path that a text spells.
+/// Returns the path that a text spells.
 pub(crate) fn path(rt: &impl Abort, alloc: Global, text: &str) -> Path {
     Path::parse(alloc, text).expect(rt, "the text spells a path")
 }
 
-/// The Id of the node at the path that a text spells.
+/// Returns the Id of the node at the path that a text spells.
 pub(crate) fn id_at(rt: &impl Abort, alloc: Global, nodes: &Nodes, text: &str) -> Id
     ensures { IsSome (path_of nodes.now result) }
 {
@@ -91,7 +91,7 @@ pub(crate) fn id_at(rt: &impl Abort, alloc: Global, nodes: &Nodes, text: &str) -
         .expect(rt, "there is a node")
 }
 
-/// Asserts that a node has these children, each with a space behind its name, and so many.
+/// Asserts that a node has these children, each name followed by a space, and this many.
 pub(crate) fn lists(
     rt: &impl Abort,
     alloc: Global,
@@ -116,7 +116,7 @@ fn names(rt: &impl Abort, alloc: Global, nodes: &Nodes, id: Id) -> String
     line
 }
 
-// The node right above a path.
+// Returns the parent of a path.
 fn parent_of(rt: &impl Abort, alloc: Global, nodes: &Nodes, path: &Path) -> Id
     ensures below_root { path.now ≢ [] }
     ensures above { path_of nodes.now result ≡ Some (parent_of path.now) }
@@ -129,14 +129,14 @@ fn parent_of(rt: &impl Abort, alloc: Global, nodes: &Nodes, path: &Path) -> Id
     nodes.find(&above).expect(rt, "there is a parent")
 }
 
-// There is no node at the path.
+// Asserts that there is no node at the path.
 fn is_free(rt: &impl Abort, nodes: &Nodes, path: &Path)
     ensures { has_node nodes.now.nodes path.now ≡ false }
 {
     assert!(rt; nodes.find(path).is_none());
 }
 
-// There is no node beneath the node.
+// Asserts that there is no node beneath the node.
 fn is_leaf(rt: &impl Abort, nodes: &Nodes, id: Id)
     requires { IsSome (path_of nodes.now id) }
     ensures { AtPath nodes.now id (λ path. children nodes.now.nodes path ≡ []) }
@@ -145,7 +145,7 @@ fn is_leaf(rt: &impl Abort, nodes: &Nodes, id: Id)
     assert!(rt; children.is_empty());
 }
 
-// The node's owner is nobody, or session 7.
+// Asserts that the node has no owner, or that session 7 owns it.
 fn has_known_owner(rt: &impl Abort, nodes: &Nodes, id: Id)
     requires { IsSome (get nodes.now.owners 7) }
     ensures { AtNode nodes.now id (λ n. IsKnownOwner nodes.now n.owner) }

@@ -1,4 +1,4 @@
-//! Nodes: adding, listing, taking away, copying.
+//! Nodes: adding, listing, removing, copying.
 
 ghost use Rattle.std.specs.Prelude.{IsSome};
 ghost use Rattle.std.specs.FinMap.{get};
@@ -38,7 +38,7 @@ fn puts_a_node_back(rt: HostRuntime) {
     drop(nodes);
 }
 
-// The only node of session 7 is taken away and put back.
+// The only node of session 7 is removed and put back.
 fn goes_and_comes(rt: &impl Abort, alloc: Global, nodes: &mut Nodes, path: &Path)
     requires { IsSome (get nodes.old.owners 7) }
 {
@@ -65,7 +65,7 @@ fn copies_stand_apart(rt: HostRuntime) {
     drop(copy);
 }
 
-// The node goes from these nodes, and stays in their copy.
+// The node is removed from these nodes, and stays in their copy.
 fn goes_from_one(rt: &impl Abort, nodes: &mut Nodes, copy: &Nodes, path: &Path)
     requires { IsSome (get nodes.old.owners 7) }
 {

@@ -1,4 +1,4 @@
-//! Steps on sessions, no deadline of which is below a tick.
+//! Steps on sessions, none of whose deadlines is below a tick.
 
 ghost use Rattle.std.specs.Prelude.{◌≡◌};
 ghost use Rattle.zsessions.specs.Deadlines.{NoneLate};
@@ -8,7 +8,7 @@ use std::process::Abort;
 use zsessions::Sessions;
 use ztree::{ClientId, Session, SessionId};
 
-/// A session with a deadline.
+/// Returns a session with a deadline.
 pub(crate) fn session(rt: &impl Abort, deadline: u64) -> Session
     ensures { result.deadline ≡ deadline }
 {
@@ -19,7 +19,7 @@ pub(crate) fn session(rt: &impl Abort, deadline: u64) -> Session
     }
 }
 
-/// Sessions by these ids, with these deadlines.
+/// Returns sessions by these ids, with these deadlines.
 pub(crate) fn opened(rt: &impl Abort, alloc: Global, tick: u64, rows: &[(u64, u64)]) -> Sessions
     ensures { NoneLate result tick }
 {
@@ -30,7 +30,7 @@ pub(crate) fn opened(rt: &impl Abort, alloc: Global, tick: u64, rows: &[(u64, u6
     sessions
 }
 
-// One more session.
+// Opens one more session.
 fn open(rt: &impl Abort, sessions: &mut Sessions, tick: u64, id: u64, deadline: u64)
     requires { NoneLate sessions.old tick }
     ensures { NoneLate sessions.new tick }
@@ -43,7 +43,7 @@ fn open(rt: &impl Abort, sessions: &mut Sessions, tick: u64, id: u64, deadline: 
     assert!(rt; sessions.get(id).is_some());
 }
 
-/// Another deadline for a session.
+/// Sets another deadline for a session.
 pub(crate) fn renew(rt: &impl Abort, sessions: &mut Sessions, tick: u64, id: u64, deadline: u64)
     requires { NoneLate sessions.old tick }
     ensures { NoneLate sessions.new tick }
@@ -53,7 +53,7 @@ pub(crate) fn renew(rt: &impl Abort, sessions: &mut Sessions, tick: u64, id: u64
     sessions.renew(id, deadline);
 }
 
-/// One session fewer.
+/// Ends a session.
 pub(crate) fn end(rt: &impl Abort, sessions: &mut Sessions, id: u64) {
     let id = SessionId::new(id);
     assert!(rt; sessions.get(id).is_some());

@@ -5,7 +5,7 @@ use std::alloc::{AllocError, Global};
 use std::cmp::Ordering;
 use zpath::{Path, PathFault};
 
-/// What the line comes to: a text, or a fault by its word.
+/// Returns what the line comes to: a text, or a fault by its word.
 pub fn answer(alloc: Global, line: &str) -> Result<String, AllocError> {
     match called(alloc, line) {
         Ok(text) => Ok(text),
@@ -51,7 +51,7 @@ fn parent(alloc: Global, text: &str) -> Result<String, PathFault> {
     }
 }
 
-// How many names there are, and a copy of the last one.
+// Returns how many names there are, and a copy of the last one.
 fn name(alloc: Global, text: &str) -> Result<String, PathFault> {
     let path = Path::parse(alloc, text)?;
     let Some(last) = path.name() else {
@@ -61,7 +61,7 @@ fn name(alloc: Global, text: &str) -> Result<String, PathFault> {
     Ok(format!(in alloc; "{} {copy}", path.names().len())?)
 }
 
-// The first path with the last name of the second one.
+// Returns the first path with the last name of the second one.
 fn child(alloc: Global, text: &str) -> Result<String, PathFault> {
     let (parent, other) = text.split_once(' ').unwrap_or((text, "/"));
     let other = Path::parse(alloc, other)?;

@@ -1,9 +1,10 @@
-//! Paths at the limits, which are too long to be read: some number of names of some length.
+//! Paths at the limits, which are too long to be read: a number of names of some length.
 
 use std::alloc::{AllocError, Global};
 use zpath::{Path, PathFault};
 
-/// How many bytes the text of a path has, with so many names of that length; a third word asks for a counter behind them.
+/// Returns how many bytes the text of a path has, with this many names of that length. A third word
+/// asks for a counter after them.
 pub fn answer(alloc: Global, text: &str) -> Result<String, PathFault> {
     let mut words = text.split(' ');
     let count = number(words.next());
@@ -25,7 +26,7 @@ fn size(alloc: Global, path: &Path) -> Result<String, PathFault> {
     Ok(format!(in alloc; "{} bytes", text.len())?)
 }
 
-// A number, and 0 for any other word.
+// Returns a number, and 0 for any other word.
 fn number(word: Option<&str>) -> u16 {
     word.and_then(|word| word.parse().ok()).unwrap_or(0)
 }

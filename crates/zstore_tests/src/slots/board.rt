@@ -19,7 +19,7 @@ pub struct Board {
 }
 
 impl Board {
-    /// No item.
+    /// Returns a board without items.
     pub fn new(alloc: Global) -> Board {
         Board {
             slots: Slots::new(alloc),
@@ -29,7 +29,8 @@ impl Board {
         }
     }
 
-    /// What a line does, as a text: a word, and a number or the place of an Id in the order in which they were given.
+    /// Returns what a line does, as a text. The line is a word, and a number or the place of an Id
+    /// in the order in which they were given.
     pub fn answer(&mut self, alloc: Global, line: &str) -> Result<String, AllocError> {
         let (word, number) = line.split_once(' ').unwrap_or((line, "0"));
         let number = number.parse::<u64>().unwrap_or(0);
@@ -42,7 +43,7 @@ impl Board {
         }
     }
 
-    // The same where the word is about an Id that was given, or makes room for the first ones.
+    // Does the same where the word is about an Id that was given, or makes room for the first ones.
     fn answer_at(&mut self, alloc: Global, word: &str, place: u64) -> Result<String, AllocError> {
         match self.ids.get(place as usize).copied() {
             Some(id) if word == "get" => self.get(alloc, id),
@@ -51,7 +52,7 @@ impl Board {
         }
     }
 
-    // Whether the word's change was made.
+    // Returns whether the word's change was made.
     fn change(&mut self, word: &str, id: Id) -> bool {
         match word {
             "double" => self.double(id),
@@ -67,7 +68,7 @@ impl Board {
         format!(in alloc; "{} {}", self.slots.given(), self.left.len())
     }
 
-    // A new item at the front of both lists.
+    // Adds a new item at the front of both lists.
     fn insert(&mut self, number: u64) -> Result<(), AllocError> {
         if self.slots.given() >= MOST || self.left.len() >= LONGEST || self.right.len() >= LONGEST {
             return Ok(());
@@ -113,7 +114,7 @@ impl Board {
         true
     }
 
-    // The items of list 1 in a copy.
+    // Returns the items of list 1 in a copy.
     fn copy(&self, alloc: Global) -> Result<String, AllocError> {
         match self.slots.copy() {
             Ok(copy) if copy.given() == self.slots.given() => right_numbers(
@@ -136,7 +137,7 @@ fn right_numbers(alloc: Global, list: &List<1>, slots: &Slots<Item>) -> Result<S
     numbers(alloc, slots, ids.as_slice())
 }
 
-// The Ids of a list, in order.
+// Returns the Ids of a list, in order.
 fn ids_of<const L: usize, T: Linked<L>>(
     alloc: Global,
     list: &List<L>,
@@ -153,7 +154,7 @@ fn ids_of<const L: usize, T: Linked<L>>(
     Ok(ids)
 }
 
-// The numbers of the items that these Ids name.
+// Returns the numbers of the items that these Ids name.
 fn numbers(alloc: Global, slots: &Slots<Item>, ids: &[Id]) -> Result<String, AllocError> {
     let mut text = String::new(alloc);
     for id in ids {

@@ -12,7 +12,7 @@ pub struct Item {
 }
 
 impl Item {
-    /// A number that stands in no list.
+    /// Returns a number that is in no list.
     pub fn new(number: u64) -> Item {
         let alone = Links {
             next: None,

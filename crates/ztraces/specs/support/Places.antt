@@ -1,4 +1,5 @@
--- The traces by place, the master's first, then the servers', then the clients'; and how far each was read.
+-- The traces by place, the master's first, then the servers', then the clients'; and how far each
+-- was read.
 use Rattle.std.specs.Prelude.{◌≡◌, ◌⊎◌, ◌<◌, ◌≤◌, ℕ, zero, suc, ◌+◌, ◌-◌, true, false, ◌==◌, nat_lt, nat_le, if◌then◌else◌, List, [], ◌∷◌, Option, None, Some, length, get_or, drop}
 use Rattle.zprotocol.specs.declared.process.Process.{Process}
 use Rattle.zprotocol.specs.declared.process.Process.TheVariants.{Master, Server, Client}
@@ -33,7 +34,7 @@ index_of t (Client c) = 1 + length t.servers.items + c
 abbrev pub rest_of : Traces → List ℕ → Process → List TraceEvent
 rest_of t read p = drop (get_or read (index_of t p) 0) (trace_of t p)
 
--- the stamp of the next event, if there is one
+-- the timestamp of the next event, if there is one
 abbrev pub stamp_at_front : List TraceEvent → Option ℕ
 stamp_at_front [] = None
 stamp_at_front (e ∷ more) = Some e.stamp
@@ -47,7 +48,7 @@ chosen best place None = best
 chosen None place (Some stamp) = Some (place, stamp)
 chosen (Some best) place (Some stamp) = if nat_lt stamp best.1 then Some (place, stamp) else Some best
 
--- of the places below n, none has an event left; or this one has the next, with this stamp
+-- of the places below n, none has an event left; or this one has the next, with this timestamp
 abbrev pub IsLeast : Traces → List ℕ → ℕ → Option (ℕ × ℕ) → Type 0
 IsLeast t read n None = (j : ℕ) → j < n → head_at t read j ≡ None
 IsLeast t read n (Some best) =
@@ -59,7 +60,8 @@ abbrev pub unread : Traces → List ℕ → ℕ → ℕ
 unread t read zero = 0
 unread t read (suc n) = (length (trace_of t (process_at t n)) - get_or read n 0) + unread t read n
 
--- so far these steps were replayed, each in its place, and led to a world that is alike
+-- so far these steps were replayed, each in its place, and led to a world that is equal up to
+-- failed servers
 abbrev pub HasReplayed : Traces → List ℕ → World (KeptState Tree) → Type 0
 HasReplayed t read w =
     (steps : List Step) × Merges (trace_of t) steps (rest_of t read) × (are_in_place kept_tree (opening_of t) steps ≡ true)
@@ -69,6 +71,6 @@ HasReplayed t read w =
 abbrev pub IsAllRead : Traces → List ℕ → Type 0
 IsAllRead t read = (p : Process) → rest_of t read p ≡ []
 
--- an event of a beginning of the merge isn't in its place
+-- an event of a prefix of the merge isn't in its place
 abbrev pub IsReplayFault : Traces → Type 0
 IsReplayFault t = (steps : List Step) × BeginsMerge t steps × (are_in_place kept_tree (opening_of t) steps ≡ false)

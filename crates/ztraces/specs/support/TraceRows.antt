@@ -24,7 +24,7 @@ use Rattle.ztraces.specs.declared.trace.Traces.{Traces}
 use Rattle.ztraces.specs.Traces.{Step, events_of, at_process, are_in_place}
 use Rattle.ztraces.specs.Deeds.{Deed, GoesBy, Row, Standing, Stamped, AtServer, AtClient, Out, last_post}
 
--- the processes, the two calls, and the opening
+-- the processes, the two calls, and the initial state
 abbrev pub s1 : Process
 s1 = Server 1
 
@@ -47,25 +47,26 @@ event_at stamp act = record { stamp = stamp; act = act }
 abbrev pub step_of : Process → ℕ → Act → Step
 step_of process stamp act = record { process = process; event = event_at stamp act }
 
--- the client begins a call, with the first stamp, and the server takes what the client put, with this outcome
+-- the client invokes a call, with the first timestamp, and the server receives what the client
+-- sent, with this outcome
 abbrev pub begun : Call → Step
 begun call = step_of c0 1 (Began call)
 
 abbrev pub s1_takes : ℕ → Outcome → Step
 s1_takes stamp outcome = step_of s1 stamp (Took c0 outcome)
 
--- two events whose act is of no account
+-- events whose act doesn't matter
 abbrev pub tick : ℕ → TraceEvent
 tick stamp = event_at stamp (Took Master Acted)
 
 abbrev pub tick_of : Process → ℕ → Step
 tick_of process stamp = step_of process stamp (Took Master Acted)
 
--- the server and the client have an event each, at one stamp
+-- the server and the client have an event each, at one timestamp
 abbrev pub both_at_1 : Process → List TraceEvent
 both_at_1 = at_process s1 (tick 1 ∷ []) (at_process c0 (tick 1 ∷ []) (λ p. []))
 
--- a write and a read, each begun, done and answered
+-- a write and a read, each invoked, executed and answered
 abbrev pub written_and_read : List Step
 written_and_read =
     step_of c0 1 (Began write)
@@ -76,8 +77,8 @@ written_and_read =
     ∷ step_of c0 6 (Took s1 Acted)
     ∷ []
 
--- over three servers: the second is halted when the first has taken a write, and the first while the chain is mended; a fourth
--- joins, and the client hears of the new chain and asks again
+-- over three servers: the second is halted when the first has received a write, and the first while
+-- the chain is repaired; a fourth joins, and the client hears of the new chain and asks again
 abbrev pub mended : List Step
 mended =
     step_of c0 1 (Began write)
@@ -93,8 +94,8 @@ mended =
     ∷ step_of c0 11 Retried
     ∷ []
 
--- over three servers: the client begins a write, the first is ordered to leave and leaves, and the client hears of the new
--- head and asks that one
+-- over three servers: the client invokes a write, the first is ordered to leave and leaves, and the
+-- client hears of the new head and asks that one
 abbrev pub retirement : List Step
 retirement =
     step_of c0 1 (Began write)
@@ -119,7 +120,7 @@ seen =
 abbrev pub opening_of_three : World ℕ
 opening_of_three = opening_world counting_machine 3 1
 
--- the steps are in their places, from either opening
+-- the steps are in their places, from either initial state
 abbrev pub runs : List Step → Bool
 runs steps = are_in_place counting_machine opening steps
 
@@ -148,18 +149,18 @@ server_with entries = record { machine = Some entries; last = entries; sent = []
 abbrev pub old_tail : ServerView ℕ
 old_tail = record (server_with 0) { succ = Some (2, 0) }
 
--- where the server stands at the opening
+-- where the server stands in the initial state
 abbrev pub at_opening : Standing ℕ
 at_opening = AtServer (server_with 0)
 
--- rows of its table: it stays where it stands and puts nothing, or it ends with its last words
+-- rows of its table: it stays where it stands and sends nothing, or it ends with its failure notice
 abbrev pub Stays : Standing ℕ → Act → Option (Stamped ℕ) → Type 0
 Stays standing act took = Row counting_machine s1 standing act took standing [] []
 
 abbrev pub Ends : Standing ℕ → Act → Option (Stamped ℕ) → Type 0
 Ends standing act took = Row counting_machine s1 standing act took Out last_post []
 
--- a process goes by its table through deeds
+-- a process goes by its table through steps
 abbrev pub GoesThrough : Process → Standing ℕ → ℕ → List (Deed ℕ) → Type 0
 GoesThrough process standing last deeds = GoesBy counting_machine process standing last deeds
 

@@ -1,4 +1,5 @@
--- How what is held, and a world, are stored, by the codes of their parts: a proof tells worlds apart by them.
+-- How what is held, and a world, are stored, by the codes of their parts. A proof tells worlds
+-- apart by them.
 use Rattle.std.specs.Prelude.{Bool, Option, List, refl}
 use Rattle.std.specs.Coded.{Coded, code_by, coded×, coded_bool, coded_list, coded_option}
 use Rattle.ztree.specs.Tree.{Tree}

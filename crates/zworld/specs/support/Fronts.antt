@@ -1,4 +1,4 @@
--- Fronts that are taken, and messages that a process acts on.
+-- Fronts that are removed, and messages that a process acts on.
 use Rattle.std.specs.Prelude.{◌≡◌, ℕ, true, Option, None, Some, List, [], ◌∷◌, ◌++◌}
 use Rattle.ztree.specs.Tree.{Tree}
 use Rattle.zcalls.specs.Kept.{KeptState}
@@ -29,29 +29,29 @@ abbrev pub answered_number : MessageOf (KeptState Tree) → Option ℕ
 answered_number (message.Answer number reply) = Some number
 answered_number other = None
 
--- the answer that is told of a client's reply, where it has a number
+-- the response that the history records of a client's reply, if it has a number
 abbrev pub answers_of : ℕ → Option ℕ → Option Reply → History
 answers_of client (Some number) (Some reply) = call_event.Answer client number reply ∷ []
 answers_of client (Some number) None = []
 answers_of client None reply = []
 
--- a world without the front of a link
+-- a world without the front of a channel
 abbrev pub without : World (KeptState Tree) → Process → Process → World (KeptState Tree)
 without w from to = record w { links = without_front w.links from to }
 
--- the front of a link was taken out, if there was one
+-- the front of a channel was removed, if there was one
 abbrev pub HasPopped : Held → Process → Process → Option (MessageOf (KeptState Tree)) → Held → Type 0
 HasPopped old from to None new = ((world_of old []).links from to ≡ []) × (new ≡ old)
 HasPopped old from to (Some message) new =
     (rest : List (MessageOf (KeptState Tree))) × ((world_of old []).links from to ≡ message ∷ rest)
     × ((history : History) → world_of new history ≡ without (world_of old history) from to)
 
--- the taker acted on a message, and the history goes on with this
+-- the receiver acted on a message, and the history goes on with this
 abbrev pub IsGiven : Held → Process → Process → MessageOf (KeptState Tree) → History → Held → Type 0
 IsGiven old from to message told new =
     (history : History) → IsAlike (process_step kept_tree (world_of old history) from to message) (world_of new (history ++ told))
 
--- a client heard a message, acted on it, and what callers saw goes on with what it told
+-- a client received a message and acted on it, and the history goes on with what it handed out
 abbrev pub HasHeard : Held → Held → Process → ℕ → MessageOf (KeptState Tree) → (before after : Seen) → Type 0
 HasHeard old new from client message before after =
     (told : History) × (after.items ≡ before.items ++ told) × IsGiven old from (Client client) message told new

@@ -1,4 +1,4 @@
--- The members and the clients of an opening.
+-- The members and the clients of an initial state.
 use Rattle.std.specs.Prelude.{ℕ, Option, List, map}
 use Rattle.std.specs.List.{range_with_len}
 use Rattle.ztree.specs.declared.limits.TheConstants.{MAX_CLIENTS}
@@ -9,11 +9,11 @@ use Rattle.zprotocol.specs.server.View.{member, opening_server}
 use Rattle.zserver.specs.Server.{first_neighbour}
 use Rattle.zworld.specs.Held.{MemberView, running}
 
--- a server of the opening chain, with these neighbours
+-- a server of the initial chain, with these neighbours
 abbrev pub first_member : Option ℕ → Option ℕ → MemberView
 first_member pred succ = running (member kept_tree (first_neighbour pred) (first_neighbour succ))
 
--- the server of this number, where the chain goes up to the first
+-- the server of the second number, where the chain goes up to the first
 abbrev pub opening_member : ℕ → ℕ → MemberView
 opening_member last s = running (opening_server kept_tree last s)
 
@@ -21,6 +21,6 @@ opening_member last s = running (opening_server kept_tree last s)
 abbrev pub opening_members : ℕ → List MemberView
 opening_members last = map (opening_member last) (range_with_len 1 MAX_SERVERS)
 
--- all clients, of whom there are so many
+-- all clients, of which this many take part
 abbrev pub opening_clients : ℕ → ℕ → List ClientView
 opening_clients last count = map (opening_client last count) (range_with_len 0 MAX_CLIENTS)

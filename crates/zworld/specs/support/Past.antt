@@ -1,4 +1,4 @@
--- What a world keeps of its past, and runs one event after the other.
+-- What a world keeps of its past, and runs, one event after the other.
 use Rattle.std.specs.Prelude.{◌≡◌, ℕ, Bool, true, false, List, [], ◌∷◌, ◌++◌}
 use Rattle.ztree.specs.Tree.{Tree}
 use Rattle.zcalls.specs.Kept.{KeptState}
@@ -14,8 +14,8 @@ use Rattle.zworld_model.specs.Alike.{IsAlike}
 use Rattle.zworld_model.specs.Laws.{world_after}
 use Rattle.zworld.specs.Held.{Held, world_of}
 
--- there is a run from an opening that tells a past, and then this history; where nothing was forgotten there is no past.
--- Unless memory was refused, the processes stand where the run ends
+-- there is a run from an initial world whose history is a past and then this history; where nothing
+-- was forgotten there is no past. Unless memory ran out, the processes are where the run ends
 pub record HasPast (has_forgotten is_broken : Bool) (held : Held) (history : History) : Type 0 where
   pub servers : ℕ
   pub clients : ℕ
@@ -26,7 +26,7 @@ pub record HasPast (has_forgotten is_broken : Bool) (held : Held) (history : His
   pub told : (world_after servers clients events).history ≡ past ++ history
   pub stands : is_broken ≡ false → IsAlike (world_after servers clients events) (world_of held (past ++ history))
 
--- the events lead from one world to another one after the other, each read by some outcome
+-- the events lead from one world to another, one after the other, each resolved by some outcome
 abbrev pub LeadRead : World (KeptState Tree) → List Event → World (KeptState Tree) → Type 0
 LeadRead v [] w = IsAlike v w
 LeadRead v (event ∷ events) w =

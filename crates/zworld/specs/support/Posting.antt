@@ -1,4 +1,4 @@
--- Messages that are put on links, but for those to servers that have failed.
+-- Messages that are sent on channels, except those to failed servers.
 use Rattle.std.specs.Prelude.{◌≡◌, Bool, false, List}
 use Rattle.ztree.specs.Tree.{Tree}
 use Rattle.zcalls.specs.Kept.{KeptState}
@@ -14,11 +14,11 @@ abbrev pub is_lost : List MemberView → Process → Bool
 is_lost members (Server s) = is_gone (member_at members s)
 is_lost members other = false
 
--- rows of links
+-- rows of channels
 abbrev pub Rows : Type 0
 Rows = List (List (List (MessageOf (KeptState Tree))))
 
--- on the links to those that have not failed, this was put
+-- on the channels to those that have not failed, this was sent
 abbrev pub IsPosted : List MemberView → Rows → Process → List (Post (KeptState Tree)) → Rows → Type 0
 IsPosted members old sender posts new =
     (from to : Process) → is_lost members to ≡ false → links_of new from to ≡ put (links_of old) sender posts from to

@@ -1,6 +1,7 @@
--- A settling that goes on where the processes do. What a call does of it is a function of settlings; the outcomes are
--- learnt as events are done, so each fact is of whatever follows those that were learnt.
-use Rattle.std.specs.Prelude.{◌≡◌, ℕ, List, ◌++◌, map, flat_map}
+-- A settling that goes on from where the processes are. What a call does of it is a function of
+-- settlings. The outcomes are learnt as events are done, so each fact holds whatever follows those
+-- learnt so far.
+use Rattle.std.specs.Prelude.{◌≡◌, ◌⊎◌, ℕ, List, [], ◌++◌, map, flat_map}
 use Rattle.ztree.specs.Tree.{Tree}
 use Rattle.zcalls.specs.Kept.{KeptState}
 use Rattle.zprotocol.specs.server.Machine.{kept_tree}
@@ -12,41 +13,43 @@ use Rattle.zworld_model.specs.History.{History}
 use Rattle.zworld_model.specs.Settle.{Settling, with_tries, passes, deliveries}
 use Rattle.zworld_model.specs.Alike.{IsAlike}
 use Rattle.zworld.specs.Held.{Held, world_of}
+use Rattle.zworld.specs.Steps.{CanWantMemoryToSettle}
 use Rattle.zworld.specs.support.Stepped.{Seen}
 
 -- a settling of the world of kept trees
 abbrev pub TreeSettling : Type 0
 TreeSettling = Settling (KeptState Tree)
 
--- a settling stands where the processes do: so many more events may be done, and these are the outcomes to come
+-- a settling is where the processes are: this many more events may be done, and these are the
+-- outcomes to come
 pub record StandsAt (held : Held) (history : History) (more : ℕ) (rest : List Outcome) (s : TreeSettling) : Type 0 where
   pub alike : IsAlike s.world (world_of held history)
   pub remaining : s.left ≡ more
   pub coming : s.outcomes ≡ rest
 
--- how far settling has come: what is held, how many more events may be done, and the answers up to here
+-- how far settling has come: what is held, how many more events may be done, and the history so far
 pub record Point : Type 0 where
   pub held : Held
   pub left : ℕ
   pub seen : History
 
--- from one point to another something was learnt and some answers were given, and what the one function makes of a settling
--- at the first point the other function makes of one at the second
+-- from one point to another, outcomes were learnt and the history grew: one function, of a settling
+-- at the first point, equals the other, of one at the second
 abbrev pub GoesOn : (TreeSettling → TreeSettling) → (TreeSettling → TreeSettling) → Point → Point → Type 0
 GoesOn whole rest before after =
     (told : List Outcome) × (given : History) × (after.seen ≡ before.seen ++ given)
     × ((history : History) (outcomes : List Outcome) (s : TreeSettling) → StandsAt before.held history before.left (told ++ outcomes) s
     → (t : TreeSettling) × StandsAt after.held (history ++ given) after.left outcomes t × (whole s ≡ rest t))
 
--- from one point to another a function of settlings was done
+-- from one point to another, a function of settlings was done
 abbrev pub Does : (TreeSettling → TreeSettling) → Point → Point → Type 0
 Does done before after = GoesOn done (λ s. s) before after
 
--- so were the tries of events
+-- the same, of events that were tried
 abbrev pub Tries : List Event → Point → Point → Type 0
 Tries events before after = Does (λ s. with_tries kept_tree s events) before after
 
--- so it was from what was held and seen to what is, with so many events left before and after
+-- the same, from what was held and seen to what is, with this many events left before and after
 abbrev pub TriesBy : List Event → Held → Held → (before after : Seen) → (left more : ℕ) → Type 0
 TriesBy events old new before after left more =
     Tries events (record { held = old; left = left; seen = before.items }) (record { held = new; left = more; seen = after.items })
@@ -56,20 +59,28 @@ abbrev pub TriesUnseen : List Event → Held → Held → (left more : ℕ) → 
 TriesUnseen events old new left more =
     (seen : History) → Tries events (record { held = old; left = left; seen = seen }) (record { held = new; left = more; seen = seen })
 
--- so were passes over the links of so many clients
+-- the same, of passes over the channels of this many clients
 abbrev pub PassesBy : (clients limit : ℕ) → Held → Held → (before after : Seen) → (left more : ℕ) → Type 0
 PassesBy clients limit old new before after left more =
     Does (passes kept_tree (deliveries clients) limit)
     (record { held = old; left = left; seen = before.items }) (record { held = new; left = more; seen = after.items })
 
--- a delivery on each link from one process
+-- a delivery on each channel from one process
 abbrev pub takes_from : List Process → Process → List Event
 takes_from receivers from = map (λ to. Take from to) receivers
 
--- and on each link from some
+-- and on each channel from some processes
 abbrev pub takes : List Process → List Process → List Event
 takes receivers senders = flat_map (takes_from receivers) senders
 
--- these answers are the others and more
+-- this history is the other one, and more
 abbrev pub GoOn : History → History → Type 0
 GoOn after before = (given : History) × (after ≡ before ++ given)
+
+-- settling that goes on from what is held, with so many more events, can run out of memory
+abbrev pub CanRunOut : Held → (left : ℕ) → Type 0
+CanRunOut held left = CanWantMemoryToSettle (world_of held []) left
+
+-- from one point to another nothing was done, or it could have run out of memory at the first
+abbrev pub StillOrCould : Held → Held → (left more : ℕ) → Type 0
+StillOrCould old new left more = ((new ≡ old) × (more ≡ left)) ⊎ CanRunOut old left

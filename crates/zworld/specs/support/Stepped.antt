@@ -1,5 +1,6 @@
--- What the processes do, by what they held before and hold after: an event is that of the definition, by what became of it, but
--- for what failed servers held and what was put to them (Alike.antt of the world's model).
+-- What the processes do, by what they held before and hold after. An event is that of the
+-- definition, resolved by what became of it, up to failed servers (Alike.antt of the world's
+-- model).
 use Rattle.std.specs.Prelude.{◌≡◌, ℕ, true, not, List, [], ◌++◌}
 use Rattle.std.specs.declared.alloc.Global.{Global}
 use Rattle.std.specs.declared.vec.Vec.{Vec}
@@ -19,15 +20,16 @@ use Rattle.zworld.specs.declared.did.IdleCause.{IdleCause}
 use Rattle.zworld.specs.Held.{Held, world_of}
 use Rattle.zworld.specs.Did.{is_idle, outcome_of, HasCause}
 
--- what callers saw, as it is handed on from one event to the next
+-- what callers saw, as it is passed on from one event to the next
 abbrev pub Seen : Type 0
 Seen = Vec CallEvent Global
 
--- the event can happen
+-- the event is enabled
 abbrev pub CanHappen : Held → Event → Type 0
 CanHappen held event = is_enabled (world_of held []) event ≡ true
 
--- the event leads from what was held to what is held, whatever the history before it, which goes on with this
+-- the event leads from what was held to what is held, whatever the history before it, which goes on
+-- with this
 abbrev pub Leads : Held → Event → History → Held → Type 0
 Leads old event told new =
     (history : History) → IsAlike (happens kept_tree (world_of old history) event) (world_of new (history ++ told))
@@ -38,26 +40,26 @@ pub record HasStepped (old new : Held) (event : Event) (did : Did) (told : Histo
   pub idle : is_idle did ≡ not (is_enabled (world_of old []) event)
   pub same : is_idle did ≡ true → new ≡ old
   pub caused : HasCause old event did
-  -- the event can have the outcome
+  -- the outcome fits the event
   pub fits : is_fitting kept_tree (world_of old []) event (outcome_of did) ≡ true
-  -- it is the event of the definition, read by its outcome
+  -- it is the event of the definition, resolved by its outcome
   pub leads : Leads old (read kept_tree (world_of old []) event (outcome_of did)) told new
 
 -- it can't be done, for this reason
 abbrev pub IsIdle : Held → Event → IdleCause → Type 0
 IsIdle held event why = HasStepped held held event (became.Idle why) []
 
--- the event was done, and what callers saw goes on with what it told
+-- the event was done, and the history goes on with what it recorded
 abbrev pub GoesBy : Held → Held → Event → (before after : History) → Did → Type 0
 GoesBy old new event before after did = (told : History) × (after ≡ before ++ told) × HasStepped old new event did told
 
--- the same, as what callers saw is handed on
+-- the same, as what callers saw is passed on
 abbrev pub Goes : Held → Held → Event → (before after : Seen) → Did → Type 0
 Goes old new event before after did = GoesBy old new event before.items after.items did
 
--- settling came to this, having learnt of these outcomes, and with these answers
+-- settling came to this: it learnt these outcomes, and the history goes on with this
 pub record SettlesBy (old new : Held) (limit : ℕ) (settled : Settled) (learnt : List Outcome) (told : History) : Type 0 where
-  -- it ended as the definition does, whatever outcomes would follow, and took none of those
+  -- it ended as the definition does, whatever outcomes would follow, and used up none of those
   pub ended : (history : History) (rest : List Outcome)
       → settled ≡ settling_end (settle kept_tree (world_of old history) limit (learnt ++ rest))
   pub left : (history : History) (rest : List Outcome)
@@ -66,7 +68,7 @@ pub record SettlesBy (old new : Held) (limit : ℕ) (settled : Settled) (learnt 
   pub leads : (history : History) (rest : List Outcome)
       → IsAlike (settle kept_tree (world_of old history) limit (learnt ++ rest)).world (world_of new (history ++ told))
 
--- settling came to this, and what callers saw goes on with the answers that clients took
+-- settling came to this, and the history goes on with the responses that clients received
 abbrev pub Settles : Held → Held → ℕ → (before after : History) → Settled → Type 0
 Settles old new limit before after settled =
     (learnt : List Outcome) × (told : History) × (after ≡ before ++ told) × SettlesBy old new limit settled learnt told

@@ -1,6 +1,6 @@
--- A service that only counts its updates, and a machine for it, for the worked rows: they stand in the place of the plain
--- tree and its machine, and compute. An update is answered with the name that it made, the number of updates before it;
--- a query is answered with the number of updates so far.
+-- A service that only counts its updates, and a machine for it, for the worked rows. They stand for
+-- the plain tree and its machine, and compute. An update is answered with the name that it made,
+-- which is the number of updates before it. A query is answered with the number of updates so far.
 use Rattle.std.specs.Prelude.{ℕ, ◌+◌, ◌==◌, nat_lt, if◌then◌else◌, List, [], ◌∷◌, Option, None, Some}
 use Rattle.zcalls.specs.declared.call.Kind.TheVariants.{PersistentSequential}
 use Rattle.zcalls.specs.declared.call.Entry.{Entry}
@@ -13,11 +13,11 @@ use Rattle.zcalls.specs.declared.reply.Reply.TheVariants.{Created, Exists}
 use Rattle.zprotocol.specs.server.Machine.{Does}
 use Rattle.zworld_model.specs.LegalOrder.{Service}
 
--- the answer to the update behind so many
+-- the answer to an update that comes after this many
 abbrev pub name_reply : ℕ → Reply
 name_reply count = Created ((count ∷ []) ∷ [])
 
--- the answer to a query behind so many updates
+-- the answer to a query after this many updates
 abbrev pub count_reply : ℕ → Reply
 count_reply count =
     Exists (record { czxid = 0; mzxid = 0; pzxid = 0; ctime = 0; mtime = 0; version = 0; cversion = 0; owner = 0; length = 0; children = count })
@@ -57,12 +57,13 @@ abbrev pub latest : ℕ → List Counted → Option Counted
 latest client [] = None
 latest client (call ∷ calls) = if call.client == client then Some call else latest client calls
 
--- an entry that acts: it counts, and its reply is kept
+-- an entry that acts: it counts, and its reply is cached
 abbrev pub with_update : Counting → Entry → Counting × Option Reply
 with_update m entry =
     (record { count = m.count + 1; calls = record { client = entry.client; number = entry.number; reply = name_reply m.count } ∷ m.calls }, Some (name_reply m.count))
 
--- an entry after the latest call of its client: a greater number acts, the same is given the kept reply, a lesser nothing
+-- an entry after the latest call of its client: a greater number acts, the same one gets the cached
+-- reply, a lesser one nothing
 abbrev pub with_update_after : Counting → Entry → Option Counted → Counting × Option Reply
 with_update_after m entry None = with_update m entry
 with_update_after m entry (Some call) =

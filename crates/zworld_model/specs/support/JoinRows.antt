@@ -5,7 +5,8 @@ use Rattle.zworld_model.specs.declared.event.Event.TheVariants.{Begin, Take, Fai
 use Rattle.zworld_model.specs.support.Counter.{create, exists}
 use Rattle.zworld_model.specs.support.RunRows.{m, s1, s2, s3, c1}
 
--- one server has an update; s2 joins behind it; client 1 asks s1 when that has handed the state over, and is told to ask s2
+-- one server has an update, and s2 joins behind it; client 1 asks s1, which has handed the state
+-- over, and is told to ask s2
 abbrev pub state_is_handed_over : List Event
 state_is_handed_over =
     Begin 1 create
@@ -24,8 +25,9 @@ state_is_handed_over =
     ∷ Take s2 c1
     ∷ []
 
--- two servers have an update; s3 joins behind s2, which puts its snapshot and fails; meanwhile s1 took one more update.
--- When s3 has heard that s1 is before it, the old snapshot arrives; then s1 sends its own
+-- two servers have an update; s3 joins behind s2, which sends its snapshot and fails; meanwhile s1
+-- accepted one more update. When s3 has learnt that s1 is its predecessor, the old snapshot
+-- arrives; then s1 sends its own
 abbrev pub snapshot_is_stale : List Event
 snapshot_is_stale =
     Begin 1 create
@@ -47,7 +49,8 @@ snapshot_is_stale =
     ∷ Take s1 s3
     ∷ []
 
--- the only server fails before the joining one has the state; client 1 hears of the chain that is left, and asks it
+-- the only server fails before the joining one has the state; client 1 learns of the chain that is
+-- left, and asks it
 abbrev pub state_is_lost : List Event
 state_is_lost =
     Join 2

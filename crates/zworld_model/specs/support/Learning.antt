@@ -1,6 +1,6 @@
--- Outcomes that are learnt as events are done: a program settles, or reads events, without knowing the outcomes
--- beforehand. What it keeps is one fact: with what was learnt and whatever follows, the definition stands where the
--- program stands, with what follows.
+-- Outcomes that are learnt as events are done: a program settles, or resolves events, without
+-- knowing the outcomes beforehand. It keeps one fact: the definition, given the outcomes learnt so
+-- far and any others, is where the program is, given those others.
 use Rattle.std.specs.Prelude.{◌≡◌, Bool, true, false, ◌&&◌, nat_lt, List, [], ◌∷◌, ◌++◌, suc, ℕ}
 use Rattle.zprotocol.specs.server.Machine.{Does}
 use Rattle.zworld_model.specs.declared.event.Event.{Event}
@@ -10,7 +10,7 @@ use Rattle.zworld_model.specs.Events.{is_enabled, happens}
 use Rattle.zworld_model.specs.Reading.{read, read_all}
 use Rattle.zworld_model.specs.Settle.{Settling, with_event, with_try, with_tries, is_over, passes}
 
--- from its beginning the settling goes on from here, whatever outcomes follow those that were learnt
+-- from its beginning the settling goes on from here, whatever outcomes follow those learnt so far
 abbrev pub GoesOn : {M : Type 0} → (List Outcome → Settling M) → (Settling M → Settling M) → List Outcome → Settling M → Type 0
 GoesOn whole from learnt s = (rest : List Outcome) → whole (learnt ++ rest) ≡ from (record s { outcomes = rest })
 
@@ -18,7 +18,7 @@ GoesOn whole from learnt s = (rest : List Outcome) → whole (learnt ++ rest) �
 abbrev pub is_done : {M : Type 0} → Settling M → Event → Bool
 is_done s event = nat_lt 0 s.left && is_enabled s.world event
 
--- an event that is done is learnt of
+-- the outcome of an event that is done is learnt
 abbrev pub DoneIsLearnt : {M : Type 0} → Does M → Type 0
 DoneIsLearnt {M} machine =
     (whole : List Outcome → Settling M) (from : Settling M → Settling M) (learnt : List Outcome) (s : Settling M) (event : Event)
@@ -26,13 +26,13 @@ DoneIsLearnt {M} machine =
     → is_done s event ≡ true → GoesOn whole (λ t. from (with_try machine t event)) learnt s
     → GoesOn whole from (learnt ++ outcome ∷ []) (with_event machine s (read machine s.world event outcome))
 
--- of an event that isn't done nothing is learnt
+-- an event that isn't done teaches nothing
 abbrev pub IdleIsPassed : {M : Type 0} → Does M → Type 0
 IdleIsPassed {M} machine =
     (whole : List Outcome → Settling M) (from : Settling M → Settling M) (learnt : List Outcome) (s : Settling M) (event : Event)
     → is_done s event ≡ false → GoesOn whole (λ t. from (with_try machine t event)) learnt s → GoesOn whole from learnt s
 
--- a pass begins where it isn't over
+-- a pass begins where settling isn't over
 abbrev pub PassBegins : {M : Type 0} → Does M → Type 0
 PassBegins {M} machine =
     (whole : List Outcome → Settling M) (from : Settling M → Settling M) (learnt : List Outcome) (s : Settling M)
@@ -48,12 +48,12 @@ PassesEnd {M} machine =
     → is_over s deliveries ≡ true → GoesOn whole (λ t. from (passes machine deliveries more t)) learnt s
     → GoesOn whole from learnt s
 
--- from its beginning the reading of events goes on from here
+-- from its beginning the resolving of events goes on from here
 abbrev pub ReadsOn : {M : Type 0} → Does M → (List Outcome → List Event) → List Outcome → List Event → World M → List Event → Type 0
 ReadsOn machine whole learnt readings w events =
     (rest : List Outcome) → whole (learnt ++ rest) ≡ readings ++ read_all machine w events rest
 
--- one more event is read by its outcome
+-- one more event is resolved by its outcome
 abbrev pub ReadingIsLearnt : {M : Type 0} → Does M → Type 0
 ReadingIsLearnt {M} machine =
     (whole : List Outcome → List Event) (learnt : List Outcome) (readings : List Event) (w : World M) (event : Event)

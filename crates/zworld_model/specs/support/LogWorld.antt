@@ -1,7 +1,7 @@
--- The log world: the same world over logs of entries in place of trees. It says who holds which entries, and by it the
--- world of the service is known: each tree is the one that its log leads to.
--- Van Renesse and Schneider, "Chain Replication for Supporting High Throughput and Availability" (OSDI 2004), section 2:
--- an object's state is what its history of updates makes of it.
+-- The log world: the same world over logs of entries in place of trees. It says who holds which
+-- entries, and the world of the service is known by it: each tree is the one that its log leads to.
+-- Van Renesse and Schneider, "Chain Replication for Supporting High Throughput and Availability"
+-- (OSDI 2004), section 2: an object's state is what its history of updates makes of it.
 use Rattle.std.specs.Prelude.{◌≡◌, ℕ, List, map}
 use Rattle.zcalls.specs.declared.call.Entry.{Entry}
 use Rattle.zprotocol.specs.server.Machine.{kept_tree, log_of, replay}
@@ -10,7 +10,7 @@ use Rattle.zworld_model.specs.declared.event.Event.{Event}
 use Rattle.zworld_model.specs.World.{World, opening_world}
 use Rattle.zworld_model.specs.Events.{is_enabled, run}
 
--- a world whose machines are mapped, in views and in snapshots under way
+-- a world whose machines are mapped, in views and in snapshots in flight
 abbrev pub world_with : {M N : Type 0} → (M → N) → World M → World N
 world_with h w = record {
   servers = λ s. view_with h (w.servers s);
@@ -21,7 +21,8 @@ world_with h w = record {
   history = w.history;
 }
 
--- the world over trees is the one over logs, each log replayed, after every list of events; so they have one history
+-- after every list of events, the world over trees is the one over logs, with each log replayed; so
+-- they have one history
 abbrev pub LogWorldStandsForWorld : Type 0
 LogWorldStandsForWorld =
     (servers clients : ℕ) (events : List Event)

@@ -1,6 +1,7 @@
--- Worked rows of the legal order, over a service that counts: a history with its order, and orders that don't explain it.
--- Client 1 creates and is answered; then client 2 asks for the count and is answered. Meanwhile client 3 creates and
--- client 4 asks, and neither is answered; client 3's create was done, since client 2's count has it.
+-- Worked rows of the legal order, over a service that counts: a history with its order, and orders
+-- that don't explain it. Client 1 creates and is answered; then client 2 asks for the count and is
+-- answered. Meanwhile client 3 creates and client 4 asks, and neither is answered. Client 3's
+-- create acted, since client 2's count includes it.
 use Rattle.std.specs.Prelude.{ℕ, ◌≤◌, List, [], ◌∷◌}
 use Rattle.ztree.specs.Tree.{opening_tree}
 use Rattle.zcalls.specs.declared.call.Call.TheVariants as call
@@ -27,11 +28,11 @@ lost_exists = record { client = 4; number = 1; call = exists }
 abbrev pub last_exists : Operation
 last_exists = record { client = 2; number = 1; call = exists }
 
--- a call that nobody began
+-- a call that nobody invoked
 abbrev pub strange_create : Operation
 strange_create = record { client = 5; number = 1; call = create }
 
--- the history, with the count that client 2 is told
+-- the history, with the count that client 2 receives
 abbrev pub history_with : ℕ → History
 history_with count =
     Begin 1 1 create
@@ -42,7 +43,8 @@ history_with count =
     ∷ Answer 2 1 (count_reply count)
     ∷ []
 
--- the order explains the history in which client 2 is told this count, and no state of its replay is above the bound
+-- the order explains the history in which client 2 receives this count, and no state of its replay
+-- is above the bound
 abbrev pub Explains : ℕ → ℕ → List Operation → Type 0
 Explains bound count order = IsLegalOrder (λ state. state ≤ bound) counter (history_with count) order
 
@@ -50,7 +52,8 @@ Explains bound count order = IsLegalOrder (λ state. state ≤ bound) counter (h
 abbrev pub true_order : List Operation
 true_order = first_create ∷ lost_create ∷ last_exists ∷ []
 
--- the calls of the run in which two clients' updates go down the chain, and are answered in the other order
+-- the calls of the run in which two clients' updates go down the chain, and are answered in the
+-- other order
 abbrev pub first_down : Operation
 first_down = record { client = 0; number = 1; call = create }
 
@@ -61,7 +64,7 @@ second_down = record { client = 1; number = 1; call = create }
 abbrev pub ExplainsTheRun : List Operation → Type 0
 ExplainsTheRun order = IsLegalOrder (λ state. Unit {0}) counter (seen 3 two_updates) order
 
--- a query of the opening tree is asked and answered
+-- a query of the initial tree is asked and answered
 abbrev pub query_is_first : Query → History
 query_is_first query = Begin 1 1 (call.Query query) ∷ Answer 1 1 (query_reply opening_tree query) ∷ []
 

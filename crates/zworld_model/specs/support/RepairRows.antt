@@ -1,4 +1,5 @@
--- Worked runs in which a server of three fails, over a machine that counts, with two clients (0 and 1).
+-- Worked runs in which a server of three fails, over a machine that counts, with two clients (0 and
+-- 1).
 use Rattle.std.specs.Prelude.{List, [], ◌∷◌}
 use Rattle.zworld_model.specs.declared.event.Event.{Event}
 use Rattle.zworld_model.specs.declared.event.Event.TheVariants.{Begin, Take, Fail}
@@ -18,7 +19,7 @@ head_fails =
     ∷ Take s3 c1
     ∷ []
 
--- the same, where the client hears of the new head first, and asks again
+-- the same, where the client learns of the new head first, and sends again
 abbrev pub head_fails_and_is_asked_again : List Event
 head_fails_and_is_asked_again =
     Begin 1 create
@@ -35,12 +36,12 @@ head_fails_and_is_asked_again =
     ∷ Take s3 c1
     ∷ []
 
--- the head fails, and s2 hears of it before it takes what the head forwarded
+-- the head fails, and s2 learns of it before it receives what the head forwarded
 abbrev pub head_fails_first : List Event
 head_fails_first = Begin 1 create ∷ Take c1 s1 ∷ Fail 1 ∷ Take s1 m ∷ Take m s2 ∷ Take s1 s2 ∷ []
 
--- the tail fails before it had client 1's update: s2 is the tail, and has processed what it forwarded; asked again, it
--- gives the kept reply
+-- the tail fails before it had client 1's update: s2 is the tail, and has processed what it
+-- forwarded; it sends the cached reply when it is asked again
 abbrev pub tail_fails : List Event
 tail_fails =
     Begin 1 create
@@ -55,7 +56,8 @@ tail_fails =
     ∷ Take s2 c1
     ∷ []
 
--- the middle fails before it had client 1's update: s3 tells the master what it has, and s1 sends s3 what it lacks
+-- the middle fails before it had client 1's update: s3 tells the master what it has, and s1 sends
+-- s3 what it lacks
 abbrev pub middle_fails : List Event
 middle_fails =
     Begin 1 create

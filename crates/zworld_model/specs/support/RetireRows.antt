@@ -1,4 +1,5 @@
--- Worked runs in which a member is ordered to leave, over a machine that counts, with two clients (0 and 1).
+-- Worked runs in which a member is ordered to leave, over a machine that counts, with two clients
+-- (0 and 1).
 use Rattle.std.specs.Prelude.{List, [], ◌∷◌}
 use Rattle.zworld_model.specs.declared.event.Event.{Event}
 use Rattle.zworld_model.specs.declared.event.Event.TheVariants.{Begin, Take, Fail, Join, Retire}
@@ -6,11 +7,12 @@ use Rattle.zworld_model.specs.support.Counter.{create, exists}
 use Rattle.zworld_model.specs.support.RunRows.{m, s1, s2, s3, c1}
 use Rattle.zworld_model.specs.support.ScenarioRows.{Scene, Happen, Settles, Calls}
 
--- the head is ordered to leave, and takes the order
+-- the head is ordered to leave, and receives the order
 abbrev pub order_taken : List Event
 order_taken = Retire 1 ∷ Take m s1 ∷ []
 
--- the head of three is ordered to leave. It serves until it takes the order; then s2 is the head
+-- the head of three is ordered to leave; it serves until it receives the order, and then s2 is the
+-- head
 abbrev pub head_retires : List Event
 head_retires =
     Begin 1 create
@@ -24,8 +26,8 @@ head_retires =
     ∷ Take s3 c1
     ∷ []
 
--- the middle is, and takes the order before client 1's update: s3 tells the master what it has, and s1 sends s3 what it
--- lacks
+-- the middle is ordered to leave, and receives the order before client 1's update: s3 tells the
+-- master what it has, and s1 sends s3 what it lacks
 abbrev pub middle_retires : List Event
 middle_retires =
     Begin 1 create
@@ -40,8 +42,8 @@ middle_retires =
     ∷ Take s3 c1
     ∷ []
 
--- the tail is, and takes the order before client 1's update: s2 is the tail, and has processed what it forwarded; asked
--- again, it gives the kept reply
+-- the tail is ordered to leave, and receives the order before client 1's update. Then s2 is the
+-- tail, and has processed what it forwarded; it sends the cached reply when it is asked again
 abbrev pub tail_retires : List Event
 tail_retires =
     Begin 1 create
@@ -80,10 +82,10 @@ both_are_replaced =
     ∷ Calls exists
     ∷ []
 
--- the head of three is ordered to leave, and the middle fails before it takes the order
+-- the head of three is ordered to leave, and the middle fails before the head receives the order
 abbrev pub another_fails : List Scene
 another_fails = Calls create ∷ Happen (Retire 1 ∷ Fail 2 ∷ Take s2 m ∷ []) ∷ Settles ∷ Calls create ∷ []
 
--- the head of three is ordered to leave, and fails before it takes the order
+-- the head of three is ordered to leave, and fails before it receives the order
 abbrev pub retiring_server_fails : List Scene
 retiring_server_fails = Calls create ∷ Happen (Retire 1 ∷ Fail 1 ∷ []) ∷ Settles ∷ Calls create ∷ []

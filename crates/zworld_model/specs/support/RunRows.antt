@@ -1,4 +1,5 @@
--- Worked runs of a chain in which nobody fails, over a machine that counts, with two clients (0 and 1).
+-- Worked runs of a chain in which nobody fails, over a machine that counts, with two clients (0 and
+-- 1).
 use Rattle.std.specs.Prelude.{ℕ, ◌≡◌, true, false, Some, List, [], ◌∷◌, ◌++◌, take}
 use Rattle.zcalls.specs.declared.call.Entry.{Entry}
 use Rattle.zprotocol.specs.declared.message.Message.TheVariants as message
@@ -36,7 +37,7 @@ c0 = Client 0
 abbrev pub c1 : Process
 c1 = Client 1
 
--- the world after events, from the opening with so many servers
+-- the world after events, from the initial world with this many servers
 abbrev pub after : ℕ → List Event → World Counting
 after servers events = run counting_machine (opening_world counting_machine servers 2) events
 
@@ -44,7 +45,7 @@ after servers events = run counting_machine (opening_world counting_machine serv
 abbrev pub seen : ℕ → List Event → History
 seen servers events = (after servers events).history
 
--- what they left on a link
+-- what they left on a channel
 abbrev pub link : ℕ → List Event → Process → Process → List (MessageOf Counting)
 link servers events from to = (after servers events).links from to
 
@@ -52,7 +53,7 @@ link servers events from to = (after servers events).links from to
 abbrev pub view : ℕ → List Event → ℕ → ServerView Counting
 view servers events s = (after servers events).servers s
 
--- an event can happen after them, or it can't
+-- an event is enabled after them, or it isn't
 abbrev pub CanHappen : ℕ → List Event → Event → Type 0
 CanHappen servers events event = is_enabled (after servers events) event ≡ true
 
@@ -66,7 +67,7 @@ first_entry = record { client = 1; number = 1; update = create_update }
 abbrev pub other_entry : Entry
 other_entry = record { client = 0; number = 1; update = create_update }
 
--- a client begins an update, its call of this number; and is told the name that this one made
+-- a client invokes an update, its call of this number; and receives the name that this one made
 abbrev pub began : ℕ → ℕ → CallEvent
 began client number = saw.Begin client number create
 
@@ -83,7 +84,7 @@ two_creates = began 1 1 ∷ told 1 1 0 ∷ began 1 2 ∷ told 1 2 1 ∷ []
 abbrev pub create_and_exists : History
 create_and_exists = began 1 1 ∷ told 1 1 0 ∷ saw.Begin 1 2 exists ∷ saw.Answer 1 2 (count_reply 1) ∷ []
 
--- its request of that update on a link, and two answers to it
+-- its request of that update on a channel, and two answers to it
 abbrev pub request : List (MessageOf Counting)
 request = message.Submit 1 create_update ∷ []
 
@@ -94,7 +95,8 @@ two_answers = message.Answer 1 (name_reply 0) ∷ message.Answer 1 (name_reply 0
 abbrev pub config : ℕ → ℕ → ℕ → List (MessageOf Counting)
 config epoch head tail = message.Config epoch (Some head) (Some tail) ∷ []
 
--- client 1 begins an update, the request is taken, and the answer of an only server too; or it begins a query
+-- client 1 invokes an update, its request is delivered, and so is the answer of an only server; or
+-- it invokes a query
 abbrev pub create_begun : List Event
 create_begun = Begin 1 create ∷ []
 
@@ -137,11 +139,11 @@ two_updates =
     ∷ Take s3 c0
     ∷ []
 
--- both on the link from the head, client 0's first
+-- both on the channel from the head, client 0's first
 abbrev pub other_then_first : List (MessageOf Counting)
 other_then_first = message.Update 0 1 other_entry ∷ message.Update 0 2 first_entry ∷ []
 
--- an update arrives twice, since its client asks again; then the client makes another
+-- an update arrives twice, since its client sends it again; then the client makes another
 abbrev pub retried_update : List Event
 retried_update =
     Begin 1 create
@@ -158,6 +160,6 @@ retried_update =
     ∷ Take s2 c1
     ∷ []
 
--- the same, where the second answer is taken when the client has begun the other
+-- the same, where the second answer is delivered when the client has invoked the other
 abbrev pub late_answer : List Event
 late_answer = take 7 retried_update ++ Begin 1 create ∷ Take s2 c1 ∷ []

@@ -1,5 +1,6 @@
--- Worked scenarios: calls that settle, with failures and joins between them, over a machine that counts, with two clients
--- (0 and 1). In each the chain keeps the state as long as one server that has it lives.
+-- Worked scenarios: calls that settle, with failures and joins between them, over a machine that
+-- counts, with two clients (0 and 1). In each the chain keeps the state as long as one server that
+-- has it lives.
 use Rattle.std.specs.Prelude.{ℕ, List, [], ◌∷◌}
 use Rattle.zcalls.specs.declared.call.Call.{Call}
 use Rattle.zworld_model.specs.declared.event.Event.{Event}
@@ -13,7 +14,8 @@ use Rattle.zworld_model.specs.Settle.{settle}
 use Rattle.zworld_model.specs.support.Counter.{Counting, counting_machine, create, exists}
 use Rattle.zworld_model.specs.support.RunRows.{m, s1, s2, s3, s4, c1}
 
--- a part of a scenario: events happen, the world settles, or client 1 begins a call and the world settles
+-- a part of a scenario: events happen, the world settles, or client 1 invokes a call and the world
+-- settles
 pub data Scene : Type 0 where
   Happen : List Event → Scene
   Settles : Scene
@@ -30,7 +32,7 @@ abbrev pub after_scenes : World Counting → List Scene → World Counting
 after_scenes w [] = w
 after_scenes w (scene ∷ scenes) = after_scenes (after_scene w scene) scenes
 
--- a scenario with so many servers
+-- a scenario with this many servers
 abbrev pub scenes_end : ℕ → List Scene → World Counting
 scenes_end servers scenes = after_scenes (opening_world counting_machine servers 2) scenes
 
@@ -48,11 +50,12 @@ scenes_chain servers scenes = (scenes_master servers scenes).chain
 abbrev pub two_fail : List Scene
 two_fail = Calls create ∷ Happen (Fail 1 ∷ Fail 2 ∷ []) ∷ Settles ∷ Calls create ∷ []
 
--- both servers in the middle of four fail, when the first of them has taken the update
+-- both servers in the middle of four fail, when the first of them has received the update
 abbrev pub both_middle_servers_fail : List Scene
 both_middle_servers_fail = Happen (Begin 1 create ∷ Take c1 s1 ∷ Take s1 s2 ∷ Fail 2 ∷ Fail 3 ∷ []) ∷ Settles ∷ []
 
--- the middle of three fails, and then the head too, when the tail has been told of its new predecessor
+-- the middle of three fails, and then the head too, when the tail has been told of its new
+-- predecessor
 abbrev pub head_fails_in_a_repair : List Scene
 head_fails_in_a_repair =
     Happen (Begin 1 create ∷ Take c1 s1 ∷ Fail 2 ∷ Take s2 m ∷ Take m s3 ∷ Fail 1 ∷ Take s1 m ∷ Take s3 m ∷ []) ∷ Settles ∷ []

@@ -1,4 +1,5 @@
--- Worked runs of settling, and of readings, over a machine that counts, with two clients (0 and 1).
+-- Worked runs of settling, and of resolved events, over a machine that counts, with two clients (0
+-- and 1).
 use Rattle.std.specs.Prelude.{ℕ, ◌≡◌, Bool, List, [], ◌∷◌, ◌++◌}
 use Rattle.zworld_model.specs.declared.event.Event.{Event}
 use Rattle.zworld_model.specs.declared.event.Event.TheVariants.{Begin, Retry, Take, Ignore, Fail, Join}
@@ -10,11 +11,11 @@ use Rattle.zworld_model.specs.Settle.{Settling, settle}
 use Rattle.zworld_model.specs.support.Counter.{Counting, counting_machine, create, exists}
 use Rattle.zworld_model.specs.support.RunRows.{after, m, s1, s2, s3, c0, c1}
 
--- settling after events, with a limit, and what becomes of its events
+-- settling after events, with a limit, and the outcomes of its events
 abbrev pub settled_after : ℕ → List Event → ℕ → List Outcome → Settling Counting
 settled_after servers events limit outcomes = settle counting_machine (after servers events) limit outcomes
 
--- the history that it leaves where all is acted on, and the events that it does
+-- the history that it leaves where every process acts, and the events that it does
 abbrev pub settled_history : ℕ → List Event → History
 settled_history servers events = (settled_after servers events 100 []).world.history
 
@@ -25,19 +26,20 @@ settled_events servers events outcomes = (settled_after servers events 100 outco
 abbrev pub fits_after : ℕ → List Event → Event → Outcome → Bool
 fits_after servers events event outcome = is_fitting counting_machine (after servers events) event outcome
 
--- the events from the opening as they are read, after what became of them
+-- the events from the initial world, resolved by their outcomes
 abbrev pub read_after : ℕ → List Event → List Outcome → List Event
 read_after servers events outcomes = read_all counting_machine (opening_world counting_machine servers 2) events outcomes
 
--- events that stay themselves, whatever is said to have become of them
+-- events that resolve to themselves, whatever outcomes are given
 abbrev pub StayThemselves : ℕ → List Event → List Outcome → Type 0
 StayThemselves servers events outcomes = read_after servers events outcomes ≡ events
 
--- two clients begin an update each
+-- two clients invoke an update each
 abbrev pub two_begin : List Event
 two_begin = Begin 0 create ∷ Begin 1 create ∷ []
 
--- how that settles on three servers: what is put earlier in a pass can be taken in it, and each link gives one message
+-- how that settles on three servers: what is sent earlier in a pass can be delivered in it, and
+-- each channel gives one message
 abbrev pub two_settle : List Event
 two_settle =
     Take c0 s1
@@ -65,7 +67,8 @@ asked_again = Retry 1 ∷ Take c1 s1 ∷ Take s1 c1 ∷ []
 abbrev pub lost_query : List Event
 lost_query = Begin 1 exists ∷ Ignore c1 s1 ∷ []
 
--- the only server has failed: the master hears of it and tells both clients, and client 1 has nobody to ask again
+-- the only server has failed: the master learns of it and tells both clients, and client 1 has
+-- nobody to ask again
 abbrev pub news_and_retry : List Event
 news_and_retry = Take s1 m ∷ Take m c0 ∷ Take m c1 ∷ Retry 1 ∷ []
 
@@ -73,7 +76,7 @@ news_and_retry = Take s1 m ∷ Take m c0 ∷ Take m c1 ∷ Retry 1 ∷ []
 abbrev pub lost_state : List Event
 lost_state = Join 2 ∷ Fail 1 ∷ Begin 1 exists ∷ []
 
--- the head of two servers fails, and the master tells the other one, which takes that
+-- the head of two servers fails, and the master tells the other one, which receives that
 abbrev pub new_head : List Event
 new_head = Fail 1 ∷ Take s1 m ∷ []
 

@@ -11,8 +11,8 @@ ghost use Rattle.zworld_model.specs.support.JoinRows.{state_is_handed_over, snap
 ghost use Rattle.zworld_model.specs.support.JoinRows.{state_is_lost};
 ghost use Rattle.zworld_model.specs.support.RunRows.{CannotHappen, create_and_exists, config};
 
-/// A server joins behind the tail: from the event on in which the old tail puts its snapshot, it answers nobody; the new
-/// tail does once it has the state.
+/// A server joins behind the tail. Once the old tail has sent its snapshot, it answers nobody; the
+/// new tail answers once it has the state.
 pub fn joining_server_is_handed_the_state()
     ensures one_joins { join_fault (after 1 (take 4 state_is_handed_over)).master 3 ≡ Some Joining }
     ensures silent { link 1 (take 9 state_is_handed_over) s1 c1 ≡ [] }
@@ -21,14 +21,14 @@ pub fn joining_server_is_handed_the_state()
     ensures seen { seen 1 state_is_handed_over ≡ create_and_exists }
 {}
 
-/// The snapshot of a predecessor that failed is ignored: it lacks what the new one has taken.
+/// The snapshot of a failed predecessor is ignored: it lacks what the new predecessor has accepted.
 pub fn stale_snapshot_is_ignored()
     ensures no_state { (view 2 (take 14 snapshot_is_stale) 3).machine ≡ None }
     ensures taken { link 2 (take 14 snapshot_is_stale) s2 s3 ≡ [] }
     ensures whole_state { (view 2 snapshot_is_stale 3).last ≡ 2 }
 {}
 
-/// The state is lost with the only server that had it: nobody is answered, and no server can join.
+/// The state is lost with the only server that had it: no call is answered, and no server can join.
 pub fn state_is_lost_with_its_only_server()
     ensures silent { link 1 state_is_lost s2 c1 ≡ [] }
     ensures unanswered { seen 1 state_is_lost ≡ saw.Begin 1 1 exists ∷ [] }

@@ -1,4 +1,4 @@
-//! Worked rows of the legal order, and the first histories that the plain tree explains.
+//! Worked rows of the legal order, and the first linearizable histories.
 
 ghost use Rattle.std.specs.Prelude.{[], ◌∷◌, ◌++◌, take};
 ghost use Rattle.zcalls.specs.declared.call.Query.{Query};
@@ -10,12 +10,12 @@ ghost use Rattle.zworld_model.specs.support.OrderRows.{lost_exists};
 ghost use Rattle.zworld_model.specs.support.OrderRows.{last_exists, strange_create, query_is_first};
 ghost use Rattle.zworld_model.specs.support.OrderRows.{update_is_first};
 
-/// A worked row of the legal order: an unanswered update stands in it, and an unanswered query doesn't.
+/// A worked row of the legal order: it may hold an unanswered update, but no unanswered query.
 pub fn legal_order_is_taken()
     ensures explained { Explains 2 2 true_order }
 {}
 
-/// Orders that explain no history: each breaks one clause of the legal order, and no other.
+/// Orders that explain no history. Each breaks one clause of the legal order, and no other.
 pub fn other_orders_are_refused()
     ensures answered_left_out { Explains 2 2 (first_create ∷ lost_create ∷ []) → ⊥ }
     ensures call_twice { Explains 2 2 (true_order ++ last_exists ∷ []) → ⊥ }
@@ -27,15 +27,15 @@ pub fn other_orders_are_refused()
     ensures unlawful_state { Explains 1 2 true_order → ⊥ }
 {}
 
-/// A run and its order: of two updates that go down the chain one behind the other the first comes first, whichever
-/// answer is taken first.
+/// A run and its order: two updates go down the chain, one behind the other. The first one comes
+/// first, whichever response is received first.
 pub fn run_has_one_order()
     ensures explained { ExplainsTheRun (first_down ∷ second_down ∷ []) }
     ensures no_other { ExplainsTheRun (second_down ∷ first_down ∷ []) → ⊥ }
 {}
 
-/// The plain tree explains a history in which nobody calls; one in which a query of the opening tree is asked and
-/// answered; and one in which an update is answered, and then a query from the tree after it.
+/// Linearizable histories: nobody calls; a query of the initial tree is answered; an update is
+/// answered, and then a query of the tree after it.
 pub fn plain_tree_explains()
     ensures silence { IsExplained [] }
     ensures first_query { (q : Query) → IsExplained (query_is_first q) }

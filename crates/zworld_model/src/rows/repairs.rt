@@ -8,7 +8,8 @@ ghost use Rattle.zworld_model.specs.support.RepairRows.{head_fails, head_fails_a
 ghost use Rattle.zworld_model.specs.support.RepairRows.{head_fails_first, tail_fails, middle_fails};
 ghost use Rattle.zworld_model.specs.support.RunRows.{one_create, request, two_answers, config};
 
-/// The head fails after it forwarded an update: its successor becomes the head, and the update is answered.
+/// The head fails after it forwarded an update: its successor becomes the head, and the update is
+/// answered.
 pub fn head_fails_after_it_forwarded()
     ensures gone { link 3 (take 4 head_fails) s1 m ≡ message.Gone ∷ [] }
     ensures told { link 3 (take 5 head_fails) m s2 ≡ message.BecomeHead 1 ∷ [] }
@@ -16,7 +17,8 @@ pub fn head_fails_after_it_forwarded()
     ensures seen { seen 3 head_fails ≡ one_create }
 {}
 
-/// The same, where the client asks the new head again: the update counts once, and is answered once.
+/// The same, where the client also sends to the new head: the update acts once, and is answered
+/// once.
 pub fn new_head_is_asked_again()
     ensures told { link 3 (take 6 head_fails_and_is_asked_again) m c1 ≡ config 1 2 3 }
     ensures asked { link 3 (take 7 head_fails_and_is_asked_again) c1 s2 ≡ request }
@@ -24,14 +26,16 @@ pub fn new_head_is_asked_again()
     ensures seen { seen 3 head_fails_and_is_asked_again ≡ one_create }
 {}
 
-/// What a failed server had put is still delivered, and counts until its receiver has heard of the failure.
+/// What a failed server had sent is still delivered. It counts until its receiver has learnt of the
+/// failure.
 pub fn messages_outlive_their_sender()
     ensures in_time { (view 3 (take 2 head_fails_first ++ Fail 1 ∷ Take s1 s2 ∷ []) 2).last ≡ 1 }
     ensures too_late { (view 3 head_fails_first 2).last ≡ 0 }
     ensures taken { link 3 head_fails_first s1 s2 ≡ [] }
 {}
 
-/// The tail fails before it answered: its predecessor becomes the tail, and answers with the reply that it kept.
+/// The tail fails before it answered: its predecessor becomes the tail, and answers with its cached
+/// reply.
 pub fn tail_fails_before_it_answered()
     ensures told { link 3 (take 5 tail_fails) m s2 ≡ message.BecomeTail 1 ∷ [] }
     ensures tail { (view 3 (take 6 tail_fails) 2).succ ≡ None }
@@ -41,8 +45,8 @@ pub fn tail_fails_before_it_answered()
     ensures seen { seen 3 tail_fails ≡ one_create }
 {}
 
-/// The middle fails: the tail tells the master its last number, the master tells the head, and the head sends what
-/// follows.
+/// The middle fails: the tail tells the master its last number, the master tells the head, and the
+/// head sends what follows.
 pub fn middle_fails_before_it_forwarded()
     ensures unsent { link 3 (take 3 middle_fails) s1 s2 ≡ message.Update 0 1 first_entry ∷ [] }
     ensures new_pred { link 3 (take 4 middle_fails) m s3 ≡ message.NewPred 1 1 ∷ [] }

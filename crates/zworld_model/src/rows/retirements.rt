@@ -21,8 +21,8 @@ ghost use Rattle.zworld_model.specs.support.RetireRows.{order_taken, two_retire,
 ghost use Rattle.zworld_model.specs.support.RetireRows.{both_are_replaced, another_fails};
 ghost use Rattle.zworld_model.specs.support.RetireRows.{retiring_server_fails};
 
-/// The head is ordered to leave. It serves until it takes the order; from then on it takes nothing more, and its successor
-/// becomes the head.
+/// The head is ordered to leave. It serves until it receives the order. From then on it receives
+/// nothing more, and its successor becomes the head.
 pub fn head_retires_after_it_forwarded()
     ensures ordered { link 3 (take 2 head_retires) m s1 ≡ message.Retire ∷ [] }
     ensures serves { link 3 (take 3 head_retires) s1 s2 ≡ message.Update 0 1 first_entry ∷ [] }
@@ -35,7 +35,7 @@ pub fn head_retires_after_it_forwarded()
     ensures seen { seen 3 head_retires ≡ one_create }
 {}
 
-/// The middle is: what it hadn't forwarded, the head sends to the tail.
+/// The middle is ordered to leave: what it hadn't forwarded, the head sends to the tail.
 pub fn middle_retires_before_it_forwarded()
     ensures unsent { link 3 (take 4 middle_retires) s1 s2 ≡ message.Update 0 1 first_entry ∷ [] }
     ensures new_pred { link 3 (take 5 middle_retires) m s3 ≡ message.NewPred 1 1 ∷ [] }
@@ -44,7 +44,7 @@ pub fn middle_retires_before_it_forwarded()
     ensures seen { seen 3 middle_retires ≡ one_create }
 {}
 
-/// The tail is: its predecessor becomes the tail, and the call is answered once.
+/// The tail is ordered to leave: its predecessor becomes the tail, and the call is answered once.
 pub fn tail_retires_before_it_answered()
     ensures told { link 3 (take 6 tail_retires) m s2 ≡ message.BecomeTail 1 ∷ [] }
     ensures tail { (view 3 (take 7 tail_retires) 2).succ ≡ None }
@@ -52,7 +52,7 @@ pub fn tail_retires_before_it_answered()
     ensures seen { seen 3 tail_retires ≡ one_create }
 {}
 
-/// Who can be ordered to leave; and that no server can stop at the order for want of memory.
+/// Who can be ordered to leave, and that no server can run out of memory at the order.
 pub fn members_are_ordered_to_leave()
     ensures member { CanHappen 3 [] (Retire 3) }
     ensures spare { CannotHappen 3 [] (Retire 4) }
@@ -71,8 +71,8 @@ pub fn members_leave_in_turn()
     ensures seen { scenes_history 3 two_retire ≡ create_and_exists }
 {}
 
-/// Nobody is ordered to leave while a server joins, and nobody joins while a member leaves; so servers can be replaced
-/// one by one.
+/// Nobody is ordered to leave while a server joins, and nobody joins while a member leaves. So
+/// servers can be replaced one by one.
 pub fn servers_are_replaced()
     ensures joining { retire_fault (scenes_master 2 (take 1 one_is_replaced)) 1 ≡ Some Joining }
     ensures retiring { join_fault (scenes_master 2 (take 3 one_is_replaced)) 4
@@ -91,7 +91,8 @@ pub fn another_fails_meanwhile()
     ensures seen { scenes_history 3 another_fails ≡ two_creates }
 {}
 
-/// A server that fails before it takes the order never takes it: it is gone once, and with that the order is done.
+/// A server that fails before it receives the order never receives it. It is gone once, and with
+/// that the order is done.
 pub fn retiring_server_fails_first()
     ensures not_taken { is_enabled (scenes_end 3 (take 2 retiring_server_fails)) (Take m s1)
         ≡ false }

@@ -9,7 +9,8 @@ ghost use Rattle.zworld_model.specs.support.RunRows.{began, told, create_begun, 
 ghost use Rattle.zworld_model.specs.support.RunRows.{two_updates, other_then_first, retried_update, late_answer};
 ghost use Rattle.zworld_model.specs.support.RunRows.{one_create, two_creates, request, two_answers};
 
-/// An update goes down the chain; nobody but the tail answers it; the acknowledgement empties every Sent.
+/// An update goes down the chain. Nobody but the tail answers it, and the acknowledgement empties
+/// every Sent.
 pub fn update_is_answered_by_the_tail()
     ensures head_is_silent { link 3 (take 2 update_in_turn) s1 c1 ≡ [] }
     ensures kept { (view 3 (take 5 update_in_turn) 1).sent ≡ (1, first_entry) ∷ [] }
@@ -20,14 +21,15 @@ pub fn update_is_answered_by_the_tail()
     ensures nothing_is_left { link 3 update_in_turn s2 s1 ≡ [] }
 {}
 
-/// Links keep order: the update that the head took first is done first, whichever answer is taken first.
+/// Channels keep order: the update that the head received first acts first, whichever response is
+/// received first.
 pub fn links_keep_order()
     ensures under_way { link 3 (take 4 two_updates) s1 s2 ≡ other_then_first }
     ensures seen { seen 3 two_updates ≡ began 0 1 ∷ began 1 1 ∷ told 1 1 1 ∷ told 0 1 0 ∷ [] }
 {}
 
-/// An update that arrives twice counts once: its kept reply is given again, and the client takes one of the two; the
-/// other is none for its next call.
+/// An update that arrives twice acts once. Its cached reply is sent again, and the client receives
+/// one of the two; its next call ignores the other.
 pub fn retried_update_counts_once()
     ensures two_answers { link 2 (take 6 retried_update) s2 c1 ≡ two_answers }
     ensures one_is_taken { seen 2 (take 8 retried_update) ≡ one_create }
@@ -35,13 +37,13 @@ pub fn retried_update_counts_once()
     ensures next_count { seen 2 retried_update ≡ two_creates }
 {}
 
-/// Which events can happen; one that can't changes nothing.
+/// Which events are enabled; one that isn't changes nothing.
 pub fn only_enabled_events_happen()
     ensures busy_client { CannotHappen 3 create_begun (Begin 1 exists) }
     ensures strange_client { CannotHappen 3 [] (Begin 2 create) }
     ensures nothing_to_retry { CannotHappen 3 [] (Retry 1) }
     ensures empty_link { CannotHappen 3 [] (Take c1 s1) }
-    ensures server_messages_are_not_ignored { CannotHappen 3 (take 2 update_in_turn) (Ignore s1 s2) }
+    ensures server_message_is_not_ignored { CannotHappen 3 (take 2 update_in_turn) (Ignore s1 s2) }
     ensures failed_taker { CannotHappen 3 (Begin 1 create ∷ Fail 1 ∷ []) (Take c1 s1) }
     ensures failed_ignorer { CannotHappen 3 (Begin 1 create ∷ Fail 1 ∷ []) (Ignore c1 s1) }
     ensures failed_twice { CannotHappen 3 (Fail 1 ∷ []) (Fail 1) }
@@ -55,7 +57,7 @@ pub fn only_enabled_events_happen()
     ensures unchanged { link 3 (Begin 1 create ∷ Fail 1 ∷ Take c1 s1 ∷ []) c1 s1 ≡ request }
 {}
 
-/// A request may be lost, and the client asks again.
+/// A request may be lost, and the client sends it again.
 pub fn request_is_lost()
     ensures lost { link 3 (Begin 1 create ∷ Ignore c1 s1 ∷ []) c1 s1 ≡ [] }
     ensures nothing_done { (view 3 (Begin 1 create ∷ Ignore c1 s1 ∷ []) 1).last ≡ 0 }

@@ -10,7 +10,8 @@ ghost use Rattle.zworld_model.specs.support.ScenarioRows.{failed_spare_joins, ch
 ghost use Rattle.zworld_model.specs.support.RunRows.{one_create, two_creates, create_and_exists};
 ghost use Rattle.zworld_model.specs.support.ScenarioRows.{scenes_master, scenes_history, scenes_chain};
 
-/// Servers fail, one after the other and in the middle of a repair, and the call that was under way is answered once.
+/// Servers fail, one after the other and in the middle of a repair. The outstanding call is
+/// answered once.
 pub fn answers_survive_failures()
     ensures two_fail { scenes_history 3 two_fail ≡ two_creates }
     ensures both_middle_servers_fail { scenes_history 4 both_middle_servers_fail ≡ one_create }
@@ -23,8 +24,8 @@ pub fn state_outlives_its_first_server()
     ensures chain { scenes_chain 1 state_moves_on ≡ (3, 3) ∷ [] }
 {}
 
-/// Failures in a join: the server before the failed tail hands the state over, and a tail whose joining successor failed
-/// answers again.
+/// Failures during a join. The predecessor of the failed tail hands the state over, and a tail
+/// whose joining successor failed answers again.
 pub fn joins_survive_failures()
     ensures tail_fails { scenes_history 3 tail_fails_in_a_join ≡ two_creates }
     ensures new_tail { scenes_chain 3 tail_fails_in_a_join ≡ (1, 0) ∷ (2, 0) ∷ (4, 2) ∷ [] }
@@ -32,7 +33,8 @@ pub fn joins_survive_failures()
     ensures old_tail { scenes_chain 3 joining_server_fails ≡ (1, 0) ∷ (2, 0) ∷ (3, 0) ∷ [] }
 {}
 
-/// A spare server that failed leaves the chain again when the master hears of it, and its number is used.
+/// A spare server that failed leaves the chain again when the master learns of it, and its number
+/// is used up.
 pub fn failed_spare_leaves_again()
     ensures seen { scenes_history 1 failed_spare_joins ≡ one_create }
     ensures used { join_fault (scenes_master 1 failed_spare_joins) 2 ≡ Some Used }

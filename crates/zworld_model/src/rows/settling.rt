@@ -1,4 +1,4 @@
-//! Worked runs of settling and of readings.
+//! Worked runs of settling and of resolved events.
 
 ghost use Rattle.std.specs.Prelude.{◌≡◌, true, false, [], ◌∷◌, Some, take};
 ghost use Rattle.zprotocol.specs.declared.master.join_fault.JoinFault.TheVariants.{Lost};
@@ -19,14 +19,17 @@ ghost use Rattle.zworld_model.specs.support.RunRows.{one_create, create_begun, c
 ghost use Rattle.zworld_model.specs.support.RunRows.{exists_begun, exists_taken};
 ghost use Rattle.zworld_model.specs.support.SettleRows.{settled_history, settled_events, fits_after};
 
-/// The order of the deliveries: link by link, one message from each that has one when its turn comes, pass after pass.
+/// The order of the deliveries: channel by channel, one message from each that has one when its
+/// turn comes, pass after pass.
 pub fn settling_goes_link_by_link()
     ensures events { settled_events 3 two_begin [] ≡ two_settle }
     ensures quiet { settling_end (settled_after 3 two_begin 100 []) ≡ Quiet }
-    ensures seen { settled_history 3 two_begin ≡ began 0 1 ∷ began 1 1 ∷ told 0 1 0 ∷ told 1 1 1 ∷ [] }
+    ensures seen { settled_history 3 two_begin ≡
+        began 0 1 ∷ began 1 1 ∷ told 0 1 0 ∷ told 1 1 1 ∷ [] }
 {}
 
-/// The limit: it ends settling as soon as so many events were done, also where nothing would have been left.
+/// The limit ends settling as soon as that many events were done, even where nothing would have
+/// been left.
 pub fn settling_has_a_limit()
     ensures none { (settled_after 3 two_begin 0 []).events ≡ [] }
     ensures none_is_limit { settling_end (settled_after 3 [] 0 []) ≡ Limit }
@@ -42,15 +45,16 @@ pub fn settling_retries_once()
     ensures answered { settled_history 1 lost_request ≡ one_create }
 {}
 
-/// Where the state is lost, settling is quiet in the end, the call stays unanswered, and nobody can join.
+/// Where the state is lost, settling still ends `Quiet`, the call stays unanswered, and no server
+/// can join.
 pub fn settling_ends_where_the_state_is_lost()
     ensures quiet { settling_end (settled_after 1 lost_state 100 []) ≡ Quiet }
     ensures unanswered { settled_history 1 lost_state ≡ saw.Begin 1 1 exists ∷ [] }
     ensures refused { join_fault (settled_after 1 lost_state 100 []).world.master 3 ≡ Some Lost }
 {}
 
-/// Readings: a delivery at which a server stopped for memory is its failure, and a query unheard is lost; nothing else
-/// reads as anything but itself, and no server stops at a query.
+/// Resolved events: a delivery at which a server ran out of memory is its failure, and an unheard
+/// query is lost. Everything else resolves to itself, and no server stops at a query.
 pub fn events_are_read()
     ensures stopped { read_after 1 create_taken (Acted ∷ Stopped ∷ [])
         ≡ Begin 1 create ∷ Fail 1 ∷ [] }
@@ -63,8 +67,8 @@ pub fn events_are_read()
     ensures new_head_goes_on { StayThemselves 2 new_head_told (Acted ∷ Acted ∷ Stopped ∷ []) }
 {}
 
-/// Which outcomes fit: a server can stop at a message that makes it grow, but for a query, and a query alone is unheard, at
-/// a tail, where they can be taken.
+/// Which outcomes fit: a server can stop at a message that makes it grow, unless it is a query.
+/// Only a query can be unheard, at a tail, where it can be delivered.
 pub fn outcomes_fit()
     ensures all_act { is_fitting counting_machine (after 1 []) (Take c1 s1) Acted ≡ true }
     ensures update_stops { fits_after 1 create_begun (Take c1 s1) Stopped ≡ true }
@@ -78,7 +82,8 @@ pub fn outcomes_fit()
     ensures query_elsewhere_is_heard { fits_after 1 query_at_old_tail (Take c1 s1) Unheard ≡ false }
 {}
 
-/// Settling where memory is refused: a server that stops doesn't take its message, and an unheard query is asked again.
+/// Settling where memory runs out: a server that stops doesn't receive its message, and an unheard
+/// query is sent again.
 pub fn settling_is_read()
     ensures stopped { settled_events 1 create_begun (Stopped ∷ []) ≡ Fail 1 ∷ news_and_retry }
     ensures unheard { settled_events 1 exists_begun (Unheard ∷ []) ≡ Ignore c1 s1 ∷ asked_again }

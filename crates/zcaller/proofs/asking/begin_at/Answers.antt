@@ -10,9 +10,9 @@ use Rattle.ztraces.specs.Deeds.{AtClient}
 use Rattle.zprotocol.specs.client.View.{ClientView}
 use Rattle.zprotocol.specs.client.Table.{begin_step}
 use Rattle.zdesks.specs.Desks.{Stands, IsEvent, pending, TreePost}
+use Rattle.zdesks.proofs.Entered.{is_entered}
 use Rattle.zdesks.proofs.Pending.{pending_none}
 use Rattle.ztraces.specs.declared.stamp.TheConstants.{MAX_STAMP}
-use Rattle.zcaller.proofs.Books.{is_entered}
 use Rattle.zcaller.proofs.Rows.{client_begins, begin_number}
 use Rattle.zcaller.proofs.asking.begin_at.Goals as goal
 
@@ -71,7 +71,7 @@ returns-in-Ok-begin-clause-begun c =
       posts = pending_none b (rest.0 ∙ c.requires.settled.0) ∙ ap (λ o. o.posts) rest.1 ∙ begins.puts ∙ ap (λ l. l ++ did.1) c.requires.settled.1;
       entered = λ whole.
           let e = c.enter.ensures.entered whole in
-          is_entered d b c.args.next c.began.result (Began call) (c.begun.result ∷ []) (call_event.Begin c.args.id number call ∷ []) (record { trace = e.trace; seen = e.seen; stamp = e.stamp; early = e.early })
+          is_entered d b c.args.next c.began.result (Began call) (c.begun.result ∷ []) (call_event.Begin c.args.id number call ∷ []) (record { whole = e.whole; trace = e.trace; seen = e.seen; stamp = e.stamp; early = e.early })
           (c.began.ensures ∙ ap (λ x. Began x) c.in-Ok.ensures) (ap (λ (e : CallEvent). e ∷ []) told);
     }
 

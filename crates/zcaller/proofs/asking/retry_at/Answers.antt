@@ -2,10 +2,10 @@ use Rattle.std.proofs.Common.{◌≡◌, ◌<◌, ◌++◌, [], List, refl, sym,
 use Rattle.ztraces.specs.Deeds.{AtClient}
 use Rattle.zprotocol.specs.client.Table.{retry_posts}
 use Rattle.zdesks.specs.Desks.{Stands, pending, TreePost}
+use Rattle.zdesks.proofs.Entered.{is_entered}
 use Rattle.zdesks.proofs.Pending.{pending_none}
 use Rattle.ztraces.specs.declared.stamp.TheConstants.{MAX_STAMP}
 use Rattle.ztraces.specs.declared.trace.Act.TheVariants.{Retried}
-use Rattle.zcaller.proofs.Books.{is_entered}
 use Rattle.zcaller.proofs.Rows.{client_retries}
 use Rattle.zcaller.proofs.asking.retry_at.Goals as goal
 
@@ -39,7 +39,7 @@ returns-clause-sent c =
       posts = pending_none b (rest.0 ∙ c.requires.settled.0) ∙ ap (λ o. o.posts) rest.1 ∙ c.in-Ok.ensures.puts ∙ ap (λ l. l ++ retry_posts v) c.requires.settled.1;
       entered = λ whole.
           let e = c.enter.ensures.entered whole in
-          is_entered d b c.args.next Retried Retried [] [] (record { trace = e.trace; seen = e.seen; stamp = e.stamp; early = e.early }) refl refl;
+          is_entered d b c.args.next Retried Retried [] [] (record { whole = e.whole; trace = e.trace; seen = e.seen; stamp = e.stamp; early = e.early }) refl refl;
     }
 
 pub returns-clause-whole : goal.returns-clause-whole

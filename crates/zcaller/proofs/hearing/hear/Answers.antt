@@ -6,11 +6,11 @@ use Rattle.ztraces.specs.Deeds.{AtClient, answer_told}
 use Rattle.zprotocol.specs.client.View.{ClientView}
 use Rattle.zprotocol.specs.client.Table.{client_step}
 use Rattle.zdesks.specs.Desks.{Stands, IsEvent, pending, TreePost}
+use Rattle.zdesks.proofs.Entered.{is_entered}
 use Rattle.zdesks.proofs.Pending.{pending_none}
 use Rattle.ztraces.specs.declared.stamp.TheConstants.{MAX_STAMP}
 use Rattle.ztraces.specs.declared.trace.Act.TheVariants.{Took}
 use Rattle.zworld_model.specs.declared.outcome.Outcome.TheVariants.{Acted}
-use Rattle.zcaller.proofs.Books.{is_entered}
 use Rattle.zcaller.proofs.Rows.{client_takes, told}
 use Rattle.zcaller.proofs.hearing.hear.Goals as goal
 
@@ -60,7 +60,7 @@ returns-in-Ok-take-clause-heard c =
       posts = pending_none b (rest.0 ∙ c.requires.settled.0) ∙ ap (λ o. o.posts) rest.1 ∙ c.in-Ok-take.ensures.puts ∙ ap (λ l. l ++ did.1) c.requires.settled.1;
       entered = λ whole.
           let e = c.enter.ensures.entered whole in
-          is_entered d b c.args.next c.took.result (Took from Acted) (option_to_list c.only_if-told.result) (answer_told c.args.id did.2) (record { trace = e.trace; seen = e.seen; stamp = e.stamp; early = e.early }) c.took.ensures told_now;
+          is_entered d b c.args.next c.took.result (Took from Acted) (option_to_list c.only_if-told.result) (answer_told c.args.id did.2) (record { whole = e.whole; trace = e.trace; seen = e.seen; stamp = e.stamp; early = e.early }) c.took.ensures told_now;
     }
 
 pub returns-in-Ok-take-clause-whole : goal.returns-in-Ok-take-clause-whole

@@ -14,9 +14,9 @@ returns-in-Err-clause-at c h =
     let t = Some (c.args.from, (c.args.stamp, c.args.message)) in
     let kept = c.in-Err.ensures.keeps (AtClient c.args.core.now) t [] h in
     let cored = subst (λ (x : ClientView). Stands d (AtClient x) t []) (sym c.in-Err.ensures.kept) kept in
-    let front = c.handed_back.ensures ∙ ap (λ m. Some (c.args.from, m)) c.in-Err.ensures.back in
+    let front = c.replace.ensures.after ∙ c.handed_back.ensures ∙ ap (λ m. Some (c.args.from, m)) c.in-Err.ensures.back in
     let fronted = subst (λ (x : TreeTaken). Stands d (AtClient c.hear.new.core) x []) (sym front) cored in
-    subst (λ (w : List TreePost). Stands d (AtClient c.hear.new.core) c.handed_back.result w) (sym c.in-Err.ensures.pending) fronted
+    subst (λ (w : List TreePost). Stands d (AtClient c.hear.new.core) c.replace.new.dest w) (sym c.in-Err.ensures.pending) fronted
 
 pub returns-in-Ok-clause-heard : goal.returns-in-Ok-clause-heard
 returns-in-Ok-clause-heard c = inr (c.in-Ok.ensures.heard, c.in-Ok.ensures.stamp)

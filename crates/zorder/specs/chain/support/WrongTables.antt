@@ -1,5 +1,5 @@
--- Wrong tables, each with a step that loses an invariant. The table itself is the server's crate's, so what
--- would be wrong in it is written down here beside it.
+-- Wrong tables, each with a step that loses an invariant. The table itself is in the server's
+-- crate, so its wrong variants are written down here.
 use Rattle.std.specs.Prelude.{◌≡◌, ℕ, ◌+◌, ◌==◌, ◌&&◌, if◌then◌else◌, Option, None, Some, List, [], ◌∷◌, ◌++◌, length}
 use Rattle.zcalls.specs.declared.call.Entry.{Entry}
 use Rattle.zcalls.specs.declared.call.Expected.TheVariants.{Any}
@@ -31,16 +31,16 @@ use Rattle.zorder.specs.chain.Sound.{IsSound, ChainIsOrdered}
 abbrev pub call : ℕ → Entry
 call number = record { client = 0; number = number; update = Delete (record { path = []; version = Any }) }
 
--- a member that has this
+-- a member with this log and these neighbours
 abbrev pub holder : Log → Option Neighbour → Option Neighbour → ServerView (List Entry)
 holder None pred succ = record { machine = None; last = 0; sent = []; pred = pred; succ = succ }
 holder (Some log) pred succ = record { machine = Some log; last = length log; sent = []; pred = pred; succ = succ }
 
--- links of which one has this message alone
+-- channels of which one has this message alone
 abbrev pub on_link : Process → Process → LogMessage → Links (List Entry)
 on_link sender receiver m from to = if is_same from sender && is_same to receiver then m ∷ [] else []
 
--- server 1 before server 2, as a pair of epoch 0: what each has, and what is under way
+-- server 1 before server 2, as a pair of epoch 0: what each has, and what is in flight
 abbrev pub two_members : List Entry → Log → Links (List Entry) → LogWorld
 two_members first second links =
     record (opening_world (log_machine plain_tree) 2 1) {
@@ -50,26 +50,26 @@ two_members first second links =
       links = links;
     }
 
--- the world after a server takes a message with this result
+-- the world after a server receives a message with this result
 abbrev pub taken_world : LogWorld → Process → ℕ → ServerResult (List Entry) → LogWorld
 taken_world w from s result = server_does (record w { links = without_front w.links from (Server s) }) s result
 
--- the same with what is told beside the world, from this committed log on
+-- the same with the account beside the world, from this committed log on
 abbrev pub taken_account : LogWorld → List Entry → Process → ℕ → ServerResult (List Entry) → Account
 taken_account w committed from s result =
     account_by plain_tree (record { world = w; committed = committed; items = [] }) (Take from (Server s)) (taken_world w from s result)
 
--- then client 0 is put a message by the server that isn't justified: an answer of no item
+-- then the server sends client 0 a message that isn't justified: an answer of no item
 abbrev pub AnswersNoItem : LogWorld → List Entry → ℕ → ServerResult (List Entry) → Type 0
 AnswersNoItem w committed s result =
     let u = taken_account w committed (Client 0) s result in
     (m : LogMessage) × Among m (u.world.links (Server s) (Client 0)) × (IsJustified u.world u.items (Server s) (Client 0) m → ⊥)
 
--- the chain was in order, and isn't then
+-- the chain was in order, and then it isn't
 abbrev pub LosesOrder : LogWorld → Process → ℕ → ServerResult (List Entry) → Type 0
 LosesOrder w from s result = ChainIsOrdered w × (ChainIsOrdered (taken_world w from s result) → ⊥)
 
--- what was committed isn't, then
+-- what was committed isn't any more
 abbrev pub LosesCommitted : LogWorld → List Entry → Process → ℕ → ServerResult (List Entry) → Type 0
 LosesCommitted w committed from s result = IsPrefix committed (taken_account w committed from s result).committed → ⊥
 
@@ -97,7 +97,7 @@ AnyQueriesAreRefuted =
     → AnswersNoItem (two_members [] (Some []) (on_link (Client 0) (Server 1) (message.Query 1 query))) [] 1
     (any_query_row (log_machine plain_tree) (holder (Some []) None (Some (2, 0))) 0 1 query)
 
--- and so an old tail, which has put its snapshot
+-- and so an old tail, which has sent its snapshot
 abbrev pub OldTailsAreRefuted : Type 0
 OldTailsAreRefuted =
     (query : Query)
@@ -106,7 +106,7 @@ OldTailsAreRefuted =
     AnswersNoItem (two_members (call 1 ∷ []) None (λ from to. snapshot from to ++ asked from to)) (call 1 ∷ []) 1
     (any_query_row (log_machine plain_tree) (holder (Some (call 1 ∷ [])) None (Some (2, 0))) 0 2 query)
 
--- a server with a log that takes updates from clients, head or not
+-- a server with a log that accepts updates from clients, head or not
 abbrev pub any_submit_row : {M : Type 0} → Does M → ServerView M → ℕ → ℕ → Update → ServerResult M
 any_submit_row does v client number update =
     if_initialised v (λ m. accept_result does v m (v.last + 1) (record { client = client; number = number; update = update }))
@@ -116,7 +116,7 @@ AnySubmitsAreRefuted =
     LosesOrder (two_members [] (Some []) (on_link (Client 0) (Server 2) (message.Submit 1 (call 1).update))) (Client 0) 2
     (any_submit_row (log_machine plain_tree) (holder (Some []) (Some (1, 0)) None) 0 1 (call 1).update)
 
--- an update of the predecessor that is taken without its number being the next
+-- an update of the predecessor that is accepted though its number isn't the next
 abbrev pub any_update_row : {M : Type 0} → Does M → ServerView M → ℕ → ℕ → ℕ → Entry → ServerResult M
 any_update_row does v p epoch n entry =
     if_initialised v (λ m. if is_neighbour v.pred p epoch then accept_result does v m n entry else no_effect v)
@@ -126,7 +126,7 @@ AnyUpdatesAreRefuted =
     LosesOrder (two_members (call 1 ∷ call 2 ∷ []) (Some []) (on_link (Server 1) (Server 2) (message.Update 0 2 (call 2)))) (Server 1) 2
     (any_update_row (log_machine plain_tree) (holder (Some []) (Some (1, 0)) None) 1 0 2 (call 2))
 
--- a snapshot of the predecessor that is taken over a state that is there
+-- a snapshot of the predecessor that replaces a state that the server has
 abbrev pub any_snapshot_row : {M : Type 0} → ServerView M → ℕ → ℕ → Transfer M → ServerResult M
 any_snapshot_row v p epoch transfer =
     if is_neighbour v.pred p epoch then (record v { machine = Some transfer.machine; last = transfer.last; sent = [] }, []) else no_effect v

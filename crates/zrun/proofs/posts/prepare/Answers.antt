@@ -16,26 +16,26 @@ pub returns-clause-run : goal.returns-clause-run
 returns-clause-run c =
     let o = c.args.opening.now in
     let m = master_desk c.master-chief.result in
-    let ss = post_desks c.in_ok-servers.servers.items in
-    let cs = client_desks c.in_ok-callers.callers.items in
+    let ss = post_desks c.in-Ok-prepare_servers.servers.items in
+    let cs = client_desks c.in-Ok.callers.items in
     let s0 = c.in_ok-supply.supply in
     let s1 = c.prepare_clients.new.supply in
     let s2 = c.prepare_servers.new.supply in
     let s3 = c.next.new.self in
     let all = c.in_ok-supply.ensures.left in
-    let after_clients = c.in_ok-callers.ensures.left in
-    let after_servers = c.in_ok-servers.ensures.left in
-    let after_master = c.in_ok-ends.ensures.left in
+    let after_clients = c.in-Ok.ensures.left in
+    let after_servers = c.in-Ok-prepare_servers.ensures.left in
+    let after_master = c.in-Ok-next.ensures.left in
     let none : left s3 ≡ 0 = omega (arith, all, after_clients, after_servers, after_master) in
-    let handed = hands_more s0 s2 s3 c.in_ok-ends.ends m (ss ++ cs) (hands_both s0 s1 s2 cs ss c.in_ok-callers.ensures.rings c.in_ok-servers.ensures.rings)
-    c.in_ok-ends.ensures.rings c.master-chief.ensures.ends in
-    let count = posts_count c.in_ok-servers.servers.items in
-    let servers = c.in_ok-servers.ensures.servers in
+    let handed = hands_more s0 s2 s3 c.in-Ok-next.ends m (ss ++ cs) (hands_both s0 s1 s2 cs ss c.in-Ok.ensures.rings c.in-Ok-prepare_servers.ensures.rings)
+    c.in-Ok-next.ensures.rings c.master-chief.ensures.ends in
+    let count = posts_count c.in-Ok-prepare_servers.servers.items in
+    let servers = c.in-Ok-prepare_servers.ensures.servers in
     let next : MAX_SERVERS + 1 ≡ 1 + length ss = omega (arith, count, servers) in
     let desks = more_desks o.last o.clients 0 m (ss ++ cs) c.master-chief.ensures.desk
-    (both_desks o.last o.clients 1 ss cs c.in_ok-servers.ensures.desks (subst (λ k. AreDesks o.last o.clients k cs) next c.in_ok-callers.ensures.desks)) in
+    (both_desks o.last o.clients 1 ss cs c.in-Ok-prepare_servers.ensures.desks (subst (λ k. AreDesks o.last o.clients k cs) next c.in-Ok.ensures.desks)) in
     subst (λ (v : Vec ClientPost Global). IsRun o.last o.clients (m ∷ (ss ++ client_desks v.items))) (sym c.of-run.ensures)
     (is_run o.last o.clients _ s0 s3 (m ∷ (ss ++ cs)) c.in_ok-supply.ensures.woven none handed desks)
 
 pub new-requires-2 : goal.new-requires-2
-new-requires-2 c = number_at c.args.opening.now.last c.args.opening.now.clients c.in_ok-callers.callers.items c.in_ok-callers.ensures.desks
+new-requires-2 c = number_at c.args.opening.now.last c.args.opening.now.clients c.in-Ok.callers.items c.in-Ok.ensures.desks

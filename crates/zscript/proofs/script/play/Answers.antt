@@ -25,10 +25,10 @@ pub returns-in_err-player-clause-cut : goal.returns-in_err-player-clause-cut
 returns-in_err-player-clause-cut g c = let p = err_from_is_err_and c.from_residual-in_err-player.result c.from_residual-in_err-player.ensures.1 in rw p.1 (IsCut-from_fault c.args.servers _ _ Memory (idle g c))
 
 pub returns-clause-played : goal.returns-clause-played
-returns-clause-played g c = ends-played c.args.servers _ _ c.play_blocks.result (c.play_blocks.ensures c.args.servers c.in_ok-player.ensures.world)
+returns-clause-played g c = ends-played c.args.servers _ _ c.play_blocks-played.result (c.play_blocks-played.ensures c.args.servers c.in_ok-player.ensures.world)
 
 pub returns-clause-cut : goal.returns-clause-cut
-returns-clause-cut g c = ends-cut c.args.servers _ _ c.play_blocks.result (c.play_blocks.ensures c.args.servers c.in_ok-player.ensures.world)
+returns-clause-cut g c = ends-cut c.args.servers _ _ c.play_blocks-played.result (c.play_blocks-played.ensures c.args.servers c.in_ok-player.ensures.world)
 
 pub returns-clause-fault : goal.returns-clause-fault
-returns-clause-fault g c = ends-fault c.args.servers _ _ c.play_blocks.result (c.play_blocks.ensures c.args.servers c.in_ok-player.ensures.world)
+returns-clause-fault g c = ends-fault c.args.servers _ _ c.play_blocks-played.result (c.play_blocks-played.ensures c.args.servers c.in_ok-player.ensures.world)

@@ -1,13 +1,22 @@
 use Rattle.std.proofs.Common.{refl, sym}
 use mathlib.Core.Bool.{true≢false}
 use Rattle.zprotocol.specs.declared.message.Message.TheVariants as message
-use Rattle.zprotocol.specs.server.Table.{server_step, query_row}
+use Rattle.zprotocol.specs.server.Table.{accept_result, become_head_row, query_row, server_step, submit_row}
 use Rattle.ztraces.specs.Deeds.{ServerTakes, ServerIgnores, ServerStops, ServerLeaves, ServerHalts}
 use Rattle.ztraces.specs.support.TraceRows.{c0, server_with, request, asked}
 use Rattle.ztraces.proofs.worked.servers_end_by_their_rows.Goals as goal
 
 pub returns-clause-stops : goal.returns-clause-stops
-returns-clause-stops c = ServerStops 1 (server_with 0) c0 (1, request)
+unfolding server_step submit_row accept_result
+returns-clause-stops c = ServerStops 1 (server_with 0) c0 (1, request) refl
+
+pub returns-clause-stops_at_no_query : goal.returns-clause-stops_at_no_query
+unfolding server_step query_row
+returns-clause-stops_at_no_query c (ServerStops s v from m grows) = absurd (true≢false (sym grows))
+
+pub returns-clause-stops_where_nothing_grows : goal.returns-clause-stops_where_nothing_grows
+unfolding server_step become_head_row
+returns-clause-stops_where_nothing_grows c (ServerStops s v from m grows) = absurd (true≢false (sym grows))
 
 pub returns-clause-leaves : goal.returns-clause-leaves
 returns-clause-leaves c = ServerLeaves 1 (server_with 0) (1, message.Retire) refl

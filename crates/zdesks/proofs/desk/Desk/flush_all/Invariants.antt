@@ -1,6 +1,12 @@
-use Rattle.std.proofs.Common.{◌≡◌, length}
+use Rattle.std.proofs.Common.{◌≡◌, false, length, true}
+use Rattle.zrings.specs.Ends.{IsFlushed}
 use Rattle.zdesks.specs.Desks.{Keeps, SameRest}
+use Rattle.zdesks.specs.Waiting.{EachBelow, IsEmpty}
 use Rattle.zdesks.proofs.desk.Desk.flush_all.Given as goal
 
 abbrev pub invariant-loop-link : goal.invariant-loop-link
-invariant-loop-link l = Keeps l.initial.self l.self × SameRest l.initial.self l.self × (length l.self.outs.items ≡ l.link-end)
+invariant-loop-link l =
+    Keeps l.initial.self l.self × SameRest l.initial.self l.self × (length l.self.outs.items ≡ l.link-end)
+    × (l.self.waits ≡ true)
+    × (l.waits ≡ false → EachBelow IsEmpty l.link l.self.outs.items)
+    × EachBelow IsFlushed l.link l.self.outs.items

@@ -4,7 +4,11 @@ use Rattle.ztraces.specs.Deeds.{stamped}
 use Rattle.zrings.specs.Ends.{put_of}
 use Rattle.zprotocol.specs.Places.{process_at}
 use Rattle.zdesks.specs.Desks.{TreePost, Each}
+use Rattle.zdesks.proofs.Waiting.{fresh_is_empty}
 use Rattle.zdesks.proofs.desk.Desk.new.Goals as goal
+
+pub invariant_of-result-clause-noticed : goal.invariant_of-result-clause-noticed
+invariant_of-result-clause-noticed c none i t at = fresh_is_empty t (c.requires.outs i t at)
 
 pub returns-clause-at : goal.returns-clause-at
 returns-clause-at c cut =

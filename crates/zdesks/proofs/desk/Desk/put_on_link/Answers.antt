@@ -1,10 +1,19 @@
 use mathlib.Core.Logic.{∥∥₁_map}
-use Rattle.std.proofs.Common.{◌<◌, ◌∷◌, ◌++◌, Option, refl, ap, sym, subst, length, set, option_to_list, ◌≤◌, arith}
+use Rattle.std.proofs.Common.{◌<◌, ◌∷◌, ◌++◌, ◌∙◌, Option, Some, refl, ap, sym, subst, length, set, option_to_list, ◌≤◌, arith}
 use Rattle.zrings.specs.Ends.{ring_of_tx}
 use Rattle.zdesks.specs.Desks.{self_of, books_of, Accounts, TreePost}
 use Rattle.atomic_table.proofs.Lists.{at_index}
 use Rattle.zdesks.proofs.Wires.{map_same, out_lost, out_more, out_same}
+use Rattle.zdesks.proofs.Waiting.{nothing_more}
 use Rattle.zdesks.proofs.desk.Desk.put_on_link.Goals as goal
+
+pub invariant_of-self-in-Err-clause-noticed : goal.invariant_of-self-in-Err-clause-noticed
+invariant_of-self-in-Err-clause-noticed c none =
+    let d = c.args.self.now in
+    let k = c.place-place.result in
+    let old = c.index_mut.result.now in
+    let lt : k < length d.outs.items = let n = c.if-place-len.false in let m = c.len.ensures in let o = d.outs.ok in omega arith in
+    nothing_more d.outs.items k old c.put.new.self (at_index d.outs.items k old lt c.index_mut.ensures.value) c.in-Err.ensures.waits (d.noticed none)
 
 pub returns-then-place-len-clause-stands : goal.returns-then-place-len-clause-stands
 returns-then-place-len-clause-stands c s t h cut =
@@ -44,7 +53,8 @@ returns-in-Err-clause-stands c s t h cut =
     let e = c.in-Err.ensures.err in
     ∥∥₁_map (h cut) (λ a. (
       a.0,
-      subst (λ m. Accounts (self_of d) (record (books_of d) { outs = set d.outs.items k c.put.new.self }) s t ((c.args.to, m) ∷ d.out.posts) a.0) (sym (ap (λ x. x.1) e.0))
+      subst (λ (w : Option TreePost). Accounts (self_of d) (record (books_of d) { outs = set d.outs.items k c.put.new.self }) s t (option_to_list w ++ d.out.posts) a.0)
+          (ap (λ m. Some (c.args.to, m)) (sym (ap (λ x. x.1) e.0)) ∙ sym c.replace.ensures.after)
           (out_same (self_of d) (books_of d) s a.0 t ((c.args.to, c.args.message) ∷ d.out.posts) k old c.put.new.self a.1 at e.1),
     ))
 

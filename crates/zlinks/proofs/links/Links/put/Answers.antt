@@ -1,8 +1,9 @@
 use Rattle.std.proofs.Common.{◌≡◌, ◌<◌, length, true, not, ap, sym, subst, ◌∷◌, [], ◌++◌, ◌∙◌, get_or, set, arith}
 use Rattle.std.proofs.lemmas.Bool.Decides.{nat_tests}
 use Rattle.std.specs.List.{list_any}
-use Rattle.zlinks.specs.Places.{holds}
+use Rattle.zlinks.specs.Places.{holds, Keeps, links_of, with_last}
 use Rattle.zlinks.specs.support.Bounds.{Tells}
+use Rattle.zlinks.specs.support.Lone.{with_lone}
 use Rattle.zlinks.specs.support.Rows.{passing}
 use Rattle.zlinks.proofs.Bounds.{room_for_one, tells_added, tells_still}
 use Rattle.zlinks.proofs.FrontedCalls.{put_first, put_in_row}
@@ -15,9 +16,10 @@ pub returns-then-self-eq0-clause-put : goal.returns-then-self-eq0-clause-put
 returns-then-self-eq0-clause-put g c =
     let slot = c.self.inside.lone in let rows = c.self.inside.rows.items in
     let nothing : passing (list_any holds) rows ≡ 0 = grind (arith, nat_tests, c.self.invariant.0.counted, c.if-self-eq0.true) in
+    subst (λ lone. Keeps (with_lone lone rows) (with_last (links_of c.args.self.now) c.args.from.now c.args.to.now c.args.message)) (sym c.replace.ensures.after) (
     put_first rows c.args.self.now slot (record { from = c.place-sender.result; to = c.place-receiver.result; message = c.args.message }) c.args.from.now c.args.to.now
     c.self.view_is (none_is slot (c.is_none.ensures ∙ ap not c.if-is_none.true)) (blank_rows rows nothing)
-    c.place-sender.ensures.place c.place-receiver.ensures.place c.place-sender.ensures.small c.place-receiver.ensures.small
+    c.place-sender.ensures.place c.place-receiver.ensures.place c.place-sender.ensures.small c.place-receiver.ensures.small)
 
 pub add-requires-clause-counted : goal.add-requires-clause-counted
 add-requires-clause-counted g c =

@@ -13,5 +13,6 @@ invariant_of-self g c =
     let handle = c.in_ok-handle.handle in
     record {
       own = all_kept (λ (h : Handle). BelongsTo run (given_client h)) field.handles.items c.keep.new.all.items handle c.keep.ensures field.own
-          (subst (λ (x : Client). BelongsTo run x) (sym c.in_ok-handle.ensures) c.requires.own);
+          (subst (λ (x : Client). BelongsTo run x) (sym c.in_ok-handle.ensures.given) c.requires);
+      told = field.told;
     }

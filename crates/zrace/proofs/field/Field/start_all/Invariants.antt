@@ -1,13 +1,9 @@
 use Rattle.std.proofs.Common.{◌≡◌}
-use Rattle.std.specs.Prelude.{All}
-use Rattle.std.specs.Arc.{arc_value}
-use Rattle.zwords.specs.Passes.{IsPassOf}
 use Rattle.zrun.specs.Members.{clients_run}
 use Rattle.zrace.proofs.field.Field.start_all.Given as goal
 
 abbrev pub invariant-loop-number : goal.invariant-loop-number
 invariant-loop-number g l =
-    All (λ pass. IsPassOf (arc_value l.tickets) pass) l.passes.items
-    × (clients_run l.self.clients ≡ clients_run l.initial.self.clients)
+    (clients_run l.self.clients ≡ clients_run l.initial.self.clients)
     × (l.self.versions ≡ l.initial.self.versions)
     × (l.race ≡ l.initial.race)

@@ -1,3 +1,5 @@
+use Rattle.std.proofs.Common.{◌≡◌}
+use Rattle.zcaller.specs.Callers.{SameLearnt}
 use Rattle.zrun.specs.Clients.{SameClient}
 use Rattle.zrun.specs.Asked.{InsistedInVain}
 use Rattle.zrun.proofs.client.Client.insist.Given as goal
@@ -5,3 +7,4 @@ use Rattle.zrun.proofs.client.Client.insist.Given as goal
 abbrev pub invariant-loop : goal.invariant-loop
 invariant-loop l =
     SameClient l.initial.self l.self × InsistedInVain l.patience.turns l.counter l.initial.self.caller l.self.caller
+    × SameLearnt l.initial.self.caller l.self.caller

@@ -33,41 +33,41 @@ gather-requires-clause-left g c i e at =
     let s = c.args.self in
     let m = c.into_ending.result in
     let ss = c.join_servers-servers.result.items in
-    let cs = c.in_ok-clients.clients.items in
+    let cs = c.in-Ok-end_clients.clients.items in
     let ds = given_desks s.master s.servers.items s.run.value.items in
     let all : AreLeftBy ds (by_place m ss cs) = (
       left_by (given_master s.master) (master_desk c.join-chief.result.0) m c.join-chief.ensures c.into_ending.ensures.ended c.into_ending.ensures.wires,
-      pairs_both IsLeftBy (map given_server s.servers.items) ss (client_desks s.run.value.items) cs c.join_servers-servers.ensures.left (clients_here s cs c.requires.own c.in_ok-clients.ensures.left),
+      pairs_both IsLeftBy (map given_server s.servers.items) ss (client_desks s.run.value.items) cs c.join_servers-servers.ensures.left (clients_here s cs c.requires.own c.in-Ok-end_clients.ensures.left),
     ) in
     let here : 0 + i ≡ i = omega arith in
-    let count : s.opening.clients ≡ length cs = sym (count_here s cs (clients_here s cs c.requires.own c.in_ok-clients.ensures.left)) in
+    let count : s.opening.clients ≡ length cs = sym (count_here s cs (clients_here s cs c.requires.own c.in-Ok-end_clients.ensures.left)) in
     subst (λ (w : ℕ × ℕ). HasEnded (self_at s.opening.last w.0 w.1) e) (λ k. (count k, here k))
     (left_is s.opening.last s.opening.clients 0 ds (by_place m ss cs) s.wired.each all i e at)
 
 pub gather-requires-clause-clients : goal.gather-requires-clause-clients
 gather-requires-clause-clients g c =
     let s = c.args.self in
-    let cs = c.in_ok-clients.clients.items in
-    subst (λ n. n ≤ MAX_CLIENTS) (sym (count_here s cs (clients_here s cs c.requires.own c.in_ok-clients.ensures.left))) s.opening.few
+    let cs = c.in-Ok-end_clients.clients.items in
+    subst (λ n. n ≤ MAX_CLIENTS) (sym (count_here s cs (clients_here s cs c.requires.own c.in-Ok-end_clients.ensures.left))) s.opening.few
 
 pub gather-requires-clause-wired : goal.gather-requires-clause-wired
 gather-requires-clause-wired g c =
     let s = c.args.self in
     let m = c.into_ending.result in
     let ss = c.join_servers-servers.result.items in
-    let cs = c.in_ok-clients.clients.items in
+    let cs = c.in-Ok-end_clients.clients.items in
     let ds = given_desks s.master s.servers.items s.run.value.items in
     let all : AreLeftBy ds (by_place m ss cs) = (
       left_by (given_master s.master) (master_desk c.join-chief.result.0) m c.join-chief.ensures c.into_ending.ensures.ended c.into_ending.ensures.wires,
-      pairs_both IsLeftBy (map given_server s.servers.items) ss (client_desks s.run.value.items) cs c.join_servers-servers.ensures.left (clients_here s cs c.requires.own c.in_ok-clients.ensures.left),
+      pairs_both IsLeftBy (map given_server s.servers.items) ss (client_desks s.run.value.items) cs c.join_servers-servers.ensures.left (clients_here s cs c.requires.own c.in-Ok-end_clients.ensures.left),
     ) in
     wired_is s.opening.last s.opening.clients ds m ss cs s.wired all
 
 pub returns-clause-clients : goal.returns-clause-clients
 returns-clause-clients g c =
-    let cs = c.in_ok-clients.clients.items in
+    let cs = c.in-Ok-end_clients.clients.items in
     IfOk-weaker c.gather.result (λ (t : Traces). t.clients.items ≡ map client_trace_of cs) (λ (t : Traces). length t.clients.items ≡ client_count c.args.self)
-    (λ t is. ap length is ∙ length-map cs client_trace_of ∙ count_here c.args.self cs (clients_here c.args.self cs c.requires.own c.in_ok-clients.ensures.left)) c.gather.ensures.clients
+    (λ t is. ap length is ∙ length-map cs client_trace_of ∙ count_here c.args.self cs (clients_here c.args.self cs c.requires.own c.in-Ok-end_clients.ensures.left)) c.gather.ensures.clients
 
 pub returns-clause-servers : goal.returns-clause-servers
 returns-clause-servers g c =
@@ -77,8 +77,8 @@ returns-clause-servers g c =
 
 pub returns-clause-told : goal.returns-clause-told
 returns-clause-told g c =
-    let cs = c.in_ok-clients.clients.items in
+    let cs = c.in-Ok-end_clients.clients.items in
     let given = c.args.clients in
     IfOk-weaker c.gather.result (λ (t : Traces). t.clients.items ≡ map client_trace_of cs) (λ (t : Traces). AreTold (client_count c.args.self) t given)
-    (λ t is i lt. clients_told given.run.value.items given.places.items cs given.many given.own c.in_ok-clients.ensures.kept t i is
+    (λ t is i lt. clients_told given.run.value.items given.places.items cs given.many given.own c.in-Ok-end_clients.ensures.kept t i is
     (subst (λ n. i < n) (sym c.args.self.count ∙ ap length (sym c.requires.own)) lt)) c.gather.ensures.clients

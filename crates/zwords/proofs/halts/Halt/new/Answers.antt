@@ -1,8 +1,10 @@
 use Rattle.std.proofs.Common.{arith}
-use Rattle.zwords.proofs.Stays.{seats}
+use Rattle.zwords.proofs.Stays.{opens, seats}
 use Rattle.zwords.proofs.halts.Halt.new.Goals as goal
 
--- src/halts.rt:31:17
+pub of_words-requires : goal.of_words-requires
+of_words-requires c = opens
+
 pub split_seat-one-requires : goal.split_seat-one-requires
 split_seat-one-requires c =
     let words = c.in_ok-table.ensures.0 in (

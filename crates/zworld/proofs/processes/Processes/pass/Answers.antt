@@ -1,10 +1,12 @@
-use Rattle.std.proofs.Common.{◌≤◌, ◌<◌, ◌+◌, length, take, sym, subst, ◌∙◌, arith}
+use Rattle.std.proofs.Common.{◌≤◌, ◌<◌, ◌+◌, length, take, inl, refl, sym, subst, ◌∙◌, arith}
 use Rattle.std.proofs.lemmas.List.{take_all}
 use Rattle.zprotocol.specs.declared.limits.TheConstants.{PROCESSES}
 use Rattle.zworld_model.specs.declared.event.Event.TheVariants.{Take}
 use Rattle.zworld_model.specs.Settle.{processes}
 use Rattle.zworld.specs.support.Settling.{Point, Tries, takes, takes_from}
 use Rattle.zworld.proofs.Counting.{paid_link}
+use Rattle.zworld.proofs.Needs.{can_run_out, could_at_first, still_or_could, tried_or_could}
+use Rattle.zlinks.proofs.Results.{on_err}
 use Rattle.zworld.proofs.Skips.{length-processes, listed_as, empty_link, receivers_to, senders_to}
 use Rattle.zworld.proofs.Tries.{goes_nowhere, one_more_receiver, one_more_sender, spent_receivers, spent_senders, stepped_tries}
 use Rattle.zworld.proofs.processes.Processes.pass.Goals as goal
@@ -14,7 +16,7 @@ pub loop-sender-init : goal.loop-sender-init
 loop-sender-init c =
     let old : Point = record { held = c.args.self.now; left = c.args.left; seen = c.args.seen.now.items } in
     let found = c.next_sender-sender.ensures in
-    (found.few, senders_to c.args.clients old old 0 c.next_sender-sender.result (omega arith) found.few found.silent (goes_nowhere (λ s. s) old))
+    (found.few, senders_to c.args.clients old old 0 c.next_sender-sender.result (omega arith) found.few found.silent (goes_nowhere (λ s. s) old), inl (refl, refl))
 
 pub loop-receiver-init : goal.loop-receiver-init
 loop-receiver-init c =
@@ -34,7 +36,7 @@ loop-receiver-init c =
           subst (λ n. (n ≤ PROCESSES) × Tries (takes_from (take n (processes c.args.clients)) from) here here) (sym w.receiver-is)
           (omega arith, goes_nowhere (λ s. s) here)
     ] in
-    (first.0, here, c.loop-sender.invariant.1, first.1)
+    (first.0, here, c.loop-sender.invariant.1, first.1, c.loop-sender.invariant.2)
 
 pub returns-then-left-eq0-clause-done : goal.returns-then-left-eq0-clause-done
 returns-then-left-eq0-clause-done c =
@@ -67,6 +69,8 @@ loop-receiver-preserved c =
           (one_more_receiver all receiver from to far.1 before here listed (listed_as c.args.clients receiver to c.in-Some-at.ensures.some listed) far.3
           (stepped_tries before.held here.held (Take from to) c.in_ok-did.did stepped.0 stepped.2 before.left here.left before.seen here.seen some
           c.left_after-left.ensures stepped.1)),
+      still_or_could c.args.self.now before.held here.held c.args.left before.left here.left far.4
+          (tried_or_could before.held here.held (Take from to) c.in_ok-did.did stepped.0 before.left here.left stepped.2 some refl c.left_after-left.ensures),
     )
 
 pub loop-sender-preserved : goal.loop-sender-preserved
@@ -83,6 +87,7 @@ loop-sender-preserved c =
       senders_to c.args.clients here old (sender + 1) c.next_sender-sender-in-loop-sender.result (found.ahead (omega (arith, small))) found.few found.silent
           (one_more_sender all all sender from old far.1 here listed (listed_as c.args.clients sender from c.in-Some.ensures.some listed) far.2
           (subst (λ ps. Tries (takes_from ps from) far.1 here) (take_all c.loop-receiver.receiver all last) far.3)),
+      far.4,
     )
 
 pub returns-clause-done : goal.returns-clause-done
@@ -93,3 +98,17 @@ returns-clause-done c =
     (record { held = c.args.self.now; left = c.args.left; seen = c.args.seen.now.items })
     (record { held = c.loop-sender.self; left = c.loop-sender.left; seen = c.loop-sender.seen.items }))
     (take_all c.loop-sender.sender all last) c.loop-sender.invariant.1
+
+pub returns-then-left-eq0-clause-moved : goal.returns-then-left-eq0-clause-moved
+returns-then-left-eq0-clause-moved c = c.loop-receiver.invariant.4
+
+pub returns-clause-moved : goal.returns-clause-moved
+returns-clause-moved c = c.loop-sender.invariant.2
+
+pub returns-in_err-did-clause-needed : goal.returns-in_err-did-clause-needed
+returns-in_err-did-clause-needed c =
+    let here = c.loop-receiver in
+    let some : 0 < here.left = omega (arith, c.if-left-eq0.false) in
+    on_err c.from_residual.result
+    (could_at_first c.args.self.now here.self c.args.left here.left here.invariant.4
+    (can_run_out here.self (Take c.in-Some.from c.in-Some-at.to) here.left some refl c.in_err-did.ensures.needed))

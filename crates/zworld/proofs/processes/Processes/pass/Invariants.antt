@@ -1,7 +1,7 @@
 use Rattle.std.proofs.Common.{◌≤◌, ◌-◌, take}
 use Rattle.zworld_model.specs.Settle.{processes}
 use Rattle.zprotocol.specs.declared.limits.TheConstants.{PROCESSES}
-use Rattle.zworld.specs.support.Settling.{Point, Tries, takes, takes_from}
+use Rattle.zworld.specs.support.Settling.{Point, StillOrCould, Tries, takes, takes_from}
 use Rattle.zworld.proofs.processes.Processes.pass.Given as goal
 
 abbrev pub decreases-loop-sender : goal.decreases-loop-sender
@@ -14,6 +14,7 @@ invariant-loop-sender l =
     × Tries (takes (processes l.clients) (take l.sender (processes l.clients)))
     (record { held = l.fn.self; left = l.fn.left; seen = l.fn.seen.items })
     (record { held = l.self; left = l.left; seen = l.seen.items })
+    × StillOrCould l.fn.self l.self l.fn.left l.left
 
 abbrev pub decreases-loop-receiver : goal.decreases-loop-receiver
 decreases-loop-receiver l = PROCESSES - l.receiver
@@ -25,3 +26,4 @@ invariant-loop-receiver l =
     × (p : Point)
     × Tries (takes (processes l.clients) (take l.sender (processes l.clients))) (record { held = l.fn.self; left = l.fn.left; seen = l.fn.seen.items }) p
     × Tries (takes_from (take l.receiver (processes l.clients)) l.from) p (record { held = l.self; left = l.left; seen = l.seen.items })
+    × StillOrCould l.fn.self l.self l.fn.left l.left

@@ -1,7 +1,7 @@
 use Rattle.std.proofs.Common.{◌-◌}
 use Rattle.zprotocol.specs.server.Machine.{kept_tree}
 use Rattle.zworld_model.specs.Settle.{deliveries, passes}
-use Rattle.zworld.specs.support.Settling.{GoesOn}
+use Rattle.zworld.specs.support.Settling.{GoesOn, StillOrCould}
 use Rattle.zworld.proofs.processes.Processes.passes.Given as goal
 
 -- what all passes make of a settling, those that are left make of it from here
@@ -10,3 +10,4 @@ invariant-loop-pass l =
     GoesOn (passes kept_tree (deliveries l.clients) l.limit) (passes kept_tree (deliveries l.clients) (l.limit - l.pass))
     (record { held = l.fn.self; left = l.fn.left; seen = l.fn.seen.items })
     (record { held = l.self; left = l.left; seen = l.seen.items })
+    × StillOrCould l.fn.self l.self l.fn.left l.left

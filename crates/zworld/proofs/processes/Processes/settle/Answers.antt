@@ -1,12 +1,14 @@
-use Rattle.std.proofs.Common.{◌≡◌, ◌<◌, sym, ap, subst, ◌∙◌, arith}
+use Rattle.std.proofs.Common.{◌≡◌, ◌<◌, inl, sym, ap, subst, ◌∙◌, arith}
 use Rattle.zlinks.specs.support.Rows.{passing}
 use Rattle.zworld_model.specs.declared.settled.Settled.TheVariants.{Limit, Quiet}
 use Rattle.zworld_model.specs.Settle.{retry_events}
 use Rattle.zworld.specs.Held.{Held}
 use Rattle.zworld.specs.support.Members.{waits}
-use Rattle.zworld.specs.support.Settling.{Point, Tries}
+use Rattle.zworld.specs.support.Settling.{Point, StillOrCould, Tries}
 use Rattle.zworld.proofs.Counting.{no_retries}
+use Rattle.zworld.proofs.Needs.{could_at_first, still_or_could}
 use Rattle.zworld.proofs.Passes.{settles, ended_at_limit, ended_quiet}
+use Rattle.zlinks.proofs.Results.{on_err}
 use Rattle.zworld.proofs.processes.Processes.settle.Goals as goal
 use Rattle.zworld.proofs.processes.Processes.settle.Goals.{Joined-self-gt0, then-self-gt0+in_ok-left-2, else-self-gt0}
 
@@ -20,13 +22,28 @@ asked c =
     elim c.if-self-gt0.branch [
       | then-self-gt0+in_ok-left-2 w ↦
           subst (λ (h : Held). Tries events passed (record { held = h; left = c.if-self-gt0.left; seen = passed.seen })) (sym w.self-is)
-          (subst (λ n. Tries events passed (record { held = w.retry_all.new.self; left = n; seen = passed.seen })) (sym w.left-is) (w.in_ok-left-2.ensures passed.seen))
+          (subst (λ n. Tries events passed (record { held = w.retry_all.new.self; left = n; seen = passed.seen })) (sym w.left-is) (w.in_ok-left-2.ensures.done passed.seen))
       | else-self-gt0 w ↦
           let none : c.self-2.inside.waiting ≡ 0 = omega (arith, w.if-self-gt0.false) in
           subst (λ (h : Held). Tries events passed (record { held = h; left = c.if-self-gt0.left; seen = passed.seen })) (sym w.self-is)
           (subst (λ n. Tries events passed (record { held = passed.held; left = n; seen = passed.seen })) (sym w.left-is)
           (no_retries c.clients-clients.result passed (ap (λ (h : Held). passing waits h.clients) (sym c.self-2.view_is) ∙ sym c.self-2.invariant.4 ∙ none)))
     ]
+
+-- nor is anything changed
+moved : (c : Joined-self-gt0) → StillOrCould c.args.self.now c.if-self-gt0.self c.args.limit c.if-self-gt0.left
+moved c =
+    let first = c.in_ok-left.ensures.moved in
+    let mid = c.passes.new.self in
+    let less = c.in_ok-left.left in
+    let limit = c.args.limit in
+    still_or_could c.args.self.now mid c.if-self-gt0.self limit less c.if-self-gt0.left first
+    (elim c.if-self-gt0.branch [
+      | then-self-gt0+in_ok-left-2 w ↦
+          subst (λ h. StillOrCould mid h less c.if-self-gt0.left) (sym w.self-is)
+          (subst (λ n. StillOrCould mid w.retry_all.new.self less n) (sym w.left-is) w.in_ok-left-2.ensures.moved)
+      | else-self-gt0 w ↦ inl (w.self-is, w.left-is)
+    ])
 
 pub returns-then-left-eq0-clause-settled : goal.returns-then-left-eq0-clause-settled
 returns-then-left-eq0-clause-settled c =
@@ -44,3 +61,14 @@ returns-clause-settled c =
     (c.clients-clients.ensures.same ∙ ap (λ (h : Held). h.master.clients) c.self.view_is)
     (ended_quiet c.in_ok-left-3.left more)
     c.in_ok-left.ensures.done (asked (goal.at.returns-clause-settled c).Joined-self-gt0) c.in_ok-left-3.ensures.done
+
+pub returns-in_err-left-2-clause-needed : goal.returns-in_err-left-2-clause-needed
+returns-in_err-left-2-clause-needed c =
+    on_err c.from_residual-in_err-left-2.result
+    (could_at_first c.args.self.now c.passes.new.self c.args.limit c.in_ok-left.left c.in_ok-left.ensures.moved c.in_err-left-2.ensures.needed)
+
+pub returns-in_err-left-3-clause-needed : goal.returns-in_err-left-3-clause-needed
+returns-in_err-left-3-clause-needed c =
+    on_err c.from_residual-in_err-left-3.result
+    (could_at_first c.args.self.now c.if-self-gt0.self c.args.limit c.if-self-gt0.left
+    (moved (goal.at.returns-in_err-left-3-clause-needed c).Joined-self-gt0) c.in_err-left-3.ensures.needed)

@@ -3,6 +3,7 @@ use Rattle.std.proofs.lemmas.List.{append-nil, nil_from_length}
 use Rattle.zworld_model.proofs.Alike.{alike_itself}
 use Rattle.zworld.specs.Steps.{WorldView, IsExplainedWithPast, HasRun, world_in}
 use Rattle.zworld.proofs.Going.{past_is_explained, lead_more, has_run, has_begun_to_run, on_err}
+use Rattle.zworld.proofs.Needs.{has_run_out}
 use Rattle.zworld.proofs.world.World.run.Goals as goal
 
 pub returns-then-self-clause-explained : goal.returns-then-self-clause-explained
@@ -41,6 +42,14 @@ returns-in_err-step-clause-kept c =
     on_err c.from_residual.result
     (has_begun_to_run (world_in c.args.self.now) (world_in c.loop-event.self) c.args.events.items here.0 c.loop-event.event-iterator.rest.items c.step.new.self.history
     here.2 here.1 c.in_err-step.ensures.history)
+
+pub returns-in_err-step-clause-needed : goal.returns-in_err-step-clause-needed
+returns-in_err-step-clause-needed c = λ whole.
+    let here = c.loop-event.invariant in
+    let cut = here.1 ∙ ap (λ xs. here.0 ++ xs) c.in-Some.ensures.steps.0 in
+    on_err c.from_residual.result
+    (has_run_out (world_in c.args.self.now) (world_in c.loop-event.self) c.args.events.items here.0 c.next.new.self.rest.items c.in-Some.event c.step.new.self.history
+    here.2 cut c.in_err-step.ensures.history (c.in_err-step.ensures.needed here.3))
 
 pub returns-clause-explained : goal.returns-clause-explained
 returns-clause-explained c = c.loop-event.invariant.4

@@ -1,10 +1,11 @@
 use Rattle.std.proofs.Common.{◌≡◌, true, length, take, sym, subst, ◌∙◌, arith}
 use Rattle.std.proofs.Math.Seq.{take-append_seam}
 use Rattle.zworld.specs.Held.{world_of}
-use Rattle.zworld.specs.Steps.{WorldView, IsExplainedWithPast, HasSettled, world_in}
+use Rattle.zworld.specs.Steps.{WorldView, CanWantMemoryToSettle, IsExplainedWithPast, HasSettled, world_in}
 use Rattle.zworld.specs.support.Stepped.{Settles}
 use Rattle.zworld.specs.support.Past.{HasPast}
 use Rattle.zworld.proofs.Going.{past_is_explained, past_stays}
+use Rattle.zworld.proofs.Needs.{can_run_out_anyway}
 use Rattle.zworld.proofs.Settled.{past_settles, settled_as_defined, quiet_is_rest}
 use Rattle.zworld.proofs.world.World.settle.Goals as goal
 
@@ -48,3 +49,9 @@ returns-in-Err-clause-explained c =
     let stays : c.truncate.new.self.items ≡ old.history.items =
     c.truncate.ensures.items ∙ (λ i. take (told i) (c.in-Err.ensures.partly.1 i)) ∙ take-append_seam old.history.items c.in-Err.ensures.partly.0 in
     past_is_explained new (past_stays old.has_forgotten old.is_broken old.processes c.settle.new.self old.history.items c.truncate.new.self.items c.self.invariant stays)
+
+pub returns-in-Err-clause-needed : goal.returns-in-Err-clause-needed
+returns-in-Err-clause-needed c = λ whole.
+    let old = c.self.inside in
+    subst (λ (v : WorldView). CanWantMemoryToSettle (world_in v) c.args.limit) c.self.view_is
+    (can_run_out_anyway old.processes old.history.items c.args.limit c.in-Err.ensures.needed)

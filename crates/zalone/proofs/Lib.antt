@@ -1,0 +1,5 @@
+mod Past
+mod Runs
+mod Coming
+mod Telling
+mod Views

@@ -1,0 +1,16 @@
+use Rattle.std.proofs.lemmas.Result.{IfOk-weaker}
+use Rattle.zalone.specs.Told.{TellsAsked}
+use Rattle.zalone.specs.contracts.alone.Alone.{the_view}
+use Rattle.zalone.proofs.Telling.{asks_tell}
+use Rattle.zalone.proofs.Views.{marked, asked_view}
+use Rattle.zalone.proofs.alone.Alone.ask.Goals as goal
+
+pub returns-clause-told : goal.returns-clause-told
+returns-clause-told c =
+    let after = the_view c.self-2.inside in
+    let b = c.is_err-self-inside.result in
+    IfOk-weaker c.begin-told.result _ (TellsAsked c.args.self.now c.args.call (marked after b))
+    (λ told began.
+    asks_tell c.args.self.now c.args.call (marked after b) told
+    (asked_view c.args.self.now (the_view c.self.inside) c.begin-told.new.self after b c.args.call told c.self.view_is c.if-self-2.false c.self-2.view_is began))
+    c.begin-told.ensures.began

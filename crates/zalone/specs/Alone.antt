@@ -1,0 +1,90 @@
+-- What a call, a settling and an order do to the one client and its world, in the words of the
+-- world. Van Renesse and Schneider, "Chain Replication for Supporting High Throughput and
+-- Availability" (OSDI 2004), section 2. One client and settling at each call are this project's
+-- profile.
+use Rattle.std.specs.Prelude.{◌≡◌, Bool, true, false, is_none, [], ◌∷◌, Option, None, Some}
+use Rattle.zcalls.specs.declared.call.Call.{Call}
+use Rattle.zcalls.specs.declared.reply.Reply.{Reply}
+use Rattle.zworld_model.specs.declared.event.Event.TheVariants as event
+use Rattle.zworld_model.specs.declared.history.CallEvent.TheVariants.{Begin, Answer}
+use Rattle.zworld_model.specs.declared.settled.Settled.{Settled}
+use Rattle.zworld_model.specs.History.{History}
+use Rattle.zworld.specs.declared.did.Did.{Did}
+use Rattle.zworld.specs.Did.{is_idle}
+use Rattle.zworld.specs.Steps.{WorldView, HasDone, IsSettled}
+use Rattle.zknown.specs.Known.{KnownView, HasRoom, Fits, known_after}
+use Rattle.zalone.specs.declared.limits.TheConstants.{MAX_EVENTS}
+
+-- the client: its world, what it knows of the tree, whether a call waits for its reply, and whether
+-- memory ever ran out
+pub record AloneView : Type 0 where
+  pub world : WorldView
+  pub known : KnownView
+  pub is_waiting : Bool
+  pub is_broken : Bool
+
+-- the reply in the history of one call
+abbrev pub heard : History → Option Reply
+heard (Begin c n call ∷ (Answer d m reply ∷ [])) = Some reply
+heard history = None
+
+-- what is known after it
+abbrev pub known_by : KnownView → History → KnownView
+known_by k (Begin c n call ∷ (Answer d m reply ∷ [])) = known_after k c call reply
+known_by k history = k
+
+-- the numbers of that reply are in their ranges
+abbrev pub HeardFits : History → Type 0
+HeardFits (Begin c n call ∷ (Answer d m reply ∷ [])) = Fits reply
+HeardFits history = Unit {0}
+
+-- a world that forgot its history
+abbrev pub cleared : WorldView → WorldView
+cleared w = record w { history = []; has_forgotten = true }
+
+-- nothing is different but the world
+pub record SameCall (old new : AloneView) : Type 0 where
+  pub known : new.known ≡ old.known
+  pub waits : new.is_waiting ≡ old.is_waiting
+
+-- the world settled, and the reply to the call that it is about was heard, if it came
+pub record Waits (old new : AloneView) (told : Option Reply) : Type 0 where
+  pub settled : Settled
+  pub settles : IsSettled old.world new.world MAX_EVENTS settled
+  pub hears : told ≡ heard new.world.history
+  pub waits : new.is_waiting ≡ is_none told
+  pub knows : HasRoom old.known → HeardFits new.world.history → new.known ≡ known_by old.known new.world.history
+
+-- the world settled, and no reply was waited for
+pub record Rests (old new : AloneView) (told : Option Reply) : Type 0 where
+  pub settled : Settled
+  pub settles : IsSettled old.world new.world MAX_EVENTS settled
+  pub none : told ≡ None
+  pub same : SameCall old new
+
+-- a settling, by whether a call waits
+abbrev pub SettlesIf : Bool → AloneView → AloneView → Option Reply → Type 0
+SettlesIf true old new told = Waits old new told
+SettlesIf false old new told = Rests old new told
+
+abbrev pub Settles : AloneView → AloneView → Option Reply → Type 0
+Settles old new told = SettlesIf old.is_waiting old new told
+
+-- a call that couldn't begin, or one that began and waits, in this world
+abbrev pub GoesOnIf : Bool → AloneView → WorldView → AloneView → Option Reply → Type 0
+GoesOnIf true old began new told = (told ≡ None) × (new.world ≡ began) × SameCall old new
+GoesOnIf false old began new told = Waits (record old { world = began }) new told
+
+-- a call is to begin, in a world that forgets what was before
+abbrev pub Begins : AloneView → Call → AloneView → Option Reply → Type 0
+Begins old call new told =
+    (did : Did) × (began : WorldView) × HasDone (cleared old.world) began (event.Begin 0 call) did
+    × GoesOnIf (is_idle did) old began new told
+
+-- a call, by whether another one waits: then nothing happens
+abbrev pub AsksIf : Bool → AloneView → Call → AloneView → Option Reply → Type 0
+AsksIf true old call new told = (told ≡ None) × (new ≡ old)
+AsksIf false old call new told = Begins old call new told
+
+abbrev pub Asks : AloneView → Call → AloneView → Option Reply → Type 0
+Asks old call new told = AsksIf old.is_waiting old call new told

@@ -1,0 +1,5 @@
+pub mod Alone
+pub mod Order
+pub mod Told
+pub mod Laws
+pub mod support

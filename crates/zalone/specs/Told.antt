@@ -1,0 +1,53 @@
+-- The log of the one client: its calls with their replies, and the call that waits. A log stands
+-- for the client where it is that of one run of the world.
+use Rattle.std.specs.Prelude.{◌≡◌, ◌⊎◌, ℕ, ◌≤◌, is_some, List, [], ◌∷◌, ◌++◌, length, Option, None, Some}
+use Rattle.ztree.specs.Tree.{opening_tree}
+use Rattle.zcalls.specs.declared.limits.TheConstants.{MAX_CALL_NUMBER}
+use Rattle.zcalls.specs.declared.call.Call.{Call}
+use Rattle.zcalls.specs.declared.reply.Reply.{Reply}
+use Rattle.zworld_model.specs.declared.event.Event.{Event}
+use Rattle.zworld_model.specs.Alike.{IsAlike}
+use Rattle.zworld_model.specs.Laws.{world_after}
+use Rattle.zworld.specs.Held.{world_of}
+use Rattle.zknown.specs.Known.{known_of}
+use Rattle.zturns.specs.Turns.{Log, calls_of, history_of, tree_after}
+use Rattle.zturns.specs.World.{TakesTurns}
+use Rattle.zalone.specs.Alone.{AloneView}
+
+-- the client made the calls of this log and got their replies, and this call waits. That is: a run
+-- from an initial world with one client has this log, and the client's world is where it ends
+pub record HasTold (v : AloneView) (log : Log) (waiting : Option Call) : Type 0 where
+  pub servers : ℕ
+  pub events : List Event
+  pub turns : TakesTurns (world_after servers 1 events) log waiting
+  -- of the history the world has forgotten that of an earlier log: all but the last call
+  pub before : Log
+  pub stands : IsAlike (world_after servers 1 events) (world_of v.world.held (history_of before None ++ v.world.history))
+  pub fresh : (call : Call) → waiting ≡ Some call → before ≡ log
+  pub waits : v.is_waiting ≡ is_some waiting
+  -- and what it knows is that of the tree that the calls of the log leave
+  pub known : v.known ≡ known_of (tree_after opening_tree (calls_of log))
+
+-- how the log goes on at a call: while another one waits, it stays. Else the call is answered, or
+-- it waits, or its client has no number left
+abbrev pub GoesOnAsked : (Log → Option Call → Type 0) → Log → Option Call → Call → Option Reply → Type 0
+GoesOnAsked Has log (Some other) call told = (told ≡ None) × Has log (Some other)
+GoesOnAsked Has log None call (Some reply) = Has (log ++ (call, reply) ∷ []) None
+GoesOnAsked Has log None call None = Has log (Some call) ⊎ ((MAX_CALL_NUMBER ≤ length log) × Has log None)
+
+-- at a settling: a reply is that to the call that waits
+abbrev pub GoesOnSettled : (Log → Option Call → Type 0) → Log → Option Call → Option Reply → Type 0
+GoesOnSettled Has log waiting None = Has log waiting
+GoesOnSettled Has log None (Some reply) = ⊥
+GoesOnSettled Has log (Some call) (Some reply) = Has (log ++ (call, reply) ∷ []) None
+
+-- whatever its log was, it goes on so
+abbrev pub TellsAsked : AloneView → Call → AloneView → Option Reply → Type 0
+TellsAsked old call new told = (log : Log) (waiting : Option Call) → HasTold old log waiting → GoesOnAsked (HasTold new) log waiting call told
+
+abbrev pub TellsSettled : AloneView → AloneView → Option Reply → Type 0
+TellsSettled old new told = (log : Log) (waiting : Option Call) → HasTold old log waiting → GoesOnSettled (HasTold new) log waiting told
+
+-- and an order leaves it
+abbrev pub TellsOrdered : AloneView → AloneView → Type 0
+TellsOrdered old new = (log : Log) (waiting : Option Call) → HasTold old log waiting → HasTold new log waiting

@@ -1,0 +1,183 @@
+//! The client with its world.
+
+ghost use Rattle.std.specs.Prelude.{◌≡◌, [], None, false, true, IfOk, IsErr, OnErr, OnOk};
+ghost use Rattle.ztree.specs.Tree.{opening_tree};
+ghost use Rattle.zprotocol.specs.server.Machine.{kept_tree};
+ghost use Rattle.zworld_model.specs.World.{opening_world};
+ghost use Rattle.zworld.specs.Did.{HasCause};
+ghost use Rattle.zworld.specs.Steps.{HasDone, world_in};
+ghost use Rattle.zknown.specs.Known.{known_of};
+ghost use Rattle.zalone.specs.Alone.{Asks, Begins, SameCall, Settles, Waits};
+ghost use Rattle.zalone.specs.Order.{event_of};
+ghost use Rattle.zalone.specs.Told.{HasTold, TellsAsked, TellsOrdered, TellsSettled};
+
+use crate::hearing::{event_of, hear, only_client};
+use crate::limits::MAX_EVENTS;
+use crate::order::Order;
+use std::alloc::Global;
+use std::marker::Model;
+use zcalls::{Call, Reply};
+use zknown::Known;
+use zpath::Memory;
+use zprotocol::ServerId;
+use zworld::{Did, World};
+use zworld_model::Event;
+
+/// The one client of a world, with what it knows of the tree.
+///
+/// At most one call waits for its reply. After it ran out of memory itself, every call returns
+/// `Memory` for good. Where a server runs out of memory, only that server stops.
+#[derive(Drop)]
+pub struct Alone {
+    world: World,
+    known: Known,
+    is_waiting: bool,
+    is_broken: bool,
+}
+
+impl Model for Alone {
+    ghost use Rattle.zalone.specs.Alone.{AloneView};
+    ghost use Rattle.zalone.specs.support.Codes.{coded_alone};
+
+    ghost Value = { AloneView };
+
+    ghost coded = { coded_alone };
+
+    ghost view = { λ a. record {
+      world = a.world;
+      known = a.known;
+      is_waiting = a.is_waiting;
+      is_broken = a.is_broken;
+    } };
+}
+
+impl Alone {
+    /// Returns the client of the initial world: the chain is the servers up to `last`, and the
+    /// others are spare.
+    pub fn new(alloc: Global, last: ServerId) -> Result<Alone, Memory>
+        ensures world { IfOk result
+            (λ a. world_in a.world ≡ opening_world kept_tree last 1) }
+        ensures known { IfOk result (λ a. a.known ≡ known_of opening_tree) }
+        ensures sound { IfOk result (λ a. a.is_broken ≡ false) }
+        ensures told { IfOk result (λ a. HasTold a [] None) }
+    {
+        Ok(Alone {
+            world: World::new(alloc, last, 1)?,
+            known: Known::new(alloc),
+            is_waiting: false,
+            is_broken: false,
+        })
+    }
+
+    /// Returns what it knows of the tree.
+    pub fn known(&self) -> &Known
+        ensures { result.now ≡ self.now.known }
+    {
+        &self.known
+    }
+
+    /// Returns whether a call waits for its reply.
+    pub fn is_waiting(&self) -> bool
+        ensures { result ≡ self.now.is_waiting }
+    {
+        let Alone { is_waiting, .. } = self;
+        *is_waiting
+    }
+
+    /// Makes a call: it begins, and the world settles. Returns the reply, or `None` where none
+    /// came; then the call waits. While an earlier call waits, and once the numbers of calls are
+    /// used up, no call begins, and `None` is returned too.
+    pub fn ask(&mut self, call: Call) -> Result<Option<Reply>, Memory>
+        ensures asked { IfOk result (Asks self.old call self.new) }
+        ensures told { IfOk result (TellsAsked self.old call self.new) }
+        ensures sound { OnOk result
+            ((self.old.is_broken ≡ false) × (self.new.is_broken ≡ false)) }
+        ensures broken { OnErr result (self.new.is_broken ≡ true) }
+        ensures stays { self.old.is_broken ≡ true → IsErr result }
+    {
+        if self.is_broken {
+            drop(call);
+            return Err(Memory);
+        }
+        if self.is_waiting {
+            drop(call);
+            return Ok(None);
+        }
+        let told = self.begin(call);
+        self.is_broken = told.is_err();
+        told
+    }
+
+    /// Lets the world settle. Returns the reply to the call that waits, if it came now.
+    pub fn settle(&mut self) -> Result<Option<Reply>, Memory>
+        ensures settled { IfOk result (Settles self.old self.new) }
+        ensures told { IfOk result (TellsSettled self.old self.new) }
+        ensures sound { OnOk result
+            ((self.old.is_broken ≡ false) × (self.new.is_broken ≡ false)) }
+        ensures broken { OnErr result (self.new.is_broken ≡ true) }
+        ensures stays { self.old.is_broken ≡ true → IsErr result }
+    {
+        if self.is_broken {
+            return Err(Memory);
+        }
+        let came = self.settle_and_hear();
+        self.is_broken = came.is_err();
+        came
+    }
+
+    /// Does what the chain's operator orders, and returns what became of it.
+    pub fn chain(&mut self, order: Order) -> Result<Did, Memory>
+        ensures happened { IfOk result (HasDone self.old.world self.new.world (event_of order)) }
+        ensures cause { IfOk result (HasCause self.old.world.held (event_of order)) }
+        ensures same { OnOk result (SameCall self.old self.new) }
+        ensures told { OnOk result (TellsOrdered self.old self.new) }
+        ensures sound { OnOk result
+            ((self.old.is_broken ≡ false) × (self.new.is_broken ≡ false)) }
+        ensures broken { OnErr result (self.new.is_broken ≡ true) }
+        ensures stays { self.old.is_broken ≡ true → IsErr result }
+    {
+        if self.is_broken {
+            return Err(Memory);
+        }
+        let did = self.world.step(event_of(order));
+        self.is_broken = did.is_err();
+        did
+    }
+
+    // Makes a call where none waits.
+    fn begin(&mut self, call: Call) -> Result<Option<Reply>, Memory>
+        ensures began { IfOk result (Begins self.old call self.new) }
+    {
+        self.world.forget();
+        let did = self.world.step(Event::Begin(only_client(), call))?;
+        if let Did::Idle(_) = did {
+            return Ok(None);
+        }
+        self.wait()
+    }
+
+    // Settles, whether a call waits or not.
+    fn settle_and_hear(&mut self) -> Result<Option<Reply>, Memory>
+        ensures settled { IfOk result (Settles self.old self.new) }
+    {
+        if self.is_waiting {
+            return self.wait();
+        }
+        self.world.settle(MAX_EVENTS)?;
+        Ok(None)
+    }
+
+    // Settles for a call that began, and hears its reply.
+    fn wait(&mut self) -> Result<Option<Reply>, Memory>
+        ensures waited { IfOk result (Waits self.old self.new) }
+    {
+        self.world.settle(MAX_EVENTS)?;
+        let told = hear(
+            self.world.allocator(),
+            self.world.history(),
+            &mut self.known,
+        )?;
+        self.is_waiting = told.is_none();
+        Ok(told)
+    }
+}

@@ -1,0 +1,58 @@
+//! Reading the history of a call.
+
+ghost use Rattle.std.specs.Prelude.{◌≡◌, IfOk, OnErr, OnOk};
+ghost use Rattle.ztree.specs.declared.limits.TheConstants.{MAX_CLIENTS};
+ghost use Rattle.zknown.specs.Known.{HasRoom};
+ghost use Rattle.zalone.specs.Alone.{heard, HeardFits, known_by};
+ghost use Rattle.zalone.specs.Order.{event_of};
+
+use crate::order::Order;
+use std::alloc::Global;
+use zcalls::Reply;
+use zknown::Known;
+use zpath::Memory;
+use ztree::ClientId;
+use zworld_model::{CallEvent, Event};
+
+/// Returns a copy of the reply in the history of one call, if it was answered, and counts it.
+pub(crate) fn hear(
+    alloc: Global,
+    history: &[CallEvent],
+    known: &mut Known,
+) -> Result<Option<Reply>, Memory>
+    ensures told { IfOk result (λ told. told ≡ heard history.now) }
+    ensures known { OnOk result (HasRoom known.old → HeardFits history.now
+        → known.new ≡ known_by known.old history.now) }
+{
+    let [
+        CallEvent::Begin(client, _, call),
+        CallEvent::Answer(_, _, reply),
+    ] = history
+    else {
+        return Ok(None);
+    };
+    known.after(*client, call, reply)?;
+    Ok(Some(reply.copied(alloc)?))
+}
+
+/// Returns the one client.
+pub(crate) fn only_client() -> ClientId
+    ensures { result ≡ 0 }
+{
+    let Some(client) = ClientId::new(0) else {
+        // There are more clients than that.
+        unreachable!();
+    };
+    client
+}
+
+/// Returns an order as an event.
+pub(crate) fn event_of(order: Order) -> Event
+    ensures { result ≡ event_of order }
+{
+    match order {
+        Order::Fail(server) => Event::Fail(server),
+        Order::Join(server) => Event::Join(server),
+        Order::Retire(server) => Event::Retire(server),
+    }
+}

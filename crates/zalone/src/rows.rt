@@ -1,0 +1,46 @@
+//! Worked examples of the definitions. The functions do nothing.
+
+ghost use Rattle.std.specs.Prelude.{◌≡◌, [], ◌∷◌, None, Some};
+ghost use Rattle.zcalls.specs.declared.call.Call.{Call};
+ghost use Rattle.zcalls.specs.declared.reply.Reply.{Reply};
+ghost use Rattle.zworld_model.specs.declared.event.Event.TheVariants as event;
+ghost use Rattle.zworld_model.specs.declared.history.CallEvent.TheVariants.{Answer, Begin};
+ghost use Rattle.zknown.specs.Known.{KnownView, known_after};
+ghost use Rattle.zalone.specs.Alone.{heard, known_by};
+ghost use Rattle.zalone.specs.Order.{event_of};
+ghost use Rattle.zalone.specs.Told.{GoesOnAsked, GoesOnSettled};
+ghost use Rattle.zalone.specs.declared.order.Order.TheVariants.{Fail, Join, Retire};
+ghost use Rattle.zalone.specs.support.Samples.{IsNow};
+
+/// What the history of a call says: nothing, that it waits, or its reply.
+pub fn histories_of_a_call()
+    ensures nothing { heard [] ≡ None }
+    ensures waits { (a : Call) → heard (Begin 0 1 a ∷ []) ≡ None }
+    ensures answered { (a : Call) (r : Reply)
+        → heard (Begin 0 1 a ∷ (Answer 0 1 r ∷ [])) ≡ Some r }
+    ensures known { (k : KnownView) (a : Call) (r : Reply)
+        → known_by k (Begin 0 1 a ∷ (Answer 0 1 r ∷ [])) ≡ known_after k 0 a r }
+    ensures unknown { (k : KnownView) (a : Call) → known_by k (Begin 0 1 a ∷ []) ≡ k }
+{}
+
+/// How a log goes on: at a call, and where the world settles.
+pub fn logs_go_on()
+    ensures answered { (a : Call) (r : Reply)
+        → GoesOnAsked (IsNow ((a, r) ∷ []) None) [] None a (Some r) }
+    ensures waits { (a : Call) → GoesOnAsked (IsNow [] (Some a)) [] None a None }
+    ensures lost { (a : Call) → GoesOnAsked (IsNow [] None) [] None a None → ⊥ }
+    ensures busy { (a b : Call) → GoesOnAsked (IsNow [] (Some a)) [] (Some a) b None }
+    ensures stolen { (a b : Call) (r : Reply)
+        → GoesOnAsked (IsNow ((a, r) ∷ []) None) [] (Some a) b (Some r) → ⊥ }
+    ensures late { (a : Call) (r : Reply)
+        → GoesOnSettled (IsNow ((a, r) ∷ []) None) [] (Some a) (Some r) }
+    ensures still { (a : Call) → GoesOnSettled (IsNow [] (Some a)) [] (Some a) None }
+    ensures unasked { (r : Reply) → GoesOnSettled (IsNow [] None) [] None (Some r) → ⊥ }
+{}
+
+/// Orders as events.
+pub fn orders_are_events()
+    ensures fail { event_of (Fail 2) ≡ event.Fail 2 }
+    ensures join { event_of (Join 4) ≡ event.Join 4 }
+    ensures retire { event_of (Retire 1) ≡ event.Retire 1 }
+{}

@@ -1,0 +1,2 @@
+pub mod PartsDone
+pub mod Made

@@ -1,0 +1,6 @@
+pub mod Stats
+pub mod Answers
+pub mod Results
+pub mod Answering
+pub mod Laws
+pub mod support

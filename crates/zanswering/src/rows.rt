@@ -1,0 +1,5 @@
+//! Worked examples of the definitions, as clauses. The functions do nothing.
+
+mod answers;
+mod results;
+mod stats;

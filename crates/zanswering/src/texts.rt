@@ -1,0 +1,55 @@
+//! Paths, names and data as bytes.
+
+ghost use Rattle.std.specs.Prelude.{◌≡◌, ◌<◌, ◌≤◌, length, Some, IfOk, IfSome, IfNone};
+ghost use Rattle.zpath.specs.Grammar.{text_of};
+ghost use Rattle.zjute.specs.declared.limits.TheConstants.{MAX_FRAME};
+
+use std::alloc::Global;
+use zcalls::{Data, Names};
+use zjute::{Bytes, Texts};
+use zpath::{Memory, Path};
+
+/// Returns bytes of which there are few.
+pub(crate) fn bytes_of(alloc: Global, bytes: &[u8]) -> Result<Bytes, Memory>
+    requires { length bytes.now ≤ MAX_FRAME }
+    ensures { IfOk result (λ told. told ≡ bytes.now) }
+{
+    match Bytes::new(Vec::from_slice(alloc, bytes)?) {
+        Some(told) => Ok(told),
+        None => unreachable!(),
+    }
+}
+
+/// Returns the text of a path.
+pub(crate) fn path_told(alloc: Global, path: &Path) -> Result<Bytes, Memory>
+    ensures { IfOk result (λ told. told ≡ text_of path.now) }
+{
+    // A path's text is short, and the clause of `names` says so.
+    let _ = path.names();
+    let text = path.to_string(alloc)?;
+    bytes_of(alloc, text.as_bytes())
+}
+
+/// Returns data.
+pub(crate) fn data_told(alloc: Global, bytes: &Data) -> Result<Option<Bytes>, Memory>
+    ensures { IfOk result (λ told. told ≡ Some bytes.now) }
+{
+    Ok(Some(bytes_of(alloc, bytes.as_slice())?))
+}
+
+/// Returns names; `None` if there are more than a frame can hold.
+pub(crate) fn names_told(alloc: Global, names: &Names) -> Result<Option<Texts>, Memory>
+    ensures some { IfOk result (λ told. IfSome told (λ texts. texts ≡ names.now)) }
+    ensures few { IfOk result (λ told. IfSome told (λ _. length names.now ≤ MAX_FRAME)) }
+    ensures none { IfOk result (λ told. IfNone told (MAX_FRAME < length names.now)) }
+{
+    let names = names.as_slice();
+    if names.len() > zjute::MAX_FRAME as usize {
+        return Ok(None);
+    }
+    let mut texts = Vec::new(alloc);
+    for name in names {
+        texts.push(bytes_of(alloc, name.as_str().as_bytes())?)?;
+    }
+    Ok(Texts::new(texts))
+}

@@ -1,0 +1,2 @@
+-- What serves proofs and worked examples alone.
+pub mod Samples

@@ -1,0 +1,27 @@
+//! Session timeouts, in milliseconds and in ticks.
+
+ghost use Rattle.std.specs.Prelude.{◌≡◌};
+ghost use Rattle.zasking.specs.Timeouts as timeouts;
+
+use crate::tick::TickLength;
+
+/// Returns the ticks to ask for where a client asks for a timeout of so many milliseconds: one more
+/// than it takes. The service grants the nearest number of ticks in its range.
+pub fn ticks_asked(tick: TickLength, millis: i32) -> u64
+    ensures { result ≡ timeouts.ticks_asked tick millis }
+{
+    if millis < 0 {
+        return 1;
+    }
+    (millis as u64).div_ceil(u64::from(tick.millis())) + 1
+}
+
+/// Returns the milliseconds to tell the client where so many ticks were granted: one tick less, and
+/// at most what 32 bits hold.
+pub fn millis_told(tick: TickLength, ticks: u64) -> i32
+    ensures { result ≡ timeouts.millis_told tick ticks }
+{
+    let whole = ticks.saturating_sub(1);
+    let millis = whole.saturating_mul(u64::from(tick.millis()));
+    millis.min(2_147_483_647) as i32
+}

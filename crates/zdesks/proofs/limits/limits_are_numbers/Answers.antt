@@ -1,0 +1,4 @@
+use Rattle.zdesks.proofs.limits.limits_are_numbers.Goals as goal
+
+pub returns-clause-whole : goal.returns-clause-whole
+returns-clause-whole c a b stamp need few early = need few early

@@ -1,0 +1,9 @@
+pub mod Bytes
+pub mod Numbers
+pub mod Parts
+pub mod Times
+pub mod Choices
+pub mod Sums
+pub mod Loops
+pub mod Whole
+pub mod Composed

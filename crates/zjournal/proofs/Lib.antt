@@ -1,0 +1,11 @@
+mod Blocks
+mod Files
+mod Heads
+mod Kept
+mod Moments
+mod Opens
+mod Puts
+mod Readings
+mod Runs
+mod Scan
+mod Steps

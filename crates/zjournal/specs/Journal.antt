@@ -1,0 +1,80 @@
+-- What a journal's file stands for. Its first block is the head, which says what the file is. Each
+-- further block holds a batch of text behind its checksum.
+use Rattle.std.specs.Prelude.{◌≡◌, ◌≢◌, ◌⊎◌, ℕ, ◌+◌, ◌≤◌, List, [], ◌∷◌, ◌++◌, length, map, codes, true}
+use Rattle.zjournal.specs.declared.journal.Journal.{Journal}
+use Rattle.zjournal.specs.Device.{Only}
+use Rattle.zjournal.specs.Blocks.{AreTexts, blocks, at_rest, IsEnd}
+use Rattle.zjournal.specs.Checksum.{stamped}
+
+-- the head: a mark, the version of the format, the number of servers, and room for what a later
+-- version may say, such as the place of a snapshot
+abbrev pub mark : List ℕ
+mark = codes "jellqupas journal "
+
+abbrev pub version_now : ℕ
+version_now = 1
+
+abbrev pub room : List ℕ
+room = codes "            "
+
+abbrev pub head_of : ℕ → ℕ → List ℕ → List ℕ
+head_of version servers more = mark ++ version ∷ servers ∷ more
+
+abbrev pub head : ℕ → List ℕ
+head servers = head_of version_now servers room
+
+-- what the blocks hold
+abbrev pub holdings : ℕ → List (List ℕ) → List (List ℕ)
+holdings servers batches = head servers ∷ map stamped batches
+
+-- the file keeps these batches, in order, and no others; no block holds a byte 0
+pub record Keeps (servers : ℕ) (batches : List (List ℕ)) (file : List ℕ) : Type 0 where
+  pub texts : AreTexts (holdings servers batches)
+  pub end : List ℕ
+  pub split : file ≡ blocks (holdings servers batches) ++ end
+  pub counts_for_nothing : IsEnd end
+
+-- nothing of the file is made but a part of its head: it has at most one byte, or a closed gate and
+-- no more behind it than a head's block is long
+abbrev pub IsUnmade : ℕ → List ℕ → Type 0
+IsUnmade servers [] = Unit {0}
+IsUnmade servers (gate ∷ []) = Unit {0}
+IsUnmade servers (gate ∷ b ∷ more) = (gate ≡ 0) × (length (b ∷ more) ≤ length (head servers) + 2)
+
+-- all of its head is made, but the gate isn't open
+abbrev pub IsUnopened : ℕ → List ℕ → Type 0
+IsUnopened servers file = (gate : ℕ) × (gate ≢ 1) × (file ≡ gate ∷ (head servers ++ 0 ∷ 0 ∷ []))
+
+-- the file is being made: a crash may leave it so before its first batch
+abbrev pub IsBeingMade : ℕ → List ℕ → Type 0
+IsBeingMade servers file = IsUnmade servers file ⊎ IsUnopened servers file
+
+-- the file stands for these batches: it keeps them, or it is being made and there are none
+abbrev pub StandsFor : ℕ → List (List ℕ) → List ℕ → Type 0
+StandsFor servers batches file = Keeps servers batches file ⊎ (IsBeingMade servers file × (batches ≡ []))
+
+-- a journal over a device: the file is at rest with these batches, all of it on the disk, and the
+-- next block begins where the closed gate is
+pub record IsAtRest {D : Type 0} (seen : D → List ℕ) (may_leave : D → List ℕ → Type 0) (servers : ℕ) (batches : List (List ℕ)) (journal : Journal D) : Type 0 where
+  pub texts : AreTexts (holdings servers batches)
+  pub file : seen journal.device ≡ at_rest (holdings servers batches)
+  pub end : journal.end ≡ length (blocks (holdings servers batches))
+  pub durable : Only (seen journal.device) (may_leave journal.device)
+
+-- the device, how many bytes its blocks have, and whether the journal takes batches
+abbrev pub device_of : {D : Type 0} → Journal D → D
+device_of journal = journal.device
+
+abbrev pub size_of : {D : Type 0} → Journal D → ℕ
+size_of journal = journal.end
+
+abbrev pub IsOpen : {D : Type 0} → Journal D → Type 0
+IsOpen journal = journal.is_open ≡ true
+
+-- a journal that takes batches is at rest with some
+abbrev pub IsSound : {D : Type 0} → (D → List ℕ) → (D → List ℕ → Type 0) → Journal D → Type 0
+IsSound seen may_leave journal = IsOpen journal → (servers : ℕ) × (batches : List (List ℕ)) × IsAtRest seen may_leave servers batches journal
+
+-- the file keeps the batches, with one more or without it
+abbrev pub IsWithOrWithout : ℕ → List (List ℕ) → List ℕ → List ℕ → Type 0
+IsWithOrWithout servers batches batch file = Keeps servers batches file ⊎ Keeps servers (batches ++ batch ∷ []) file

@@ -1,0 +1,13 @@
+pub mod Blocks
+pub mod Checksum
+pub mod Device
+pub mod Faults
+pub mod Found
+pub mod Gates
+pub mod Journal
+pub mod Laws
+pub mod Memory
+pub mod Opened
+pub mod Past
+pub mod Puts
+pub mod Scan

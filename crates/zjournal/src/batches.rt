@@ -1,0 +1,63 @@
+//! The batches behind a file's head.
+
+ghost use Rattle.std.specs.Prelude.{◌≡◌, ◌⊎◌, ◌<◌, ◌≤◌, ◌+◌, ◌++◌, List, ℕ, length, get_or, drop};
+ghost use Rattle.std.specs.Prelude.{IfOk, IfErr, IfSome, IfNone, IsErrOf};
+ghost use Rattle.zjournal.specs.Blocks.{IsText, IsEnd};
+ghost use Rattle.zjournal.specs.Scan.{EndsAt, IsBatch, IsNoBatch, AreBatches, IsOther, joined};
+ghost use Rattle.zjournal.specs.declared.fault.OpenError.TheVariants as fault;
+
+use crate::OpenError;
+use crate::checksum::checked;
+use std::alloc::Global;
+
+/// The texts of the batches from there on, one behind the other, and where the last one ends.
+pub fn batches(alloc: Global, bytes: &[u8], start: usize) -> Result<(Vec<u8>, usize), OpenError>
+    requires { start ≤ length bytes.now }
+    ensures ok { IfOk result (λ read. (batches : List (List ℕ))
+        × AreBatches bytes.now start batches read.1 × (read.0.items ≡ joined batches)
+        × IsEnd (drop read.1 bytes.now)) }
+    ensures err { IfErr result (IsOther bytes.now start) }
+    ensures disk { IsErrOf result OpenError.Failed → ⊥ }
+{
+    let mut text = Vec::new(alloc);
+    let mut end = start;
+    while end + 1 < bytes.len() && bytes[end] == 1 {
+        end = batch(bytes, end, &mut text)?;
+    }
+    Ok((text, end))
+}
+
+// One batch, behind the open gate there: its text is added, and where it ends is told.
+fn batch(bytes: &[u8], gate: usize, text: &mut Vec<u8>) -> Result<usize, OpenError>
+    requires within { gate + 1 < length bytes.now }
+    requires open { get_or bytes.now gate 0 ≡ 1 }
+    ensures ok { IfOk result (λ end. (batch : List ℕ) × IsBatch bytes.now gate batch end
+        × (text.new.items ≡ text.old.items ++ batch)) }
+    ensures err { IfErr result (λ e. (e ≡ fault.Memory)
+        ⊎ ((e ≡ fault.Damaged gate) × IsNoBatch bytes.now gate)) }
+{
+    let Some(end) = text_end(bytes, gate + 1) else {
+        return Err(OpenError::Damaged(gate));
+    };
+    let Some(batch) = checked(&bytes[gate + 1..end]) else {
+        return Err(OpenError::Damaged(gate));
+    };
+    text.extend_from_slice(batch)?;
+    Ok(end + 1)
+}
+
+// Where the first 0 stands, from there on.
+fn text_end(bytes: &[u8], start: usize) -> Option<usize>
+    requires { start ≤ length bytes.now }
+    ensures some { IfSome result (EndsAt bytes.now start) }
+    ensures none { IfNone result (IsText (drop start bytes.now)) }
+{
+    let mut at = start;
+    while at < bytes.len() {
+        if bytes[at] == 0 {
+            return Some(at);
+        }
+        at += 1;
+    }
+    None
+}

@@ -1,0 +1,120 @@
+//! Why a journal isn't opened, and why it doesn't take a batch.
+
+use crate::DeviceError;
+use std::alloc::{AllocError, AllocFailed};
+use thiserror::Error;
+
+/// Why a file isn't opened. At the last four the file is untouched.
+#[derive(Clone, Copy, Debug, PartialEq, Eq, Error)]
+pub enum OpenError {
+    /// Out of memory.
+    #[error("out of memory")]
+    Memory,
+    /// The disk failed.
+    #[error("the disk failed")]
+    Failed,
+    /// The file doesn't begin as a journal does.
+    #[error("not a journal")]
+    NotJournal,
+    /// The journal has the format of another version: this one.
+    #[error("a journal of version {0}")]
+    Version(u8),
+    /// The journal is that of a service with another number of servers: this one.
+    #[error("a journal for {0} servers")]
+    Servers(u8),
+    /// The block whose gate stands at this byte is not what was written.
+    #[error("damaged at byte {0}")]
+    Damaged(usize),
+}
+
+/// Why a batch wasn't put into a journal.
+#[derive(Clone, Copy, Debug, PartialEq, Eq, Error)]
+pub enum PutError {
+    /// Out of memory. Either nothing was asked of the file, or the journal takes nothing more.
+    #[error("out of memory")]
+    Memory,
+    /// The disk failed. Whether the batch is kept, a later opening tells.
+    #[error("the disk failed")]
+    Failed,
+    /// The batch has a byte 0.
+    #[error("a byte 0 in a batch")]
+    NotText,
+    /// The file has 2 ^ 60 bytes or more.
+    #[error("the journal is full")]
+    Full,
+    /// An earlier call failed: nothing more is asked of the file, which is to be opened again.
+    #[error("the journal has failed")]
+    Closed,
+}
+
+impl From<DeviceError> for OpenError {
+    ghost use Rattle.zjournal.specs.Faults.{open_error};
+    ghost use Rattle.std.specs.Prelude.{◌≡◌};
+
+    ghost from_gives = { λ cause e. e ≡ open_error cause };
+
+    fn from(cause: DeviceError) -> Self {
+        match cause {
+            DeviceError::Memory => OpenError::Memory,
+            DeviceError::Failed => OpenError::Failed,
+        }
+    }
+}
+
+impl From<DeviceError> for PutError {
+    ghost use Rattle.zjournal.specs.Faults.{put_error};
+    ghost use Rattle.std.specs.Prelude.{◌≡◌};
+
+    ghost from_gives = { λ cause e. e ≡ put_error cause };
+
+    fn from(cause: DeviceError) -> Self {
+        match cause {
+            DeviceError::Memory => PutError::Memory,
+            DeviceError::Failed => PutError::Failed,
+        }
+    }
+}
+
+impl From<AllocError> for OpenError {
+    ghost use Rattle.zjournal.specs.declared.fault.OpenError.TheVariants.{Memory};
+    ghost use Rattle.std.specs.Prelude.{◌≡◌};
+
+    ghost from_gives = { λ _ e. e ≡ Memory };
+
+    fn from(_: AllocError) -> Self {
+        OpenError::Memory
+    }
+}
+
+impl<T: Drop> From<AllocFailed<T>> for OpenError {
+    ghost use Rattle.zjournal.specs.declared.fault.OpenError.TheVariants.{Memory};
+    ghost use Rattle.std.specs.Prelude.{◌≡◌};
+
+    ghost from_gives = { λ _ e. e ≡ Memory };
+
+    fn from(_: AllocFailed<T>) -> Self {
+        OpenError::Memory
+    }
+}
+
+impl From<AllocError> for PutError {
+    ghost use Rattle.zjournal.specs.declared.fault.PutError.TheVariants.{Memory};
+    ghost use Rattle.std.specs.Prelude.{◌≡◌};
+
+    ghost from_gives = { λ _ e. e ≡ Memory };
+
+    fn from(_: AllocError) -> Self {
+        PutError::Memory
+    }
+}
+
+impl<T: Drop> From<AllocFailed<T>> for PutError {
+    ghost use Rattle.zjournal.specs.declared.fault.PutError.TheVariants.{Memory};
+    ghost use Rattle.std.specs.Prelude.{◌≡◌};
+
+    ghost from_gives = { λ _ e. e ≡ Memory };
+
+    fn from(_: AllocFailed<T>) -> Self {
+        PutError::Memory
+    }
+}

@@ -1,0 +1,96 @@
+//! The steps that change a file. Each is on the disk before the next one begins.
+
+ghost use Rattle.std.specs.Prelude.{◌≡◌, ◌<◌, ◌≤◌, ◌^◌, ◌+◌, ◌++◌, [], ◌∷◌, length};
+ghost use Rattle.std.specs.Prelude.{take, drop, OnOk, IsErrOf};
+ghost use Rattle.zjournal.specs.Device.{Cut, Holds, LeavesOnly, Only, Torn};
+ghost use Rattle.zjournal.specs.Gates.{IsAdding, IsClosing, IsOpening};
+
+use crate::{Device, DeviceError};
+
+// Cuts the file, and brings that to the disk.
+fn cut_synced<D: Device>(device: &mut D, len: usize) -> Result<(), DeviceError>
+    requires within { len ≤ length (D.seen device.old) }
+    requires durable { Only (D.seen device.old) (D.may_leave device.old) }
+    ensures cut { OnOk result (D.seen device.new ≡ take len (D.seen device.old)) }
+    ensures durable { OnOk result (Only (D.seen device.new) (D.may_leave device.new)) }
+    ensures any_moment { LeavesOnly D.moment D.left_since device.old device.new
+        (Cut len (D.seen device.old)) }
+    ensures failed { IsErrOf result DeviceError.Failed
+        → D.faults device.old < D.faults device.new }
+    ensures faults { D.faults device.old ≤ D.faults device.new }
+{
+    device.cut(len)?;
+    device.sync()?; // now the cut is on the disk
+    Ok(())
+}
+
+/// Writes bytes, and brings them to the disk.
+pub fn write_synced<D: Device>(device: &mut D, at: usize, bytes: &[u8]) -> Result<(), DeviceError>
+    requires within { at ≤ length (D.seen device.old) }
+    requires durable { Only (D.seen device.old) (D.may_leave device.old) }
+    ensures written { OnOk result (Holds (D.seen device.old) at bytes.now (D.seen device.new)) }
+    ensures durable { OnOk result (Only (D.seen device.new) (D.may_leave device.new)) }
+    ensures any_moment { LeavesOnly D.moment D.left_since device.old device.new
+        (Torn at (length bytes.now) (D.seen device.old)) }
+    ensures failed { IsErrOf result DeviceError.Failed
+        → D.faults device.old < D.faults device.new }
+    ensures faults { D.faults device.old ≤ D.faults device.new }
+{
+    device.write_at(at, bytes)?;
+    device.sync()?; // now the bytes are on the disk
+    Ok(())
+}
+
+/// Cuts the file, and sets a closed gate behind what stays.
+pub fn close<D: Device>(device: &mut D, end: usize) -> Result<(), DeviceError>
+    requires within { end ≤ length (D.seen device.old) }
+    requires durable { Only (D.seen device.old) (D.may_leave device.old) }
+    ensures closed { OnOk result (D.seen device.new ≡ take end (D.seen device.old) ++ 0 ∷ []) }
+    ensures durable { OnOk result (Only (D.seen device.new) (D.may_leave device.new)) }
+    ensures any_moment { LeavesOnly D.moment D.left_since device.old device.new
+        (IsClosing (D.seen device.old) end) }
+    ensures failed { IsErrOf result DeviceError.Failed
+        → D.faults device.old < D.faults device.new }
+    ensures faults { D.faults device.old ≤ D.faults device.new }
+{
+    // The cut has to be on the disk first: behind a gate that is torn open, what was there counts.
+    cut_synced(device, end)?;
+    write_synced(device, end, &[0])?;
+    Ok(())
+}
+
+/// Opens the gate at this place: from then on what stands behind it counts.
+pub fn open_gate<D: Device>(device: &mut D, gate: usize) -> Result<(), DeviceError>
+    requires within { gate < length (D.seen device.old) }
+    requires durable { Only (D.seen device.old) (D.may_leave device.old) }
+    ensures open { OnOk result (D.seen device.new
+        ≡ take gate (D.seen device.old) ++ 1 ∷ drop (gate + 1) (D.seen device.old)) }
+    ensures durable { OnOk result (Only (D.seen device.new) (D.may_leave device.new)) }
+    ensures any_moment { LeavesOnly D.moment D.left_since device.old device.new
+        (IsOpening (take gate (D.seen device.old)) (drop (gate + 1) (D.seen device.old))) }
+    ensures failed { IsErrOf result DeviceError.Failed
+        → D.faults device.old < D.faults device.new }
+    ensures faults { D.faults device.old ≤ D.faults device.new }
+{
+    write_synced(device, gate, &[1])?;
+    Ok(())
+}
+
+/// Writes a block behind the closed gate at the end of the file, and opens the gate.
+pub fn add_block<D: Device>(device: &mut D, gate: usize, block: &[u8]) -> Result<(), DeviceError>
+    requires closed { drop gate (D.seen device.old) ≡ 0 ∷ [] }
+    requires small { gate < 2 ^ 60 }
+    requires durable { Only (D.seen device.old) (D.may_leave device.old) }
+    ensures added { OnOk result (D.seen device.new
+        ≡ take gate (D.seen device.old) ++ 1 ∷ block.now) }
+    ensures durable { OnOk result (Only (D.seen device.new) (D.may_leave device.new)) }
+    ensures any_moment { LeavesOnly D.moment D.left_since device.old device.new
+        (IsAdding (take gate (D.seen device.old)) block.now) }
+    ensures failed { IsErrOf result DeviceError.Failed
+        → D.faults device.old < D.faults device.new }
+    ensures faults { D.faults device.old ≤ D.faults device.new }
+{
+    write_synced(device, gate + 1, block)?;
+    open_gate(device, gate)?;
+    Ok(())
+}

@@ -1,0 +1,73 @@
+//! A journal over a device: batches are put into its file.
+
+ghost use Rattle.std.specs.Prelude.{◌≡◌, ◌<◌, ◌≤◌, ◌^◌, ◌++◌, [], ◌∷◌, List, ℕ};
+ghost use Rattle.std.specs.Prelude.{OnOk, IfErr, IsErrOf};
+ghost use Rattle.zjournal.specs.Device.{LeavesOnly};
+ghost use Rattle.zjournal.specs.Blocks.{IsText};
+ghost use Rattle.zjournal.specs.Journal.{IsAtRest, IsOpen, IsSound, IsWithOrWithout};
+ghost use Rattle.zjournal.specs.Journal.{device_of, size_of};
+ghost use Rattle.zjournal.specs.Puts.{IsLeftBy};
+
+use crate::checksum::block_of;
+use crate::gates::add_block;
+use crate::limits::MAX_BYTES;
+use crate::{Device, PutError};
+use std::alloc::Global;
+
+/// An open journal.
+#[derive(Drop)]
+pub struct Journal<D: Device> {
+    pub(crate) alloc: Global,
+    pub(crate) device: D,
+    pub(crate) end: usize,
+    pub(crate) is_open: bool,
+}
+
+impl<D: Device> Journal<D> {
+    /// The device that holds the file.
+    pub fn device(&self) -> &D
+        ensures { result.now ≡ device_of self.now }
+    {
+        &self.device
+    }
+
+    /// Puts a batch behind the others. At `Ok` it is on the disk: from then on every crash leaves a
+    /// file that keeps it. At `Memory` and `Failed` the journal may take nothing more; a file that
+    /// is opened again then has the batch, or hasn't.
+    pub fn put(&mut self, batch: &[u8]) -> Result<(), PutError>
+        requires { IsSound D.seen D.may_leave self.old }
+        ensures kept { (servers : ℕ) (batches : List (List ℕ))
+            → IsOpen self.old → IsAtRest D.seen D.may_leave servers batches self.old
+            → OnOk result (IsAtRest D.seen D.may_leave servers
+            (batches ++ batch.now ∷ []) self.new) }
+        ensures any_moment { (servers : ℕ) (batches : List (List ℕ))
+            → IsAtRest D.seen D.may_leave servers batches self.old
+            → LeavesOnly D.moment D.left_since (device_of self.old) (device_of self.new)
+            (IsWithOrWithout servers batches batch.now) }
+        ensures sound { IsSound D.seen D.may_leave self.new }
+        ensures open { OnOk result (IsOpen self.old × IsOpen self.new) }
+        ensures failed { IsErrOf result PutError.Failed
+            → D.faults (device_of self.old) < D.faults (device_of self.new) }
+        ensures left { IfErr result (λ e. IsLeftBy e self.old self.new) }
+        ensures closed { (IsOpen self.old → ⊥) → IsErrOf result PutError.Closed }
+        ensures not_text { IsErrOf result PutError.NotText → IsText batch.now → ⊥ }
+        ensures full { IsErrOf result PutError.Full → 2 ^ 60 ≤ size_of self.old }
+    {
+        if !self.is_open {
+            return Err(PutError::Closed);
+        }
+        if batch.contains(&0) {
+            return Err(PutError::NotText);
+        }
+        if self.end >= MAX_BYTES {
+            return Err(PutError::Full);
+        }
+        let block = block_of(self.alloc, batch)?;
+        let block = block.as_slice();
+        self.is_open = false;
+        add_block(&mut self.device, self.end, block)?;
+        self.end += block.len();
+        self.is_open = true;
+        Ok(())
+    }
+}

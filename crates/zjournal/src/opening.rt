@@ -1,0 +1,113 @@
+//! How a file is opened.
+
+ghost use Rattle.std.specs.Prelude.{◌≡◌, ◌<◌, ◌≤◌, ◌++◌, [], ◌∷◌, List, ℕ, length};
+ghost use Rattle.std.specs.Prelude.{IfOk, IfErr, OnOk, IsErrOf};
+ghost use Rattle.zjournal.specs.Device.{Only, LeavesOnly};
+ghost use Rattle.zjournal.specs.Blocks.{AreTexts, blocks, at_rest};
+ghost use Rattle.zjournal.specs.Journal.{holdings, IsUnmade, StandsFor, IsAtRest, IsOpen, IsSound};
+ghost use Rattle.zjournal.specs.Journal.{device_of};
+ghost use Rattle.zjournal.specs.Scan.{joined};
+ghost use Rattle.zjournal.specs.declared.fault.OpenError.TheVariants as open_fault;
+ghost use Rattle.zjournal.specs.Faults.{IsSuch, IsOfContent};
+ghost use Rattle.zjournal.specs.Opened.{IsRead};
+
+use crate::gates::{add_block, close, open_gate};
+use crate::reading::{Found, HEAD_END, head_block, look};
+use crate::{Device, DeviceError, Journal, OpenError};
+use std::alloc::Global;
+
+// Makes a file that has nothing yet.
+fn make<D: Device>(device: &mut D, servers: u8) -> Result<(), DeviceError>
+    requires some { 0 < servers }
+    requires unmade { IsUnmade servers (D.seen device.old) }
+    requires durable { Only (D.seen device.old) (D.may_leave device.old) }
+    ensures made { OnOk result (D.seen device.new ≡ at_rest (holdings servers [])) }
+    ensures durable { OnOk result (Only (D.seen device.new) (D.may_leave device.new)) }
+    ensures any_moment { LeavesOnly D.moment D.left_since device.old device.new
+        (StandsFor servers []) }
+    ensures failed { IsErrOf result DeviceError.Failed
+        → D.faults device.old < D.faults device.new }
+{
+    close(device, 0)?;
+    add_block(device, 0, &head_block(servers))
+}
+
+/// Reads the batches of a file that a crash may have left, and repairs its end. It may crash, too.
+pub fn open_file<D: Device>(
+    alloc: Global,
+    device: &mut D,
+    servers: u8,
+) -> Result<(Vec<u8>, usize), OpenError>
+    requires some { 0 < servers }
+    requires durable { Only (D.seen device.old) (D.may_leave device.old) }
+    ensures read { IfOk result (λ read. (batches : List (List ℕ))
+        × StandsFor servers batches (D.seen device.old)
+        × IsRead D.seen D.may_leave servers batches read.0.items read.1 device.new) }
+    ensures any_moment { (batches : List (List ℕ)) → StandsFor servers batches (D.seen device.old)
+        → LeavesOnly D.moment D.left_since device.old device.new (StandsFor servers batches) }
+    ensures fault { IfErr result (IsSuch servers (D.seen device.old)) }
+    ensures untouched { IfErr result (λ e. IsOfContent e → (D.seen device.new ≡ D.seen device.old)
+        × LeavesOnly D.moment D.left_since device.old device.new (λ c. c ≡ D.seen device.old)) }
+    ensures failed { IsErrOf result OpenError.Failed
+        → D.faults device.old < D.faults device.new }
+{
+    let bytes = device.read(alloc)?;
+    match look(alloc, &bytes, servers)? {
+        Found::Unmade => {
+            make(device, servers)?;
+            Ok((Vec::new(alloc), HEAD_END))
+        }
+        Found::Unopened => {
+            open_gate(device, 0)?;
+            Ok((Vec::new(alloc), HEAD_END))
+        }
+        Found::Kept(text, end) => {
+            close(device, end)?;
+            Ok((text, end))
+        }
+    }
+}
+
+/// Opens the journal of a file that a crash may have left, or makes one of a file that is new, and
+/// hands out the text of all batches. Opening may crash, too, and then the file stands for the same
+/// batches. The number of servers stands in the file's head, and is at least 1. An `Err` hands the
+/// device back.
+pub fn open<D: Device>(
+    alloc: Global,
+    device: D,
+    servers: u8,
+) -> Result<(Journal<D>, Vec<u8>), (OpenError, D)>
+    requires some { 0 < servers }
+    // After a restart, what is read is what is on the disk.
+    requires durable { Only (D.seen device) (D.may_leave device) }
+    ensures journal { IfOk result (λ opened. (batches : List (List ℕ))
+        × StandsFor servers batches (D.seen device)
+        × IsAtRest D.seen D.may_leave servers batches opened.0
+        × IsOpen opened.0 × (opened.1.items ≡ joined batches)) }
+    ensures sound { IfOk result (λ opened. IsSound D.seen D.may_leave opened.0) }
+    ensures any_moment { (batches : List (List ℕ)) → StandsFor servers batches (D.seen device)
+        → IfOk result (λ opened. LeavesOnly D.moment D.left_since device (device_of opened.0)
+        (StandsFor servers batches)) }
+    ensures any_moment_err { (batches : List (List ℕ)) → StandsFor servers batches (D.seen device)
+        → IfErr result (λ e. LeavesOnly D.moment D.left_since device e.1
+        (StandsFor servers batches)) }
+    ensures fault { IfErr result (λ e. IsSuch servers (D.seen device) e.0) }
+    ensures untouched { IfErr result (λ e. IsOfContent e.0 → (D.seen e.1 ≡ D.seen device)
+        × LeavesOnly D.moment D.left_since device e.1 (λ c. c ≡ D.seen device)) }
+    ensures failed { IfErr result (λ e. e.0 ≡ open_fault.Failed
+        → D.faults device < D.faults e.1) }
+{
+    let mut device = device;
+    match open_file(alloc, &mut device, servers) {
+        Ok((text, end)) => Ok((
+            Journal {
+                alloc,
+                device,
+                end,
+                is_open: true,
+            },
+            text,
+        )),
+        Err(e) => Err((e, device)),
+    }
+}

@@ -1,0 +1,48 @@
+//! Worked rows: each function's contract has some, and its body does nothing.
+
+ghost use Rattle.std.specs.Prelude.{◌≡◌, [], ◌∷◌, codes};
+ghost use Rattle.zjournal.specs.Blocks.{at_rest, IsEnd};
+ghost use Rattle.zjournal.specs.Checksum.{adler, stamped};
+ghost use Rattle.zjournal.specs.Device.{Cut, Torn};
+ghost use Rattle.zjournal.specs.Journal.{holdings, IsUnmade, Keeps};
+
+/// A checksum, and a text behind its own.
+pub fn texts_have_checksums()
+    ensures empty { adler [] ≡ 1 }
+    ensures known { adler (codes "Wikipedia") ≡ 300286872 }
+    ensures stamped { stamped (codes "Wikipedia") ≡ codes "11e60398Wikipedia" }
+{}
+
+/// A file at rest: blocks, and a closed gate.
+pub fn blocks_stand_in_a_row()
+    ensures none { at_rest [] ≡ 0 ∷ [] }
+    ensures two { at_rest ((97 ∷ []) ∷ (98 ∷ 99 ∷ []) ∷ [])
+        ≡ 1 ∷ 97 ∷ 0 ∷ 1 ∷ 98 ∷ 99 ∷ 0 ∷ 0 ∷ [] }
+{}
+
+/// What counts for nothing behind the blocks, and an open gate with something behind it.
+pub fn ends_count_for_nothing()
+    ensures nothing { IsEnd [] }
+    ensures torn_gate { IsEnd (1 ∷ []) }
+    ensures closed_gate { IsEnd (0 ∷ 97 ∷ 0 ∷ []) }
+    ensures other_gate { IsEnd (7 ∷ 97 ∷ []) }
+    ensures open_gate { IsEnd (1 ∷ 97 ∷ []) → ⊥ }
+{}
+
+/// A file while it is made, one that isn't, and one that was made.
+pub fn files_are_made()
+    ensures empty { IsUnmade 3 [] }
+    ensures one_byte { IsUnmade 3 (74 ∷ []) }
+    ensures closed_gate { IsUnmade 3 (0 ∷ 1 ∷ 2 ∷ []) }
+    ensures other { IsUnmade 3 (74 ∷ 101 ∷ []) → ⊥ }
+    ensures made { Keeps 3 [] (at_rest (holdings 3 [])) }
+{}
+
+/// A torn write leaves what stands before its range, and a cut leaves a front of the file.
+pub fn crashes_leave_the_rest()
+    ensures before { Torn 1 1 (1 ∷ 2 ∷ []) (9 ∷ 2 ∷ []) → ⊥ }
+    ensures behind { Torn 0 1 (1 ∷ 2 ∷ []) (1 ∷ 9 ∷ []) → ⊥ }
+    ensures shorter { Torn 0 1 (1 ∷ 2 ∷ []) (1 ∷ []) → ⊥ }
+    ensures cut_too_far { Cut 1 (1 ∷ 2 ∷ []) [] → ⊥ }
+    ensures cut_no_front { Cut 1 (1 ∷ 2 ∷ []) (9 ∷ []) → ⊥ }
+{}

@@ -1,0 +1,10 @@
+pub mod Cutting
+pub mod Signed
+pub mod Numbered
+pub mod Before
+pub mod Tags
+pub mod Records
+pub mod Loops
+pub mod Headers
+pub mod Asking
+pub mod FirstFrame

@@ -1,0 +1,11 @@
+use Rattle.std.proofs.Common.{ap, subst, ◌∙◌, arith}
+use Rattle.zforms.specs.Readers.{Gives, whole}
+use Rattle.zjute.specs.Connecting.{connect_request}
+use Rattle.zjute.proofs.FirstFrame.{connect_found, connect_again}
+use Rattle.zjute.proofs.connect_reading.read_connect.Goals as goal
+
+pub returns-clause-found : goal.returns-clause-found
+returns-clause-found c = connect_found c.args.bytes.now c.all_of.result (λ i. omega (arith, c.type_inv.bytes i)) c.all_of.ensures
+
+pub returns-clause-only : goal.returns-clause-only
+returns-clause-only c = λ r fits e. subst (λ read. Gives (λ it. it) c.all_of.result read) (ap (whole connect_request) e ∙ connect_again r fits) c.all_of.ensures

@@ -1,0 +1,25 @@
+use Rattle.std.proofs.Common.{◌∷◌, [], arith, length-append}
+use Rattle.std.proofs.lemmas.Result.{err_from_is_err_and}
+use Rattle.zforms.specs.Forms.{read_times}
+use Rattle.zjute.specs.Jute.{text}
+use Rattle.zforms.proofs.Loops.{goes_on, fails, is_done}
+use Rattle.zjute.proofs.list_reading.counted_texts.Goals as goal
+
+pub returns-in_err-text : goal.returns-in_err-text
+returns-in_err-text c =
+    let p = err_from_is_err_and c.from_residual.result c.from_residual.ensures.1 in
+    rw (p.1, p.2)
+    (fails text c.loop.texts.items c.args.count c.loop.counter c.loop.rest.now (read_times text c.args.count c.args.bytes.now) c.in_err-text.field-0.0 c.loop-test.true c.in_err-text.ensures c.loop.invariant.so_far)
+
+pub loop-preserved : goal.loop-preserved
+loop-preserved c =
+    record {
+      so_far = rw c.in_ok-push.ensures.items
+          (goes_on text c.loop.texts.items c.args.count c.loop.counter c.loop.rest.now (read_times text c.args.count c.args.bytes.now) c.in_ok-text.text c.in_ok-text.after.now c.loop-test.true c.in_ok-text.ensures c.loop.invariant.so_far);
+      counted = rw c.in_ok-push.ensures.items (let so_far = c.loop.invariant.counted in omega (arith, so_far, length-append c.loop.texts.items (c.in_ok-text.text ∷ [])));
+    }
+
+pub returns : goal.returns
+returns c =
+    rw c.within.ensures
+    (is_done text c.loop.texts.items c.args.count c.loop.counter c.loop.rest.now (read_times text c.args.count c.args.bytes.now) c.loop-test.false c.loop.invariant.so_far)

@@ -1,0 +1,23 @@
+-- Laws of the definitions.
+use Rattle.std.specs.Prelude.{◌≡◌}
+use Rattle.zjute.specs.declared.connecting.ConnectRequest.{ConnectRequest}
+use Rattle.zjute.specs.declared.request.Request.{Request}
+use Rattle.zjute.specs.declared.stat.Stat.{Stat}
+use Rattle.zjute.specs.Asking.{request}
+use Rattle.zjute.specs.Connecting.{connect_request}
+use Rattle.zjute.specs.Stats.{stat}
+
+-- no two requests share their bytes
+abbrev pub RequestsAreToldApart : Type 0
+RequestsAreToldApart =
+    (x y : Request) → request.Fits x → request.Fits y → request.spell x ≡ request.spell y → x ≡ y
+
+-- no two first frames share their bytes
+abbrev pub GreetingsAreToldApart : Type 0
+GreetingsAreToldApart =
+    (x y : ConnectRequest) → connect_request.Fits x → connect_request.Fits y →
+    connect_request.spell x ≡ connect_request.spell y → x ≡ y
+
+-- no two stats share their bytes
+abbrev pub StatsAreToldApart : Type 0
+StatsAreToldApart = (x y : Stat) → stat.Fits x → stat.Fits y → stat.spell x ≡ stat.spell y → x ≡ y

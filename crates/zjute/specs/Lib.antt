@@ -1,0 +1,13 @@
+pub mod Jute
+pub mod Shapes
+pub mod Frames
+pub mod Codes
+pub mod Stats
+pub mod Connecting
+pub mod Requests
+pub mod Parts
+pub mod Asking
+pub mod Replies
+pub mod Events
+pub mod support
+pub mod Laws

@@ -1,0 +1,4 @@
+pub mod Kazoo
+pub mod Sent
+pub mod Numbers
+pub mod Rarer

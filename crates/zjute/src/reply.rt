@@ -1,0 +1,102 @@
+//! What a client is answered.
+
+ghost use Rattle.std.specs.Prelude.{◌≡◌};
+
+use crate::acl::Acls;
+use crate::bytes::{Bytes, Texts};
+use crate::code::Code;
+use crate::stat::Stat;
+use std::marker::Model;
+
+/// The result of a part of a multi or multiRead, behind its `MultiHeader` (zookeeper.jute). The
+/// numbers of the kinds are those of the requests.
+#[derive(Drop)]
+pub enum PartResult {
+    /// -1: the part wasn't done (`ErrorResponse`). The code is `Ok` in front of the part that was
+    /// refused, and `RuntimeInconsistency` behind it.
+    Error(Code),
+    /// 1: the path of the node that was created (`CreateResponse`).
+    Create(Bytes),
+    /// 2: the node was deleted.
+    Delete,
+    /// 4: the data of the node and its stat (`GetDataResponse`); `None` is a null buffer.
+    GetData(Option<Bytes>, Stat),
+    /// 5: the new stat of the node (`SetDataResponse`).
+    SetData(Stat),
+    /// 8: the names of the node's children (`GetChildrenResponse`).
+    GetChildren(Texts),
+    /// 13: the node has the version.
+    Check,
+    /// 15: the path of the node that was created and its stat (`Create2Response`).
+    Create2(Bytes, Stat),
+    /// 21: the same for a node with a TTL (`Create2Response`).
+    CreateTtl(Bytes, Stat),
+}
+
+/// The results of the parts, in order (`MultiResponse`).
+#[derive(Drop)]
+pub struct Results {
+    results: Vec<PartResult>,
+}
+
+impl Model for Results {
+    ghost use Rattle.std.specs.Prelude.{List};
+    ghost use Rattle.zjute.specs.declared.reply.PartResult.{PartResult};
+
+    ghost Value = { List PartResult };
+
+    ghost view = { λ results. results.results.items };
+}
+
+impl Results {
+    /// Wraps the results.
+    pub fn new(results: Vec<PartResult>) -> Results
+        ensures { result ≡ results.items }
+    {
+        Results { results }
+    }
+
+    /// Returns the results in order.
+    pub fn as_slice(&self) -> &[PartResult]
+        ensures { result.now ≡ self.now }
+    {
+        &self.results
+    }
+}
+
+/// What stands behind a reply's header. Which it is depends on the kind of the request; the bytes
+/// don't say it.
+#[derive(Drop)]
+pub enum Body {
+    /// Nothing: an error, or a request whose answer is that it was done.
+    Nothing,
+    /// A path (`CreateResponse`, `SyncResponse`).
+    Path(Bytes),
+    /// A path and a stat (`Create2Response`).
+    PathStat(Bytes, Stat),
+    /// A stat (`ExistsResponse`, `SetDataResponse`, `SetACLResponse`).
+    Stat(Stat),
+    /// Data and a stat (`GetDataResponse`); `None` is a null buffer.
+    DataStat(Option<Bytes>, Stat),
+    /// Names (`GetChildrenResponse`).
+    Names(Texts),
+    /// Names and a stat (`GetChildren2Response`).
+    NamesStat(Texts, Stat),
+    /// An ACL and a stat (`GetACLResponse`).
+    AclsStat(Acls, Stat),
+    /// The results of a multi or of a multiRead (`MultiResponse`).
+    Results(Results),
+}
+
+/// A reply (`ReplyHeader` of zookeeper.jute, and what follows it).
+#[derive(Drop)]
+pub struct Reply {
+    /// The number of the request; -1 stands for an event, which is no reply.
+    pub xid: i32,
+    /// The last zxid of the tree.
+    pub zxid: i64,
+    /// Whether the request was done.
+    pub code: Code,
+    /// What is answered.
+    pub body: Body,
+}

@@ -1,0 +1,18 @@
+//! What is known is the tree's. Each function's contract is a law; its body does nothing.
+
+ghost use Rattle.zknown.specs.Laws.{KnownHasRoom, KnownIsTheTrees, QueriesTeachNothing};
+ghost use Rattle.zknown.specs.Laws.{RepliesFit};
+
+/// What is known after a client's call and its reply is that of the tree after the call, where it
+/// was that of the tree before. So it always is, for one who counts all calls.
+pub fn known_is_the_trees()
+    ensures update { KnownIsTheTrees }
+    ensures query { QueriesTeachNothing }
+{}
+
+/// What is known after any calls from the initial tree has room for one more, and the numbers of
+/// every reply are in their ranges. So they fit in 64 bits.
+pub fn known_has_room()
+    ensures room { KnownHasRoom }
+    ensures replies { RepliesFit }
+{}

@@ -1,0 +1,2 @@
+-- What the worked runs are made of.
+pub mod CutRows

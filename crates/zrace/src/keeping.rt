@@ -1,0 +1,16 @@
+//! Appending one value.
+
+ghost use Rattle.zrace.specs.Kept.{IsKeptBehind};
+
+/// Appends one value. Returns false if there was no memory, and then it is dropped.
+pub(crate) fn keep<X: Drop>(all: &mut Vec<X>, one: X) -> bool
+    ensures { IsKeptBehind all.old.items all.new.items one }
+{
+    match all.push(one) {
+        Ok(()) => true,
+        Err(refused) => {
+            drop(refused);
+            false
+        }
+    }
+}

@@ -1,0 +1,140 @@
+//! A racing client: its calls, and the versions that it received.
+
+ghost use Rattle.std.specs.Prelude.{◌≡◌, ◌++◌, [], All, IfSome, codes};
+ghost use Rattle.std.specs.Fmt.{decimal};
+ghost use Rattle.zpath.specs.Grammar.{text_of};
+ghost use Rattle.zrun.specs.Clients.{SameClient};
+ghost use Rattle.zrace.specs.Seen.{AsksFor, HasSeen, WasTold, WasToldSince};
+
+use crate::keeping::keep;
+use std::alloc::Global;
+use std::snapshot::Snapshot;
+use std::thread::Promise;
+use zcalls::{Call, Create, Data, Expected, Kind, Query, Reply, SetData, Update};
+use zpath::Path;
+use zprotocol::ServerId;
+use zrun::{Client, Patience};
+
+// How long a client waits for a reply. No race comes near this limit.
+const PATIENCE: Patience = Patience {
+    turns: 100_000,
+    retries: 1_000,
+};
+
+/// Nodes, each with the version that the client received.
+pub(crate) type Seen = Vec<(u64, u64)>;
+
+/// A racing client, and the versions that it received.
+#[derive(Drop)]
+pub(crate) struct Racer {
+    pub(crate) client: Client,
+    pub(crate) seen: Seen,
+    ghost told: { All (λ it. HasSeen client it.0 it.1) seen.items },
+}
+
+/// The promise to hand this client back, with the versions that it received.
+#[derive(Drop)]
+pub(crate) struct Returns(pub(crate) Snapshot<Client>);
+
+impl Promise<Racer> for Returns {
+    ghost kept_by = { λ p r. SameClient p.0.value r.client };
+}
+
+impl Racer {
+    /// Returns a racer that has received nothing yet.
+    pub(crate) fn new(client: Client, seen: Seen) -> Racer
+        requires { seen.items ≡ [] }
+        ensures { result.client ≡ client }
+    {
+        Racer { client, seen }
+    }
+
+    /// Takes a node through its three calls. Returns false where it received no version, or memory
+    /// ran out.
+    pub(crate) fn lap(&mut self, alloc: Global, node: u64, halted: Option<ServerId>) -> bool
+        ensures { SameClient self.old.client self.new.client }
+    {
+        let Some(version) = call_thrice(&mut self.client, alloc, node, halted) else {
+            return false;
+        };
+        keep(&mut self.seen, (node, version))
+    }
+}
+
+// Creates a node, sets it once, and asks for its version. The server is halted after the set.
+fn call_thrice(
+    client: &mut Client,
+    alloc: Global,
+    node: u64,
+    halted: Option<ServerId>,
+) -> Option<u64>
+    ensures same { SameClient client.old client.new }
+    ensures told { IfSome result (WasToldSince node client.old client.new) }
+{
+    let created = client.ask(create(alloc, node)?, PATIENCE).ok()?;
+    drop(created);
+    let set = client.ask(set(alloc, node)?, PATIENCE).ok()?;
+    drop(set);
+    halt_one(client, halted);
+    version_of(client, alloc, node)
+}
+
+// Halts this server, if any.
+fn halt_one(client: &mut Client, halted: Option<ServerId>)
+    ensures { SameClient client.old client.new }
+{
+    if let Some(server) = halted {
+        client.halt(server);
+    }
+}
+
+// Asks for the version of a node.
+fn version_of(client: &mut Client, alloc: Global, node: u64) -> Option<u64>
+    ensures same { SameClient client.old client.new }
+    ensures told { IfSome result (λ version. WasTold node version client.old client.new) }
+{
+    let call = exists(alloc, node)?;
+    let Ok(reply) = client.ask(call, PATIENCE) else {
+        return None;
+    };
+    match reply {
+        Reply::Exists(stat) => Some(stat.version),
+        other => {
+            drop(other);
+            None
+        }
+    }
+}
+
+fn create(alloc: Global, node: u64) -> Option<Call> {
+    let path = path_of(alloc, node)?;
+    let bytes = Data::empty(alloc);
+    Some(Call::Update(Update::Create(Create {
+        path,
+        kind: Kind::Persistent,
+        bytes,
+    })))
+}
+
+fn set(alloc: Global, node: u64) -> Option<Call> {
+    let path = path_of(alloc, node)?;
+    let bytes = Data::empty(alloc);
+    Some(Call::Update(Update::SetData(SetData {
+        path,
+        bytes,
+        version: Expected::Any,
+    })))
+}
+
+fn exists(alloc: Global, node: u64) -> Option<Call>
+    ensures { IfSome result (AsksFor node) }
+{
+    Some(Call::Query(Query::Exists(path_of(alloc, node)?)))
+}
+
+fn path_of(alloc: Global, node: u64) -> Option<Path>
+    ensures { IfSome result (λ path. text_of path ≡ codes "/n" ++ decimal node) }
+{
+    let text = format!(in alloc; "/n{node}").ok()?;
+    Path::parse(alloc, text.as_str()).ok()
+}

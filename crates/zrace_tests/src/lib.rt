@@ -1,0 +1,5 @@
+//! Tests of races in threads.
+#![tactic(auto)]
+
+#[cfg(test)]
+mod halts;

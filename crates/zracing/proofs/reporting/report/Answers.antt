@@ -1,0 +1,34 @@
+use Rattle.std.proofs.Common.{ℕ, List, inl, inr, sym, subst, ◌∙◌}
+use Rattle.zdevices.specs.Device.{Between, TookBeginning}
+use Rattle.zracing.proofs.Written.{on-failure, on-success}
+use Rattle.zracing.proofs.reporting.report.Goals as goal
+
+-- the text that was to be written is the outcome's
+pub returns-then-is_err-clause-not_good : goal.returns-then-is_err-clause-not_good
+returns-then-is_err-clause-not_good g c = λ one.
+    let took = Between g.K.Sink.took c.args.sink.now c.write_all.new.sink in
+    inr (inl (
+      subst (λ (text : List ℕ). TookBeginning took text) (c.as_bytes.ensures.value ∙ c.in-Ok.ensures) c.write_all.ensures.beginning,
+      on-failure c.write_all.result (sym c.is_err.ensures.value ∙ c.if-is_err.true) c.write_all.ensures.failed,
+      c.tell.ensures,
+    ))
+
+pub returns-then-is_good-clause-good : goal.returns-then-is_good-clause-good
+returns-then-is_good-clause-good g c = λ zero.
+    let took = Between g.K.Sink.took c.args.sink.now c.write_all.new.sink in
+    let good = c.is_good.ensures.good c.if-is_good.true in (
+      good.0,
+      good.1,
+      subst (λ (text : List ℕ). took text) (c.as_bytes.ensures.value ∙ c.in-Ok.ensures)
+          (on-success c.write_all.result (sym c.is_err.ensures.value ∙ c.if-is_err.false) c.write_all.ensures.took),
+    )
+
+pub returns-clause-not_good : goal.returns-clause-not_good
+returns-clause-not_good g c = λ one.
+    let took = Between g.K.Sink.took c.args.sink.now c.write_all.new.sink in
+    inr (inr (
+      c.is_good.ensures.bad c.if-is_good.false,
+      subst (λ (text : List ℕ). took text) (c.as_bytes.ensures.value ∙ c.in-Ok.ensures)
+          (on-success c.write_all.result (sym c.is_err.ensures.value ∙ c.if-is_err.false) c.write_all.ensures.took),
+      g.met.F.Sink.took_nothing c.args.faults.now,
+    ))

@@ -1,0 +1,6 @@
+pub mod Orders
+pub mod Histories
+pub mod TakingTurns
+pub mod Settled
+pub mod OneTree
+pub mod Logs

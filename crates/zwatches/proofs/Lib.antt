@@ -1,0 +1,6 @@
+pub mod Order
+pub mod Sets
+pub mod Places
+pub mod Insertion
+pub mod Telling
+pub mod Worked

@@ -1,0 +1,7 @@
+use Rattle.std.proofs.Common.{sym, subst}
+use Rattle.zwatches.specs.support.Groups.{AreRows}
+use Rattle.zwatches.proofs.Order.{no_rows}
+use Rattle.zwatches.proofs.watches.Watches.new.Goals as goal
+
+pub invariant_of-result : goal.invariant_of-result
+invariant_of-result c = subst AreRows (sym c.new.ensures.items) no_rows

@@ -1,0 +1,5 @@
+pub mod Watches
+pub mod Events
+pub mod Laws
+pub mod Samples
+pub mod support

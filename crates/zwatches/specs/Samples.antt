@@ -1,0 +1,22 @@
+-- The paths and watches of the worked examples.
+use Rattle.std.specs.Prelude.{List, [], ◌∷◌}
+use Rattle.std.specs.FinSet.{from_list}
+use Rattle.zwatches.specs.declared.kind.Kind.TheVariants.{Data, Children}
+use Rattle.zwatches.specs.declared.watch.Watch.{Watch}
+use Rattle.zwatches.specs.Watches.{Path, Watches, watch}
+
+-- `/a`
+abbrev pub at_a : Path
+at_a = (97 ∷ []) ∷ []
+
+-- `/a/b`
+abbrev pub at_a_b : Path
+at_a_b = (97 ∷ []) ∷ (98 ∷ []) ∷ []
+
+-- connection 1 waits for `/a` and its children, 2 for the children of `/a`, 3 for those of the root
+abbrev pub some_rows : List Watch
+some_rows =
+    watch [] Children 3 ∷ watch at_a Data 1 ∷ watch at_a Children 1 ∷ watch at_a Children 2 ∷ []
+
+abbrev pub some_table : Watches
+some_table = from_list some_rows

@@ -1,0 +1,54 @@
+-- The table of watches: a set of watches, each of a connection, a kind and a path. The source is the
+-- ZooKeeper Programmer's Guide, section "ZooKeeper Watches". The limit is this project's profile.
+use Rattle.std.specs.Prelude.{◌≡◌, ℕ, List, Bool, true, false, not, ◌&&◌, nat_le}
+use Rattle.std.specs.FinSet.{FinSet, contains, len}
+use Rattle.std.specs.Ordering.{nat_cmp, ordering_then}
+use Rattle.std.specs.declared.cmp.Ordering.{Ordering}
+use Rattle.zpath.specs.Grammar.{path_cmp}
+use Rattle.zwatches.specs.declared.fault.WatchFault.{WatchFault}
+use Rattle.zwatches.specs.declared.fault.WatchFault.TheVariants.{Full, Memory}
+use Rattle.zwatches.specs.declared.kind.Kind.{Kind}
+use Rattle.zwatches.specs.declared.kind.Kind.TheVariants.{Data, Children}
+use Rattle.zwatches.specs.declared.limits.TheConstants.{MAX_WATCHES}
+use Rattle.zwatches.specs.declared.watch.Watch.{Watch}
+
+-- a path is its names from the root down
+abbrev pub Path : Type 0
+Path = List (List ℕ)
+
+-- a watch by its parts
+abbrev pub watch : Path → Kind → ℕ → Watch
+watch path kind connection = record { path = path; kind = kind; connection = connection }
+
+-- the order of the kinds
+abbrev pub kind_number : Kind → ℕ
+kind_number Data = 0
+kind_number Children = 1
+
+-- a place: a path, and the number of a kind
+abbrev pub Place : Type 0
+Place = Path × ℕ
+
+abbrev pub place_cmp : Place → Place → Ordering
+place_cmp a b = ordering_then (path_cmp a.0 b.0) (nat_cmp a.1 b.1)
+
+abbrev pub place_of : Watch → Place
+place_of w = (w.path, kind_number w.kind)
+
+-- watches in order: by path, by kind, and by connection
+abbrev pub watch_cmp : Watch → Watch → Ordering
+watch_cmp a b =
+    ordering_then (place_cmp (place_of a) (place_of b)) (nat_cmp a.connection b.connection)
+
+-- a table
+abbrev pub Watches : Type 0
+Watches = FinSet watch_cmp
+
+-- there is no room for the watch, and it isn't there
+abbrev pub is_full : Watches → Watch → Bool
+is_full table w = not (contains table w) && nat_le MAX_WATCHES (len table)
+
+-- when each fault comes: a full table is told before want of memory
+abbrev pub IsSetFault : Bool → WatchFault → Type 0
+IsSetFault full Full = full ≡ true
+IsSetFault full Memory = full ≡ false

@@ -1,0 +1,3 @@
+-- What serves the proofs alone: nobody has to believe it.
+pub mod Codes
+pub mod Groups

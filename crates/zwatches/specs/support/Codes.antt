@@ -1,0 +1,26 @@
+-- How a table is stored: a proof tells tables apart by it.
+use Rattle.std.specs.Prelude.{◌≡◌, ℕ, zero, suc, refl}
+use Rattle.std.specs.Coded.{Coded, code_by, coded×, coded_ℕ, coded_list}
+use Rattle.std.specs.FinSet as sets
+use Rattle.zwatches.specs.declared.kind.Kind.{Kind}
+use Rattle.zwatches.specs.declared.kind.Kind.TheVariants.{Data, Children}
+use Rattle.zwatches.specs.declared.watch.Watch.{Watch}
+use Rattle.zwatches.specs.Watches.{Path, Watches, kind_number, watch}
+
+abbrev pub kind_of : ℕ → Kind
+kind_of zero = Data
+kind_of (suc n) = Children
+
+pub watch_again : (path : Path) (kind : Kind) (connection : ℕ) →
+    watch path (kind_of (kind_number kind)) connection ≡ watch path kind connection
+watch_again path Data connection = refl
+watch_again path Children connection = refl
+
+abbrev pub coded_watch : Coded Watch
+coded_watch =
+    code_by (Path × (ℕ × ℕ)) (coded× (coded_list (coded_list coded_ℕ)) (coded× coded_ℕ coded_ℕ))
+    (λ w. (w.path, (kind_number w.kind, w.connection)))
+    (λ p. watch p.0 (kind_of p.1.0) p.1.1) (λ w. watch_again w.path w.kind w.connection)
+
+abbrev pub coded_watches : Coded Watches
+coded_watches = sets.code coded_watch

@@ -1,0 +1,43 @@
+-- Rows of watches, in their order.
+use Rattle.std.specs.Prelude.{◌≡◌, ℕ, ◌≤◌, Bool, true, false, not, List, [], ◌∷◌, ◌++◌, length, map}
+use Rattle.std.specs.List.{AllWithin, filter}
+use Rattle.std.specs.List.Sorted.{IsStrictlySortedBy, IsPartitionPoint}
+use Rattle.std.specs.declared.cmp.Ordering.TheVariants.{Less, Greater}
+use Rattle.std.specs.FinSet.{from_list}
+use Rattle.zwatches.specs.declared.kind.Kind.{Kind}
+use Rattle.zwatches.specs.declared.watch.Watch.{Watch}
+use Rattle.zwatches.specs.Watches.{Path, Watches, watch_cmp}
+use Rattle.zwatches.specs.Events.{is_at}
+
+-- each row is below those after it
+abbrev pub AreRows : List Watch → Type 0
+AreRows rows = IsStrictlySortedBy watch_cmp rows
+
+-- the table that rows stand for
+abbrev pub set_of : List Watch → Watches
+set_of rows = from_list rows
+
+-- the watch isn't among the rows, and would go in before this one
+pub record IsGap (rows : List Watch) (w : Watch) (at : ℕ) : Type 0 where
+  pub within : at ≤ length rows
+  pub apart :
+      IsPartitionPoint (λ row. watch_cmp row w ≡ Less) (λ row. watch_cmp row w ≡ Greater) rows at
+
+-- the rows that pass the test are those from `first` up to `end`
+pub record IsGroup (test : Watch → Bool) (rows : List Watch) (first end : ℕ) : Type 0 where
+  pub order : first ≤ end
+  pub bound : end ≤ length rows
+  pub before : AllWithin (λ w. test w ≡ false) rows 0 first
+  pub inside : AllWithin (λ w. test w ≡ true) rows first end
+  pub after : AllWithin (λ w. test w ≡ false) rows end (length rows)
+
+-- the connections of the rows of each place, one place after the other
+abbrev pub told_by : List Watch → List (Path × Kind) → List ℕ
+told_by rows [] = []
+told_by rows (at ∷ places) =
+    map (λ w. w.connection) (filter (is_at at) rows) ++ told_by rows places
+
+-- the rows without those of each place
+abbrev pub kept : List Watch → List (Path × Kind) → List Watch
+kept rows [] = rows
+kept rows (at ∷ places) = kept (filter (λ w. not (is_at at w)) rows) places

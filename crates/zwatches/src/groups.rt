@@ -1,0 +1,160 @@
+//! The rows of the places of an event: whom they tell, and the rows without them.
+
+ghost use Rattle.std.specs.Prelude.{◌≡◌, ◌≤◌, [], ◌∷◌, ◌++◌, not, length, map, IfNone, IfSome, IfOk, OnOk, ◌==◌, vec_len};
+ghost use Rattle.std.specs.List.{filter, remove_range};
+ghost use Rattle.std.specs.FinSet.{from_list};
+ghost use Rattle.zwatches.specs.declared.kind.Kind.TheVariants.{Children as OfChildren};
+ghost use Rattle.zwatches.specs.Events.{is_at, above, fired_at, told, unfired, without, Lists};
+ghost use Rattle.zwatches.specs.support.Groups.{AreRows, set_of, told_by, kept};
+
+use crate::kind::{Event, Kind};
+use crate::search::rows_at;
+use crate::watch::Watch;
+use std::alloc::Global;
+use zpath::{Memory, Name};
+
+// The path above, unless the path is the root.
+fn path_above(names: &[Name]) -> Option<&[Name]>
+    ensures root { IfNone result (above names.now ≡ []) }
+    ensures some { IfSome result (λ front. above names.now ≡ (front.now, OfChildren) ∷ []) }
+{
+    if names.is_empty() {
+        return None;
+    }
+    Some(&names[..names.len() - 1])
+}
+
+// Adds the connections of the rows of a place.
+fn tell_at(rows: &[Watch], told: &mut Vec<u32>, names: &[Name], kind: Kind) -> Result<(), Memory>
+    requires { AreRows rows.now }
+    ensures { OnOk result (told.new.items ≡ told.old.items
+        ++ map (λ row. row.connection) (filter (is_at (names.now, kind)) rows.now)) }
+{
+    let (first, end) = rows_at(rows, names, kind);
+    for row in &rows[first..end] {
+        told.push(row.connection)?;
+    }
+    Ok(())
+}
+
+fn tell_above(rows: &[Watch], told: &mut Vec<u32>, names: &[Name]) -> Result<(), Memory>
+    requires { AreRows rows.now }
+    ensures { OnOk result (told.new.items ≡ told.old.items ++ told_by rows.now (above names.now)) }
+{
+    match path_above(names) {
+        None => Ok(()),
+        Some(above) => tell_at(rows, told, above, Kind::Children),
+    }
+}
+
+// Adds the connections of the rows that an event fires.
+#[tactic(auto, using(std::proofs::Common::append_assoc))]
+fn tell(rows: &[Watch], told: &mut Vec<u32>, event: Event, names: &[Name]) -> Result<(), Memory>
+    requires { AreRows rows.now }
+    ensures { OnOk result (told.new.items ≡ told.old.items
+        ++ told_by rows.now (fired_at event names.now)) }
+{
+    tell_at(rows, told, names, Kind::Data)?;
+    match event {
+        Event::Created => tell_above(rows, told, names),
+        Event::DataSet => Ok(()),
+        Event::Deleted => {
+            tell_at(rows, told, names, Kind::Children)?;
+            tell_above(rows, told, names)
+        }
+    }
+}
+
+// Sorts numbers, and leaves each once.
+fn make_rising(numbers: &mut Vec<u32>)
+    ensures { Lists numbers.new.items (from_list numbers.old.items) }
+{
+    numbers.sort_unstable();
+    numbers.dedup();
+}
+
+// The connections that an event tells.
+pub(crate) fn told_of(
+    alloc: Global,
+    rows: &[Watch],
+    event: Event,
+    names: &[Name],
+) -> Result<Vec<u32>, Memory>
+    requires { AreRows rows.now }
+    ensures { IfOk result (λ numbers. Lists numbers.items
+        (told (set_of rows.now) event names.now)) }
+{
+    let mut told = Vec::new(alloc);
+    tell(rows, &mut told, event, names)?;
+    make_rising(&mut told);
+    Ok(told)
+}
+
+// Removes the rows from the first index up to the second.
+fn remove_between(rows: &mut Vec<Watch>, first: usize, end: usize)
+    requires order { first ≤ end }
+    requires bound { end ≤ vec_len rows.old }
+    ensures { rows.new.items ≡ remove_range rows.old.items first end }
+{
+    drop(rows.drain(first..end));
+}
+
+// Removes the rows of a place.
+fn remove_at(rows: &mut Vec<Watch>, names: &[Name], kind: Kind)
+    requires { AreRows rows.old.items }
+    ensures { rows.new.items ≡ filter (λ row. not (is_at (names.now, kind) row)) rows.old.items }
+{
+    let (first, end) = rows_at(rows, names, kind);
+    remove_between(rows, first, end);
+}
+
+fn remove_above(rows: &mut Vec<Watch>, names: &[Name])
+    requires { AreRows rows.old.items }
+    ensures { rows.new.items ≡ kept rows.old.items (above names.now) }
+{
+    if let Some(above) = path_above(names) {
+        remove_at(rows, above, Kind::Children);
+    }
+}
+
+// Removes the rows of the places of an event.
+fn remove_each(rows: &mut Vec<Watch>, event: Event, names: &[Name])
+    requires { AreRows rows.old.items }
+    ensures { rows.new.items ≡ kept rows.old.items (fired_at event names.now) }
+{
+    remove_at(rows, names, Kind::Data);
+    match event {
+        Event::Created => remove_above(rows, names),
+        Event::DataSet => {}
+        Event::Deleted => {
+            remove_at(rows, names, Kind::Children);
+            remove_above(rows, names);
+        }
+    }
+}
+
+// Removes the rows that an event fires.
+pub(crate) fn remove_fired(rows: &mut Vec<Watch>, event: Event, names: &[Name])
+    requires { AreRows rows.old.items }
+    ensures rows { AreRows rows.new.items }
+    ensures gone { set_of rows.new.items
+        ≡ unfired (set_of rows.old.items) event names.now }
+{
+    remove_each(rows, event, names);
+}
+
+// Leaves the rows of other connections.
+fn keep_others(rows: &mut Vec<Watch>, connection: u32)
+    ensures { rows.new.items ≡ filter (λ row. not (row.connection == connection)) rows.old.items }
+{
+    rows.retain(|row| row.connection != connection);
+}
+
+// Removes the rows of a connection.
+pub(crate) fn remove_all(rows: &mut Vec<Watch>, connection: u32)
+    requires { AreRows rows.old.items }
+    ensures rows { AreRows rows.new.items }
+    ensures gone { set_of rows.new.items ≡ without (set_of rows.old.items) connection }
+{
+    keep_others(rows, connection);
+}

@@ -1,0 +1,13 @@
+//! Laws of the definitions. Each function's contract is a law; its body does nothing.
+
+ghost use Rattle.zwatches.specs.Laws.{TellsWhoWaits, FiresOnce};
+
+/// An event tells exactly the connections of the watches that it fires.
+pub fn who_waits_is_told()
+    ensures { TellsWhoWaits }
+{}
+
+/// An event leaves exactly the watches that it doesn't fire. So a watch fires once.
+pub fn watches_fire_once()
+    ensures { FiresOnce }
+{}

@@ -1,0 +1,29 @@
+//! A table of watches, for a front that serves ZooKeeper's clients.
+//!
+//! A watch belongs to a connection, and waits for the next change of one kind at one path. An event
+//! at a path fires the watches that wait for it: their connections are told, each once, and the
+//! watches are gone.
+//!
+//! The rows of the table are sorted by path, kind and connection. So a call finds its rows by
+//! binary search, and moves the rows behind them.
+//!
+//! Contracts see a table as a set of watches (`specs/Watches.antt`). Which of them an event fires,
+//! and whom it tells, is in `specs/Events.antt`.
+#![tactic(auto)]
+
+mod fault;
+mod groups;
+mod kind;
+pub mod laws;
+mod limits;
+mod rows;
+mod search;
+mod setting;
+mod watch;
+mod watches;
+
+pub use fault::WatchFault;
+pub use kind::{Event, Kind};
+pub use limits::MAX_WATCHES;
+pub use watch::Watch;
+pub use watches::Watches;

@@ -1,0 +1,12 @@
+//! A watch.
+
+use crate::kind::Kind;
+use zpath::Path;
+
+/// A connection that is told of the next change of this kind at this path.
+#[derive(Debug, Drop)]
+pub struct Watch {
+    pub path: Path,
+    pub kind: Kind,
+    pub connection: u32,
+}

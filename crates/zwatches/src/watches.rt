@@ -1,0 +1,91 @@
+//! The table of watches.
+
+ghost use Rattle.std.specs.Prelude.{◌≡◌, true, false, IsOk, IfOk, OnOk, OnErr, IfErr};
+ghost use Rattle.std.specs.FinSet as sets;
+ghost use Rattle.std.specs.FinSet.{contains, insert, len};
+ghost use Rattle.zwatches.specs.Watches.{watch, is_full, IsSetFault};
+ghost use Rattle.zwatches.specs.Events.{told, unfired, without, Lists};
+
+use crate::fault::WatchFault;
+use crate::groups::{remove_all, remove_fired, told_of};
+use crate::kind::{Event, Kind};
+use crate::search::count_of;
+use crate::setting::set_in;
+use crate::watch::Watch;
+use std::alloc::Global;
+use std::marker::Model;
+use zpath::{Memory, Path};
+
+/// A set of watches, at most `MAX_WATCHES`.
+#[derive(Drop)]
+pub struct Watches {
+    rows: Vec<Watch>,
+    alloc: Global,
+}
+
+impl Model for Watches {
+    ghost use Rattle.zwatches.specs.Watches.{Watches as Table};
+    ghost use Rattle.zwatches.specs.support.Codes.{coded_watches};
+    ghost use Rattle.zwatches.specs.support.Groups.{AreRows, set_of};
+
+    ghost Value = { Table };
+
+    ghost coded = { coded_watches };
+
+    ghost view = { λ table. set_of table.rows.items };
+
+    ghost invariant = { λ table. AreRows table.rows.items };
+}
+
+impl Watches {
+    /// Returns an empty table. Allocates nothing.
+    pub fn new(alloc: Global) -> Watches
+        ensures { result ≡ sets.empty }
+    {
+        Watches {
+            rows: Vec::new(alloc),
+            alloc,
+        }
+    }
+
+    /// Returns the number of watches.
+    pub fn count(&self) -> usize
+        ensures { result ≡ len self.now }
+    {
+        count_of(&self.rows)
+    }
+
+    /// Sets a watch. One that is there stays as it is, and that needs no memory. After a fault
+    /// nothing has changed.
+    pub fn set(&mut self, connection: u32, kind: Kind, path: &Path) -> Result<(), WatchFault>
+        ensures ok { OnOk result
+            (self.new ≡ insert self.old (watch path.now kind connection)) }
+        ensures err { OnErr result (self.new ≡ self.old) }
+        ensures room { OnOk result (is_full self.old (watch path.now kind connection) ≡ false) }
+        ensures fault { IfErr result
+            (IsSetFault (is_full self.old (watch path.now kind connection))) }
+        ensures again { contains self.old (watch path.now kind connection) ≡ true → IsOk result }
+    {
+        set_in(self.alloc, &mut self.rows, path, kind, connection)
+    }
+
+    /// Removes the watches that an event at a path fires, and returns the connections to tell: each
+    /// once, in rising order. After `Memory` nothing has changed.
+    pub fn changed(&mut self, event: Event, path: &Path) -> Result<Vec<u32>, Memory>
+        ensures told { IfOk result (λ connections. Lists connections.items
+            (told self.old event path.now)) }
+        ensures gone { OnOk result (self.new ≡ unfired self.old event path.now) }
+        ensures err { OnErr result (self.new ≡ self.old) }
+    {
+        let connections = told_of(self.alloc, &self.rows, event, path.names())?;
+        remove_fired(&mut self.rows, event, path.names());
+        Ok(connections)
+    }
+
+    /// Removes all watches of a connection. Allocates nothing.
+    pub fn forget(&mut self, connection: u32)
+        ensures { self.new ≡ without self.old connection }
+    {
+        remove_all(&mut self.rows, connection);
+    }
+}

@@ -1,0 +1,131 @@
+"""What ./zk does: it runs the program that the words ask for, which it builds or proves first.
+
+Its first word says what standard input is: 'folder', or 'open' for anything else. A folder can't
+be handed to Python itself.
+"""
+import os
+import resource
+import signal
+import sys
+
+import cleaning
+import programs
+import proving
+import sources
+import unproved
+import usage
+import words as words_of
+from told import Stopped, teller
+
+tell = teller("zk")
+HELP = ("help", "--help", "-h")
+MODES = ("--proved", "--unproved")
+PROVED = ("script", "race", "library")
+
+
+def refuse(text):
+    """Ends for a word that isn't understood."""
+    raise Stopped(f"{text}; './zk help' tells the words", 2)
+
+
+def become(program, words):
+    """Runs the program in this one's place, with the signals that Python ignores as they were."""
+    for it in (signal.SIGPIPE, signal.SIGXFSZ):
+        signal.signal(it, signal.SIG_DFL)
+    os.execv(program, [program, *words])
+
+
+def run_unproved(command, words):
+    """Runs the program without proof, which is built first where it isn't there."""
+    name = programs.NAMES[command]
+    path = programs.unproved(name)
+    if not path:
+        path = unproved.build(name, tell)
+    tell(usage.warning(command))
+    # (the sanitizer in it has its own options, which the environment could change)
+    for it in [it for it in os.environ if it.endswith("SAN_OPTIONS")]:
+        del os.environ[it]
+    # (where it stops at a fault it leaves no core file)
+    resource.setrlimit(resource.RLIMIT_CORE, (0, resource.getrlimit(resource.RLIMIT_CORE)[1]))
+    become(path, [command, *words])
+
+
+def run(mode, command, words, is_folder):
+    """Runs a script or a race: the proved program, or the one without proof, as the mode asks."""
+    if is_folder and command == "script":
+        raise Stopped("standard input is a folder")
+    path = None if mode == "--unproved" else programs.proved(programs.NAMES[command])
+    if path:
+        become(path, [command, *words])
+    if mode == "--proved":
+        asked = "prove race" if command == "race" else "prove"
+        raise Stopped(f"the program is not proved; './zk {asked}' proves it")
+    run_unproved(command, words)
+
+
+def prove(words):
+    """Proves what the word names, a script's program where there is none, and prints its path."""
+    what = words[0] if words else "script"
+    if what not in PROVED or len(words) > 1:
+        refuse(f"prove takes one word of {', '.join(PROVED)}, not '{' '.join(words)}'")
+    if what == "library":
+        os.execv(f"{sources.ROOT}/library", [f"{sources.ROOT}/library"])
+    path = proving.prove(programs.NAMES[what], tell)
+    tell(f"the program of a {what} is proved")
+    print(path)
+
+
+def clean(words):
+    if words not in ([], ["--all"]):
+        refuse(f"clean takes --all alone, not '{' '.join(words)}'")
+    cleaning.clean(bool(words), tell)
+
+
+def do(is_folder, words):
+    """Does what the words ask for."""
+    mode = words.pop(0) if words[:1] in ([it] for it in MODES) else None
+    command = words.pop(0) if words else "" if mode else "help"
+    if command in HELP or any(it in HELP[1:] for it in words):
+        sys.stdout.write(usage.usage())
+    elif command in programs.NAMES:
+        wrong = words_of.wrong(command, words)
+        if wrong:
+            refuse(wrong)
+        run(mode, command, words, is_folder)
+    elif mode:
+        refuse(f"{mode} wants script or race behind it, not '{command}'")
+    elif command == "prove":
+        prove(words)
+    elif command == "clean":
+        clean(words)
+    elif command == "--version" and not words:
+        sys.stdout.write(usage.version())
+    else:
+        refuse(f"there is no command '{' '.join([command, *words])}'")
+
+
+def stopped(number, _):
+    raise Stopped("stopped; the next call goes on from here", 128 + number)
+
+
+def main(stdin, *words):
+    for it in (signal.SIGINT, signal.SIGTERM, signal.SIGHUP):
+        signal.signal(it, stopped)
+    try:
+        do(stdin == "folder", list(words))
+        sys.stdout.flush()
+    except Stopped as error:
+        tell(str(error))
+        return error.status
+    except BrokenPipeError:
+        # (whoever read the output has enough of it)
+        os.dup2(os.open(os.devnull, os.O_WRONLY), 1)
+        return 141
+    except OSError as error:
+        tell(f"{error.filename or 'the toolchain'}: {(error.strerror or str(error)).lower()}")
+        return 3
+    return 0
+
+
+if __name__ == "__main__":
+    sys.exit(main(*sys.argv[1:]))

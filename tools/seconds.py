@@ -1,0 +1,31 @@
+"""How long a proof takes, as measured: seconds of each crate at one job on a quiet machine.
+
+They choose the order of proofs and tell how much is left. No verdict rests on them.
+"""
+
+ONE_JOB = {
+    "zpath": 117, "ztree": 34, "zcalls": 88, "zslots": 49, "znodes": 108, "zsessions": 55,
+    "zstore": 116, "zops": 158, "zprotocol": 43, "zclient": 64, "zmaster": 82, "zserver": 186,
+    "zworld_model": 34, "zlinks": 105, "zworld": 349, "zorder": 26, "zlines": 225, "zdevices": 31,
+    "zscript": 241, "zoptions": 40, "zcommand": 96, "ztraces": 41, "zaudit": 180, "zwords": 44,
+    "zrings": 37, "zmesh": 60, "zconsole": 41, "zdesks": 143, "zthreads": 173, "zcaller": 160,
+    "zgather": 137, "zrun": 700, "zrace": 250, "zracing": 100,
+}
+# Of them, the seconds in which more jobs don't help: reading, loading, writing.
+ONE_THREAD = {
+    "zpath": 14, "ztree": 9, "zcalls": 15, "zslots": 10, "znodes": 18, "zsessions": 13,
+    "zstore": 25, "zops": 32, "zprotocol": 11, "zclient": 18, "zmaster": 17, "zserver": 39,
+    "zworld_model": 13, "zlinks": 18, "zworld": 82, "zorder": 10, "zlines": 21, "zdevices": 10,
+    "zscript": 95, "zoptions": 10, "zcommand": 78,
+}
+# The last proof of a program, and its build, which use one core.
+BUILD = {"zk": 125, "zk_race": 200, "zclib": 180}
+# What each job beyond the first brings.
+GAIN = 0.6
+
+
+def of(name, jobs=1):
+    """The seconds that a crate's proof takes with so many jobs."""
+    whole = ONE_JOB.get(name, 30)
+    alone = ONE_THREAD.get(name, whole // 5)
+    return alone + (whole - alone) / (1 + GAIN * (jobs - 1))

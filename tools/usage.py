@@ -1,0 +1,105 @@
+"""What ./zk tells of itself."""
+import os
+import re
+import shutil
+import subprocess
+
+import kit
+import places
+import programs
+import proof
+import sources
+from told import Stopped
+
+USAGE = """\
+A coordination service with ZooKeeper's data model and chain replication.
+
+./zk script [--servers N]     plays the script on standard input, line by line:
+                              calls and events (docs/GUIDE.md); N is 1 to 16 (1)
+./zk race [--servers N] [--clients C] [--rounds R] [--halt S]
+                              runs the service in threads, and audits the run:
+                              N is 1 to 16 (3), C clients 1 to 31 (4), R nodes
+                              1 to 1000 (100), S a server that is halted halfway
+The first call builds the program without proof, in about a minute, and each
+call says that it isn't proved. Once it is proved, the proved program runs.
+
+./zk prove [script|race]      proves the program; where that was stopped, it
+                              goes on
+./zk prove library            the same for the library, as ./library does
+./zk --proved script ..       runs the proved program, or nothing; race too
+./zk --unproved script ..     runs the one without proof; race too
+./zk --version                the version, and which program would run
+./zk clean [--all]            removes what is kept and no checkout uses, or all
+./zk help                     this
+
+The status is the program's; 2: a word that isn't understood; 3: the program
+can't be built, or isn't proved. {kept}
+"""
+NUMBERS = "no one two three four five six seven eight".split()
+
+
+def kept():
+    """Where proofs and programs are kept."""
+    try:
+        return places.cache()
+    except Stopped as error:
+        return f"nowhere: {error}"
+
+
+def usage():
+    return USAGE.format(kept=f"Proofs and programs are kept (5 GB):\n{kept()}")
+
+
+def warning(command):
+    """What is told of a program that isn't proved."""
+    name, cores = programs.NAMES[command], len(os.sched_getaffinity(0))
+    minutes = max(1, round(proof.whole_time(sources.lines_below(name), cores) / 60))
+    number = NUMBERS[cores] if cores < len(NUMBERS) else cores
+    words = "prove race" if command == "race" else "prove"
+    on = f"{minutes} minutes on {number} core{'s' * (cores > 1)}"
+    return f"this build is not proved; './zk {words}' proves it ({on})"
+
+
+def version_number():
+    """The version, which stands in the library's header alone."""
+    header = sources.text_of(f"{sources.ROOT}/include/jellqupas.h").decode()
+    found = re.search(r'^#define JELLQUPAS_VERSION "(.*)"$', header, re.M)
+    return found[1] if found else "(no version)"
+
+
+def git(*words):
+    """What git says of this checkout, or None where there is none."""
+    if not shutil.which("git") or not os.path.exists(f"{sources.ROOT}/.git"):
+        return None
+    ran = subprocess.run(
+        ["git", "-C", sources.ROOT, *words], stdin=subprocess.DEVNULL, capture_output=True,
+        text=True, errors="replace",
+    )
+    return ran.stdout.strip() if ran.returncode == 0 else None
+
+
+def commit():
+    """The checkout's commit, and whether files differ from it."""
+    found = git("rev-parse", "--short=12", "HEAD")
+    changed = found and git("status", "--porcelain", "--untracked-files=no")
+    return f"{found or 'unknown'}{' with changes' if changed else ''}"
+
+
+def would_run(command):
+    """Which program a command would run."""
+    name = programs.NAMES[command]
+    try:
+        path = programs.proved(name)
+        if path:
+            return f"proved, by {programs.kit_of(path) or 'the gate'}"
+        is_built = programs.unproved(name)
+        return f"not proved{', built without proof' if is_built else ', not built yet'}"
+    except Stopped as error:
+        return f"not proved ({error})"
+
+
+def version():
+    lines = [f"jellqupas {version_number()}", f"commit: {commit()}"]
+    lines += [f"{it}: {would_run(it)}" for it in programs.NAMES]
+    lines += [f"toolchain: {kit.identity() or 'rt is not on the PATH'}", f"kept in: {kept()}"]
+    return "\n".join(lines) + "\n"
