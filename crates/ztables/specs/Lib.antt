@@ -1,0 +1,4 @@
+pub mod Tables
+pub mod Telling
+pub mod Sweeping
+pub mod support
