@@ -2,6 +2,7 @@
 -- source is the ZooKeeper Programmer's Guide, "ZooKeeper Sessions".
 use Rattle.std.specs.Prelude.{ℕ, Bool, true, false, not, ◌||◌, List, [], ◌∷◌, Option, None, Some, is_some}
 use Rattle.std.specs.List.{list_any, filter}
+use Rattle.std.specs.Option.{option_map_or}
 use Rattle.std.specs.FinMap as finite
 use Rattle.ztree.specs.Tree.{Sessions}
 use Rattle.zcalls.specs.declared.call.Kind.{Kind}
@@ -12,7 +13,7 @@ use Rattle.zcalls.specs.declared.call.Update.{Update}
 use Rattle.zcalls.specs.declared.call.Update.TheVariants as act
 use Rattle.zcalls.specs.declared.reply.Reply.{Reply}
 use Rattle.zcalls.specs.declared.reply.Reply.TheVariants as reply
-use Rattle.zsittings.specs.Sittings.{Sittings, ephemeral_by, made_one}
+use Rattle.zsittings.specs.Sittings.{SittingsView, with_changed, with_ephemeral}
 use Rattle.ztables.specs.Tables.{TablesView, moved}
 
 -- the owner of a node of this kind
@@ -25,17 +26,17 @@ owner_in (kind.PersistentWithTtl ttl) = None
 owner_in (kind.PersistentSequentialWithTtl ttl) = None
 
 -- a node of this kind was made
-abbrev pub made_by : Kind → Sittings → Sittings
-made_by k sittings = option_map_or (λ session. ephemeral_by sittings session) (owner_in k) sittings
+abbrev pub made_by : Kind → SittingsView → SittingsView
+made_by k sittings = option_map_or (λ session. with_changed with_ephemeral sittings session) (owner_in k) sittings
 
 -- the nodes of the parts of a multi were made
-abbrev pub made_by_parts : List Part → Sittings → Sittings
+abbrev pub made_by_parts : List Part → SittingsView → SittingsView
 made_by_parts [] sittings = sittings
 made_by_parts (part.Create create ∷ parts) sittings = made_by_parts parts (made_by create.kind sittings)
 made_by_parts (other ∷ parts) sittings = made_by_parts parts sittings
 
 -- which sessions made an ephemeral node, after an update and its reply
-abbrev pub noted : Update → Reply → Sittings → Sittings
+abbrev pub noted : Update → Reply → SittingsView → SittingsView
 noted (act.Create create) (reply.Created path) sittings = made_by create.kind sittings
 noted (act.Multi parts) (reply.Multi replies) sittings = made_by_parts parts sittings
 noted update told sittings = sittings
@@ -49,9 +50,13 @@ swept_all [] t = t
 swept_all (session ∷ sessions) t = swept_all sessions (swept session t)
 
 -- the sessions here that the tree has no more
-abbrev pub gone : Sessions → Sittings → List ℕ
+abbrev pub gone : Sessions → SittingsView → List ℕ
 gone sessions sittings = filter (λ id. not (finite.contains_key sessions id)) (finite.keys sittings)
 
--- one of these sessions made an ephemeral node
-abbrev pub some_made_one : Sittings → List ℕ → Bool
+-- a session made an ephemeral node
+abbrev pub made_one : SittingsView → ℕ → Bool
+made_one sittings id = option_map_or (λ s. s.made_ephemeral) (finite.get sittings id) false
+
+-- one of these sessions did
+abbrev pub some_made_one : SittingsView → List ℕ → Bool
 some_made_one sittings ids = list_any (λ id. made_one sittings id) ids
