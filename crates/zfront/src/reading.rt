@@ -1,0 +1,82 @@
+//! The bytes that come on connections.
+
+ghost use Rattle.std.specs.Prelude.{◌≡◌, IfOk, OnOk};
+ghost use Rattle.zfront.specs.Reading.{Comes, ComesBehind, Handles, keeps, Reads};
+
+use crate::core::Core;
+use crate::limits::MAX_KEPT;
+use zjute::{Next, next_frame};
+use zpath::Memory;
+use zpieces::Phase;
+
+impl Core {
+    // Reads bytes that came on a connection. On one that isn't open they are dropped.
+    pub(crate) fn came(&mut self, connection: u32, bytes: &[u8]) -> Result<(), Memory>
+        ensures { OnOk result (Comes bytes.now connection self.old self.new) }
+    {
+        if !self.tables.is_open(connection) {
+            return Ok(());
+        }
+        let mut came = self.tables.take_bytes(connection);
+        came.extend_from_slice(bytes)?;
+        self.read(connection, &came)
+    }
+
+    // Reads bytes from the first that wasn't read yet.
+    fn read(&mut self, connection: u32, came: &[u8]) -> Result<(), Memory>
+        ensures { OnOk result (ComesBehind came.now connection self.old self.new) }
+    {
+        if let Some(word) = self.word_asked(connection, came) {
+            return self.say(word, connection);
+        }
+        let rest = self.read_frames(connection, came)?;
+        self.keep(connection, rest)
+    }
+
+    // Handles the frames in front of what came, while the connection is open, and returns the rest.
+    fn read_frames<'a>(&mut self, connection: u32, came: &'a [u8]) -> Result<&'a [u8], Memory>
+        ensures { IfOk result (λ rest. Reads came.now connection self.old rest.now self.new) }
+    {
+        let mut rest = came;
+        while self.tables.is_open(connection) {
+            let Next::Whole(frame, more) = next_frame(rest) else {
+                break;
+            };
+            self.handle(connection, frame)?;
+            rest = more;
+        }
+        Ok(rest)
+    }
+
+    // Handles a frame.
+    fn handle(&mut self, connection: u32, frame: &[u8]) -> Result<(), Memory>
+        ensures { OnOk result (Handles frame.now connection self.old self.new) }
+    {
+        self.get_ready()?;
+        if self.late.is_some() {
+            return self.tables.close(connection);
+        }
+        match self.tables.phase(connection) {
+            Some(Phase::Silent(password)) => self.greet(frame, password, connection),
+            Some(Phase::Speaking(session)) => self.serve(frame, session, connection),
+            Some(Phase::Closing) | None => Ok(()),
+        }
+    }
+
+    // Keeps the rest of what came, if the connection is still open. It is closed where that can't be
+    // the front of a frame, and where too much is kept already.
+    fn keep(&mut self, connection: u32, rest: &[u8]) -> Result<(), Memory>
+        ensures { OnOk result (self.new ≡ keeps rest.now connection self.old) }
+    {
+        if !self.tables.is_open(connection) {
+            return Ok(());
+        }
+        let is_too_long = matches!(next_frame(rest), Next::TooLong);
+        if is_too_long || self.tables.kept().saturating_add(rest.len()) > MAX_KEPT {
+            return self.tables.close(connection);
+        }
+        let bytes = Vec::from_slice(self.alloc, rest)?;
+        self.tables.keep_bytes(connection, bytes);
+        Ok(())
+    }
+}

@@ -1,0 +1,50 @@
+//! Ticks.
+
+ghost use Rattle.std.specs.Prelude.{◌≡◌, IfOk, OnOk};
+ghost use Rattle.zfront.specs.Ticking.{tick_calls, Ticks, TicksNow};
+
+use crate::core::Core;
+use std::alloc::Global;
+use zcalls::{Call, Update};
+use zpath::Memory;
+use ztree::SessionId;
+
+impl Core {
+    // Renews the sessions that were heard of since the last tick, and lets time go on. While a call
+    // is late no time goes by.
+    pub(crate) fn tick(&mut self) -> Result<(), Memory>
+        ensures { OnOk result (Ticks self.old self.new) }
+    {
+        self.get_ready()?;
+        if self.late.is_some() {
+            return Ok(());
+        }
+        self.tick_now()
+    }
+
+    // The same where no call is late.
+    fn tick_now(&mut self) -> Result<(), Memory>
+        ensures { OnOk result (TicksNow self.old self.new) }
+    {
+        let sessions = self.tables.touched()?;
+        let calls = tick_calls(self.alloc, &sessions)?;
+        let replies = self.ask(&calls)?;
+        if self.late.is_some() {
+            return Ok(());
+        }
+        self.tables.rest();
+        self.tidy_and_look(&replies)
+    }
+}
+
+// Returns the calls of a tick.
+fn tick_calls(alloc: Global, sessions: &[SessionId]) -> Result<Vec<Call>, Memory>
+    ensures { IfOk result (λ calls. calls.items ≡ tick_calls sessions.now) }
+{
+    let mut calls = Vec::new(alloc);
+    for session in sessions {
+        calls.push(Call::Update(Update::Ping(*session)))?;
+    }
+    calls.push(Call::Update(Update::Tick))?;
+    Ok(calls)
+}
