@@ -25,25 +25,25 @@ use Rattle.zalone.specs.Order.{event_of}
 use Rattle.ztables.specs.Tables.{TablesView, piece}
 use Rattle.zfront.specs.Front.{FrontView, with_tables, IsReady, heard}
 
--- the name of a fault of a join
-abbrev pub join_fault_name : JoinFault → List ℕ
-join_fault_name join.Used = codes "Used"
-join_fault_name join.Joining = codes "Joining"
-join_fault_name join.NoChain = codes "NoChain"
-join_fault_name join.Lost = codes "Lost"
-join_fault_name join.Retiring = codes "Retiring"
+-- why a join is refused
+abbrev pub join_text : JoinFault → List ℕ
+join_text join.Used = codes "no Used"
+join_text join.Joining = codes "no Joining"
+join_text join.NoChain = codes "no NoChain"
+join_text join.Lost = codes "no Lost"
+join_text join.Retiring = codes "no Retiring"
 
--- the name of a fault of an order to leave
-abbrev pub retire_fault_name : RetireFault → List ℕ
-retire_fault_name retire.NotMember = codes "NotMember"
-retire_fault_name retire.Joining = codes "Joining"
-retire_fault_name retire.Last = codes "Last"
-retire_fault_name retire.Retiring = codes "Retiring"
+-- why an order to leave is refused
+abbrev pub retire_text : RetireFault → List ℕ
+retire_text retire.NotMember = codes "no NotMember"
+retire_text retire.Joining = codes "no Joining"
+retire_text retire.Last = codes "no Last"
+retire_text retire.Retiring = codes "no Retiring"
 
 -- why nothing happened
 abbrev pub cause_text : IdleCause → List ℕ
-cause_text (cause.Join fault) = codes "no " ++ join_fault_name fault
-cause_text (cause.Retire fault) = codes "no " ++ retire_fault_name fault
+cause_text (cause.Join fault) = join_text fault
+cause_text (cause.Retire fault) = retire_text fault
 cause_text other = codes "idle"
 
 -- what became of an order

@@ -6,8 +6,10 @@ ghost use Rattle.zfront.specs.Orders as table;
 
 use crate::core::Core;
 use zalone::{Did, Order};
+use zcalls::Reply;
 use zlines::{Line, LineFault, read_line};
 use zpath::Memory;
+use zprotocol::{JoinFault, RetireFault};
 use zworld::IdleCause;
 
 impl Core {
@@ -38,7 +40,62 @@ impl Core {
     fn settle(&mut self) -> Result<(), Memory>
         ensures { OnOk result (SettlesNow self.old self.new) }
     {
-        let reply = self.alone.settle()?;
-        todo
+        let told = self.alone.settle()?;
+        if let Some(reply) = told {
+            self.hear_now(&reply)?;
+        }
+        self.tell_operator("quiet")
+    }
+
+    // Takes up the reply to the call that is late, if one is.
+    fn hear_now(&mut self, reply: &Reply) -> Result<(), Memory>
+        ensures { OnOk result (self.new ≡ heard_of self.old.late (Some reply.now) self.old) }
+    {
+        match self.late.take() {
+            Some(call) => self.take_up(&call, reply),
+            None => Ok(()),
+        }
+    }
+
+    // Answers the operator by a line.
+    fn tell_operator(&mut self, text: &str) -> Result<(), Memory>
+        ensures { OnOk result (self.new ≡ told_operator (string_bytes text.now) self.old) }
+    {
+        let mut bytes = Vec::from_slice(self.alloc, text.as_bytes())?;
+        bytes.push(b'\n')?;
+        self.tables.answer_operator(bytes)
+    }
+}
+
+// Returns what is said of an order.
+fn did_text(did: Did) -> &'static str
+    ensures { string_bytes result.now ≡ table.did_text did }
+{
+    match did {
+        Did::Idle(IdleCause::Join(fault)) => join_text(fault),
+        Did::Idle(IdleCause::Retire(fault)) => retire_text(fault),
+        Did::Idle(_) => "idle",
+        Did::Done | Did::Unheard | Did::Stopped => "done",
+    }
+}
+
+// Returns what is said of a join that is refused.
+fn join_text(fault: JoinFault) -> &'static str {
+    match fault {
+        JoinFault::Used => "no Used",
+        JoinFault::Joining => "no Joining",
+        JoinFault::NoChain => "no NoChain",
+        JoinFault::Lost => "no Lost",
+        JoinFault::Retiring => "no Retiring",
+    }
+}
+
+// Returns what is said of an order to leave that is refused.
+fn retire_text(fault: RetireFault) -> &'static str {
+    match fault {
+        RetireFault::NotMember => "no NotMember",
+        RetireFault::Joining => "no Joining",
+        RetireFault::Last => "no Last",
+        RetireFault::Retiring => "no Retiring",
     }
 }
