@@ -2,8 +2,7 @@
 -- before the next is looked at. The source is zookeeper.jute. The bound on what is kept of all
 -- connections is this project's profile.
 use Rattle.std.specs.Prelude.{◌≡◌, ℕ, ◌+◌, Bool, true, false, ◌||◌, nat_lt, is_some, List, [], ◌∷◌, ◌++◌, length, Option, None, Some, if◌then◌else◌}
-use Rattle.std.specs.List.{flat_map, AllByRecursion}
-use Rattle.zjute.specs.Frames.{Front, Whole, Partial, TooLong, next_of, frame, IsFrame, IsEnd}
+use Rattle.zjute.specs.Frames.{Front, Whole, TooLong, next_of, IsEnd}
 use Rattle.zpieces.specs.declared.phase.Phase.{Phase}
 use Rattle.zpieces.specs.declared.phase.Phase.TheVariants.{Silent, Speaking, Closing}
 use Rattle.zpieces.specs.Streams.{bytes_of, held_of, phase_of, with_bytes}
@@ -37,12 +36,15 @@ HandlesAll [] c old new = new ≡ old
 HandlesAll (bytes ∷ frames) c old new =
     (is_open old.tables c ≡ true) × (middle : FrontView) × Handles bytes c old middle × HandlesAll frames c middle new
 
--- what came is cut into these frames, in front of a rest; while the connection is open, no whole
--- frame is left
+-- what came is these frames, and then a rest
+abbrev pub Cuts : List ℕ → List (List ℕ) → List ℕ → Type 0
+Cuts came [] rest = came ≡ rest
+Cuts came (bytes ∷ frames) rest = (more : List ℕ) × (next_of came ≡ Whole bytes more) × Cuts more frames rest
+
+-- the frames of what came are handled while the connection is open; then no whole frame is left
 record pub Reads (came : List ℕ) (c : ℕ) (old : FrontView) (rest : List ℕ) (new : FrontView) : Type 0 where
   pub frames : List (List ℕ)
-  pub whole : came ≡ flat_map frame frames ++ rest
-  pub each : AllByRecursion IsFrame frames
+  pub cuts : Cuts came frames rest
   pub handles : HandlesAll frames c old new
   pub ends : is_open new.tables c ≡ true → IsEnd rest
 
