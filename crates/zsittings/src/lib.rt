@@ -5,6 +5,14 @@
 //! defined in `specs/Sittings.antt`.
 #![tactic(auto)]
 
+pub mod laws;
+mod listing;
 mod password;
+mod rows;
+mod sitting;
+mod sittings;
+mod table;
 
 pub use password::Password;
+pub use sitting::Sitting;
+pub use sittings::Sittings;
