@@ -7,7 +7,9 @@ use Rattle.std.specs.Cmp.{Equal-is}
 use Rattle.std.specs.List.{AllByRecursion, list_any, slice_get}
 use Rattle.std.specs.List.Sorted.{IsStrictlySortedBy}
 use Rattle.std.specs.FinSet.{contains, items, retain, contains-from_list}
-use Rattle.std.proofs.lemmas.List.{append-nil, append_assoc}
+use Rattle.std.proofs.Common.{append_assoc, length-append}
+use Rattle.std.proofs.lemmas.Bool.{cond_both}
+use Rattle.std.proofs.lemmas.List.{append-nil}
 use Rattle.zwatches.specs.declared.kind.Kind.TheVariants.{Data, Children}
 use Rattle.zwatches.specs.declared.place.Place.{Place}
 use Rattle.zwatches.specs.declared.watch.Watch.{Watch}
@@ -26,18 +28,24 @@ abbrev pub behind : Option Place → List Watch → List Place
 behind last [] = []
 behind last (w ∷ rows) = cond (is_next last w) (place_of w ∷ behind (Some (place_of w)) rows) (behind last rows)
 
+behind_all : {X : Type 0} (xs : List X) (x : X) → slice_get (xs ++ x ∷ []) (length xs) ≡ Some x
+behind_all [] x = refl
+behind_all (y ∷ ys) x = behind_all ys x
+
 last_added : {X : Type 0} (xs : List X) (x : X) → slice_get (xs ++ x ∷ []) (length (xs ++ x ∷ []) - 1) ≡ Some x
-last_added [] x = refl
-last_added (y ∷ []) x = refl
-last_added (y ∷ z ∷ ys) x = last_added (z ∷ ys) x
+last_added xs x =
+    let before : length (xs ++ x ∷ []) - 1 ≡ length xs = omega (arith, length-append xs (x ∷ [])) in
+    rw before (behind_all xs x)
 
 listed_is : (places : List Place) (last : Option Place) (rows : List Watch) → slice_get places (length places - 1) ≡ last → listed places rows ≡ places ++ behind last rows
 listed_is places last [] e = sym (append-nil places)
-listed_is places last (w ∷ rows) e = rw e (by (is_next last w))
+listed_is places last (w ∷ rows) e =
+    rw e (by (is_next last w) (listed_is (places ++ place_of w ∷ []) (Some (place_of w)) rows (last_added places (place_of w))) (listed_is places last rows e))
   where
-    by : (b : Bool) → listed (cond b (places ++ place_of w ∷ []) places) rows ≡ places ++ cond b (place_of w ∷ behind (Some (place_of w)) rows) (behind last rows)
-    by true = listed_is (places ++ place_of w ∷ []) (Some (place_of w)) rows (last_added places (place_of w)) ∙ append_assoc places (place_of w ∷ []) (behind (Some (place_of w)) rows)
-    by false = listed_is places last rows e
+    by : (b : Bool) → listed (places ++ place_of w ∷ []) rows ≡ (places ++ place_of w ∷ []) ++ behind (Some (place_of w)) rows → listed places rows ≡ places ++ behind last rows
+        → listed (cond b (places ++ place_of w ∷ []) places) rows ≡ places ++ cond b (place_of w ∷ behind (Some (place_of w)) rows) (behind last rows)
+    by true added same = added ∙ append_assoc places (place_of w ∷ []) (behind (Some (place_of w)) rows)
+    by false added same = same
 
 -- ---- they rise
 
@@ -69,26 +77,22 @@ behind_above : (at : Place) (rows : List Watch) → AllByRecursion (λ w. is_le 
     → AllByRecursion (λ place. place_cmp at place ≡ Less) (behind (Some at) rows)
 unfolding IsStrictlySortedBy
 behind_above at [] above sorted = tt
-behind_above at (w ∷ rows) above sorted = by (is_next (Some at) w) refl
-  where
-    by : (b : Bool) → is_next (Some at) w ≡ b
-        → AllByRecursion (λ place. place_cmp at place ≡ Less) (cond b (place_of w ∷ behind (Some (place_of w)) rows) (behind (Some at) rows))
-    by true e =
-        let apart = sym (ap is_eq (places_total.antisymm (place_of w) at)) ∙ next_apart (is_of_node w.kind) (is_at at w) e in
-        let first = below_by (place_cmp at (place_of w)) above.0 apart in
-        (first, each (λ place less. places_total.trans at (place_of w) place first less) (behind (Some (place_of w)) rows)
-        (behind_above (place_of w) rows (each (λ v less. not_above w v less) rows sorted.0) sorted.1))
-    by false e = behind_above at rows above.1 sorted.1
+behind_above at (w ∷ rows) above sorted =
+    cond_both (is_next (Some at) w) (place_of w ∷ behind (Some (place_of w)) rows) (behind (Some at) rows) (AllByRecursion (λ place. place_cmp at place ≡ Less))
+    (λ next.
+    let apart = sym (ap is_eq (places_total.antisymm (place_of w) at)) ∙ next_apart (is_of_node w.kind) (is_at at w) next in
+    let first = below_by (place_cmp at (place_of w)) above.0 apart in
+    (first, each (λ place less. places_total.trans at (place_of w) place first less) (behind (Some (place_of w)) rows)
+    (behind_above (place_of w) rows (each (λ v less. not_above w v less) rows sorted.0) sorted.1)))
+    (λ _. behind_above at rows above.1 sorted.1)
 
 behind_rises : (last : Option Place) (rows : List Watch) → AreRows rows → IsStrictlySortedBy place_cmp (behind last rows)
 unfolding IsStrictlySortedBy
 behind_rises last [] sorted = tt
-behind_rises last (w ∷ rows) sorted = by (is_next last w)
-  where
-    by : (b : Bool) → IsStrictlySortedBy place_cmp (cond b (place_of w ∷ behind (Some (place_of w)) rows) (behind last rows))
-    unfolding IsStrictlySortedBy
-    by true = (behind_above (place_of w) rows (each (λ v less. not_above w v less) rows sorted.0) sorted.1, behind_rises (Some (place_of w)) rows sorted.1)
-    by false = behind_rises last rows sorted.1
+behind_rises last (w ∷ rows) sorted =
+    cond_both (is_next last w) (place_of w ∷ behind (Some (place_of w)) rows) (behind last rows) (IsStrictlySortedBy place_cmp)
+    (λ _. (behind_above (place_of w) rows (each (λ v less. not_above w v less) rows sorted.0) sorted.1, behind_rises (Some (place_of w)) rows sorted.1))
+    (λ _. behind_rises last rows sorted.1)
 
 -- ---- they are those of the rows
 
@@ -116,17 +120,18 @@ and_false false = refl
 behind_any : (p : Place → Bool) (last : Option Place) (rows : List Watch)
     → (passes p last || list_any p (behind last rows)) ≡ (passes p last || list_any (λ w. p (place_of w) && is_of_node w.kind) rows)
 behind_any p last [] = refl
-behind_any p last (w ∷ rows) = by (is_of_node w.kind) (is_there last w) refl
+behind_any p last (w ∷ rows) = by (is_of_node w.kind) (is_there last w) (behind_any p last rows) (behind_any p (Some (place_of w)) rows) refl
   where
     more : Bool
     more = list_any (λ w. p (place_of w) && is_of_node w.kind) rows
 
-    by : (a b : Bool) → is_there last w ≡ b
+    by : (a b : Bool) → (passes p last || list_any p (behind last rows)) ≡ (passes p last || more)
+        → (p (place_of w) || list_any p (behind (Some (place_of w)) rows)) ≡ (p (place_of w) || more) → is_there last w ≡ b
         → (passes p last || list_any p (cond (a && not b) (place_of w ∷ behind (Some (place_of w)) rows) (behind last rows)))
         ≡ (passes p last || ((p (place_of w) && a) || more))
-    by true true e = behind_any p last rows ∙ or_again (passes p last) more ∙ rw (there_passes p last w e, and_true (p (place_of w))) refl
-    by true false e = rw (and_true (p (place_of w))) (ap (λ b. passes p last || b) (behind_any p (Some (place_of w)) rows))
-    by false b e = rw (and_false (p (place_of w))) (behind_any p last rows)
+    by true true same next e = same ∙ or_again (passes p last) more ∙ rw (there_passes p last w e, and_true (p (place_of w))) refl
+    by true false same next e = rw (and_true (p (place_of w))) (ap (λ b. passes p last || b) next)
+    by false b same next e = rw (and_false (p (place_of w))) same
 
 -- of rows in order
 behind_lists : (rows : List Watch) → AreRows rows → Lists (behind None rows) (node_places (set_of rows))
@@ -152,7 +157,7 @@ places_listed rows places sorted is =
 
 rows_rise : AreRows some_rows
 unfolding IsStrictlySortedBy
-rows_rise = ((refl, refl, refl, refl, tt), (refl, refl, refl, tt), (refl, refl, tt), (refl, tt), tt, tt)
+rows_rise = ((refl, (refl, (refl, (refl, tt)))), ((refl, (refl, (refl, tt))), ((refl, (refl, tt)), ((refl, tt), (tt, tt)))))
 
 -- those of the worked examples
 pub places_here : Lists (place [] Children ∷ place at_a Data ∷ place at_a Children ∷ []) (node_places some_table)

@@ -59,8 +59,8 @@ pub fn children_changed()
 /// What else is told to watches fires none.
 pub fn other_events()
     ensures none { fired_at event.None at_a ≡ [] }
-    ensures data { fired_at event.DataWatchRemoved at_a ≡ [] }
-    ensures child { fired_at event.ChildWatchRemoved at_a ≡ [] }
+    ensures of_data { fired_at event.DataWatchRemoved at_a ≡ [] }
+    ensures of_children { fired_at event.ChildWatchRemoved at_a ≡ [] }
     ensures persistent { fired_at event.PersistentWatchRemoved at_a ≡ [] }
 {}
 

@@ -4,7 +4,7 @@ use Rattle.zwatches.proofs.rows.other_events.Goals as goal
 pub returns : goal.returns
 returns c = record {
   none = refl;
-  data = refl;
-  child = refl;
+  of_data = refl;
+  of_children = refl;
   persistent = refl;
 }

@@ -1,4 +1,4 @@
-use Rattle.std.proofs.Common.{refl}
+use Rattle.std.proofs.Common.{false, refl}
 use Rattle.zwatches.specs.Watches.{place}
 use Rattle.zwatches.specs.Samples.{at_a_b, some_rows}
 use Rattle.zwatches.specs.declared.kind.Kind.TheVariants.{Missing}
