@@ -8,7 +8,7 @@ use Rattle.std.specs.FinMap.{nat_cmp-IsAntisymmetric}
 use Rattle.std.proofs.lemmas.Cmp.{nat_cmp_total}
 use Rattle.std.proofs.lemmas.List.Folds.{Any-from_list_any, list_any-from_Any}
 use Rattle.std.proofs.lemmas.Map.Views.{Contains-from_any, list_any-from_Contains}
-use Rattle.zwatches.specs.declared.kind.Event.{Event}
+use Rattle.zjute.specs.declared.event.EventKind.{EventKind}
 use Rattle.zwatches.specs.declared.watch.Watch.{Watch}
 use Rattle.zwatches.specs.Watches.{Path, Watches, watch_cmp}
 use Rattle.zwatches.specs.Events.{fires, fired_at, told, unfired}
@@ -30,7 +30,7 @@ pub contains-kept : (table : Watches) (test : Watch → Bool) (w : Watch) → co
 contains-kept table test w = contains-retain table test w (λ x e. ap test (sym (same_watch w x e)))
 
 -- a connection is told if one of the kept watches is its
-pub contains-told : (table : Watches) (event : Event) (path : Path) (connection : ℕ)
+pub contains-told : (table : Watches) (event : EventKind) (path : Path) (connection : ℕ)
     → contains (told table event path) connection ≡ list_any (λ (w : Watch). eq_by_cmp nat_cmp connection w.connection) (items (retain table (fires event path)))
 contains-told table event path connection =
     contains-from_list nat_cmp_total (map (λ (w : Watch). w.connection) (items (retain table (fires event path)))) connection
@@ -72,7 +72,7 @@ fires_once table event path w = (there, back)
     back both = contains-kept table (λ w. not (fires event path w)) w ∙ rw (both.0, both.1) refl
 
 -- of a table of rows
-pub told_here : (rows : List Watch) (event : Event) (path : Path) (connection : ℕ) (answer : Bool)
+pub told_here : (rows : List Watch) (event : EventKind) (path : Path) (connection : ℕ) (answer : Bool)
     → list_any (eq_by_cmp nat_cmp connection) (told_by rows (fired_at event path)) ≡ answer → contains (told (set_of rows) event path) connection ≡ answer
 told_here rows event path connection answer is =
     ap (λ set. contains set connection) (sym (told_is rows event path)) ∙ contains-from_list nat_cmp_total (told_by rows (fired_at event path)) connection ∙ is
