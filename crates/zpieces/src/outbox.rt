@@ -18,9 +18,12 @@ pub struct Outbox {
 
 impl Model for Outbox {
     ghost use Rattle.std.specs.Prelude.{List};
-    ghost use Rattle.zpieces.specs.declared.piece.Piece.{Piece};
+    ghost use Rattle.zpieces.specs.Outbox.{PieceView};
+    ghost use Rattle.zpieces.specs.support.Codes.{coded_pieces};
 
-    ghost Value = { List Piece };
+    ghost Value = { List PieceView };
+
+    ghost coded = { coded_pieces };
 
     ghost view = { λ o. o.pieces.items };
 }

@@ -84,8 +84,8 @@ impl Sittings {
         true
     }
 
-    // Returns whether the bytes given are all those of the session's password.
-    fn passes(&self, id: SessionId, given: &[u8]) -> bool
+    /// Returns whether the bytes given are all those of the session's password.
+    pub fn passes(&self, id: SessionId, given: &[u8]) -> bool
         ensures { result ≡ passes self.now id given.now }
     {
         match self.table.get(id) {
@@ -94,8 +94,8 @@ impl Sittings {
         }
     }
 
-    // Gives a session to a connection, if it exists.
-    fn seat(&mut self, id: SessionId, connection: u32)
+    /// Gives a session to a connection, if it exists.
+    pub fn seat(&mut self, id: SessionId, connection: u32)
         ensures { self.new ≡ with_changed (taken_up connection) self.old id }
     {
         if let Some(sitting) = self.table.get(id) {
