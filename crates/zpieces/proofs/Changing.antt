@@ -1,7 +1,7 @@
 -- On the change of one connection's stream.
 use Rattle.std.proofs.Common.{◌≡◌, ℕ, Bool, true, false, cond, Option, Some, None, refl, sym, ap, ◌∙◌}
 use Rattle.std.specs.Ordering.{eq_by_cmp, nat_cmp}
-use Rattle.std.specs.Cmp.{nat_cmp_total, tied_itself}
+use Rattle.std.specs.Cmp.{nat_cmp_total}
 use Rattle.std.specs.Option.{option_map_or}
 use Rattle.std.specs.FinMap.{get, insert, get-insert, same_map, nat_cmp-IsAntisymmetric}
 use Rattle.ztree.proofs.Maps.{get-insert-here}
@@ -17,7 +17,7 @@ pub changed-absent : (to : StreamView → StreamView) (rows : StreamRows) (k : �
 changed-absent to rows k none = ap (λ o. option_map_or (λ t. insert rows k (to t)) o rows) none
 
 -- of two inserts at one connection the second counts
-insert-insert : (rows : StreamRows) (k : ℕ) (s t : StreamView) → insert (insert rows k s) k t ≡ insert rows k t
+pub insert-insert : (rows : StreamRows) (k : ℕ) (s t : StreamView) → insert (insert rows k s) k t ≡ insert rows k t
 insert-insert rows k s t =
     same_map nat_cmp_total nat_cmp-IsAntisymmetric _ _ (λ q.
     get-insert nat_cmp_total (insert rows k s) k t q

@@ -1,14 +1,13 @@
 -- On the map that the entries of a table make, and the count of their bytes.
-use Rattle.std.proofs.Common.{◌≡◌, ℕ, ◌+◌, ◌-◌, ◌^◌, ◌%◌, ◌<◌, cond, Bool, true, false, List, [], ◌∷◌, length, Option, Some, None, IsSome, refl, sym, ap, ◌∙◌, arith}
-use Rattle.std.specs.Ordering.{is_eq, nat_cmp}
+use Rattle.std.proofs.Common.{◌≡◌, ℕ, cond, List, [], ◌∷◌, length, Option, Some, None, refl, sym, ap, ◌∙◌, arith}
+use Rattle.std.specs.Ordering.{nat_cmp}
 use Rattle.std.specs.declared.cmp.Ordering.TheVariants.{Less}
 use Rattle.std.specs.Cmp.{nat_cmp_total, eq_by_cmp_equiv}
 use Rattle.std.specs.List.{AllByRecursion}
 use Rattle.std.specs.List.Sorted.{IsStrictlySortedBy}
 use Rattle.std.specs.Map.{lookup, keys_of}
-use Rattle.std.specs.Option.{option_map_or}
 use Rattle.std.specs.BTreeMap.{is_at}
-use Rattle.std.specs.FinMap.{FinMap, empty, len-empty, len-entries, get, insert, remove, entries, from_entries, find, get-from_entries, get-insert, get-remove, entries-insert, same_map, nat_cmp-IsAntisymmetric}
+use Rattle.std.specs.FinMap.{empty, len-empty, len-entries, get, insert, remove, entries, from_entries, find, get-from_entries, get-insert, get-remove, entries-insert, same_map, nat_cmp-IsAntisymmetric}
 use Rattle.std.specs.FinMap.Entries.{put}
 
 no_items : {A : Type 0} (xs : List A) → length xs ≡ 0 → xs ≡ []

@@ -19,9 +19,13 @@ pub record StreamView : Type 0 where
 abbrev pub StreamRows : Type 0
 StreamRows = FinMap nat_cmp StreamView
 
+-- a stream without bytes
+abbrev pub empty_in : Phase → StreamView
+empty_in phase = record { phase = phase; bytes = [] }
+
 -- the stream of a connection on which nothing was read yet, by the password of a session on it
 abbrev pub opened : List ℕ → StreamView
-opened password = record { phase = Silent password; bytes = [] }
+opened password = empty_in (Silent password)
 
 -- the streams with that of one connection changed, if it has one
 abbrev pub changed : (StreamView → StreamView) → StreamRows → ℕ → StreamRows
@@ -37,7 +41,7 @@ with_bytes rows connection bytes = changed (λ s. record s { bytes = bytes }) ro
 
 -- and with no more to be read
 abbrev pub closed : StreamRows → ℕ → StreamRows
-closed rows connection = changed (λ s. record { phase = Closing; bytes = [] }) rows connection
+closed rows connection = changed (λ s. empty_in Closing) rows connection
 
 -- how far a connection is, if it has a stream
 abbrev pub phase_of : StreamRows → ℕ → Option Phase

@@ -11,6 +11,7 @@ mod piece;
 mod rows;
 mod stream;
 mod streams;
+mod table;
 
 pub use outbox::Outbox;
 pub use phase::Phase;

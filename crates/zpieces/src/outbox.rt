@@ -1,6 +1,6 @@
 //! The pieces that are still to be sent.
 
-ghost use Rattle.std.specs.Prelude.{◌≡◌, ◌==◌, [], ◌∷◌, ◌++◌, drop, length, OnErr, OnOk};
+ghost use Rattle.std.specs.Prelude.{◌≡◌, ◌==◌, [], ◌∷◌, ◌++◌, drop, length, nat_eq, OnErr, OnOk};
 ghost use Rattle.std.specs.Option.{option_copied};
 ghost use Rattle.zpieces.specs.Outbox.{first_of, without};
 
@@ -73,6 +73,20 @@ impl Outbox {
     pub fn forget(&mut self, connection: u32)
         ensures { self.new ≡ without self.old connection }
     {
-        self.pieces.retain(|piece| piece.connection != connection);
+        keep_others(&mut self.pieces, connection);
     }
+}
+
+// Keeps the pieces of other connections.
+fn keep_others(pieces: &mut VecDeque<Piece>, connection: u32)
+    ensures { pieces.new.items ≡ without pieces.old.items connection }
+{
+    pieces.retain(|piece| !is_for(piece, connection));
+}
+
+// Returns whether the piece is to be sent on this connection.
+fn is_for(piece: &Piece, connection: u32) -> bool
+    ensures { result ≡ nat_eq piece.now.connection connection }
+{
+    piece.connection == connection
 }

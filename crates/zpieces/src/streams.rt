@@ -6,11 +6,9 @@ ghost use Rattle.zpieces.specs.Streams.{bytes_of, closed, held_of, opened, phase
 ghost use Rattle.zpieces.specs.Streams.{with_bytes, with_phase};
 
 use crate::phase::Phase;
-use crate::stream::Stream;
+use crate::table::StreamTable;
 use std::alloc::Global;
-use std::collections::BTreeMap;
 use std::marker::Model;
-use std::mem;
 use zpath::Memory;
 use zsittings::Password;
 
@@ -18,24 +16,18 @@ use zsittings::Password;
 #[derive(Drop)]
 pub struct Streams {
     alloc: Global,
-    rows: BTreeMap<u32, Stream>,
-    // How many bytes the rows hold, wrapped at 2^64.
-    held: usize,
+    table: StreamTable,
 }
 
 impl Model for Streams {
-    ghost use Rattle.std.specs.FinMap as finite;
     ghost use Rattle.zpieces.specs.Streams.{StreamRows};
     ghost use Rattle.zpieces.specs.support.Codes.{coded_rows};
-    ghost use Rattle.zpieces.specs.support.Entries.{IsCounted};
 
     ghost Value = { StreamRows };
 
     ghost coded = { coded_rows };
 
-    ghost view = { λ s. finite.from_entries s.rows.entries };
-
-    ghost invariant = { λ s. IsCounted s.rows.entries s.held };
+    ghost view = { λ s. s.table };
 }
 
 impl Streams {
@@ -45,8 +37,7 @@ impl Streams {
     {
         Streams {
             alloc,
-            rows: BTreeMap::new(alloc),
-            held: 0,
+            table: StreamTable::new(alloc),
         }
     }
 
@@ -54,22 +45,21 @@ impl Streams {
     pub fn count(&self) -> usize
         ensures { result ≡ finite.len self.now }
     {
-        self.rows.len()
+        self.table.len()
     }
 
-    /// Returns how many bytes the streams hold together: fewer than a machine can have.
+    /// Returns how many bytes the streams hold together. No machine has 2^64 of them.
     pub fn held(&self) -> usize
         ensures { held_of self.now < 2 ^ 64 → result ≡ held_of self.now }
     {
-        self.held
+        self.table.held()
     }
 
     /// Returns how far a connection is, if it has a stream.
     pub fn phase(&self, connection: u32) -> Option<Phase>
         ensures { result ≡ phase_of self.now connection }
     {
-        let stream = self.rows.get(&connection)?;
-        Some(stream.phase)
+        self.table.phase(connection)
     }
 
     /// Adds the stream of a connection on which nothing was read yet. After `Memory` nothing has
@@ -78,33 +68,21 @@ impl Streams {
         ensures ok { OnOk result (self.new ≡ finite.insert self.old connection (opened password)) }
         ensures err { OnErr result (self.new ≡ self.old) }
     {
-        let stream = Stream {
-            phase: Phase::Silent(password),
-            bytes: Vec::new(self.alloc),
-        };
-        let old = self.rows.insert(connection, stream)?;
-        if let Some(old) = old {
-            self.held = self.held.wrapping_sub(old.bytes.len());
-        }
-        Ok(())
+        self.table.insert(connection, Phase::Silent(password))
     }
 
     /// Sets how far a connection is, if it has a stream. Allocates nothing.
     pub fn set_phase(&mut self, connection: u32, phase: Phase)
         ensures { self.new ≡ with_phase self.old connection phase }
     {
-        let Some(stream) = self.rows.get_mut(&connection) else {
-            return;
-        };
-        stream.phase = phase;
+        self.table.set_phase(connection, phase);
     }
 
     /// Ends the reading on a connection, if it has a stream, and drops its bytes. Allocates nothing.
     pub fn close(&mut self, connection: u32)
         ensures { self.new ≡ closed self.old connection }
     {
-        self.keep(connection, Vec::new(self.alloc));
-        self.set_phase(connection, Phase::Closing);
+        self.table.close(connection);
     }
 
     /// Takes the bytes of a connection: none, if it has no stream. Allocates nothing.
@@ -112,7 +90,7 @@ impl Streams {
         ensures bytes { result.items ≡ bytes_of self.old connection }
         ensures rest { self.new ≡ with_bytes self.old connection [] }
     {
-        self.swap(connection, Vec::new(self.alloc))
+        self.table.swap(connection, Vec::new(self.alloc))
     }
 
     /// Keeps these bytes of a connection in place of its others, if it has a stream. Allocates
@@ -120,29 +98,13 @@ impl Streams {
     pub fn keep(&mut self, connection: u32, bytes: Vec<u8>)
         ensures { self.new ≡ with_bytes self.old connection bytes.items }
     {
-        self.swap(connection, bytes);
+        self.table.swap(connection, bytes);
     }
 
     /// Removes the stream of a connection, if it has one. Allocates nothing.
     pub fn end(&mut self, connection: u32)
         ensures { self.new ≡ finite.remove self.old connection }
     {
-        if let Some(old) = self.rows.remove(&connection) {
-            self.held = self.held.wrapping_sub(old.bytes.len());
-        }
-    }
-
-    // Keeps these bytes of a connection, if it has a stream, and returns those that it had.
-    fn swap(&mut self, connection: u32, bytes: Vec<u8>) -> Vec<u8>
-        ensures bytes { result.items ≡ bytes_of self.old connection }
-        ensures rest { self.new ≡ with_bytes self.old connection bytes.items }
-    {
-        let added = bytes.len();
-        let Some(stream) = self.rows.get_mut(&connection) else {
-            return Vec::new(self.alloc);
-        };
-        let old = mem::replace(&mut stream.bytes, bytes);
-        self.held = self.held.wrapping_sub(old.len()).wrapping_add(added);
-        old
+        self.table.remove(connection);
     }
 }
