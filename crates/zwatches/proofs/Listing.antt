@@ -81,9 +81,11 @@ behind_above at (w ∷ rows) above sorted =
     cond_both (is_next (Some at) w) (place_of w ∷ behind (Some (place_of w)) rows) (behind (Some at) rows) (AllByRecursion (λ place. place_cmp at place ≡ Less))
     (λ next.
     let apart = sym (ap is_eq (places_total.antisymm (place_of w) at)) ∙ next_apart (is_of_node w.kind) (is_at at w) next in
-    let first = below_by (place_cmp at (place_of w)) above.0 apart in
-    (first, each (λ place less. places_total.trans at (place_of w) place first less) (behind (Some (place_of w)) rows)
-    (behind_above (place_of w) rows (each (λ v less. not_above w v less) rows sorted.0) sorted.1)))
+    let first = below_by (place_cmp at (place_of w)) above.0 apart in (
+      first,
+      each (λ place less. places_total.trans at (place_of w) place first less) (behind (Some (place_of w)) rows)
+          (behind_above (place_of w) rows (each (λ v less. not_above w v less) rows sorted.0) sorted.1),
+    ))
     (λ _. behind_above at rows above.1 sorted.1)
 
 behind_rises : (last : Option Place) (rows : List Watch) → AreRows rows → IsStrictlySortedBy place_cmp (behind last rows)

@@ -13,8 +13,8 @@ at_a = (97 ∷ []) ∷ []
 abbrev pub at_a_b : Path
 at_a_b = (97 ∷ []) ∷ (98 ∷ []) ∷ []
 
--- connection 1 waits for `/a` and its children, 2 for the children of `/a`, 3 for those of the root,
--- and 4 for a node at `/a/b`
+-- connection 1 waits for `/a` and its children, 2 for the children of `/a`, 3 for those of the
+-- root, and 4 for a node at `/a/b`
 abbrev pub some_rows : List Watch
 some_rows =
     watch [] Children 3 ∷ watch at_a Data 1 ∷ watch at_a Children 1 ∷ watch at_a Children 2

@@ -87,7 +87,8 @@ fn remove_between(rows: &mut Vec<Watch>, first: usize, end: usize)
 // Removes the rows of a place.
 fn remove_at(rows: &mut Vec<Watch>, names: &[Name], kind: Kind)
     requires { AreRows rows.old.items }
-    ensures { rows.new.items ≡ filter (λ row. not (is_at (place names.now kind) row)) rows.old.items }
+    ensures { rows.new.items
+        ≡ filter (λ row. not (is_at (place names.now kind) row)) rows.old.items }
 {
     let (first, end) = rows_at(rows, names, kind);
     remove_between(rows, first, end);

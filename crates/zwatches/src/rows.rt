@@ -72,7 +72,8 @@ pub fn one_event()
     ensures missing { contains (told some_table NodeCreated at_a_b) 4 ≡ true }
     ensures not_told { contains (told some_table NodeDataChanged at_a) 2 ≡ false }
     ensures gone { contains (unfired some_table NodeDataChanged at_a) (watch at_a Data 1) ≡ false }
-    ensures stays { contains (unfired some_table NodeDataChanged at_a) (watch at_a Children 1) ≡ true }
+    ensures stays { contains (unfired some_table NodeDataChanged at_a) (watch at_a Children 1)
+        ≡ true }
 {}
 
 /// The places of nodes: each once, and none where a node is waited for.
