@@ -7,7 +7,7 @@ use Rattle.std.specs.List.{AllByRecursion}
 use Rattle.std.specs.List.Sorted.{IsStrictlySortedBy}
 use Rattle.std.specs.Map.{lookup, keys_of}
 use Rattle.std.specs.BTreeMap.{is_at}
-use Rattle.std.specs.FinMap.{empty, len-empty, len-entries, get, insert, remove, entries, from_entries, find, get-from_entries, get-insert, get-remove, entries-insert, same_map, nat_cmp-IsAntisymmetric}
+use Rattle.std.specs.FinMap.{empty, len-empty, len-entries, get, insert, remove, entries, from_entries, find, get-from_entries, get-insert, get-remove, entries-insert, same_map, nat_cmp-IsAntisymmetric, gets}
 use Rattle.std.specs.FinMap.Entries.{put}
 
 no_items : {A : Type 0} (xs : List A) → length xs ≡ 0 → xs ≡ []
@@ -16,7 +16,7 @@ no_items (x ∷ xs) none = absurd (omega (arith, none))
 
 module _ {X : Type 0} where
   -- the value at an id is what a look-up in the entries finds
-  find-lookup : (es : List (ℕ × X)) (q : ℕ) → find nat_cmp q es ≡ lookup (is_at (nat_cmp q)) es
+  pub find-lookup : (es : List (ℕ × X)) (q : ℕ) → find nat_cmp q es ≡ lookup (is_at (nat_cmp q)) es
   find-lookup [] q = refl
   find-lookup (e ∷ es) q = ap (cond (is_at (nat_cmp q) e.0) (Some e.1)) (find-lookup es q)
 
@@ -44,7 +44,7 @@ module _ {X : Type 0} where
       same_map nat_cmp_total nat_cmp-IsAntisymmetric _ _ (λ q. differing es fs k None h q ∙ sym (get-remove nat_cmp_total (from_entries es) k q))
 
   -- the empty map has no entries
-  no_entries : entries (empty {X = X} {R = nat_cmp}) ≡ []
+  pub no_entries : entries (empty {X = X} {R = nat_cmp}) ≡ []
   no_entries = no_items _ (sym (len-entries empty) ∙ len-empty nat_cmp X)
 
   -- an entry below all others is put in front of them
@@ -59,3 +59,5 @@ module _ {X : Type 0} where
   entries-rising (e ∷ es) rise =
       entries-insert nat_cmp_total (from_entries es) e.0 e.1 ∙ ap (put nat_cmp e.0 e.1) (entries-rising es rise.1) ∙ put-first e.0 e.1 es rise.0
 
+-- what maps of written entries hold
+pub ruleset written = (gets, entries-insert, no_entries)

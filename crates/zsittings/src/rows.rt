@@ -11,20 +11,45 @@ ghost use Rattle.zsittings.specs.support.Samples.{some_sittings};
 /// One sitting: connection 3 opened the session.
 pub fn one_sitting()
     ensures opened { new_sitting password 3 ≡ record {
-        password = password; connection = Some 3; is_touched = false; made_ephemeral = false } }
+      password = password;
+      connection = Some 3;
+      is_touched = false;
+      made_ephemeral = false;
+    } }
     ensures taken_up { taken_up 5 some_sitting ≡ record {
-        password = password; connection = Some 5; is_touched = true; made_ephemeral = false } }
+      password = password;
+      connection = Some 5;
+      is_touched = true;
+      made_ephemeral = false;
+    } }
     ensures touched { touched some_sitting ≡ record {
-        password = password; connection = Some 3; is_touched = true; made_ephemeral = false } }
+      password = password;
+      connection = Some 3;
+      is_touched = true;
+      made_ephemeral = false;
+    } }
     ensures noted { with_ephemeral some_sitting ≡ record {
-        password = password; connection = Some 3; is_touched = false; made_ephemeral = true } }
+      password = password;
+      connection = Some 3;
+      is_touched = false;
+      made_ephemeral = true;
+    } }
     ensures left { left some_sitting ≡ record {
-        password = password; connection = None; is_touched = false; made_ephemeral = false } }
+      password = password;
+      connection = None;
+      is_touched = false;
+      made_ephemeral = false;
+    } }
     ensures rested { rested (taken_up 5 some_sitting) ≡ record {
-        password = password; connection = Some 5; is_touched = false; made_ephemeral = false } }
+      password = password;
+      connection = Some 5;
+      is_touched = false;
+      made_ephemeral = false;
+    } }
 {}
 
 /// Passwords: session 7 is the only one.
+#[tactic(auto, using(crate::proofs::Entries::written))]
 pub fn passwords()
     ensures right { passes some_sittings 7 password ≡ true }
     ensures last_byte { passes some_sittings 7 other_password ≡ false }
@@ -38,6 +63,7 @@ pub fn passwords()
 {}
 
 /// What asked for anything.
+#[tactic(auto, using(crate::proofs::Entries::written))]
 pub fn touches_and_rests()
     ensures none { touched_ids some_sittings ≡ [] }
     ensures one { touched_ids (with_changed touched some_sittings 7) ≡ 7 ∷ [] }

@@ -57,12 +57,7 @@ impl Sittings {
     }
 
     /// Adds a session that a connection opens. After `Memory` nothing has changed.
-    pub fn open(
-        &mut self,
-        id: SessionId,
-        password: Password,
-        connection: u32,
-    ) -> Result<(), Memory>
+    pub fn open(&mut self, id: SessionId, password: Password, connection: u32) -> Result<(), Memory>
         ensures ok { OnOk result
             (self.new ≡ finite.insert self.old id (new_sitting password connection)) }
         ensures err { OnErr result (self.new ≡ self.old) }
@@ -167,7 +162,7 @@ impl Sittings {
         self.table.touched()
     }
 
-    /// Begins anew to note which sessions ask for anything: none has.
+    /// Rests every session: it has asked for nothing since now.
     pub fn rest(&mut self)
         ensures { self.new ≡ all_rested self.old }
     {

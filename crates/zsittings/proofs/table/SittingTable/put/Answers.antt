@@ -12,15 +12,15 @@ returns c =
     let sitting = c.args.sitting in
     elim c.match-get_mut.branch [
       | in-Some w ↦
-        ap the_view w.self-inside-is
-        ∙ changed-entries (λ _. sitting) es _ c.number.result w.in-Some.place.now
-        (sym c.get_mut.ensures.value ∙ ap option_copied_mut w.in-Some.is)
-        (λ some. ((c.get_mut.follows.holds sitting).3 some).0)
-        ∙ (λ i. with_changed (λ _. sitting) (c.self.view_is i) (c.number.ensures i))
+          ap the_view w.self-inside-is
+          ∙ changed-entries (λ _. sitting) es _ c.number.result w.in-Some.place.now
+          (sym c.get_mut.ensures.value ∙ ap option_copied_mut w.in-Some.is)
+          (λ some. ((c.get_mut.follows.holds sitting).3 some).0)
+          ∙ (λ i. with_changed (λ _. sitting) (c.self.view_is i) (c.number.ensures i))
       | in_default w ↦
-        ap the_view w.self-inside-is
-        ∙ unchanged-entries (λ _. sitting) es _ c.number.result
-        (sym c.get_mut.ensures.value ∙ ap option_copied_mut w.in_default.is)
-        (ap (λ m. m.entries) c.get_mut.follows.holds-at-none)
-        ∙ (λ i. with_changed (λ _. sitting) (c.self.view_is i) (c.number.ensures i))
+          ap the_view w.self-inside-is
+          ∙ unchanged-entries (λ _. sitting) es _ c.number.result
+          (sym c.get_mut.ensures.value ∙ ap option_copied_mut w.in_default.is)
+          (ap (λ m. m.entries) c.get_mut.follows.holds-at-none)
+          ∙ (λ i. with_changed (λ _. sitting) (c.self.view_is i) (c.number.ensures i))
     ]
