@@ -1,6 +1,6 @@
 -- What the end of sessions does to their connections, and which sessions made ephemeral nodes. The
 -- source is the ZooKeeper Programmer's Guide, "ZooKeeper Sessions".
-use Rattle.std.specs.Prelude.{ℕ, Bool, true, false, not, ◌||◌, List, [], ◌∷◌, Option, None, Some, is_some}
+use Rattle.std.specs.Prelude.{ℕ, Bool, false, not, List, [], ◌∷◌, Option, None, Some}
 use Rattle.std.specs.List.{list_any, filter}
 use Rattle.std.specs.Option.{option_map_or}
 use Rattle.std.specs.FinMap as finite
@@ -16,14 +16,11 @@ use Rattle.zcalls.specs.declared.reply.Reply.TheVariants as reply
 use Rattle.zsittings.specs.Sittings.{SittingsView, with_changed, with_ephemeral}
 use Rattle.ztables.specs.Tables.{TablesView, moved}
 
--- the owner of a node of this kind
+-- the session that owns a node of this kind
 abbrev pub owner_in : Kind → Option ℕ
 owner_in (kind.Ephemeral session) = Some session
 owner_in (kind.EphemeralSequential session) = Some session
-owner_in (kind.Persistent) = None
-owner_in (kind.PersistentSequential) = None
-owner_in (kind.PersistentWithTtl ttl) = None
-owner_in (kind.PersistentSequentialWithTtl ttl) = None
+owner_in other = None
 
 -- a node of this kind was made
 abbrev pub made_by : Kind → SittingsView → SittingsView
@@ -41,17 +38,25 @@ noted (act.Create create) (reply.Created path) sittings = made_by create.kind si
 noted (act.Multi parts) (reply.Multi replies) sittings = made_by_parts parts sittings
 noted update told sittings = sittings
 
--- a session is gone: its connection is to be closed
+-- a session is forgotten
+abbrev pub forgotten : ℕ → TablesView → TablesView
+forgotten session t = record t { sittings = finite.remove t.sittings session }
+
+-- a session is gone: it is forgotten, and its connection is to be closed
 abbrev pub swept : ℕ → TablesView → TablesView
-swept session t = let before = moved session t in record before { sittings = finite.remove before.sittings session }
+swept session t = forgotten session (moved session t)
 
 abbrev pub swept_all : List ℕ → TablesView → TablesView
 swept_all [] t = t
 swept_all (session ∷ sessions) t = swept_all sessions (swept session t)
 
+-- the tree has the session no more
+abbrev pub is_gone : Sessions → ℕ → Bool
+is_gone sessions id = not (finite.contains_key sessions id)
+
 -- the sessions here that the tree has no more
 abbrev pub gone : Sessions → SittingsView → List ℕ
-gone sessions sittings = filter (λ id. not (finite.contains_key sessions id)) (finite.keys sittings)
+gone sessions sittings = filter (is_gone sessions) (finite.keys sittings)
 
 -- a session made an ephemeral node
 abbrev pub made_one : SittingsView → ℕ → Bool
@@ -59,4 +64,4 @@ made_one sittings id = option_map_or (λ s. s.made_ephemeral) (finite.get sittin
 
 -- one of these sessions did
 abbrev pub some_made_one : SittingsView → List ℕ → Bool
-some_made_one sittings ids = list_any (λ id. made_one sittings id) ids
+some_made_one sittings ids = list_any (made_one sittings) ids
