@@ -1,8 +1,7 @@
 -- Calls that are made one after the other, and how the log goes on at them.
-use Rattle.std.proofs.Common.{◌≡◌, ◌⊎◌, ℕ, ◌+◌, ◌≤◌, ◌<◌, suc, Bool, true, false, List, [], ◌∷◌, ◌++◌, length, take, drop, get_or, Option, Some, None, refl, sym, ap, subst, ◌∙◌, append_assoc, add-one, drop-cons, lit≤, arith}
+use Rattle.std.proofs.Common.{◌≡◌, ℕ, ◌+◌, ◌≤◌, ◌<◌, suc, Bool, true, false, List, [], ◌∷◌, ◌++◌, length, drop, get_or, Option, Some, None, refl, sym, ap, subst, ◌∙◌, append_assoc, add-one, drop-cons, lit≤, arith}
 use Rattle.std.proofs.lemmas.List.{append-nil}
 use Rattle.std.specs.Prelude.{zip}
-use Rattle.zcalls.specs.declared.limits.TheConstants.{MAX_CALL_NUMBER}
 use Rattle.zcalls.specs.declared.call.Call.{Call}
 use Rattle.zcalls.specs.declared.reply.Reply.{Reply}
 use Rattle.zturns.specs.Turns.{Log}
@@ -27,23 +26,24 @@ ahead : (calls : List Call) (i : ℕ) (call : Call) → i < length calls → cal
 ahead calls i call below is = rw (add-one, drop-cons calls i call below) (ap (λ c. c ∷ drop (suc i) calls) (sym is))
 
 -- one more call was answered
-pub asked_more : (old between after : AloneView) (calls : List Call) (i : ℕ) (call : Call) (told : List Reply) (reply : Reply) → i < length calls
-    → call ≡ get_or calls i call → Asks between call after (Some reply) → HasAskedUpTo old calls i between told
-    → HasAskedUpTo old calls (i + 1) after (told ++ reply ∷ [])
-asked_more old between after calls i call told reply below is asks up_to new more asked =
-    subst (AsksAll old calls new) (sym (append_assoc told (reply ∷ []) more))
+pub asked_more : (old between after : AloneView) (calls : List Call) (i : ℕ) (call : Call) (told items : List Reply) (answer : Option Reply) (reply : Reply)
+    → HasAskedUpTo old calls i between told → i < length calls → call ≡ get_or calls i call → Asks between call after answer → answer ≡ Some reply
+    → items ≡ told ++ reply ∷ [] → HasAskedUpTo old calls (i + 1) after items
+asked_more old between after calls i call told items answer reply up_to below is asks some pushed new more asked =
+    subst (AsksAll old calls new) (sym (ap (λ t. t ++ more) pushed ∙ append_assoc told (reply ∷ []) more))
     (up_to new (reply ∷ more)
-    (subst (λ cs. AsksAll between cs new (reply ∷ more)) (sym (ahead calls i call below is)) (after, Some reply, asks, (more, refl, asked))))
+    (subst (λ cs. AsksAll between cs new (reply ∷ more)) (sym (ahead calls i call below is))
+    (after, Some reply, subst (Asks between call after) some asks, (more, refl, asked))))
 
 -- it got no reply
 none_by : (answer : Option Reply) → ((reply : Reply) → answer ≡ Some reply → ⊥) → answer ≡ None
 none_by None other = refl
 none_by (Some reply) other = absurd (other reply refl)
 
-pub asked_last : (old between after : AloneView) (calls : List Call) (i : ℕ) (call : Call) (told : List Reply) (answer : Option Reply) → i < length calls
-    → call ≡ get_or calls i call → Asks between call after answer → ((reply : Reply) → answer ≡ Some reply → ⊥) → HasAskedUpTo old calls i between told
-    → AsksAll old calls after told
-asked_last old between after calls i call told answer below is asks other up_to =
+pub asked_last : (old between after : AloneView) (calls : List Call) (i : ℕ) (call : Call) (told : List Reply) (answer : Option Reply)
+    → HasAskedUpTo old calls i between told → i < length calls → call ≡ get_or calls i call → Asks between call after answer
+    → ((reply : Reply) → answer ≡ Some reply → ⊥) → AsksAll old calls after told
+asked_last old between after calls i call told answer up_to below is asks other =
     subst (AsksAll old calls after) (append-nil told)
     (up_to after []
     (subst (λ cs. AsksAll between cs after []) (sym (ahead calls i call below is))

@@ -1,5 +1,5 @@
 -- The replies to calls that are made one after the other are those of the tree that the log left.
-use Rattle.std.proofs.Common.{◌≡◌, ℕ, ◌≤◌, suc, List, [], ◌∷◌, ◌++◌, length, take, drop, Option, None, Some, refl, sym, ap, ◌∙◌, inl, inr, arith}
+use Rattle.std.proofs.Common.{◌≡◌, ℕ, ◌≤◌, suc, List, [], ◌∷◌, ◌++◌, length, take, drop, None, Some, refl, sym, ap, ◌∙◌, inl, inr, arith}
 use Rattle.std.proofs.Math.Seq.{take-nil}
 use Rattle.std.specs.Prelude.{zip}
 use Rattle.ztree.specs.Tree.{Tree, opening_tree}
@@ -8,7 +8,7 @@ use Rattle.zcalls.specs.declared.reply.Reply.{Reply}
 use Rattle.zworld_model.specs.PlainTree.{serve}
 use Rattle.zturns.specs.Turns.{Log, calls_of, replies_of, served, tree_after, IsOneTrees}
 use Rattle.zturns.proofs.OneTree.{is_one_trees}
-use Rattle.zalone.specs.Alone.{AloneView, AsksAll}
+use Rattle.zalone.specs.Alone.{AloneView}
 use Rattle.zalone.specs.Laws.{RepliesAreTheTrees}
 use Rattle.zalone.specs.Told.{HasTold, StopsBefore}
 use Rattle.zalone.proofs.InTurn.{all_asked_tell}

@@ -39,7 +39,7 @@ GoesOnAsked Has log None call None = Has log (Some call) ⊎ ((MAX_CALL_NUMBER �
 -- waits, or its client has no number left
 abbrev pub StopsBefore : (Log → Option Call → Type 0) → Log → List Call → Type 0
 StopsBefore Has log [] = Has log None
-StopsBefore Has log (call ∷ calls) = Has log (Some call) ⊎ ((MAX_CALL_NUMBER ≤ length log) × Has log None)
+StopsBefore Has log (call ∷ calls) = GoesOnAsked Has log None call None
 
 -- at calls that are made one after the other: each reply is that to the call in its place
 abbrev pub GoesOnAskedAll : (Log → Option Call → Type 0) → Log → Option Call → List Call → List Reply → Type 0

@@ -124,11 +124,13 @@ impl Alone {
             return Err(Memory);
         }
         let alloc = self.world.allocator();
-        let Ok(told) = self.ask_in_turn(alloc, calls) else {
-            self.is_broken = true;
-            return Err(Memory);
-        };
-        Ok(told)
+        match self.ask_in_turn(alloc, calls) {
+            Ok(replies) => Ok(replies),
+            Err(_) => {
+                self.is_broken = true;
+                Err(Memory)
+            }
+        }
     }
 
     /// Lets the world settle. Returns the reply to the call that waits, if it came now.
