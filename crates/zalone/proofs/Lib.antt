@@ -3,3 +3,5 @@ mod Runs
 mod Coming
 mod Telling
 mod Views
+mod InTurn
+mod Served

@@ -2,7 +2,7 @@
 -- world. Van Renesse and Schneider, "Chain Replication for Supporting High Throughput and
 -- Availability" (OSDI 2004), section 2. One client and settling at each call are this project's
 -- profile.
-use Rattle.std.specs.Prelude.{◌≡◌, Bool, true, false, is_none, [], ◌∷◌, Option, None, Some}
+use Rattle.std.specs.Prelude.{◌≡◌, Bool, true, false, is_none, List, [], ◌∷◌, Option, None, Some}
 use Rattle.zcalls.specs.declared.call.Call.{Call}
 use Rattle.zcalls.specs.declared.reply.Reply.{Reply}
 use Rattle.zworld_model.specs.declared.event.Event.TheVariants as event
@@ -88,3 +88,18 @@ AsksIf false old call new told = Begins old call new told
 
 abbrev pub Asks : AloneView → Call → AloneView → Option Reply → Type 0
 Asks old call new told = AsksIf old.is_waiting old call new told
+
+-- what comes behind a call: where it got no reply nothing, and else the rest
+abbrev pub Behind : {V : Type 0} → (V → V → List Reply → Type 0) → V → Option Reply → V → List Reply → Type 0
+Behind {V} Rest between None new told = (told ≡ []) × (new ≡ between)
+Behind {V} Rest between (Some reply) new told = (more : List Reply) × (told ≡ reply ∷ more) × Rest between new more
+
+-- calls that are made one after the other, by what each of them does. The first that gets no reply
+-- is the last one that is made
+abbrev pub InTurn : {V : Type 0} → (V → Call → V → Option Reply → Type 0) → List Call → V → V → List Reply → Type 0
+InTurn {V} Makes [] old new told = (told ≡ []) × (new ≡ old)
+InTurn {V} Makes (call ∷ calls) old new told =
+    (between : V) × (answer : Option Reply) × Makes old call between answer × Behind (InTurn Makes calls) between answer new told
+
+abbrev pub AsksAll : AloneView → List Call → AloneView → List Reply → Type 0
+AsksAll old calls new told = InTurn Asks calls old new told

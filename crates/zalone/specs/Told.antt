@@ -1,6 +1,6 @@
 -- The log of the one client: its calls with their replies, and the call that waits. A log stands
 -- for the client where it is that of one run of the world.
-use Rattle.std.specs.Prelude.{◌≡◌, ◌⊎◌, ℕ, ◌≤◌, is_some, List, [], ◌∷◌, ◌++◌, length, Option, None, Some}
+use Rattle.std.specs.Prelude.{◌≡◌, ◌⊎◌, ℕ, ◌≤◌, is_some, List, [], ◌∷◌, ◌++◌, length, drop, zip, Option, None, Some}
 use Rattle.ztree.specs.Tree.{opening_tree}
 use Rattle.zcalls.specs.declared.limits.TheConstants.{MAX_CALL_NUMBER}
 use Rattle.zcalls.specs.declared.call.Call.{Call}
@@ -35,6 +35,18 @@ GoesOnAsked Has log (Some other) call told = (told ≡ None) × Has log (Some ot
 GoesOnAsked Has log None call (Some reply) = Has (log ++ (call, reply) ∷ []) None
 GoesOnAsked Has log None call None = Has log (Some call) ⊎ ((MAX_CALL_NUMBER ≤ length log) × Has log None)
 
+-- the log of the answered calls, where these got no reply. There are none, or the first of them
+-- waits, or its client has no number left
+abbrev pub StopsBefore : (Log → Option Call → Type 0) → Log → List Call → Type 0
+StopsBefore Has log [] = Has log None
+StopsBefore Has log (call ∷ calls) = GoesOnAsked Has log None call None
+
+-- at calls that are made one after the other: each reply is that to the call in its place
+abbrev pub GoesOnAskedAll : (Log → Option Call → Type 0) → Log → Option Call → List Call → List Reply → Type 0
+GoesOnAskedAll Has log (Some other) calls told = (told ≡ []) × Has log (Some other)
+GoesOnAskedAll Has log None calls told =
+    (length told ≤ length calls) × StopsBefore Has (log ++ zip calls told) (drop (length told) calls)
+
 -- at a settling: a reply is that to the call that waits
 abbrev pub GoesOnSettled : (Log → Option Call → Type 0) → Log → Option Call → Option Reply → Type 0
 GoesOnSettled Has log waiting None = Has log waiting
@@ -44,6 +56,10 @@ GoesOnSettled Has log (Some call) (Some reply) = Has (log ++ (call, reply) ∷ [
 -- whatever its log was, it goes on so
 abbrev pub TellsAsked : AloneView → Call → AloneView → Option Reply → Type 0
 TellsAsked old call new told = (log : Log) (waiting : Option Call) → HasTold old log waiting → GoesOnAsked (HasTold new) log waiting call told
+
+abbrev pub TellsAskedAll : AloneView → List Call → AloneView → List Reply → Type 0
+TellsAskedAll old calls new told =
+    (log : Log) (waiting : Option Call) → HasTold old log waiting → GoesOnAskedAll (HasTold new) log waiting calls told
 
 abbrev pub TellsSettled : AloneView → AloneView → Option Reply → Type 0
 TellsSettled old new told = (log : Log) (waiting : Option Call) → HasTold old log waiting → GoesOnSettled (HasTold new) log waiting told

@@ -7,9 +7,9 @@ ghost use Rattle.zworld_model.specs.World.{opening_world};
 ghost use Rattle.zworld.specs.Did.{HasCause};
 ghost use Rattle.zworld.specs.Steps.{HasDone, world_in};
 ghost use Rattle.zknown.specs.Known.{known_of};
-ghost use Rattle.zalone.specs.Alone.{Asks, Begins, SameCall, Settles, Waits};
+ghost use Rattle.zalone.specs.Alone.{Asks, AsksAll, Begins, SameCall, Settles, Waits};
 ghost use Rattle.zalone.specs.Order.{event_of};
-ghost use Rattle.zalone.specs.Told.{HasTold, TellsAsked, TellsOrdered, TellsSettled};
+ghost use Rattle.zalone.specs.Told.{HasTold, TellsAsked, TellsAskedAll, TellsOrdered, TellsSettled};
 
 use crate::hearing::{event_of, hear, only_client};
 use crate::limits::MAX_EVENTS;
@@ -108,6 +108,31 @@ impl Alone {
         told
     }
 
+    /// Makes the calls, one after the other, and returns the replies to them in order. It stops at
+    /// the first call that gets no reply: that call waits then, or its client has no number left.
+    /// The calls behind it are not made.
+    pub fn ask_all(&mut self, calls: &[Call]) -> Result<Vec<Reply>, Memory>
+        ensures asked { IfOk result (λ told. AsksAll self.old calls.now self.new told.items) }
+        ensures told { IfOk result
+            (λ told. TellsAskedAll self.old calls.now self.new told.items) }
+        ensures sound { OnOk result
+            ((self.old.is_broken ≡ false) × (self.new.is_broken ≡ false)) }
+        ensures broken { OnErr result (self.new.is_broken ≡ true) }
+        ensures stays { self.old.is_broken ≡ true → IsErr result }
+    {
+        if self.is_broken {
+            return Err(Memory);
+        }
+        let alloc = self.world.allocator();
+        match self.ask_in_turn(alloc, calls) {
+            Ok(replies) => Ok(replies),
+            Err(_) => {
+                self.is_broken = true;
+                Err(Memory)
+            }
+        }
+    }
+
     /// Lets the world settle. Returns the reply to the call that waits, if it came now.
     pub fn settle(&mut self) -> Result<Option<Reply>, Memory>
         ensures settled { IfOk result (Settles self.old self.new) }
@@ -154,6 +179,23 @@ impl Alone {
             return Ok(None);
         }
         self.wait()
+    }
+
+    // Makes the calls, up to the first that gets no reply.
+    fn ask_in_turn(&mut self, alloc: Global, calls: &[Call]) -> Result<Vec<Reply>, Memory>
+        requires { self.old.is_broken ≡ false }
+        ensures asked { IfOk result (λ told. AsksAll self.old calls.now self.new told.items) }
+        ensures sound { OnOk result (self.new.is_broken ≡ false) }
+    {
+        let mut told = Vec::new(alloc);
+        for call in calls {
+            let call = call.copied(alloc)?;
+            let Some(reply) = self.ask(call)? else {
+                return Ok(told);
+            };
+            told.push(reply)?;
+        }
+        Ok(told)
     }
 
     // Settles, whether a call waits or not.

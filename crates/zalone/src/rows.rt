@@ -1,16 +1,16 @@
 //! Worked examples of the definitions. The functions do nothing.
 
-ghost use Rattle.std.specs.Prelude.{◌≡◌, [], ◌∷◌, None, Some};
+ghost use Rattle.std.specs.Prelude.{◌≡◌, List, [], ◌∷◌, None, Some};
 ghost use Rattle.zcalls.specs.declared.call.Call.{Call};
 ghost use Rattle.zcalls.specs.declared.reply.Reply.{Reply};
 ghost use Rattle.zworld_model.specs.declared.event.Event.TheVariants as event;
 ghost use Rattle.zworld_model.specs.declared.history.CallEvent.TheVariants.{Answer, Begin};
 ghost use Rattle.zknown.specs.Known.{KnownView, known_after};
-ghost use Rattle.zalone.specs.Alone.{heard, known_by};
+ghost use Rattle.zalone.specs.Alone.{heard, InTurn, known_by};
 ghost use Rattle.zalone.specs.Order.{event_of};
-ghost use Rattle.zalone.specs.Told.{GoesOnAsked, GoesOnSettled};
+ghost use Rattle.zalone.specs.Told.{GoesOnAsked, GoesOnAskedAll, GoesOnSettled};
 ghost use Rattle.zalone.specs.declared.order.Order.TheVariants.{Fail, Join, Retire};
-ghost use Rattle.zalone.specs.support.Samples.{IsNow};
+ghost use Rattle.zalone.specs.support.Samples.{AnswersTwo, IsNow};
 
 /// What the history of a call says: nothing, that it waits, or its reply.
 pub fn histories_of_a_call()
@@ -36,6 +36,35 @@ pub fn logs_go_on()
         → GoesOnSettled (IsNow ((a, r) ∷ []) None) [] (Some a) (Some r) }
     ensures still { (a : Call) → GoesOnSettled (IsNow [] (Some a)) [] (Some a) None }
     ensures unasked { (r : Reply) → GoesOnSettled (IsNow [] None) [] None (Some r) → ⊥ }
+{}
+
+/// Calls that are made one after the other, over a service that answers two of them.
+pub fn calls_are_made_in_turn()
+    ensures nothing { (r s : Reply) → InTurn (AnswersTwo r s) [] [] [] [] }
+    ensures each { (r s : Reply) (a b : Call)
+        → InTurn (AnswersTwo r s) (a ∷ b ∷ []) [] (a ∷ b ∷ []) (r ∷ s ∷ []) }
+    ensures stops { (r s : Reply) (a b c d : Call)
+        → InTurn (AnswersTwo r s) (a ∷ b ∷ c ∷ d ∷ []) [] (a ∷ b ∷ c ∷ []) (r ∷ s ∷ []) }
+    ensures goes_on { (r s : Reply) (a b c d : Call) (told : List Reply) → InTurn
+        (AnswersTwo r s) (a ∷ b ∷ c ∷ d ∷ []) [] (a ∷ b ∷ c ∷ d ∷ []) told → ⊥ }
+    ensures leaves_out { (r s : Reply) (a b : Call) (made : List Call)
+        → InTurn (AnswersTwo r s) (a ∷ b ∷ []) [] made (r ∷ []) → ⊥ }
+{}
+
+/// How a log goes on at calls that are made one after the other.
+pub fn logs_go_on_at_many()
+    ensures answered { (a b : Call) (r s : Reply) → GoesOnAskedAll
+        (IsNow ((a, r) ∷ (b, s) ∷ []) None) [] None (a ∷ b ∷ []) (r ∷ s ∷ []) }
+    ensures waits { (a b c : Call) (r : Reply) → GoesOnAskedAll
+        (IsNow ((a, r) ∷ []) (Some b)) [] None (a ∷ b ∷ c ∷ []) (r ∷ []) }
+    ensures lost { (a b : Call) (r : Reply) → GoesOnAskedAll
+        (IsNow ((a, r) ∷ []) None) [] None (a ∷ b ∷ []) (r ∷ []) → ⊥ }
+    ensures busy { (a b : Call)
+        → GoesOnAskedAll (IsNow [] (Some a)) [] (Some a) (b ∷ []) [] }
+    ensures stolen { (a b : Call) (r : Reply)
+        → GoesOnAskedAll (IsNow [] (Some a)) [] (Some a) (b ∷ []) (r ∷ []) → ⊥ }
+    ensures unasked { (r : Reply)
+        → GoesOnAskedAll (IsNow [] None) [] None [] (r ∷ []) → ⊥ }
 {}
 
 /// Orders as events.
