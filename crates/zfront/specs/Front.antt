@@ -10,8 +10,10 @@ use Rattle.zcalls.specs.declared.reply.Reply.{Reply}
 use Rattle.zcalls.specs.declared.reply.Reply.TheVariants as reply
 use Rattle.zanswering.specs.declared.clock.Clock.{Clock}
 use Rattle.zalone.specs.Alone.{AloneView, AsksAll, Settles}
+use Rattle.zalone.specs.Told.{TellsAskedAll, TellsSettled}
 use Rattle.zwatches.specs.declared.place.Place.{Place}
-use Rattle.zwatches.specs.Places.{places_of}
+use Rattle.zwatches.specs.Places.{node_places}
+use Rattle.zwatches.specs.Events.{Lists}
 use Rattle.ztables.specs.Tables.{TablesView}
 use Rattle.ztables.specs.Telling.{told_all}
 use Rattle.ztables.specs.Sweeping.{gone, swept_all, some_made_one}
@@ -32,8 +34,9 @@ abbrev pub with_tables : TablesView → FrontView → FrontView
 with_tables t v = record v { tables = t }
 
 -- calls are made in their order; where one gets no reply, it is late, and those behind it aren't made
-record pub Asks (old : FrontView) (calls : List Call) (new : FrontView) (replies : List Reply) : Type 0 where
+pub record Asks (old : FrontView) (calls : List Call) (new : FrontView) (replies : List Reply) : Type 0 where
   pub asks : AsksAll old.asker calls new.asker replies
+  pub tells : TellsAskedAll old.asker calls new.asker replies
   pub rest : new ≡ record old { asker = new.asker; late = slice_get calls (length replies) }
 
 -- a tick took nodes away
@@ -60,12 +63,13 @@ heard call (Some told) v = tidied (takes_nodes told) (record v { tables = absorb
 abbrev pub HearsIf : Option Call → FrontView → FrontView → Type 0
 HearsIf None old new = new ≡ old
 HearsIf (Some call) old new =
-    (asker : AloneView) × (told : Option Reply) × Settles old.asker asker told × (new ≡ heard call told (record old { asker = asker }))
+    (asker : AloneView) × (told : Option Reply) × Settles old.asker asker told × TellsSettled old.asker asker told
+    × (new ≡ heard call told (record old { asker = asker }))
 
 -- each watched place is looked at; the watches whose nodes went away, or lost a child, are told
-record pub LooksNow (old new : FrontView) : Type 0 where
+pub record LooksNow (old new : FrontView) : Type 0 where
   pub places : List Place
-  pub all : places ≡ places_of old.tables.watches
+  pub all : Lists places (node_places old.tables.watches)
   pub middle : FrontView
   pub replies : List Reply
   pub asks : Asks old (looks_at places) middle replies

@@ -28,7 +28,7 @@ abbrev pub no_tables : TablesView
 no_tables = record { streams = finite.empty; sittings = finite.empty; watches = sets.empty; unsent = [] }
 
 -- a server whose service made no call yet
-record pub IsNew (last : ℕ) (clock : Clock) (v : ServerView) : Type 0 where
+pub record IsNew (last : ℕ) (clock : Clock) (v : ServerView) : Type 0 where
   pub world : world_in v.front.asker.world ≡ opening_world kept_tree last 1
   pub told : HasTold v.front.asker [] None
   pub tables : v.front.tables ≡ no_tables

@@ -21,8 +21,9 @@ use Rattle.zcalls.specs.declared.reply.Reply.{Reply}
 use Rattle.zalone.specs.declared.order.Order.{Order}
 use Rattle.zalone.specs.declared.order.Order.TheVariants as order
 use Rattle.zalone.specs.Alone.{AloneView, Settles, SameCall}
+use Rattle.zalone.specs.Told.{TellsOrdered, TellsSettled}
 use Rattle.zalone.specs.Order.{event_of}
-use Rattle.ztables.specs.Tables.{TablesView, piece}
+use Rattle.ztables.specs.Tables.{operator_sent}
 use Rattle.zfront.specs.Front.{FrontView, with_tables, IsReady, heard}
 
 -- why a join is refused
@@ -53,15 +54,16 @@ did_text other = codes "done"
 
 -- the operator is answered by a line, on the connection number 0
 abbrev pub told_operator : List ℕ → FrontView → FrontView
-told_operator text v = with_tables (record v.tables { unsent = v.tables.unsent ++ piece 0 (text ++ 10 ∷ []) ∷ [] }) v
+told_operator text v = with_tables (operator_sent (text ++ 10 ∷ []) v.tables) v
 
 -- an order to the chain
-record pub Obeys (ordered : Order) (old new : FrontView) : Type 0 where
+pub record Obeys (ordered : Order) (old new : FrontView) : Type 0 where
   pub did : Did
   pub asker : AloneView
   pub happened : HasDone old.asker.world asker.world (event_of ordered) did
   pub cause : HasCause old.asker.world.held (event_of ordered) did
   pub same : SameCall old.asker asker
+  pub tells : TellsOrdered old.asker asker
   pub told : new ≡ told_operator (did_text did) (record old { asker = asker })
 
 -- a late call is heard of, if there is one
@@ -72,7 +74,7 @@ heard_of (Some call) told v = heard call told v
 -- the service settles
 abbrev pub SettlesNow : FrontView → FrontView → Type 0
 SettlesNow old new =
-    (asker : AloneView) × (told : Option Reply) × Settles old.asker asker told
+    (asker : AloneView) × (told : Option Reply) × Settles old.asker asker told × TellsSettled old.asker asker told
     × (new ≡ told_operator (codes "quiet") (heard_of old.late told (record old { asker = asker })))
 
 -- a line by what it means

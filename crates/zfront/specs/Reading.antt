@@ -42,7 +42,7 @@ Cuts came [] rest = came ≡ rest
 Cuts came (bytes ∷ frames) rest = (more : List ℕ) × (next_of came ≡ Whole bytes more) × Cuts more frames rest
 
 -- the frames of what came are handled while the connection is open; then no whole frame is left
-record pub Reads (came : List ℕ) (c : ℕ) (old : FrontView) (rest : List ℕ) (new : FrontView) : Type 0 where
+pub record Reads (came : List ℕ) (c : ℕ) (old : FrontView) (rest : List ℕ) (new : FrontView) : Type 0 where
   pub frames : List (List ℕ)
   pub cuts : Cuts came frames rest
   pub handles : HandlesAll frames c old new
