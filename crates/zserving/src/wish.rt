@@ -12,14 +12,3 @@ pub(crate) enum Wish {
     /// Its event has come already, and is told.
     Tells(EventKind, Path),
 }
-
-/// The kinds of watches that a client sets again when it comes back.
-#[derive(Clone, Copy, Debug, PartialEq, Eq)]
-pub(crate) enum Again {
-    /// Of a node's data.
-    OfData,
-    /// Of a node that wasn't there.
-    OfMissing,
-    /// Of a node's children.
-    OfChildren,
-}

@@ -1,0 +1,4 @@
+use Rattle.zserving.proofs.again.split.Goals as goal
+
+pub returns : goal.returns
+returns c = ?
