@@ -1,4 +1,4 @@
+pub mod Sweeping
 pub mod Tables
 pub mod Telling
-pub mod Sweeping
 pub mod support

@@ -7,23 +7,31 @@ use Rattle.zjute.specs.Jute.{neg}
 use Rattle.zjute.specs.Frames.{frame}
 use Rattle.zjute.specs.Events.{event_text}
 use Rattle.zjute.specs.declared.event.KeeperState.TheVariants.{SyncConnected}
+use Rattle.zjute.specs.declared.event.WatcherEvent.{WatcherEvent}
 use Rattle.zevents.specs.declared.event.Event.{Event}
-use Rattle.zwatches.specs.Events as watches
+use Rattle.zwatches.specs.Events as watch
 use Rattle.ztables.specs.Tables.{TablesView, sent}
 
--- an event as a frame
+-- what a client is told of an event
+abbrev pub event_told : Event → WatcherEvent
+event_told e = record { kind = e.kind; state = SyncConnected; path = text_of e.path }
+
+-- and as a frame: its header has the zxid -1
 abbrev pub event_frame : Event → List ℕ
-event_frame e = frame (event_text (neg 1) (record { kind = e.kind; state = SyncConnected; path = text_of e.path }))
+event_frame e = frame (event_text (neg 1) (event_told e))
 
 -- the same bytes on each of these connections
 abbrev pub sent_on : List ℕ → List ℕ → TablesView → TablesView
 sent_on [] bytes t = t
 sent_on (c ∷ cs) bytes t = sent_on cs bytes (sent c bytes t)
 
--- the watches that an event fires are gone, and their connections are told, each once
+-- the watches that an event fires are gone
+abbrev pub unwatched : Event → TablesView → TablesView
+unwatched e t = record t { watches = watch.unfired t.watches e.kind e.path }
+
+-- and their connections are told, each once
 abbrev pub told : Event → TablesView → TablesView
-told e t =
-    sent_on (items (watches.told t.watches e.kind e.path)) (event_frame e) (record t { watches = watches.unfired t.watches e.kind e.path })
+told e t = sent_on (items (watch.told t.watches e.kind e.path)) (event_frame e) (unwatched e t)
 
 -- events in their order
 abbrev pub told_all : List Event → TablesView → TablesView

@@ -6,10 +6,14 @@
 #![tactic(auto)]
 
 mod closing;
+mod connecting;
+mod framing;
 mod making;
-mod rows;
+mod seating;
+mod sending;
 mod sweeping;
 mod tables;
 mod telling;
+mod watching;
 
 pub use tables::Tables;

@@ -1,7 +1,8 @@
 //! The end of sessions.
 
-ghost use Rattle.std.specs.Prelude.{◌≡◌, ◌||◌, IfOk, OnOk};
-ghost use Rattle.ztables.specs.Sweeping.{gone, some_made_one, swept, swept_all};
+ghost use Rattle.std.specs.Prelude.{◌≡◌, IfOk, OnOk};
+ghost use Rattle.ztables.specs.Sweeping.{forgotten, gone, made_one, some_made_one, swept};
+ghost use Rattle.ztables.specs.Sweeping.{swept_all};
 
 use crate::tables::Tables;
 use zknown::Known;
@@ -18,13 +19,59 @@ impl Tables {
             ≡ some_made_one self.old.sittings (gone known.now.sessions self.old.sittings)) }
     {
         let ids = self.gone(known)?;
-        let mut made = false;
-        for id in &ids {
-            made = made || self.sittings.made_ephemeral(*id);
+        let made = self.some_made_one(&ids);
+        self.sweep_all(&ids)?;
+        Ok(made)
+    }
+
+    // Returns the sessions that the tree has no more.
+    fn gone(&self, known: &Known) -> Result<Vec<SessionId>, Memory>
+        ensures { IfOk result (λ ids. ids.items
+            ≡ gone known.now.sessions self.now.sittings) }
+    {
+        let mut ids = self.sittings.ids()?;
+        ids.retain(|id| known.session(*id).is_none());
+        Ok(ids)
+    }
+
+    // Returns whether one of these sessions made an ephemeral node.
+    fn some_made_one(&self, ids: &[SessionId]) -> bool
+        ensures { result ≡ some_made_one self.now.sittings ids.now }
+    {
+        for id in ids {
+            if self.made_one(*id) {
+                return true;
+            }
         }
-        for id in &ids {
+        false
+    }
+
+    // Returns whether a session made an ephemeral node.
+    fn made_one(&self, id: SessionId) -> bool
+        ensures { result ≡ made_one self.now.sittings id }
+    {
+        match self.sittings.sitting(id) {
+            Some(sitting) => sitting.made_ephemeral,
+            None => false,
+        }
+    }
+
+    // Closes the connections of these sessions, and forgets them.
+    fn sweep_all(&mut self, ids: &[SessionId]) -> Result<(), Memory>
+        ensures { OnOk result (self.new ≡ swept_all ids.now self.old) }
+    {
+        for id in ids {
             self.sweep_one(*id)?;
         }
-        Ok(made)
+        Ok(())
+    }
+
+    // Closes the connection of a session, and forgets it.
+    fn sweep_one(&mut self, id: SessionId) -> Result<(), Memory>
+        ensures { OnOk result (self.new ≡ swept id self.old) }
+    {
+        self.move_away(id)?;
+        self.sittings.remove(id);
+        Ok(())
     }
 }

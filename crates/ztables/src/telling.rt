@@ -1,16 +1,19 @@
 //! Telling events.
 
 ghost use Rattle.std.specs.Prelude.{◌≡◌, IfOk, OnOk};
-ghost use Rattle.ztables.specs.Telling.{event_frame, sent_on, told, told_all};
+ghost use Rattle.std.specs.FinSet.{items};
+ghost use Rattle.zwatches.specs.Events as watch;
+ghost use Rattle.ztables.specs.Tables.{sent};
+ghost use Rattle.ztables.specs.Telling.{event_frame, sent_on, told, told_all, unwatched};
 
+use crate::framing::event_frame;
 use crate::tables::Tables;
-use std::alloc::Global;
 use zevents::Event;
-use zjute::{Bytes, KeeperState, WatcherEvent, WriteError, write_event};
-use zpath::{Memory, Path};
+use zpath::Memory;
 
 impl Tables {
-    /// Tells events, one after the other, to the connections whose watches they fire.
+    /// Tells events, one after the other, to the connections whose watches they fire. Such a watch
+    /// is gone then.
     pub fn tell_all(&mut self, events: &[Event]) -> Result<(), Memory>
         ensures { OnOk result (self.new ≡ told_all events.now self.old) }
     {
@@ -20,12 +23,29 @@ impl Tables {
         Ok(())
     }
 
+    /// Sends an event on a connection. On one that is closing nothing goes.
+    pub fn send_event(&mut self, connection: u32, event: &Event) -> Result<(), Memory>
+        ensures { OnOk result (self.new ≡ sent connection (event_frame event.now) self.old) }
+    {
+        let frame = event_frame(self.alloc, event)?;
+        self.send(connection, frame)
+    }
+
     // Tells an event.
     fn tell(&mut self, event: &Event) -> Result<(), Memory>
         ensures { OnOk result (self.new ≡ told event.now self.old) }
     {
-        let connections = self.watches.changed(event.kind, &event.path)?;
+        let connections = self.fire(event)?;
         self.send_on(&connections, event)
+    }
+
+    // Removes the watches that an event fires, and returns their connections.
+    fn fire(&mut self, event: &Event) -> Result<Vec<u32>, Memory>
+        ensures connections { IfOk result (λ connections. connections.items
+            ≡ items (watch.told self.old.watches event.now.kind event.now.path)) }
+        ensures rest { OnOk result (self.new ≡ unwatched event.now self.old) }
+    {
+        self.watches.changed(event.kind, &event.path)
     }
 
     // Sends an event on these connections.
@@ -34,36 +54,8 @@ impl Tables {
             (self.new ≡ sent_on connections.now (event_frame event.now) self.old) }
     {
         for connection in connections {
-            let frame = event_frame(self.alloc, event)?;
-            self.send(*connection, frame)?;
+            self.send_event(*connection, event)?;
         }
         Ok(())
     }
-}
-
-/// Returns an event as a frame.
-pub(crate) fn event_frame(alloc: Global, event: &Event) -> Result<Vec<u8>, Memory>
-    ensures { IfOk result (λ bytes. bytes.items ≡ event_frame event.now) }
-{
-    let told = WatcherEvent {
-        kind: event.kind,
-        state: KeeperState::SyncConnected,
-        path: path_told(alloc, &event.path)?,
-    };
-    match write_event(alloc, -1, &told) {
-        Ok(bytes) => Ok(bytes),
-        Err(WriteError::Memory) => Err(Memory),
-        // The text of a path is short.
-        Err(WriteError::TooLong) => unreachable!(),
-    }
-}
-
-// Returns the text of a path.
-fn path_told(alloc: Global, path: &Path) -> Result<Bytes, Memory>
-    ensures { IfOk result (λ told. told ≡ text_of path.now) }
-{
-    // A path's text is short, and the clause of `names` says so.
-    let _ = path.names();
-    let text = path.to_string(alloc)?;
-    Ok(Bytes::copied(alloc, text.as_bytes())?)
 }
