@@ -1,7 +1,6 @@
 -- Which watches a request asks for, by the replies to its calls. The source is the ZooKeeper
 -- Programmer's Guide, "ZooKeeper Watches", and zookeeper.jute (`SetWatches`).
-use Rattle.std.specs.Prelude.{ℤ, List, [], ◌∷◌, ◌++◌, length, take, drop, if◌then◌else◌}
-use Rattle.std.specs.Ordering.{int_lt}
+use Rattle.std.specs.Prelude.{ℤ, List, [], ◌∷◌, ◌++◌, length, take, drop, int_lt, if◌then◌else◌}
 use Rattle.ztree.specs.Tree.{Path}
 use Rattle.zcalls.specs.declared.call.Call.{Call}
 use Rattle.zcalls.specs.declared.call.Call.TheVariants.{Query}
@@ -15,6 +14,7 @@ use Rattle.zjute.specs.declared.request.Asked.{Asked}
 use Rattle.zjute.specs.declared.request.Asked.TheVariants as asked
 use Rattle.zjute.specs.declared.request.Look.{Look}
 use Rattle.zjute.specs.declared.request.SetWatches.{SetWatches}
+use Rattle.zevents.specs.Events.{event}
 use Rattle.zanswering.specs.Stats.{long_of}
 use Rattle.zwatches.specs.declared.kind.Kind.{Kind}
 use Rattle.zwatches.specs.declared.kind.Kind.TheVariants.{Data, Missing, Children}
@@ -43,13 +43,13 @@ look_wish look calls replies = if look.watch then first_wish calls replies else 
 -- event came meanwhile tells it
 abbrev pub wish_again : Kind → ℤ → Path → Reply → List Wish
 wish_again Data seen path (reply.Exists stat) =
-    (if int_lt seen (long_of stat.mzxid) then Tells NodeDataChanged path else Waits Data path) ∷ []
-wish_again Data seen path (reply.Refused NoNode) = Tells NodeDeleted path ∷ []
-wish_again Missing seen path (reply.Exists stat) = Tells NodeCreated path ∷ []
+    (if int_lt seen (long_of stat.mzxid) then Tells (event NodeDataChanged path) else Waits Data path) ∷ []
+wish_again Data seen path (reply.Refused NoNode) = Tells (event NodeDeleted path) ∷ []
+wish_again Missing seen path (reply.Exists stat) = Tells (event NodeCreated path) ∷ []
 wish_again Missing seen path (reply.Refused NoNode) = Waits Missing path ∷ []
 wish_again Children seen path (reply.Exists stat) =
-    (if int_lt seen (long_of stat.pzxid) then Tells NodeChildrenChanged path else Waits Children path) ∷ []
-wish_again Children seen path (reply.Refused NoNode) = Tells NodeDeleted path ∷ []
+    (if int_lt seen (long_of stat.pzxid) then Tells (event NodeChildrenChanged path) else Waits Children path) ∷ []
+wish_again Children seen path (reply.Refused NoNode) = Tells (event NodeDeleted path) ∷ []
 wish_again kind seen path told = []
 
 -- the same by its call, which asks whether the node exists

@@ -9,7 +9,8 @@ use crate::wish::Wish;
 use crate::wishes::{tells, waits};
 use std::alloc::Global;
 use zcalls::{Call, Query, Refusal, Reply};
-use zjute::{EventKind, SetWatches};
+use zevents::EventKind;
+use zjute::SetWatches;
 use zpath::{Memory, Path};
 use zwatches::Kind;
 
@@ -25,7 +26,7 @@ pub(crate) fn add_all_again(
     ensures { OnOk result
         (list.new.items ≡ list.old.items ++ all_again set.now calls.now replies.now) }
 {
-    let seen = set.relative_zxid;
+    let seen = &set.relative_zxid;
     let data_count = set.data_watches.as_slice().len();
     let missing_count = set.exist_watches.as_slice().len();
     let (of_data, calls) = split(calls, data_count);
@@ -38,6 +39,7 @@ pub(crate) fn add_all_again(
 }
 
 // Returns the first so many, or all, and the others.
+#[tactic(auto, using(std::proofs::lemmas::List::take_min, std::proofs::lemmas::List::drop_min))]
 fn split<T>(items: &[T], count: usize) -> (&[T], &[T])
     ensures first { result.0.now ≡ take count items.now }
     ensures rest { result.1.now ≡ drop count items.now }
@@ -49,13 +51,13 @@ fn split<T>(items: &[T], count: usize) -> (&[T], &[T])
 fn wishes_again(
     alloc: Global,
     kind: Kind,
-    seen: i64,
+    seen: &i64,
     calls: &[Call],
     replies: &[Reply],
     list: &mut Vec<Wish>,
 ) -> Result<(), Memory>
     ensures { OnOk result (list.new.items
-        ≡ list.old.items ++ table.wishes_again kind seen calls.now replies.now) }
+        ≡ list.old.items ++ table.wishes_again kind seen.now calls.now replies.now) }
 {
     for place in 0..calls.len().min(replies.len()) {
         add_again(alloc, kind, seen, &calls[place], &replies[place], list)?;
@@ -67,13 +69,13 @@ fn wishes_again(
 fn add_again(
     alloc: Global,
     kind: Kind,
-    seen: i64,
+    seen: &i64,
     call: &Call,
     reply: &Reply,
     list: &mut Vec<Wish>,
 ) -> Result<(), Memory>
     ensures { OnOk result
-        (list.new.items ≡ list.old.items ++ call_again kind seen call.now reply.now) }
+        (list.new.items ≡ list.old.items ++ call_again kind seen.now call.now reply.now) }
 {
     match call {
         Call::Query(Query::Exists(path)) => wish_again(alloc, kind, seen, path, reply, list),
@@ -85,24 +87,24 @@ fn add_again(
 fn wish_again(
     alloc: Global,
     kind: Kind,
-    seen: i64,
+    seen: &i64,
     path: &Path,
     reply: &Reply,
     list: &mut Vec<Wish>,
 ) -> Result<(), Memory>
     ensures { OnOk result
-        (list.new.items ≡ list.old.items ++ table.wish_again kind seen path.now reply.now) }
+        (list.new.items ≡ list.old.items ++ table.wish_again kind seen.now path.now reply.now) }
 {
     match (kind, reply) {
         (Kind::Data, Reply::Exists(stat)) => {
-            if seen < long_of(stat.mzxid.number()) {
+            if *seen < long_of(stat.mzxid.number()) {
                 tells(alloc, EventKind::NodeDataChanged, path, list)
             } else {
                 waits(alloc, kind, path, list)
             }
         }
         (Kind::Children, Reply::Exists(stat)) => {
-            if seen < long_of(stat.pzxid.number()) {
+            if *seen < long_of(stat.pzxid.number()) {
                 tells(alloc, EventKind::NodeChildrenChanged, path, list)
             } else {
                 waits(alloc, kind, path, list)

@@ -3,34 +3,14 @@
 ghost use Rattle.std.specs.Prelude.{◌≡◌, ◌++◌, ◌∷◌, [], IfOk, OnOk};
 ghost use Rattle.zevents.specs.Events.{event};
 ghost use Rattle.zserving.specs.Looking as table;
-ghost use Rattle.zserving.specs.Looking.{look_at, seen_at};
+ghost use Rattle.zserving.specs.Looking.{seen_at};
 
 use std::alloc::Global;
-use zcalls::{Call, Query, Refusal, Reply, Stat};
+use zcalls::{Refusal, Reply, Stat};
 use zevents::{Event, EventKind};
 use zpath::{Memory, Path};
 use ztree::Zxid;
 use zwatches::{Kind, Place};
-
-/// Returns the calls by which places are looked at, in the order of the places.
-pub fn looks_at(alloc: Global, places: &[Place]) -> Result<Vec<Call>, Memory>
-    ensures { IfOk result (λ calls. calls.items ≡ table.looks_at places.now) }
-{
-    let mut calls = Vec::new(alloc);
-    for place in places {
-        add_look(alloc, place, &mut calls)?;
-    }
-    Ok(calls)
-}
-
-// Adds the call by which a place is looked at.
-fn add_look(alloc: Global, place: &Place, calls: &mut Vec<Call>) -> Result<(), Memory>
-    ensures { OnOk result (calls.new.items ≡ calls.old.items ++ look_at place.now ∷ []) }
-{
-    let path = place.path.copied(alloc)?;
-    calls.push(Call::Query(Query::Exists(path)))?;
-    Ok(())
-}
 
 /// Returns the events of the nodes that went away, and of those whose children changed, with the
 /// change of this zxid.

@@ -1,6 +1,6 @@
 //! What becomes of a watch that a request asks for.
 
-use zjute::EventKind;
+use zevents::Event;
 use zpath::Path;
 use zwatches::Kind;
 
@@ -10,5 +10,5 @@ pub(crate) enum Wish {
     /// It waits.
     Waits(Kind, Path),
     /// Its event has come already, and is told.
-    Tells(EventKind, Path),
+    Tells(Event),
 }

@@ -1,6 +1,7 @@
 //! The watches that a request asks for.
 
 ghost use Rattle.std.specs.Prelude.{◌≡◌, ◌++◌, ◌∷◌, [], IfOk, OnOk};
+ghost use Rattle.zevents.specs.Events.{event};
 ghost use Rattle.zserving.specs.Wishes as table;
 ghost use Rattle.zserving.specs.declared.wish.Wish.TheVariants as wish;
 
@@ -8,7 +9,8 @@ use crate::again::add_all_again;
 use crate::wish::Wish;
 use std::alloc::Global;
 use zcalls::{Call, Query, Refusal, Reply};
-use zjute::{Asked, EventKind, Look};
+use zevents::{Event, EventKind};
+use zjute::{Asked, Look};
 use zpath::{Memory, Path};
 use zwatches::Kind;
 
@@ -127,9 +129,9 @@ pub(crate) fn tells(
     path: &Path,
     list: &mut Vec<Wish>,
 ) -> Result<(), Memory>
-    ensures { OnOk result (list.new.items ≡ list.old.items ++ wish.Tells kind path.now ∷ []) }
+    ensures { OnOk result (list.new.items ≡ list.old.items ++ wish.Tells (event kind path.now) ∷ []) }
 {
     let path = path.copied(alloc)?;
-    list.push(Wish::Tells(kind, path))?;
+    list.push(Wish::Tells(Event { kind, path }))?;
     Ok(())
 }

@@ -8,6 +8,6 @@ pub returns : goal.returns
 returns c =
     let place = c.loop-place.place in
     let known = c.loop-place.list.items in
-    let none : table.wishes_again c.args.kind c.args.seen (drop place c.args.calls.now) (drop place c.args.replies.now) ≡ [] =
-    none_again c.args.kind c.args.seen c.args.calls.now c.args.replies.now place (omega arith) in
+    let none : table.wishes_again c.args.kind c.args.seen.now (drop place c.args.calls.now) (drop place c.args.replies.now) ≡ [] =
+    none_again c.args.kind c.args.seen.now c.args.calls.now c.args.replies.now place (omega arith) in
     sym (append-nil known) ∙ ap (λ more. known ++ more) (sym none) ∙ c.loop-place.invariant
