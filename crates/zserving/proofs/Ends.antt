@@ -11,6 +11,8 @@ use Rattle.zevents.specs.declared.event.Event.{Event}
 use Rattle.zserving.specs.declared.wish.Wish.{Wish}
 use Rattle.zserving.specs.Wishes.{wishes_again}
 use Rattle.zserving.specs.Looking.{seen}
+use Rattle.zserving.specs.Replying.{absorbed_all}
+use Rattle.ztables.specs.Tables.{TablesView}
 
 -- behind the end of the shorter list, one of them has ended
 pub one_ended : {A B : Type 0} (xs : List A) (ys : List B) (i : ℕ) → min (length xs) (length ys) ≤ i → (drop i xs ≡ []) ⊎ (drop i ys ≡ [])
@@ -44,4 +46,17 @@ none_seen zxid places replies i end =
     elim (one_ended places replies i end) [
       | inl e ↦ rw e refl
       | inr e ↦ rw e (no_replies_seen zxid (drop i places))
+    ]
+
+no_replies_absorbed : (calls : List Call) (t : TablesView) → absorbed_all calls [] t ≡ t
+no_replies_absorbed [] t = refl
+no_replies_absorbed (call ∷ calls) t = refl
+
+-- no call was answered behind the last call or reply
+pub none_absorbed : (calls : List Call) (replies : List Reply) (t : TablesView) (i : ℕ) → min (length calls) (length replies) ≤ i
+    → absorbed_all (drop i calls) (drop i replies) t ≡ t
+none_absorbed calls replies t i end =
+    elim (one_ended calls replies i end) [
+      | inl e ↦ rw e refl
+      | inr e ↦ rw e (no_replies_absorbed (drop i calls) t)
     ]
