@@ -14,22 +14,28 @@ use Rattle.zevents.specs.declared.event.Event.{Event}
 use Rattle.zevents.specs.Events.{event}
 use Rattle.zwatches.specs.declared.place.Place.{Place}
 use Rattle.zwatches.specs.declared.kind.Kind.{Kind}
-use Rattle.zwatches.specs.declared.kind.Kind.TheVariants.{Data, Missing, Children}
+use Rattle.zwatches.specs.declared.kind.Kind.TheVariants.{Children}
 
 -- a place is looked at by a query whether its node exists
+abbrev pub look_at : Place → Call
+look_at p = Query (Exists p.path)
+
 abbrev pub looks_at : List Place → List Call
-looks_at places = map (λ p. Query (Exists p.path)) places
+looks_at places = map look_at places
 
 -- the children of a node that is there have changed with this zxid
-abbrev pub children_seen : ℕ → Kind → Stat → Place → List Event
-children_seen zxid Children stat p = if stat.pzxid == zxid then event NodeChildrenChanged p.path ∷ [] else []
-children_seen zxid Data stat p = []
-children_seen zxid Missing stat p = []
+abbrev pub children_seen : ℕ → Place → Stat → List Event
+children_seen zxid p stat = if stat.pzxid == zxid then event NodeChildrenChanged p.path ∷ [] else []
+
+-- what is seen of a node that is there, by the kind of its watches
+abbrev pub node_seen : ℕ → Kind → Place → Stat → List Event
+node_seen zxid Children p stat = children_seen zxid p stat
+node_seen zxid other p stat = []
 
 -- what is seen at a place
 abbrev pub seen_at : ℕ → Place → Reply → List Event
 seen_at zxid p (reply.Refused NoNode) = event NodeDeleted p.path ∷ []
-seen_at zxid p (reply.Exists stat) = children_seen zxid p.kind stat p
+seen_at zxid p (reply.Exists stat) = node_seen zxid p.kind p stat
 seen_at zxid p told = []
 
 -- and at all of them

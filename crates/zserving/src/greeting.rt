@@ -1,12 +1,14 @@
 //! The answer to a connection's first frame.
 
-ghost use Rattle.std.specs.Prelude.{◌≡◌, IfOk, OnOk};
+ghost use Rattle.std.specs.Prelude.{◌≡◌, OnOk};
 ghost use Rattle.zserving.specs.Greeting as table;
+ghost use Rattle.zserving.specs.Greeting.{came_back, returned, turned_away, welcomed};
 
+use crate::frames::response_frame;
 use crate::numbers::long_of;
 use std::alloc::Global;
 use zasking::{TickLength, millis_told};
-use zjute::{Bytes, ConnectRequest, ConnectResponse, WriteError, write_connect_response};
+use zjute::ConnectRequest;
 use zknown::Known;
 use zpath::Memory;
 use zsittings::Password;
@@ -32,10 +34,12 @@ pub fn welcome(
     connection: u32,
 ) -> Result<(), Memory>
     ensures { OnOk result (tables.new
-        ≡ table.welcomed tick request.now session ticks password connection tables.old) }
+        ≡ welcomed tick request.now session ticks password connection tables.old) }
 {
     tables.sit(session, password, connection)?;
-    tell_session(alloc, tables, tick, request, session, ticks, password.as_bytes(), connection)
+    let timeout = millis_told(tick, ticks);
+    let frame = response_frame(alloc, request, timeout, long_of(session.number()), &password)?;
+    tables.send(connection, frame)
 }
 
 /// Lets a client come back to the session that it names, if the tree has it and the whole password
@@ -48,8 +52,65 @@ pub fn come_back(
     request: &ConnectRequest,
     connection: u32,
 ) -> Result<(), Memory>
-    ensures { OnOk result (tables.new ≡ table.returned tick known.now request.now
-        request.session_id connection tables.old) }
+    ensures { OnOk result (tables.new
+        ≡ returned tick known.now request.now request.now.session_id connection tables.old) }
 {
-    todo
+    if request.session_id < 0 {
+        return turn_away(alloc, tables, request, connection);
+    }
+    let id = SessionId::new(request.session_id as u64);
+    match known.session(id) {
+        Some(session) => {
+            let timeout = millis_told(tick, session.timeout);
+            resume(alloc, tables, request, id, timeout, connection)
+        }
+        None => turn_away(alloc, tables, request, connection),
+    }
+}
+
+// Lets a client come back to a session that the tree has, if the whole password is given.
+fn resume(
+    alloc: Global,
+    tables: &mut Tables,
+    request: &ConnectRequest,
+    session: SessionId,
+    timeout: i32,
+    connection: u32,
+) -> Result<(), Memory>
+    ensures { OnOk result (tables.new
+        ≡ came_back request.now session timeout connection tables.old) }
+{
+    let Some(password) = tables.password(session) else {
+        return turn_away(alloc, tables, request, connection);
+    };
+    if !tables.take_up(session, given(request), connection)? {
+        return turn_away(alloc, tables, request, connection);
+    }
+    let frame = response_frame(alloc, request, timeout, long_of(session.number()), &password)?;
+    tables.send(connection, frame)
+}
+
+// Returns the bytes of the password that a client gives.
+fn given(request: &ConnectRequest) -> &[u8]
+    ensures { result.now ≡ table.given request.now }
+{
+    match &request.password {
+        Some(bytes) => bytes.as_slice(),
+        None => &[],
+    }
+}
+
+// Tells a client that it has no session, and closes its connection.
+fn turn_away(
+    alloc: Global,
+    tables: &mut Tables,
+    request: &ConnectRequest,
+    connection: u32,
+) -> Result<(), Memory>
+    ensures { OnOk result (tables.new ≡ turned_away request.now connection tables.old) }
+{
+    let none = Password::new([0; 16]);
+    let frame = response_frame(alloc, request, 0, 0, &none)?;
+    tables.send(connection, frame)?;
+    tables.close(connection)
 }

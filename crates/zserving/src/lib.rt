@@ -6,16 +6,21 @@
 //! alone: it knows no socket, no clock and no tree. `specs/` defines each, exactly.
 #![tactic(auto)]
 
+mod absorbing;
+mod again;
 mod answering;
+mod frames;
 mod greeting;
 mod looking;
+mod numbers;
 mod replying;
-mod rows;
+mod seeing;
 mod watching;
 mod wish;
 mod wishes;
 
+pub use absorbing::absorb;
 pub use answering::answer;
 pub use greeting::{come_back, is_ahead, welcome};
 pub use looking::{look, looks_at};
-pub use replying::{absorb, reply};
+pub use replying::reply;
