@@ -2,9 +2,9 @@
 use Rattle.std.specs.Prelude.{Bool, Option, refl}
 use Rattle.std.specs.Coded.{Coded, code_by, coded×, coded_bool, coded_option}
 use Rattle.zcalls.specs.declared.call.Call.{Call}
-use Rattle.zcalls.specs.declared.call.Call as call
+use Rattle.zcalls.specs.contracts.call.Call as call
 use Rattle.zanswering.specs.declared.clock.Clock.{Clock}
-use Rattle.zanswering.specs.declared.clock.Clock as clock
+use Rattle.zanswering.specs.contracts.clock.Clock as clock
 use Rattle.zalone.specs.Alone.{AloneView}
 use Rattle.zalone.specs.support.Codes.{coded_alone}
 use Rattle.ztables.specs.Tables.{TablesView}
