@@ -1,6 +1,6 @@
--- What came on each connection and is no whole frame yet. A connection carries frames, each behind
--- its length: the ZooKeeper Programmer's Guide calls the first of a client its connect request. A
--- read gives any bytes, so a frame may come in several, and what is no whole frame is kept.
+-- What came on each connection and is no whole frame yet. A read gives any number of bytes, so a
+-- frame may come in several, and what is no whole frame is kept until more comes. The frames are
+-- those of ZooKeeper's clients (`zjute`). How far a connection is, is this project's.
 use Rattle.std.specs.Prelude.{ℕ, List, [], Option, length}
 use Rattle.std.specs.List.{sum_by}
 use Rattle.std.specs.Map.{values_of}
@@ -39,7 +39,7 @@ with_phase rows connection phase = changed (λ s. record s { phase = phase }) ro
 abbrev pub with_bytes : StreamRows → ℕ → List ℕ → StreamRows
 with_bytes rows connection bytes = changed (λ s. record s { bytes = bytes }) rows connection
 
--- and with no more to be read
+-- and closing, without bytes
 abbrev pub closed : StreamRows → ℕ → StreamRows
 closed rows connection = changed (λ s. empty_in Closing) rows connection
 

@@ -62,8 +62,8 @@ impl Streams {
         self.table.phase(connection)
     }
 
-    /// Adds the stream of a connection on which nothing was read yet. After `Memory` nothing has
-    /// changed.
+    /// Adds the stream of a connection on which nothing was read yet, in place of any that it has.
+    /// After `Memory` nothing has changed.
     pub fn open(&mut self, connection: u32, password: Password) -> Result<(), Memory>
         ensures ok { OnOk result (self.new ≡ finite.insert self.old connection (opened password)) }
         ensures err { OnErr result (self.new ≡ self.old) }

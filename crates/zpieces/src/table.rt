@@ -56,7 +56,7 @@ impl StreamTable {
         self.rows.len()
     }
 
-    // Returns how many bytes the streams hold together: fewer than a machine can have.
+    // Returns how many bytes the streams hold together, where the count isn't wrapped.
     pub(crate) fn held(&self) -> usize
         ensures { held_of self.now < 2 ^ 64 → result ≡ held_of self.now }
     {
@@ -71,7 +71,8 @@ impl StreamTable {
         Some(stream.phase)
     }
 
-    // Adds a stream without bytes. After `Memory` nothing has changed.
+    // Adds a stream without bytes, in place of any that the connection has. After `Memory` nothing
+    // has changed.
     pub(crate) fn insert(&mut self, connection: u32, phase: Phase) -> Result<(), Memory>
         ensures ok { OnOk result (self.new ≡ finite.insert self.old connection (empty_in phase)) }
         ensures err { OnErr result (self.new ≡ self.old) }

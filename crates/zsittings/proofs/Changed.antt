@@ -1,12 +1,12 @@
 -- On the map that the entries of a table make, where a value is written or all are.
-use Rattle.std.proofs.Common.{◌≡◌, ℕ, refl, cond, List, map, Option, Some, None, IsSome, length, sym, ap, ◌∙◌}
+use Rattle.std.proofs.Common.{◌≡◌, ℕ, refl, cond, List, map, Some, None, IsSome, length, sym, ap, ◌∙◌}
 use Rattle.std.specs.Ordering.{nat_cmp}
 use Rattle.std.specs.Option.{option_map, option_map_or}
 use Rattle.std.specs.List.Sorted.{IsStrictlySortedBy}
 use Rattle.std.specs.Map.{lookup, keys_of}
 use Rattle.std.specs.BTreeMap.{is_at}
 use Rattle.std.proofs.lemmas.Map.Made.{lookup-map_values}
-use Rattle.std.specs.FinMap.{get, get-entries as map-entries, insert, len, len-entries, entries, from_entries}
+use Rattle.std.specs.FinMap.{get-entries as map-entries, insert, len, len-entries, entries, from_entries}
 use Rattle.zsittings.specs.declared.sitting.Sitting.{Sitting}
 use Rattle.zsittings.specs.Laws.{EachRests}
 use Rattle.zsittings.specs.Sittings.{all_rested, rested, with_changed}

@@ -1,5 +1,5 @@
 -- What holds of all sittings. The functions of `src/laws.rt` promise it.
-use Rattle.std.specs.Prelude.{◌≡◌, ℕ, true, List, None, Some, option_map}
+use Rattle.std.specs.Prelude.{◌≡◌, ℕ, true, List, Some, option_map}
 use Rattle.std.specs.FinMap.{get}
 use Rattle.zsittings.specs.declared.sitting.Sitting.{Sitting}
 use Rattle.zsittings.specs.Sittings.{SittingsView, all_rested, passes, rested}

@@ -1,11 +1,11 @@
 -- Which session has which connection, and by which password a connection takes a session up. The
 -- source is the ZooKeeper Programmer's Guide, "ZooKeeper Sessions". A sitting is what a server
 -- keeps of a session beside the tree.
-use Rattle.std.specs.Prelude.{ℕ, Bool, true, false, List, Option, None, Some, if◌then◌else◌, map, nat_eq}
+use Rattle.std.specs.Prelude.{ℕ, Bool, true, false, List, None, Some, if◌then◌else◌, map, nat_eq}
 use Rattle.std.specs.Option.{option_map_or}
 use Rattle.std.specs.Ordering.{nat_cmp}
 use Rattle.std.specs.List.{filter_map}
-use Rattle.std.specs.FinMap.{FinMap, get, insert, entries, keys, from_entries}
+use Rattle.std.specs.FinMap.{FinMap, get, insert, entries, from_entries}
 use lib.Pointwise.{pointwise}
 use Rattle.zsittings.specs.declared.sitting.Sitting.{Sitting}
 

@@ -1,5 +1,5 @@
 -- The frame of an event is short.
-use Rattle.std.proofs.Common.{◌≡◌, ℕ, ℤ, ◌≤◌, ◌<◌, length, arith, length-append}
+use Rattle.std.proofs.Common.{ℤ, ◌≤◌, length, arith, length-append}
 use Rattle.zpath.specs.declared.limits.TheConstants.{MAX_TEXT_LEN}
 use Rattle.zjute.specs.declared.limits.TheConstants.{MAX_FRAME}
 use Rattle.zjute.specs.declared.event.WatcherEvent.{WatcherEvent}

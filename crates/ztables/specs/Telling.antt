@@ -1,7 +1,9 @@
 -- What watches are told: an event goes to each connection with a watch that it fires. The source is
 -- the ZooKeeper Programmer's Guide, "ZooKeeper Watches", and zookeeper.jute (`WatcherEvent`).
-use Rattle.std.specs.Prelude.{ℕ, List, [], ◌∷◌}
-use Rattle.std.specs.FinSet.{items}
+use Rattle.std.specs.Prelude.{ℕ, List, [], ◌∷◌, map}
+use Rattle.std.specs.FinMap.{from_entries, keys}
+use Rattle.std.specs.FinSet.{FinSet, items}
+use Rattle.std.specs.Ordering.{nat_cmp}
 use Rattle.zpath.specs.Grammar.{text_of}
 use Rattle.zjute.specs.Jute.{neg}
 use Rattle.zjute.specs.Frames.{frame}
@@ -29,9 +31,13 @@ sent_on (c ∷ cs) bytes t = sent_on cs bytes (sent c bytes t)
 abbrev pub unwatched : Event → TablesView → TablesView
 unwatched e t = record t { watches = watch.unfired t.watches e.kind e.path }
 
+-- numbers in rising order, each once: the keys of a map are so
+abbrev pub in_order : FinSet nat_cmp → List ℕ
+in_order set = keys (from_entries {R = nat_cmp} (map (λ x. (x, tt {0})) (items set)))
+
 -- and their connections are told, each once
 abbrev pub told : Event → TablesView → TablesView
-told e t = sent_on (items (watch.told t.watches e.kind e.path)) (event_frame e) (unwatched e t)
+told e t = sent_on (in_order (watch.told t.watches e.kind e.path)) (event_frame e) (unwatched e t)
 
 -- events in their order
 abbrev pub told_all : List Event → TablesView → TablesView

@@ -32,9 +32,9 @@ impl Tables {
     pub fn session(&self, connection: u32) -> Option<SessionId>
         ensures { result ≡ session_in (phase_of self.now.streams connection) }
     {
-        match self.streams.phase(connection) {
-            Some(Phase::Speaking(session)) => Some(session),
-            Some(Phase::Silent(_) | Phase::Closing) | None => None,
+        match self.phase(connection)? {
+            Phase::Speaking(session) => Some(session),
+            Phase::Silent(_) | Phase::Closing => None,
         }
     }
 
@@ -42,7 +42,7 @@ impl Tables {
     pub fn is_open(&self, connection: u32) -> bool
         ensures { result ≡ is_open self.now connection }
     {
-        match self.streams.phase(connection) {
+        match self.phase(connection) {
             Some(Phase::Silent(_) | Phase::Speaking(_)) => true,
             Some(Phase::Closing) | None => false,
         }

@@ -22,8 +22,7 @@ impl Tables {
     ) -> Result<(), Memory>
         ensures { OnOk result (self.new ≡ sitting session password connection self.old) }
     {
-        self.streams
-            .set_phase(connection, Phase::Speaking(session));
+        self.streams.set_phase(connection, Phase::Speaking(session));
         self.sittings.open(session, password, connection)
     }
 
@@ -83,8 +82,7 @@ impl Tables {
     fn seat(&mut self, session: SessionId, connection: u32)
         ensures { self.new ≡ seated session connection self.old }
     {
-        self.streams
-            .set_phase(connection, Phase::Speaking(session));
+        self.streams.set_phase(connection, Phase::Speaking(session));
         self.sittings.seat(session, connection);
     }
 }

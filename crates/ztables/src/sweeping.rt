@@ -1,10 +1,11 @@
 //! The end of sessions.
 
 ghost use Rattle.std.specs.Prelude.{◌≡◌, IfOk, OnOk};
-ghost use Rattle.ztables.specs.Sweeping.{forgotten, gone, made_one, some_made_one, swept};
-ghost use Rattle.ztables.specs.Sweeping.{swept_all};
+ghost use Rattle.std.specs.List.{filter};
+ghost use Rattle.ztables.specs.Sweeping.{gone, is_gone, made_one, some_made_one, swept, swept_all};
 
 use crate::tables::Tables;
+use std::alloc::Global;
 use zknown::Known;
 use zpath::Memory;
 use ztree::SessionId;
@@ -29,9 +30,8 @@ impl Tables {
         ensures { IfOk result (λ ids. ids.items
             ≡ gone known.now.sessions self.now.sittings) }
     {
-        let mut ids = self.sittings.ids()?;
-        ids.retain(|id| known.session(*id).is_none());
-        Ok(ids)
+        let ids = self.sittings.ids()?;
+        gone_among(self.alloc, &ids, known)
     }
 
     // Returns whether one of these sessions made an ephemeral node.
@@ -74,4 +74,17 @@ impl Tables {
         self.sittings.remove(id);
         Ok(())
     }
+}
+
+// Returns the sessions among these that the tree has no more.
+fn gone_among(alloc: Global, ids: &[SessionId], known: &Known) -> Result<Vec<SessionId>, Memory>
+    ensures { IfOk result (λ gone. gone.items ≡ filter (is_gone known.now.sessions) ids.now) }
+{
+    let mut gone = Vec::new(alloc);
+    for id in ids {
+        if known.session(*id).is_none() {
+            gone.push(*id)?;
+        }
+    }
+    Ok(gone)
 }

@@ -1,10 +1,10 @@
 //! Telling events.
 
 ghost use Rattle.std.specs.Prelude.{◌≡◌, IfOk, OnOk};
-ghost use Rattle.std.specs.FinSet.{items};
 ghost use Rattle.zwatches.specs.Events as watch;
 ghost use Rattle.ztables.specs.Tables.{sent};
-ghost use Rattle.ztables.specs.Telling.{event_frame, sent_on, told, told_all, unwatched};
+ghost use Rattle.ztables.specs.Telling.{event_frame, in_order, sent_on, told, told_all};
+ghost use Rattle.ztables.specs.Telling.{unwatched};
 
 use crate::framing::event_frame;
 use crate::tables::Tables;
@@ -42,7 +42,7 @@ impl Tables {
     // Removes the watches that an event fires, and returns their connections.
     fn fire(&mut self, event: &Event) -> Result<Vec<u32>, Memory>
         ensures connections { IfOk result (λ connections. connections.items
-            ≡ items (watch.told self.old.watches event.now.kind event.now.path)) }
+            ≡ in_order (watch.told self.old.watches event.now.kind event.now.path)) }
         ensures rest { OnOk result (self.new ≡ unwatched event.now self.old) }
     {
         self.watches.changed(event.kind, &event.path)

@@ -1,5 +1,5 @@
 -- Samples for the worked rows.
-use Rattle.std.specs.Prelude.{ℕ, List, [], ◌∷◌, Some}
+use Rattle.std.specs.Prelude.{ℕ, List, [], ◌∷◌}
 use Rattle.std.specs.FinMap.{empty, insert}
 use Rattle.zsittings.specs.declared.sitting.Sitting.{Sitting}
 use Rattle.zsittings.specs.Sittings.{SittingsView, new_sitting}
