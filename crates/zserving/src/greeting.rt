@@ -22,23 +22,34 @@ pub fn is_ahead(known: &Known, request: &ConnectRequest) -> bool
     long_of(known.zxid().number()) < request.last_zxid_seen
 }
 
-/// Tells a client its new session, with the timeout granted in ticks.
+/// A session that was opened for a client.
+#[derive(Clone, Copy)]
+pub struct Opened {
+    /// Its id.
+    pub id: SessionId,
+    /// The timeout that was granted, in ticks.
+    pub ticks: u64,
+    /// Its password.
+    pub password: Password,
+}
+
+/// Tells a client its new session.
 pub fn welcome(
     alloc: Global,
     tables: &mut Tables,
     tick: TickLength,
     request: &ConnectRequest,
-    session: SessionId,
-    ticks: u64,
-    password: Password,
+    session: &Opened,
     connection: u32,
 ) -> Result<(), Memory>
     ensures { OnOk result (tables.new
-        ≡ welcomed tick request.now session ticks password connection tables.old) }
+        ≡ welcomed tick request.now session.now.id session.now.ticks session.now.password
+        connection tables.old) }
 {
-    tables.sit(session, password, connection)?;
-    let timeout = millis_told(tick, ticks);
-    let frame = response_frame(alloc, request, timeout, long_of(session.number()), &password)?;
+    tables.sit(session.id, session.password, connection)?;
+    let timeout = millis_told(tick, session.ticks);
+    let id = long_of(session.id.number());
+    let frame = response_frame(alloc, request, timeout, id, &session.password)?;
     tables.send(connection, frame)
 }
 

@@ -14,13 +14,14 @@ mod greeting;
 mod looking;
 mod numbers;
 mod replying;
+mod rows;
 mod seeing;
 mod watching;
 mod wish;
 mod wishes;
 
 pub use absorbing::absorb;
-pub use answering::answer;
-pub use greeting::{come_back, is_ahead, welcome};
+pub use answering::{Done, answer};
+pub use greeting::{Opened, come_back, is_ahead, welcome};
 pub use looking::{look, looks_at};
 pub use replying::reply;

@@ -56,10 +56,14 @@ same_members : (xs ys : List ℕ) → ((q : ℕ) → list_any (eq_by_cmp nat_cmp
 same_members xs ys same =
     same_map nat_cmp_total nat_cmp-IsAntisymmetric _ _ (λ q. get-marked xs q ∙ ap found (same q) ∙ sym (get-marked ys q))
 
--- a list that lists a set has its numbers in order
+-- a rising list with a set's members has them in order
+pub in_order-members : (xs : List ℕ) (set : FinSet nat_cmp) → IsStrictlySortedBy nat_cmp xs → ((q : ℕ) → list_any (eq_by_cmp nat_cmp q) xs ≡ contains set q) → xs ≡ in_order set
+in_order-members xs set rising members =
+    sym (keys-marked xs)
+    ∙ ap (map (λ e. e.0)) (sym (entries-rising xs rising))
+    ∙ ap keys (same_members xs (items set) (λ q. members q ∙ contains-items set q))
+
+-- so has a list that lists it
 pub in_order-Lists : (xs : List ℕ) (set : FinSet nat_cmp) → Lists xs set → xs ≡ in_order set
 in_order-Lists xs set l =
-    sym (keys-marked xs)
-    ∙ ap (map (λ e. e.0)) (sym (entries-rising xs l.rising))
-    ∙ ap keys (same_members xs (items set) (λ q.
-    sym (contains-from_list nat_cmp_total xs q) ∙ ap (λ s. contains s q) l.same ∙ contains-items set q))
+    in_order-members xs set l.rising (λ q. sym (contains-from_list nat_cmp_total xs q) ∙ ap (λ s. contains s q) l.same)

@@ -1,3 +1,4 @@
+pub mod Laws
 pub mod Sweeping
 pub mod Tables
 pub mod Telling

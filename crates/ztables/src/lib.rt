@@ -8,7 +8,9 @@
 mod closing;
 mod connecting;
 mod framing;
+pub mod laws;
 mod making;
+mod rows;
 mod seating;
 mod sending;
 mod sweeping;
