@@ -1,1 +1,4 @@
+mod Results
 mod Frames
+mod Late
+mod Lines

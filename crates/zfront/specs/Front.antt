@@ -59,6 +59,12 @@ abbrev pub heard : Call → Option Reply → FrontView → FrontView
 heard call None v = v
 heard call (Some told) v = tidied (takes_nodes told) (record v { tables = absorbed call told v.tables; late = None })
 
+-- the service settles for a call, and its reply came or didn't
+abbrev pub HearsOf : Call → Bool → FrontView → FrontView → Type 0
+HearsOf call came old new =
+    (asker : AloneView) × (told : Option Reply) × Settles old.asker asker told × TellsSettled old.asker asker told
+    × (came ≡ is_some told) × (new ≡ heard call told (record old { asker = asker }))
+
 -- the service settles while a call is late
 abbrev pub HearsIf : Option Call → FrontView → FrontView → Type 0
 HearsIf None old new = new ≡ old
@@ -66,17 +72,20 @@ HearsIf (Some call) old new =
     (asker : AloneView) × (told : Option Reply) × Settles old.asker asker told × TellsSettled old.asker asker told
     × (new ≡ heard call told (record old { asker = asker }))
 
--- each watched place is looked at; the watches whose nodes went away, or lost a child, are told
-pub record LooksNow (old new : FrontView) : Type 0 where
-  pub places : List Place
-  pub all : Lists places (node_places old.tables.watches)
+-- places are looked at by these calls; the watches whose nodes went away, or lost a child, are told
+pub record LooksBy (places : List Place) (calls : List Call) (old new : FrontView) : Type 0 where
   pub middle : FrontView
   pub replies : List Reply
-  pub asks : Asks old (looks_at places) middle replies
+  pub asks : Asks old calls middle replies
   pub told : new ≡ record middle {
     tables = told_all (seen middle.asker.known.zxid places replies) middle.tables;
     must_look = is_some middle.late;
   }
+
+-- each watched place is looked at
+abbrev pub LooksNow : FrontView → FrontView → Type 0
+LooksNow old new =
+    (places : List Place) × Lists places (node_places old.tables.watches) × LooksBy places (looks_at places) old new
 
 abbrev pub LooksIf : Bool → FrontView → FrontView → Type 0
 LooksIf false old new = new ≡ old

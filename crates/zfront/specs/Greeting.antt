@@ -29,7 +29,7 @@ opened tick greeting password c replies t = closed c t
 abbrev pub Opens : ConnectRequest → List ℕ → ℕ → FrontView → FrontView → Type 0
 Opens greeting password c old new =
     (middle : FrontView) × (replies : List Reply) × Asks old (opening old.clock.tick greeting ∷ []) middle replies
-    × (new ≡ with_tables (opened old.clock.tick greeting password c replies middle.tables) middle)
+    × (new ≡ with_tables (opened middle.clock.tick greeting password c replies middle.tables) middle)
 
 -- the session number 0 asks for a new session
 abbrev pub GreetsIf : Bool → ConnectRequest → List ℕ → ℕ → FrontView → FrontView → Type 0

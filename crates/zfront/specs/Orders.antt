@@ -2,13 +2,14 @@
 -- script (docs/GUIDE.md): fail, join, retire, settle. Any other line is `bad line`, so the operator
 -- makes no call.
 use Rattle.std.specs.Prelude.{◌≡◌, ℕ, List, [], ◌∷◌, ◌++◌, codes, Option, None, Some, Result, Ok, Err}
-use Rattle.zprotocol.specs.declared.join_fault.JoinFault.{JoinFault}
-use Rattle.zprotocol.specs.declared.join_fault.JoinFault.TheVariants as join
-use Rattle.zprotocol.specs.declared.retire_fault.RetireFault.{RetireFault}
-use Rattle.zprotocol.specs.declared.retire_fault.RetireFault.TheVariants as retire
+use Rattle.zprotocol.specs.declared.master.join_fault.JoinFault.{JoinFault}
+use Rattle.zprotocol.specs.declared.master.join_fault.JoinFault.TheVariants as join
+use Rattle.zprotocol.specs.declared.master.retire_fault.RetireFault.{RetireFault}
+use Rattle.zprotocol.specs.declared.master.retire_fault.RetireFault.TheVariants as retire
 use Rattle.zlines.specs.declared.line.Line.{Line}
 use Rattle.zlines.specs.declared.line.Line.TheVariants as line
 use Rattle.zlines.specs.declared.request.LineFault.{LineFault}
+use Rattle.zlines.specs.declared.request.LineFault.TheVariants as fault_of
 use Rattle.zlines.specs.Line.{line_of}
 use Rattle.zworld.specs.declared.did.Did.{Did}
 use Rattle.zworld.specs.declared.did.Did.TheVariants as became
@@ -24,7 +25,9 @@ use Rattle.zalone.specs.Alone.{AloneView, Settles, SameCall}
 use Rattle.zalone.specs.Told.{TellsOrdered, TellsSettled}
 use Rattle.zalone.specs.Order.{event_of}
 use Rattle.ztables.specs.Tables.{operator_sent}
-use Rattle.zfront.specs.Front.{FrontView, with_tables, IsReady, heard}
+use Rattle.zfront.specs.declared.orders.Wanted.{Wanted}
+use Rattle.zfront.specs.declared.orders.Wanted.TheVariants as wanted
+use Rattle.zfront.specs.Front.{FrontView, with_tables, IsReady, HearsIf}
 
 -- why a join is refused
 abbrev pub join_text : JoinFault → List ℕ
@@ -56,34 +59,52 @@ did_text other = codes "done"
 abbrev pub told_operator : List ℕ → FrontView → FrontView
 told_operator text v = with_tables (operator_sent (text ++ 10 ∷ []) v.tables) v
 
--- an order to the chain
-pub record Obeys (ordered : Order) (old new : FrontView) : Type 0 where
+-- an order is given to the chain
+pub record IsGiven (given : Order) (old new : FrontView) : Type 0 where
   pub did : Did
   pub asker : AloneView
-  pub happened : HasDone old.asker.world asker.world (event_of ordered) did
-  pub cause : HasCause old.asker.world.held (event_of ordered) did
+  pub happened : HasDone old.asker.world asker.world (event_of given) did
+  pub cause : HasCause old.asker.world.held (event_of given) did
   pub same : SameCall old.asker asker
   pub tells : TellsOrdered old.asker asker
   pub told : new ≡ told_operator (did_text did) (record old { asker = asker })
 
--- a late call is heard of, if there is one
-abbrev pub heard_of : Option Call → Option Reply → FrontView → FrontView
-heard_of None told v = v
-heard_of (Some call) told v = heard call told v
-
--- the service settles
-abbrev pub SettlesNow : FrontView → FrontView → Type 0
-SettlesNow old new =
+-- the service settles where no call is late
+abbrev pub SettlesAlone : FrontView → FrontView → Type 0
+SettlesAlone old new =
     (asker : AloneView) × (told : Option Reply) × Settles old.asker asker told × TellsSettled old.asker asker told
-    × (new ≡ told_operator (codes "quiet") (heard_of old.late told (record old { asker = asker })))
+    × (new ≡ record old { asker = asker })
+
+abbrev pub SettlesIf : Option Call → FrontView → FrontView → Type 0
+SettlesIf None old new = SettlesAlone old new
+SettlesIf (Some call) old new = HearsIf (Some call) old new
+
+-- the service settles, and a late call is heard of
+abbrev pub SettlesNow : FrontView → FrontView → Type 0
+SettlesNow old new = (middle : FrontView) × SettlesIf old.late old middle × (new ≡ told_operator (codes "quiet") middle)
+
+-- what a line asks for
+abbrev pub wanted_of : Line → Wanted
+wanted_of (line.Fail server) = wanted.Order (order.Fail server)
+wanted_of (line.Join server) = wanted.Order (order.Join server)
+wanted_of (line.Retire server) = wanted.Order (order.Retire server)
+wanted_of line.Settle = wanted.Settle
+wanted_of other = wanted.Nothing
+
+-- what the operator wants is done
+abbrev pub Obeys : Wanted → FrontView → FrontView → Type 0
+Obeys (wanted.Order given) old new = IsGiven given old new
+Obeys wanted.Settle old new = SettlesNow old new
+Obeys wanted.Nothing old new = new ≡ told_operator (codes "bad line") old
+
+-- a line with this fault is refused; want of memory is no fault of it
+abbrev pub IsRefused : LineFault → FrontView → FrontView → Type 0
+IsRefused fault old new = (fault ≡ fault_of.Memory → ⊥) × (new ≡ told_operator (codes "bad line") old)
 
 -- a line by what it means
 abbrev pub ObeysLine : Result Line LineFault → FrontView → FrontView → Type 0
-ObeysLine (Ok (line.Fail server)) old new = Obeys (order.Fail server) old new
-ObeysLine (Ok (line.Join server)) old new = Obeys (order.Join server) old new
-ObeysLine (Ok (line.Retire server)) old new = Obeys (order.Retire server) old new
-ObeysLine (Ok line.Settle) old new = SettlesNow old new
-ObeysLine other old new = new ≡ told_operator (codes "bad line") old
+ObeysLine (Ok line) old new = Obeys (wanted_of line) old new
+ObeysLine (Err fault) old new = new ≡ told_operator (codes "bad line") old
 
 -- a line of the operator
 abbrev pub Hears : List ℕ → FrontView → FrontView → Type 0

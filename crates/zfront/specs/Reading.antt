@@ -1,7 +1,7 @@
 -- What becomes of the bytes that come on a connection: they are cut into frames, and each is done
 -- before the next is looked at. The source is zookeeper.jute. The bound on what is kept of all
 -- connections is this project's profile.
-use Rattle.std.specs.Prelude.{◌≡◌, ℕ, ◌+◌, Bool, true, false, ◌||◌, nat_lt, is_some, List, [], ◌∷◌, ◌++◌, length, Option, None, Some, if◌then◌else◌}
+use Rattle.std.specs.Prelude.{◌≡◌, ℕ, ◌+◌, ◌<◌, ◌^◌, Bool, true, false, ◌||◌, nat_lt, is_some, List, [], ◌∷◌, ◌++◌, length, Option, None, Some, if◌then◌else◌}
 use Rattle.zjute.specs.Frames.{Front, Whole, TooLong, next_of, IsEnd}
 use Rattle.zpieces.specs.declared.phase.Phase.{Phase}
 use Rattle.zpieces.specs.declared.phase.Phase.TheVariants.{Silent, Speaking, Closing}
@@ -64,6 +64,10 @@ kept rest c t =
 abbrev pub keeps : List ℕ → ℕ → FrontView → FrontView
 keeps rest c v = if is_open v.tables c then with_tables (kept rest c v.tables) v else v
 
+-- no machine keeps 2 ^ 64 bytes
+abbrev pub Keeps : List ℕ → ℕ → FrontView → FrontView → Type 0
+Keeps rest c old new = held_of old.tables.streams < 2 ^ 64 → new ≡ keeps rest c old
+
 -- a word of four letters is answered in the place of a greeting, and its connection is closed
 abbrev pub word_asked : Option Phase → List ℕ → Option Word
 word_asked (Some (Silent password)) came = word_in came
@@ -72,7 +76,7 @@ word_asked other came = None
 -- bytes that begin with a word, or are frames
 abbrev pub ComesBy : Option Word → List ℕ → ℕ → FrontView → FrontView → Type 0
 ComesBy (Some word) came c old new = new ≡ said word c old
-ComesBy None came c old new = (rest : List ℕ) × (middle : FrontView) × Reads came c old rest middle × (new ≡ keeps rest c middle)
+ComesBy None came c old new = (rest : List ℕ) × (middle : FrontView) × Reads came c old rest middle × Keeps rest c middle new
 
 -- bytes behind those that were kept
 abbrev pub ComesBehind : List ℕ → ℕ → FrontView → FrontView → Type 0

@@ -8,9 +8,13 @@ use Rattle.zcalls.specs.declared.reply.Reply.{Reply}
 use Rattle.zsittings.specs.Sittings.{touched_ids, all_rested}
 use Rattle.zfront.specs.Front.{FrontView, with_tables, Asks, IsReady, Tidies}
 
+-- the call that renews a session
+abbrev pub ping : ℕ → Call
+ping session = Update (Ping session)
+
 -- the calls of a tick
 abbrev pub tick_calls : List ℕ → List Call
-tick_calls sessions = map (λ id. Update (Ping id)) sessions ++ Update Tick ∷ []
+tick_calls sessions = map ping sessions ++ Update Tick ∷ []
 
 -- nobody was heard of since then
 abbrev pub rested : FrontView → FrontView
@@ -21,11 +25,14 @@ abbrev pub TicksIf : Bool → List Reply → FrontView → FrontView → Type 0
 TicksIf true replies old new = new ≡ old
 TicksIf false replies old new = Tidies replies (rested old) new
 
+-- these calls of a tick are made
+abbrev pub TicksBy : List Call → FrontView → FrontView → Type 0
+TicksBy calls old new =
+    (middle : FrontView) × (replies : List Reply) × Asks old calls middle replies × TicksIf (is_some middle.late) replies middle new
+
 -- a tick where no call is late
 abbrev pub TicksNow : FrontView → FrontView → Type 0
-TicksNow old new =
-    (middle : FrontView) × (replies : List Reply) × Asks old (tick_calls (touched_ids old.tables.sittings)) middle replies
-    × TicksIf (is_some middle.late) replies middle new
+TicksNow old new = TicksBy (tick_calls (touched_ids old.tables.sittings)) old new
 
 -- while a call is late no time goes by
 abbrev pub TicksUnless : Bool → FrontView → FrontView → Type 0

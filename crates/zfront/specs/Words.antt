@@ -4,7 +4,7 @@ use Rattle.std.specs.Prelude.{ℕ, Bool, true, false, List, [], ◌∷◌, ◌++
 use Rattle.std.specs.Str.{bytes_eq}
 use Rattle.std.specs.FinMap as finite
 use Rattle.std.specs.FinSet as sets
-use Rattle.std.specs.Int.{decimal}
+use Rattle.std.specs.Fmt.{decimal}
 use Rattle.ztables.specs.Tables.{TablesView, sent, closed}
 use Rattle.zfront.specs.Front.{FrontView, with_tables}
 use Rattle.zfront.specs.declared.word.Word.{Word}

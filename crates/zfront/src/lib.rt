@@ -8,7 +8,7 @@
 #![tactic(auto)]
 
 mod asking;
-mod core;
+mod inner;
 mod front;
 mod greeting;
 mod hearing;
@@ -16,7 +16,7 @@ pub mod limits;
 mod orders;
 mod reading;
 mod requests;
-mod rows;
+
 mod ticking;
 mod word;
 mod words;

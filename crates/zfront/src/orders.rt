@@ -1,36 +1,58 @@
 //! Lines of the chain's operator.
 
-ghost use Rattle.std.specs.Prelude.{◌≡◌, ◌++◌, codes, OnOk};
-ghost use Rattle.zfront.specs.Orders.{Hears, Obeys, ObeysLine, SettlesNow, told_operator};
+ghost use Rattle.std.specs.Prelude.{◌≡◌, Some, OnOk};
+ghost use Rattle.zfront.specs.Orders.{Hears, IsGiven, IsRefused, Obeys, SettlesAlone, SettlesNow, told_operator};
 ghost use Rattle.zfront.specs.Orders as table;
 
-use crate::core::Core;
+use crate::inner::Inner;
 use zalone::{Did, Order};
-use zcalls::Reply;
 use zlines::{Line, LineFault, read_line};
 use zpath::Memory;
 use zprotocol::{JoinFault, RetireFault};
 use zworld::IdleCause;
 
-impl Core {
+impl Inner {
     // Does what a line of the operator asks for, and answers it.
     pub(crate) fn line(&mut self, line: &[u8]) -> Result<(), Memory>
         ensures { OnOk result (Hears line.now self.old self.new) }
     {
         self.get_ready()?;
         match read_line(self.alloc, line) {
-            Ok(Line::Fail(server)) => self.obey(Order::Fail(server)),
-            Ok(Line::Join(server)) => self.obey(Order::Join(server)),
-            Ok(Line::Retire(server)) => self.obey(Order::Retire(server)),
-            Ok(Line::Settle) => self.settle(),
-            Err(LineFault::Memory) => Err(Memory),
-            Ok(_) | Err(_) => self.tell_operator("bad line"),
+            Ok(line) => {
+                let wanted = wanted_of(&line);
+                drop(line);
+                self.obey(wanted)
+            }
+            Err(fault) => self.refuse_line(fault),
+        }
+    }
+
+    // Says that a line is none, unless it was out of memory.
+    fn refuse_line(&mut self, fault: LineFault) -> Result<(), Memory>
+        ensures { OnOk result (IsRefused fault self.old self.new) }
+    {
+        match fault {
+            LineFault::Memory => Err(Memory),
+            LineFault::BadLine | LineFault::BadPath(_) | LineFault::BadData => {
+                self.tell_operator("bad line")
+            }
+        }
+    }
+
+    // Does what the operator wants.
+    fn obey(&mut self, wanted: Wanted) -> Result<(), Memory>
+        ensures { OnOk result (Obeys wanted self.old self.new) }
+    {
+        match wanted {
+            Wanted::Order(order) => self.give(order),
+            Wanted::Settle => self.settle(),
+            Wanted::Nothing => self.tell_operator("bad line"),
         }
     }
 
     // Gives an order to the chain.
-    fn obey(&mut self, order: Order) -> Result<(), Memory>
-        ensures { OnOk result (Obeys order self.old self.new) }
+    fn give(&mut self, order: Order) -> Result<(), Memory>
+        ensures { OnOk result (IsGiven order self.old self.new) }
     {
         let did = self.alone.chain(order)?;
         self.tell_operator(did_text(did))
@@ -40,26 +62,25 @@ impl Core {
     fn settle(&mut self) -> Result<(), Memory>
         ensures { OnOk result (SettlesNow self.old self.new) }
     {
-        let told = self.alone.settle()?;
-        if let Some(reply) = told {
-            self.hear_now(&reply)?;
+        match self.late.take() {
+            Some(call) => self.hear_of(call)?,
+            None => self.settle_alone()?,
         }
         self.tell_operator("quiet")
     }
 
-    // Takes up the reply to the call that is late, if one is.
-    fn hear_now(&mut self, reply: &Reply) -> Result<(), Memory>
-        ensures { OnOk result (self.new ≡ heard_of self.old.late (Some reply.now) self.old) }
+    // Lets the service settle where no call is late.
+    fn settle_alone(&mut self) -> Result<(), Memory>
+        ensures { OnOk result (SettlesAlone self.old self.new) }
     {
-        match self.late.take() {
-            Some(call) => self.take_up(&call, reply),
-            None => Ok(()),
-        }
+        let told = self.alone.settle()?;
+        drop(told);
+        Ok(())
     }
 
     // Answers the operator by a line.
     fn tell_operator(&mut self, text: &str) -> Result<(), Memory>
-        ensures { OnOk result (self.new ≡ told_operator (string_bytes text.now) self.old) }
+        ensures { OnOk result (self.new ≡ told_operator text.now self.old) }
     {
         let mut bytes = Vec::from_slice(self.alloc, text.as_bytes())?;
         bytes.push(b'\n')?;
@@ -67,9 +88,33 @@ impl Core {
     }
 }
 
+// What the operator wants.
+#[derive(Clone, Copy, Debug, PartialEq, Eq)]
+pub(crate) enum Wanted {
+    // The chain is given an order.
+    Order(Order),
+    // The service is to settle.
+    Settle,
+    // What an operator has no line for.
+    Nothing,
+}
+
+// Returns what a line asks for.
+fn wanted_of(line: &Line) -> Wanted
+    ensures { result ≡ table.wanted_of line.now }
+{
+    match line {
+        Line::Fail(server) => Wanted::Order(Order::Fail(*server)),
+        Line::Join(server) => Wanted::Order(Order::Join(*server)),
+        Line::Retire(server) => Wanted::Order(Order::Retire(*server)),
+        Line::Settle => Wanted::Settle,
+        _ => Wanted::Nothing,
+    }
+}
+
 // Returns what is said of an order.
 fn did_text(did: Did) -> &'static str
-    ensures { string_bytes result.now ≡ table.did_text did }
+    ensures { result.now ≡ table.did_text did }
 {
     match did {
         Did::Idle(IdleCause::Join(fault)) => join_text(fault),
@@ -80,7 +125,9 @@ fn did_text(did: Did) -> &'static str
 }
 
 // Returns what is said of a join that is refused.
-fn join_text(fault: JoinFault) -> &'static str {
+fn join_text(fault: JoinFault) -> &'static str
+    ensures { result.now ≡ table.join_text fault }
+{
     match fault {
         JoinFault::Used => "no Used",
         JoinFault::Joining => "no Joining",
@@ -91,7 +138,9 @@ fn join_text(fault: JoinFault) -> &'static str {
 }
 
 // Returns what is said of an order to leave that is refused.
-fn retire_text(fault: RetireFault) -> &'static str {
+fn retire_text(fault: RetireFault) -> &'static str
+    ensures { result.now ≡ table.retire_text fault }
+{
     match fault {
         RetireFault::NotMember => "no NotMember",
         RetireFault::Joining => "no Joining",

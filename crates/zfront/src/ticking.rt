@@ -1,15 +1,15 @@
 //! Ticks.
 
-ghost use Rattle.std.specs.Prelude.{◌≡◌, IfOk, OnOk};
-ghost use Rattle.zfront.specs.Ticking.{tick_calls, Ticks, TicksNow};
+ghost use Rattle.std.specs.Prelude.{◌≡◌, is_some, IfOk, OnOk};
+ghost use Rattle.zfront.specs.Ticking.{ping, tick_calls, Ticks, TicksBy, TicksIf, TicksNow};
 
-use crate::core::Core;
+use crate::inner::Inner;
 use std::alloc::Global;
-use zcalls::{Call, Update};
+use zcalls::{Call, Reply, Update};
 use zpath::Memory;
 use ztree::SessionId;
 
-impl Core {
+impl Inner {
     // Renews the sessions that were heard of since the last tick, and lets time go on. While a call
     // is late no time goes by.
     pub(crate) fn tick(&mut self) -> Result<(), Memory>
@@ -27,13 +27,33 @@ impl Core {
         ensures { OnOk result (TicksNow self.old self.new) }
     {
         let sessions = self.tables.touched()?;
-        let calls = tick_calls(self.alloc, &sessions)?;
-        let replies = self.ask(&calls)?;
+        let calls = tick_calls(self.alloc, &sessions);
+        drop(sessions);
+        let calls = calls?;
+        let done = self.make_tick(&calls);
+        drop(calls);
+        done
+    }
+
+    // Makes the calls of a tick.
+    fn make_tick(&mut self, calls: &[Call]) -> Result<(), Memory>
+        ensures { OnOk result (TicksBy calls.now self.old self.new) }
+    {
+        let replies = self.ask(calls)?;
+        let done = self.end_tick(&replies);
+        drop(replies);
+        done
+    }
+
+    // Begins anew to note whose clients are heard, if the calls of a tick were answered.
+    fn end_tick(&mut self, replies: &[Reply]) -> Result<(), Memory>
+        ensures { OnOk result (TicksIf (is_some self.old.late) replies.now self.old self.new) }
+    {
         if self.late.is_some() {
             return Ok(());
         }
         self.tables.rest();
-        self.tidy_and_look(&replies)
+        self.tidy_and_look(replies)
     }
 }
 

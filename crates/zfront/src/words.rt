@@ -1,16 +1,17 @@
 //! Answers to the words of four letters.
 
-ghost use Rattle.std.specs.Prelude.{◌≡◌, IfOk, OnOk};
+ghost use Rattle.std.specs.Prelude.{◌≡◌, string_bytes, IfOk, OnOk};
+ghost use Rattle.zlines.specs.Texts.{Writes};
 ghost use Rattle.zpieces.specs.Streams.{phase_of};
 ghost use Rattle.zfront.specs.Reading.{word_asked};
 ghost use Rattle.zfront.specs.Words as table;
 
-use crate::core::Core;
+use crate::inner::Inner;
 use crate::word::Word;
 use zpath::Memory;
 use zpieces::Phase;
 
-impl Core {
+impl Inner {
     // Returns the word that stands in front of what came, if nothing was read on the connection.
     pub(crate) fn word_asked(&self, connection: u32, came: &[u8]) -> Option<Word>
         ensures { result
@@ -37,13 +38,26 @@ impl Core {
             (λ text. string_bytes text ≡ table.text_of_word word self.now) }
     {
         let mut text = String::new(self.alloc);
-        match word {
-            Word::Ruok => text.push_str("imok")?,
-            Word::Isro => text.push_str("rw")?,
-            Word::Srvr => self.write_srvr(&mut text)?,
-            Word::Mntr => self.write_mntr(&mut text)?,
+        match self.write_answer(word, &mut text) {
+            Ok(()) => Ok(text),
+            Err(memory) => {
+                drop(text);
+                Err(memory)
+            }
         }
-        Ok(text)
+    }
+
+    // Writes what is said to a word.
+    fn write_answer(&self, word: Word, out: &mut String) -> Result<(), Memory>
+        ensures { OnOk result (Writes out.old out.new (table.text_of_word word self.now)) }
+    {
+        match word {
+            Word::Ruok => out.push_str("imok")?,
+            Word::Isro => out.push_str("rw")?,
+            Word::Srvr => self.write_srvr(out)?,
+            Word::Mntr => self.write_mntr(out)?,
+        }
+        Ok(())
     }
 
     // Writes the server in lines.
@@ -69,7 +83,9 @@ impl Core {
 }
 
 // Writes a line of a name and a number.
-fn write_number(name: &str, number: u64, out: &mut String) -> Result<(), Memory> {
+fn write_number(name: &str, number: u64, out: &mut String) -> Result<(), Memory>
+    ensures { OnOk result (Writes out.old out.new (table.number_line name.now number)) }
+{
     out.push_str(name)?;
     write!(out, "{number}\n")?;
     Ok(())

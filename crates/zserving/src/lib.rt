@@ -14,7 +14,6 @@ mod greeting;
 mod looking;
 mod numbers;
 mod replying;
-mod rows;
 mod seeing;
 mod watching;
 mod wish;
