@@ -2,9 +2,10 @@
 use Rattle.std.proofs.Common.{◌≡◌, ◌≤◌, ◌<◌, Bool, true, false, sym, ap, subst, refl, List, [], ◌∷◌, ◌++◌, ℕ, length, take, drop, arith}
 use Rattle.std.specs.Prelude.{nat_lt, if◌then◌else◌}
 use Rattle.std.specs.Int.{w32, from_be_bytes}
+use Rattle.std.proofs.lemmas.Bool.{ltb-false}
 use Rattle.std.proofs.lemmas.List.{length-drop}
 use Rattle.zjute.specs.declared.limits.TheConstants.{MAX_FRAME}
-use Rattle.zjute.specs.Frames.{Front, Whole, Partial, TooLong, next_of, cut_at, behind_length}
+use Rattle.zjute.specs.Frames.{Whole, Partial, TooLong, next_of, cut_at, behind_length}
 use Rattle.ztables.specs.Tables.{is_open}
 use Rattle.zfront.specs.Front.{FrontView}
 use Rattle.zfront.specs.Reading.{Cuts, Handles, HandlesAll}
@@ -44,7 +45,7 @@ from_four true came bytes more four is =
 from_four false came bytes more four is =
     let n = from_be_bytes w32 (take 4 came) in
     let left = behind_four (nat_lt MAX_FRAME n) n (drop 4 came) bytes more is in
-    omega (arith, left, length-drop 4 came, four)
+    omega (arith, left, length-drop 4 came, ltb-false (length came) 4 four)
 
 pub shorter : (came bytes more : List ℕ) → next_of came ≡ Whole bytes more → length more < length came
 unfolding next_of

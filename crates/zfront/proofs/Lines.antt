@@ -1,8 +1,7 @@
 -- A line that isn't read.
-use Rattle.std.proofs.Common.{◌≡◌, ◌⊎◌, inl, inr, sym, subst, Result, Err}
+use Rattle.std.proofs.Common.{inl, inr, sym, subst, Result}
 use Rattle.zlines.specs.declared.line.Line.{Line}
 use Rattle.zlines.specs.declared.request.LineFault.{LineFault}
-use Rattle.zlines.specs.declared.request.LineFault.TheVariants.{Memory}
 use Rattle.zlines.specs.Request.{IsUnread}
 use Rattle.zfront.specs.Front.{FrontView}
 use Rattle.zfront.specs.Orders.{ObeysLine, IsRefused}

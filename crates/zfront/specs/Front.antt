@@ -3,7 +3,7 @@
 -- takes up a call whose reply comes late. The sources are the ZooKeeper Programmer's Guide,
 -- "ZooKeeper Sessions" and "ZooKeeper Watches". One client that makes all calls is this project's
 -- profile.
-use Rattle.std.specs.Prelude.{◌≡◌, ℕ, Bool, true, false, ◌&&◌, ◌||◌, nat_lt, is_some, is_none, List, [], ◌∷◌, length, Option, None, Some}
+use Rattle.std.specs.Prelude.{◌≡◌, Bool, true, false, ◌&&◌, ◌||◌, nat_lt, is_some, is_none, List, length, Option, None, Some}
 use Rattle.std.specs.List.{list_any, slice_get}
 use Rattle.zcalls.specs.declared.call.Call.{Call}
 use Rattle.zcalls.specs.declared.reply.Reply.{Reply}

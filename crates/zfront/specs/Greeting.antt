@@ -1,6 +1,6 @@
 -- What becomes of the first frame of a connection. The source is zookeeper.jute (`ConnectRequest`)
 -- and the ZooKeeper Programmer's Guide, "ZooKeeper Sessions".
-use Rattle.std.specs.Prelude.{◌≡◌, ℕ, pos, Bool, true, false, List, [], ◌∷◌, Result, Ok, Err, if◌then◌else◌}
+use Rattle.std.specs.Prelude.{◌≡◌, ℕ, pos, Bool, true, false, List, [], ◌∷◌, Result, Ok, Err}
 use Rattle.std.specs.Ordering.{int_eq}
 use Rattle.zforms.specs.Readers.{whole}
 use Rattle.zforms.specs.declared.fault.Fault.{Fault}

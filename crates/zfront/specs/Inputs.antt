@@ -1,5 +1,5 @@
 -- The inputs of a server for ZooKeeper's clients, and what it does at each.
-use Rattle.std.specs.Prelude.{◌≡◌, ℕ, Bool, true, false, List, [], drop, None}
+use Rattle.std.specs.Prelude.{◌≡◌, ℕ, Bool, false, List, [], drop, None}
 use Rattle.std.specs.FinMap as finite
 use Rattle.std.specs.FinSet as sets
 use Rattle.zprotocol.specs.server.Machine.{kept_tree}

@@ -12,7 +12,7 @@ use Rattle.zasking.specs.Requests.{calls_in}
 use Rattle.zasking.specs.declared.fault.Unasked.TheVariants.{Refused, Memory}
 use Rattle.zanswering.specs.Answers.{failed}
 use Rattle.zsittings.specs.Sittings.{with_changed, touched}
-use Rattle.ztables.specs.Tables.{TablesView, closed}
+use Rattle.ztables.specs.Tables.{closed}
 use Rattle.zserving.specs.Replying.{replied}
 use Rattle.zserving.specs.Answering.{answered}
 use Rattle.zfront.specs.Front.{FrontView, with_tables, Asks, Tidies}

@@ -1,11 +1,11 @@
 -- The words of four letters, which are asked for in the place of a greeting. The source is the
 -- ZooKeeper Administrator's Guide, "The Four Letter Words". Latencies aren't told.
-use Rattle.std.specs.Prelude.{ℕ, Bool, true, false, List, [], ◌∷◌, ◌++◌, codes, take, Option, None, Some, if◌then◌else◌}
+use Rattle.std.specs.Prelude.{ℕ, List, [], ◌∷◌, ◌++◌, codes, take, Option, None, Some, if◌then◌else◌}
 use Rattle.std.specs.Str.{bytes_eq}
 use Rattle.std.specs.FinMap as finite
 use Rattle.std.specs.FinSet as sets
 use Rattle.std.specs.Fmt.{decimal}
-use Rattle.ztables.specs.Tables.{TablesView, sent, closed}
+use Rattle.ztables.specs.Tables.{sent, closed}
 use Rattle.zfront.specs.Front.{FrontView, with_tables}
 use Rattle.zfront.specs.declared.word.Word.{Word}
 use Rattle.zfront.specs.declared.word.Word.TheVariants.{Ruok, Isro, Srvr, Mntr}

@@ -8,15 +8,14 @@
 #![tactic(auto)]
 
 mod asking;
-mod inner;
 mod front;
 mod greeting;
 mod hearing;
+mod inner;
 pub mod limits;
 mod orders;
 mod reading;
 mod requests;
-
 mod ticking;
 mod word;
 mod words;

@@ -1,8 +1,8 @@
 //! The bytes that come on connections.
 
-ghost use Rattle.std.specs.Prelude.{◌≡◌, Some, IfOk, OnOk};
+ghost use Rattle.std.specs.Prelude.{◌≡◌, None, Some, IfOk, OnOk};
 ghost use Rattle.zjute.specs.Frames.{next_of};
-ghost use Rattle.zfront.specs.Reading.{Comes, ComesBehind, Handles, HandlesIn, is_too_long, Keeps, Reads};
+ghost use Rattle.zfront.specs.Reading.{Comes, ComesBehind, ComesBy, Handles, HandlesIn, is_too_long, Keeps, Reads};
 
 use crate::inner::Inner;
 use crate::limits::MAX_KEPT;
@@ -27,9 +27,16 @@ impl Inner {
     fn read(&mut self, connection: u32, came: &[u8]) -> Result<(), Memory>
         ensures { OnOk result (ComesBehind came.now connection self.old self.new) }
     {
-        if let Some(word) = self.word_asked(connection, came) {
-            return self.say(word, connection);
+        match self.word_asked(connection, came) {
+            Some(word) => self.say(word, connection),
+            None => self.read_all(connection, came),
         }
+    }
+
+    // Handles the frames in front of what came, and keeps the rest.
+    fn read_all(&mut self, connection: u32, came: &[u8]) -> Result<(), Memory>
+        ensures { OnOk result (ComesBy None came.now connection self.old self.new) }
+    {
         let rest = self.read_frames(connection, came)?;
         self.keep(connection, rest)
     }

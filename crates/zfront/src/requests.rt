@@ -38,12 +38,7 @@ impl Inner {
     }
 
     // Does what a request of a session asks for.
-    fn act(
-        &mut self,
-        request: &Request,
-        session: SessionId,
-        connection: u32,
-    ) -> Result<(), Memory>
+    fn act(&mut self, request: &Request, session: SessionId, connection: u32) -> Result<(), Memory>
         ensures { OnOk result (Acts (calls_in self.old.clock.tick session request.now.asked)
             connection request.now (touched_by session self.old) self.new) }
     {
@@ -61,12 +56,7 @@ impl Inner {
 
     // Makes the calls of a request, and tells its answer. Where a call gets no reply, the connection
     // is closed.
-    fn make(
-        &mut self,
-        calls: &[Call],
-        request: &Request,
-        connection: u32,
-    ) -> Result<(), Memory>
+    fn make(&mut self, calls: &[Call], request: &Request, connection: u32) -> Result<(), Memory>
         ensures { OnOk result (Makes calls.now connection request.now self.old self.new) }
     {
         let replies = self.ask(calls)?;

@@ -76,7 +76,11 @@ impl Inner {
         ensures { OnOk result (Writes out.old out.new (table.mntr_text self.now)) }
     {
         out.push_str("zk_version\tjellqupas-0.1.0\nzk_server_state\tstandalone\n")?;
-        write_number("zk_num_alive_connections\t", self.tables.connections() as u64, out)?;
+        write_number(
+            "zk_num_alive_connections\t",
+            self.tables.connections() as u64,
+            out,
+        )?;
         write_number("zk_global_sessions\t", self.tables.sessions() as u64, out)?;
         write_number("zk_watch_count\t", self.tables.watches() as u64, out)
     }

@@ -1,4 +1,4 @@
-use Rattle.std.proofs.Common.{ap, subst}
+use Rattle.std.proofs.Common.{subst}
 use Rattle.zfront.specs.Inputs.{ServerView}
 use Rattle.zfront.specs.Orders.{Hears}
 use Rattle.zfront.proofs.Results.{on_ok}

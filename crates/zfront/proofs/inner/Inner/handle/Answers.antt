@@ -13,12 +13,11 @@ returns-then-is_some c =
     let new = with_tables c.close.new.self ready in
     let late : is_some ready.late ≡ true = sym c.is_some.ensures ∙ c.if-is_some.true in
     on_ok c.close.result
-    (λ closes.
-    (
+    (λ closes. (
       c.get_ready.new.self,
       c.in_ok-get_ready.ensures,
       subst (λ (v : FrontView). HandlesUnless (is_some v.late) c.args.frame.now c.args.connection v new) c.self.view_is
-      (subst (λ b. HandlesUnless b c.args.frame.now c.args.connection ready new) (sym late) (ap (λ t. with_tables t ready) closes)),
+          (subst (λ b. HandlesUnless b c.args.frame.now c.args.connection ready new) (sym late) (ap (λ t. with_tables t ready) closes)),
     ))
     c.close.ensures
 
@@ -27,14 +26,13 @@ returns-in-Some c =
     let ready = c.get_ready.new.self in
     let late : is_some ready.late ≡ false = subst (λ (v : FrontView). is_some v.late ≡ false) c.self.view_is (sym c.is_some.ensures ∙ c.if-is_some.false) in
     let phase : phase_of ready.tables.streams c.args.connection ≡ Some c.in-Some.phase =
-        subst (λ (v : FrontView). phase_of v.tables.streams c.args.connection ≡ Some c.in-Some.phase) c.self.view_is (sym c.phase.ensures ∙ c.in-Some.is) in
+    subst (λ (v : FrontView). phase_of v.tables.streams c.args.connection ≡ Some c.in-Some.phase) c.self.view_is (sym c.phase.ensures ∙ c.in-Some.is) in
     on_ok c.handle_in.result
-    (λ handles.
-    (
+    (λ handles. (
       ready,
       c.in_ok-get_ready.ensures,
       subst (λ b. HandlesUnless b c.args.frame.now c.args.connection ready c.handle_in.new.self) (sym late)
-      (subst (λ p. HandlesIn p c.args.frame.now c.args.connection ready c.handle_in.new.self) (sym phase) handles),
+          (subst (λ p. HandlesIn p c.args.frame.now c.args.connection ready c.handle_in.new.self) (sym phase) handles),
     ))
     c.handle_in.ensures
 
@@ -43,10 +41,9 @@ returns-in-None c =
     let ready = c.get_ready.new.self in
     let late : is_some ready.late ≡ false = subst (λ (v : FrontView). is_some v.late ≡ false) c.self.view_is (sym c.is_some.ensures ∙ c.if-is_some.false) in
     let phase : phase_of ready.tables.streams c.args.connection ≡ None =
-        subst (λ (v : FrontView). phase_of v.tables.streams c.args.connection ≡ None) c.self.view_is (sym c.phase.ensures ∙ c.in-None.is) in
-    (
+    subst (λ (v : FrontView). phase_of v.tables.streams c.args.connection ≡ None) c.self.view_is (sym c.phase.ensures ∙ c.in-None.is) in (
       ready,
       c.in_ok-get_ready.ensures,
       subst (λ b. HandlesUnless b c.args.frame.now c.args.connection ready ready) (sym late)
-      (subst (λ p. HandlesIn p c.args.frame.now c.args.connection ready ready) (sym phase) refl),
+          (subst (λ p. HandlesIn p c.args.frame.now c.args.connection ready ready) (sym phase) refl),
     )

@@ -1,4 +1,4 @@
-use Rattle.std.proofs.Common.{None, Some, true, false, sym, subst}
+use Rattle.std.proofs.Common.{Some, sym, subst}
 use Rattle.zfront.specs.Front.{HearsIf, HearsOf}
 use Rattle.zfront.proofs.Late.{while_late, came, waits}
 use Rattle.zfront.proofs.inner.Inner.hear_of.Goals as goal

@@ -1,6 +1,5 @@
-use Rattle.std.proofs.Common.{ap, subst, ◌∙◌}
+use Rattle.std.proofs.Common.{subst}
 use Rattle.std.specs.Prelude.{is_some}
-use Rattle.zfront.specs.Front.{FrontView}
 use Rattle.zfront.specs.Requests.{EndsIf}
 use Rattle.zfront.proofs.Results.{on_ok}
 use Rattle.zfront.proofs.inner.Inner.make.Goals as goal
@@ -9,8 +8,7 @@ pub returns : goal.returns
 returns c =
     let middle = c.ask.new.self in
     on_ok c.finish-done.result
-    (λ ends.
-    (
+    (λ ends. (
       middle,
       c.in_ok-replies.replies.items,
       c.in_ok-replies.ensures,

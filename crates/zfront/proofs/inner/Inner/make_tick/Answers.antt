@@ -8,8 +8,7 @@ pub returns : goal.returns
 returns c =
     let middle = c.ask.new.self in
     on_ok c.end_tick-done.result
-    (λ ends.
-    (
+    (λ ends. (
       middle,
       c.in_ok-replies.replies.items,
       c.in_ok-replies.ensures,

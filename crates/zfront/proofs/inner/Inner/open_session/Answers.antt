@@ -1,7 +1,6 @@
 use Rattle.std.proofs.Common.{◌≡◌, ap, subst, ◌∙◌, [], ◌∷◌}
 use Rattle.zfront.specs.Front.{FrontView, Asks, with_tables}
 use Rattle.zfront.specs.Greeting.{opened, opening}
-use Rattle.zfront.specs.contracts.inner.Inner.{the_view}
 use Rattle.zfront.proofs.Results.{on_ok}
 use Rattle.zfront.proofs.inner.Inner.open_session.Goals as goal
 
@@ -12,10 +11,9 @@ returns c =
     let middle = c.ask-replies.new.self in
     let replies = c.in_ok-replies.replies.items in
     let asked : c.opening.result ≡ opening old.clock.tick greeting =
-        c.opening.ensures ∙ ap (λ (v : FrontView). opening v.clock.tick greeting) c.self.view_is in
+    c.opening.ensures ∙ ap (λ (v : FrontView). opening v.clock.tick greeting) c.self.view_is in
     on_ok c.tell_opened-done.result
-    (λ told.
-    (
+    (λ told. (
       middle,
       replies,
       subst (λ call. Asks old (call ∷ []) middle replies) asked c.in_ok-replies.ensures,

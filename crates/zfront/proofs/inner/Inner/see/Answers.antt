@@ -1,8 +1,7 @@
 use Rattle.std.proofs.Common.{◌≡◌, ap, sym, subst, ◌∙◌}
-use Rattle.std.specs.Prelude.{is_some}
 use Rattle.ztables.specs.Telling.{told_all}
 use Rattle.zserving.specs.Looking.{seen}
-use Rattle.zfront.specs.Front.{FrontView, Asks, LooksBy}
+use Rattle.zfront.specs.Front.{Asks}
 use Rattle.zfront.specs.contracts.inner.Inner.{the_view}
 use Rattle.zfront.proofs.inner.Inner.see.Goals as goal
 
@@ -13,8 +12,8 @@ returns c =
     let replies = c.in_ok-replies.replies.items in
     let zxid : c.zxid-zxid.result ≡ middle.asker.known.zxid = c.zxid-zxid.ensures ∙ ap (λ k. k.zxid) c.known.ensures in
     let tables : c.look-told.new.tables ≡ told_all (seen middle.asker.known.zxid places replies) middle.tables =
-        c.in_ok-told.ensures ∙ ap (λ n. told_all (seen n places c.deref.result.now) middle.tables) zxid
-        ∙ ap (λ r. told_all (seen middle.asker.known.zxid places r) middle.tables) c.deref.ensures.value in
+    c.in_ok-told.ensures ∙ ap (λ n. told_all (seen n places c.deref.result.now) middle.tables) zxid
+    ∙ ap (λ r. told_all (seen middle.asker.known.zxid places r) middle.tables) c.deref.ensures.value in
     record {
       middle = middle;
       replies = replies;

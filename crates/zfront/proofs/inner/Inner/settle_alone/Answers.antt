@@ -1,7 +1,6 @@
 use Rattle.std.proofs.Common.{refl, subst}
 use Rattle.zfront.specs.Front.{FrontView}
 use Rattle.zfront.specs.Orders.{SettlesAlone}
-use Rattle.zfront.specs.contracts.inner.Inner.{the_view}
 use Rattle.zfront.proofs.inner.Inner.settle_alone.Goals as goal
 
 pub returns : goal.returns

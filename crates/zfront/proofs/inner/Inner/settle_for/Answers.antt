@@ -10,10 +10,13 @@ pub returns-in-None : goal.returns-in-None
 returns-in-None c = λ none.
     let told = c.in_ok-reply.field-0 in
     let after : FrontView = record (the_view c.self.inside) { asker = c.settle.new.self } in
-    subst (λ v. HearsOf c.args.call.now false v after) c.self.view_is
-    (
-      c.settle.new.self, told, c.in_ok-reply.ensures.settled, c.in_ok-reply.ensures.told,
-      ap (λ (o : Option Reply). is_some o) (sym c.in-None.is), ap (λ o. heard c.args.call.now o after) (sym c.in-None.is),
+    subst (λ v. HearsOf c.args.call.now false v after) c.self.view_is (
+      c.settle.new.self,
+      told,
+      c.in_ok-reply.ensures.settled,
+      c.in_ok-reply.ensures.told,
+      ap (λ (o : Option Reply). is_some o) (sym c.in-None.is),
+      ap (λ o. heard c.args.call.now o after) (sym c.in-None.is),
     )
 
 pub returns-in_ok-done-in-Some : goal.returns-in_ok-done-in-Some
@@ -23,10 +26,12 @@ returns-in_ok-done-in-Some c = λ none.
     let call = c.args.call.now in
     let after : FrontView = record (the_view c.self.inside) { asker = c.settle.new.self } in
     let nothing = ap (λ (v : FrontView). v.late) c.self.view_is ∙ none in
-    subst (λ v. HearsOf call true v c.take_up-done.new.self) c.self.view_is
-    (
-      c.settle.new.self, told, c.in_ok-reply.ensures.settled, c.in_ok-reply.ensures.told,
+    subst (λ v. HearsOf call true v c.take_up-done.new.self) c.self.view_is (
+      c.settle.new.self,
+      told,
+      c.in_ok-reply.ensures.settled,
+      c.in_ok-reply.ensures.told,
       ap (λ (o : Option Reply). is_some o) (sym c.in-Some.is),
       c.in_ok-done-in-Some.ensures ∙ ap (λ l. tidied (takes_nodes reply) (record after { tables = absorbed call reply after.tables; late = l })) nothing
-      ∙ ap (λ o. heard call o after) (sym c.in-Some.is),
+          ∙ ap (λ o. heard call o after) (sym c.in-Some.is),
     )

@@ -2,7 +2,6 @@ use Rattle.std.proofs.Common.{◌≡◌, true, false, refl, sym, subst, ◌∙�
 use Rattle.std.specs.Prelude.{is_some}
 use Rattle.zfront.specs.Front.{FrontView}
 use Rattle.zfront.specs.Ticking.{TicksUnless}
-use Rattle.zfront.specs.contracts.inner.Inner.{the_view}
 use Rattle.zfront.proofs.Results.{on_ok}
 use Rattle.zfront.proofs.inner.Inner.tick.Goals as goal
 

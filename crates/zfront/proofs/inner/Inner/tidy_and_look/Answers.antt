@@ -1,5 +1,5 @@
 use Rattle.std.proofs.Common.{subst, ap, ◌∙◌}
-use Rattle.zfront.specs.Front.{FrontView, Looks, tidied}
+use Rattle.zfront.specs.Front.{Looks, tidied}
 use Rattle.zfront.proofs.Results.{on_ok}
 use Rattle.zfront.proofs.inner.Inner.tidy_and_look.Goals as goal
 

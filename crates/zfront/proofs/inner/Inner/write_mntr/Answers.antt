@@ -1,11 +1,9 @@
-use Rattle.std.proofs.Common.{◌≡◌, codes, ap, subst, ◌∙◌}
-use Rattle.std.specs.Result.{OnOk}
+use Rattle.std.proofs.Common.{codes, ap, subst, ◌∙◌}
 use Rattle.std.specs.FinMap as finite
 use Rattle.std.specs.FinSet as sets
 use Rattle.zlines.specs.Texts.{Writes}
 use Rattle.zfront.specs.Front.{FrontView}
 use Rattle.zfront.specs.Words.{number_line}
-use Rattle.zfront.specs.contracts.inner.Inner.{the_view}
 use Rattle.zfront.proofs.Results.{on_ok, writes_more}
 use Rattle.zfront.proofs.inner.Inner.write_mntr.Goals as goal
 

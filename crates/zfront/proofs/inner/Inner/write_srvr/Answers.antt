@@ -1,9 +1,8 @@
-use Rattle.std.proofs.Common.{codes, ap, subst, ◌∙◌, ◌++◌}
+use Rattle.std.proofs.Common.{codes, ap, subst, ◌∙◌}
 use Rattle.std.specs.FinMap as finite
 use Rattle.zlines.specs.Texts.{Writes}
 use Rattle.zfront.specs.Front.{FrontView}
 use Rattle.zfront.specs.Words.{number_line}
-use Rattle.zfront.specs.contracts.inner.Inner.{the_view}
 use Rattle.zfront.proofs.Results.{writes_more}
 use Rattle.zfront.proofs.inner.Inner.write_srvr.Goals as goal
 
