@@ -14,6 +14,7 @@ mod greeting;
 mod looking;
 mod numbers;
 mod replying;
+mod rows;
 mod seeing;
 mod watching;
 mod wish;
