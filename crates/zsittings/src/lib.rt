@@ -1,8 +1,8 @@
 //! Which session has which connection, and by which password a connection takes a session up.
 //!
-//! It consumes what a server's connections ask of sessions: to open one, to take one up, to leave
-//! it. It produces the sessions' rows, and the ids of those that asked for anything. The rows are
-//! defined in `specs/Sittings.antt`.
+//! It consumes what a server's connections do to sessions: open one, take one up, leave it. It
+//! produces what is kept of each, and the ids of those that asked for anything.
+//! `specs/Sittings.antt` defines it.
 #![tactic(auto)]
 
 pub mod laws;
