@@ -1,4 +1,4 @@
-//! What came on each connection and is no whole frame yet, and the pieces that are still to be sent.
+//! What came on each connection and is no whole frame yet, and the pieces still to be sent.
 //!
 //! It consumes the bytes that a server reads on its connections, and the bytes that it has to send.
 //! It produces the same bytes again: the rest of each stream, and the pieces in their order.

@@ -78,7 +78,7 @@ impl Streams {
         self.table.set_phase(connection, phase);
     }
 
-    /// Ends the reading on a connection, if it has a stream, and drops its bytes. Allocates nothing.
+    /// Ends the reading on a connection, if it has a stream. Drops its bytes, and allocates nothing.
     pub fn close(&mut self, connection: u32)
         ensures { self.new ≡ closed self.old connection }
     {

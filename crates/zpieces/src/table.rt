@@ -98,7 +98,7 @@ impl StreamTable {
         stream.phase = phase;
     }
 
-    // Ends the reading on a connection, if it has a stream, and drops its bytes. Allocates nothing.
+    // Ends the reading on a connection, if it has a stream. Drops its bytes.
     pub(crate) fn close(&mut self, connection: u32)
         ensures { self.new ≡ closed self.old connection }
     {
