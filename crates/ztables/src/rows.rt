@@ -88,8 +88,8 @@ pub fn who_is_gone()
     ensures there { (s : Session) → gone (insert empty 7 s) some_sittings ≡ [] }
 {}
 
-/// What a client is told whose watch waited for the data of `/a`: its length, the header with -1 for
-/// the xid and for the zxid, the event's number, the state's, and the path.
+/// What a client is told whose watch waited for the data of `/a`: the length, the header with -1
+/// for the xid and for the zxid, the event's number, the state's, and the path.
 pub fn one_event()
     ensures frame { event_frame (record { kind = NodeDataChanged; path = (97 ∷ []) ∷ [] })
         ≡ 0 ∷ 0 ∷ 0 ∷ 30 ∷ 255 ∷ 255 ∷ 255 ∷ 255
