@@ -62,7 +62,14 @@ fn grant_and_answer(
     let lacked = grant_all(tables, done.connection, &wishes)?;
     drop(wishes);
     let answer = answer_unless(alloc, lacked, clock, known, done)?;
-    reply(alloc, tables, known, done.connection, done.request.xid, answer)
+    reply(
+        alloc,
+        tables,
+        known,
+        done.connection,
+        done.request.xid,
+        answer,
+    )
 }
 
 // Returns the answer to a request: an error, if there was no room for a watch.
@@ -87,5 +94,12 @@ fn answer_unless(
         zxid: known.zxid(),
         time: known.time(),
     };
-    answer_to(alloc, clock, &at, &done.request.asked, done.calls, done.replies)
+    answer_to(
+        alloc,
+        clock,
+        &at,
+        &done.request.asked,
+        done.calls,
+        done.replies,
+    )
 }

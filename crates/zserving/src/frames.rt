@@ -34,7 +34,12 @@ pub(crate) fn answer_frame(
 {
     let zxid = long_of(known.zxid().number());
     let Answer { code, body } = answer;
-    let told = zjute::Reply { xid, zxid, code, body };
+    let told = zjute::Reply {
+        xid,
+        zxid,
+        code,
+        body,
+    };
     match write_reply(alloc, &told) {
         Ok(bytes) => Ok(bytes),
         Err(WriteError::Memory) => Err(Memory),

@@ -97,7 +97,13 @@ fn resume(
     if !tables.take_up(session, given(request), connection)? {
         return turn_away(alloc, tables, request, connection);
     }
-    let frame = response_frame(alloc, request, timeout, long_of(session.number()), &password)?;
+    let frame = response_frame(
+        alloc,
+        request,
+        timeout,
+        long_of(session.number()),
+        &password,
+    )?;
     tables.send(connection, frame)
 }
 

@@ -1,7 +1,5 @@
 -- Samples for the worked rows.
 use Rattle.std.specs.Prelude.{ℕ, pos, Bool, false, List, [], ◌∷◌, codes, replicate, Some}
-use Rattle.std.specs.FinMap as finite
-use Rattle.std.specs.FinSet as sets
 use Rattle.ztree.specs.support.Samples.{at_a, at_a_b}
 use Rattle.zcalls.specs.declared.call.Call.{Call}
 use Rattle.zcalls.specs.declared.call.Call.TheVariants.{Query}
@@ -13,8 +11,6 @@ use Rattle.zjute.specs.declared.request.Request.{Request}
 use Rattle.zjute.specs.declared.request.SetWatches.{SetWatches}
 use Rattle.zwatches.specs.declared.kind.Kind.{Kind}
 use Rattle.zwatches.specs.declared.place.Place.{Place}
-use Rattle.zsittings.specs.Sittings.{new_sitting}
-use Rattle.ztables.specs.Tables.{TablesView}
 
 -- /a is looked at, with a watch or without
 abbrev pub look_a : Bool → Look
@@ -45,12 +41,9 @@ request_9 asked = record { xid = pos 9; asked = asked }
 abbrev pub place_a : Kind → Place
 place_a kind = record { path = at_a; kind = kind }
 
--- a password, and one of other bytes
+-- a password
 abbrev pub some_password : List ℕ
 some_password = replicate 16 7
-
-abbrev pub other_password : List ℕ
-other_password = replicate 16 9
 
 -- a client that has seen change 5 comes back to session 7
 abbrev pub greeting : ConnectRequest
@@ -62,11 +55,3 @@ greeting = record {
   password = Some some_password;
   read_only = Some false;
 }
-
--- nothing is there
-abbrev pub no_tables : TablesView
-no_tables = record { streams = finite.empty; sittings = finite.empty; watches = sets.empty; unsent = [] }
-
--- session 7 has the password
-abbrev pub one_session : TablesView
-one_session = record no_tables { sittings = finite.insert finite.empty 7 (new_sitting some_password 3) }

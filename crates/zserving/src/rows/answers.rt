@@ -1,7 +1,7 @@
 //! What calls and answers do to the tables.
 
 ghost use Rattle.std.specs.Prelude.{◌≡◌, ℕ, pos, true, false, [], ◌∷◌};
-ghost use Rattle.std.specs.FinSet as sets;
+ghost use Rattle.std.specs.FinSet.{insert};
 ghost use Rattle.ztree.specs.support.Samples.{at_a, at_a_b, some_stat};
 ghost use Rattle.zcalls.specs.declared.call.Call.TheVariants.{Update};
 ghost use Rattle.zcalls.specs.declared.call.Update.TheVariants as act;
@@ -25,7 +25,7 @@ ghost use Rattle.zserving.specs.Frames.{answer_frame};
 ghost use Rattle.zserving.specs.Replying.{absorbed, absorbed_all, replied};
 ghost use Rattle.zserving.specs.Watching.{granted, granted_all, lacks_room, some_lacked};
 ghost use Rattle.zserving.specs.Answering.{answered, now_of};
-ghost use Rattle.zserving.specs.support.Samples.{look_a, exists_a, request_9, no_tables};
+ghost use Rattle.zserving.specs.support.Samples.{look_a, exists_a, request_9};
 
 /// Calls that were answered: the events of each are told.
 pub fn calls_are_absorbed()
@@ -52,16 +52,18 @@ pub fn answers_are_told()
 
 /// Wishes are granted, if there is room.
 pub fn wishes_are_granted()
-    ensures waits { granted 1 (Waits Data at_a) no_tables
-        ≡ record no_tables { watches = sets.insert sets.empty (watch at_a Data 1) } }
-    ensures room { lacks_room 1 (Waits Data at_a) no_tables ≡ false }
+    ensures waits { (t : TablesView) → is_full t.watches (watch at_a Data 1) ≡ false
+        → granted 1 (Waits Data at_a) t
+        ≡ record t { watches = insert t.watches (watch at_a Data 1) } }
+    ensures room { (t : TablesView) → is_full t.watches (watch at_a Data 1) ≡ false
+        → lacks_room 1 (Waits Data at_a) t ≡ false }
     ensures full { (t : TablesView) → is_full t.watches (watch at_a Data 1) ≡ true
         → granted 1 (Waits Data at_a) t ≡ t }
     ensures tells { (t : TablesView) → granted 1 (Tells (event NodeCreated at_a)) t
         ≡ sent 1 (event_frame (event NodeCreated at_a)) t }
     ensures no_room { (t : TablesView) → is_full t.watches (watch at_a Data 1) ≡ true
         → some_lacked 1 (Waits Data at_a ∷ []) t ≡ true }
-    ensures none { some_lacked 1 [] no_tables ≡ false }
+    ensures none { (t : TablesView) → some_lacked 1 [] t ≡ false }
     ensures order { (t : TablesView)
         → granted_all 1 (Tells (event NodeDeleted at_a) ∷ Tells (event NodeCreated at_a) ∷ []) t
         ≡ sent 1 (event_frame (event NodeCreated at_a))

@@ -1,11 +1,16 @@
 //! Clients that greet.
 
-ghost use Rattle.std.specs.Prelude.{◌≡◌, ℕ, pos, negsuc, true, false, [], replicate, None, Some};
+ghost use Rattle.std.specs.Prelude.{◌≡◌, pos, negsuc, true, false, [], replicate, None, Some};
+ghost use Rattle.std.specs.FinMap.{get};
+ghost use Rattle.ztree.specs.declared.session.Session.{Session};
+ghost use Rattle.zasking.specs.Timeouts.{millis_told};
+ghost use Rattle.zknown.specs.Known.{KnownView};
 ghost use Rattle.zknown.specs.support.Samples.{some_known};
+ghost use Rattle.zsittings.specs.Sittings.{passes};
 ghost use Rattle.ztables.specs.Tables.{TablesView, closed, sent, sitting, taken_up};
 ghost use Rattle.zserving.specs.Frames.{response_frame};
 ghost use Rattle.zserving.specs.Greeting.{is_ahead, welcomed, turned_away, given, came_back, returned};
-ghost use Rattle.zserving.specs.support.Samples.{greeting, some_password, other_password, one_session};
+ghost use Rattle.zserving.specs.support.Samples.{greeting, some_password};
 
 /// A client is ahead of a tree whose last change is 8 if it has seen change 9.
 pub fn clients_that_are_ahead()
@@ -24,18 +29,18 @@ pub fn clients_are_welcomed()
     ensures null { given (record greeting { password = None }) ≡ [] }
 {}
 
-/// A client comes back to session 7, which lives for five ticks of 2,000 milliseconds. It must give
-/// its password.
+/// A client comes back to session 7. The tree must have it, and its password must be given.
 pub fn clients_come_back()
-    ensures back { returned 2000 some_known greeting (pos 7) 4 one_session
-        ≡ sent 4 (response_frame greeting (pos 8000) (pos 7) some_password)
-        (taken_up 7 4 one_session) }
-    ensures null { returned 2000 some_known (record greeting { password = None }) (pos 7) 4
-        one_session ≡ turned_away (record greeting { password = None }) 4 one_session }
-    ensures wrong { came_back (record greeting { password = Some other_password }) 7 (pos 8000) 4
-        one_session ≡ turned_away (record greeting { password = Some other_password }) 4 one_session }
-    ensures ended { returned 2000 some_known greeting (pos 8) 4 one_session
-        ≡ turned_away greeting 4 one_session }
-    ensures negative { returned 2000 some_known greeting (negsuc 6) 4 one_session
-        ≡ turned_away greeting 4 one_session }
+    ensures there { (k : KnownView) (s : Session) (t : TablesView) → get k.sessions 7 ≡ Some s
+        → returned 2000 k greeting (pos 7) 4 t
+        ≡ came_back greeting 7 (millis_told 2000 s.timeout) 4 t }
+    ensures ended { (k : KnownView) (t : TablesView) → get k.sessions 7 ≡ None
+        → returned 2000 k greeting (pos 7) 4 t ≡ turned_away greeting 4 t }
+    ensures negative { (k : KnownView) (t : TablesView)
+        → returned 2000 k greeting (negsuc 6) 4 t ≡ turned_away greeting 4 t }
+    ensures back { (t : TablesView) → passes t.sittings 7 some_password ≡ true
+        → came_back greeting 7 (pos 8000) 4 t
+        ≡ sent 4 (response_frame greeting (pos 8000) (pos 7) some_password) (taken_up 7 4 t) }
+    ensures wrong { (t : TablesView) → passes t.sittings 7 some_password ≡ false
+        → came_back greeting 7 (pos 8000) 4 t ≡ turned_away greeting 4 t }
 {}
