@@ -7,8 +7,6 @@ use Rattle.zcalls.specs.declared.call.Call.{Call}
 use Rattle.zcalls.specs.declared.reply.Reply.{Reply}
 use Rattle.zwatches.specs.declared.kind.Kind.{Kind}
 use Rattle.zwatches.specs.declared.place.Place.{Place}
-use Rattle.zevents.specs.declared.event.Event.{Event}
-use Rattle.zserving.specs.declared.wish.Wish.{Wish}
 use Rattle.zserving.specs.Wishes.{wishes_again}
 use Rattle.zserving.specs.Looking.{seen}
 use Rattle.zserving.specs.Replying.{absorbed_all}

@@ -1,5 +1,5 @@
 -- A header alone, and the answer to a first frame, are short enough for a frame.
-use Rattle.std.proofs.Common.{◌≡◌, ℕ, ◌+◌, ◌<◌, ◌≤◌, ℤ, List, ◌++◌, length, Option, Some, None, Bool, true, false, refl, arith, length-append}
+use Rattle.std.proofs.Common.{◌≡◌, ◌<◌, ◌≤◌, ℤ, length, Option, Some, None, Bool, true, false, refl, arith, length-append}
 use Rattle.zjute.specs.declared.limits.TheConstants.{MAX_FRAME}
 use Rattle.zjute.specs.declared.code.Code.{Code}
 use Rattle.zjute.specs.declared.connecting.ConnectResponse.{ConnectResponse}

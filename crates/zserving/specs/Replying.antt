@@ -1,6 +1,6 @@
 -- What becomes of a call that was answered, and of an answer. The source is zookeeper.jute and the
 -- ZooKeeper Programmer's Guide, "ZooKeeper Watches".
-use Rattle.std.specs.Prelude.{ℕ, ℤ, List, [], ◌∷◌, if◌then◌else◌}
+use Rattle.std.specs.Prelude.{ℕ, ℤ, List, ◌∷◌, if◌then◌else◌}
 use Rattle.zcalls.specs.declared.call.Call.{Call}
 use Rattle.zcalls.specs.declared.call.Call.TheVariants as call
 use Rattle.zcalls.specs.declared.reply.Reply.{Reply}
