@@ -1,7 +1,7 @@
 -- The pieces that C reads of a server, one after the other.
 use Rattle.std.specs.Prelude.{◌≡◌, ℕ, ◌≤◌, ◌<◌, List, [], ◌∷◌, ◌++◌, length, drop, if◌then◌else◌}
 use Rattle.zpieces.specs.Outbox.{PieceView}
-use Rattle.zfront.specs.Inputs.{ServerView, with_sent}
+use Rattle.zfront.specs.Inputs.{without_first}
 use Rattle.zfront_c.specs.declared.server.Server.{Server}
 use Rattle.zfront_c.specs.declared.server.Server.TheVariants.{Open, OutOfMemory, Refused}
 
@@ -32,7 +32,7 @@ Shows number old new code = (new ≡ old) × (code ≡ number (unsent_of old))
 
 -- the first piece was sent, if there was one, and all else is as it was
 abbrev pub sent : Server → Server
-sent (Open v) = Open (with_sent v)
+sent (Open v) = Open (record v { front = without_first v.front })
 sent OutOfMemory = OutOfMemory
 sent Refused = Refused
 

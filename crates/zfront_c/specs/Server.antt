@@ -2,7 +2,8 @@
 use Rattle.std.specs.Prelude.{◌≡◌, ℕ, true, ◌<◌, ◌≤◌, ◌⊎◌}
 use Rattle.zprotocol.specs.declared.limits.TheConstants.{MAX_SERVERS}
 use Rattle.zanswering.specs.declared.clock.Clock.{Clock}
-use Rattle.zfront.specs.Inputs.{FrontView, ServerView, IsNew, IsSound}
+use Rattle.zfront.specs.Front.{FrontView}
+use Rattle.zfront.specs.Inputs.{ServerView, IsNew, IsSound}
 use Rattle.zfront_c.specs.declared.server.Server.{Server}
 use Rattle.zfront_c.specs.declared.server.Server.TheVariants.{Open, OutOfMemory, Refused}
 use Rattle.zfront_c.specs.declared.status.Status.{Status}

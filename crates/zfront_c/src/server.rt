@@ -1,7 +1,10 @@
 //! A server, and the safe half of each export that hands it something.
 
 ghost use Rattle.std.specs.Prelude.{◌≡◌, length};
-ghost use Rattle.zfront.specs.Inputs.{Comes, Ends, Hears, Opens, Ticks};
+ghost use Rattle.zfront.specs.Inputs.{Ends, Opens};
+ghost use Rattle.zfront.specs.Orders.{Hears};
+ghost use Rattle.zfront.specs.Reading.{Comes};
+ghost use Rattle.zfront.specs.Ticking.{Ticks};
 ghost use Rattle.zfront_c.specs.Server.{IsOpened, IsStatusOf, Takes, TakesAs};
 
 use crate::status::Status;

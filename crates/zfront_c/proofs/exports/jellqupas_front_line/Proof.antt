@@ -40,7 +40,7 @@ use denote.Triple.Entry.{on_entry}
 use denote.Triple.Spec.{Meets, triple_of}
 use denote.Triple.Table.{entered}
 use denote.Triple.Walked.{says, Stays, stay_none, walk_of, Goes-none, ends_at, walked, walk_Meets}
-use Rattle.zfront.specs.Inputs.{Hears}
+use Rattle.zfront.specs.Orders.{Hears}
 use Rattle.zfront_c.specs.Server.{TakesAs}
 use Rattle.zfront_c.specs.declared.server.Server.{Server}
 use Rattle.zfront_c.specs.contracts.server.Server as server
