@@ -73,7 +73,7 @@ pub unsafe extern "C" fn jellqupas_front_opened(
     opened(
         &mut *(at as *mut Server),
         connection,
-        std::slice::from_raw_parts(password, 16),
+        &*(password as *const [u8; 16]),
     )
 }
 

@@ -1,6 +1,6 @@
 //! A server, and the safe half of each export that hands it something.
 
-ghost use Rattle.std.specs.Prelude.{◌≡◌, length};
+ghost use Rattle.std.specs.Prelude.{◌≡◌};
 ghost use Rattle.zfront.specs.Inputs.{Ends, Opens};
 ghost use Rattle.zfront.specs.Orders.{Hears};
 ghost use Rattle.zfront.specs.Reading.{Comes};
@@ -57,11 +57,10 @@ pub(crate) fn status(server: &mut Server) -> u32
 
 /// A connection was opened, and a session on it will have this password of sixteen bytes. Returns
 /// the status code.
-pub(crate) fn opened(server: &mut Server, connection: u32, password: &[u8]) -> u32
-    requires { length password.now ≡ 16 }
+pub(crate) fn opened(server: &mut Server, connection: u32, password: &[u8; 16]) -> u32
     ensures { TakesAs (Opens connection password.now) server.old server.new result }
 {
-    open(server, connection, password_of(password)).code()
+    open(server, connection, Password::new(*password)).code()
 }
 
 /// Bytes came on a connection. Returns the status code.
@@ -166,14 +165,4 @@ fn take_line(server: &mut Server, line: &[u8]) -> Status
         Server::OutOfMemory => Status::Memory,
         Server::Refused => Status::NoServers,
     }
-}
-
-// Returns sixteen bytes as a password.
-fn password_of(bytes: &[u8]) -> Password
-    requires { length bytes.now ≡ 16 }
-    ensures { result ≡ bytes.now }
-{
-    let mut password = [0; 16];
-    password.copy_from_slice(bytes);
-    Password::new(password)
 }
