@@ -1,7 +1,6 @@
 -- What C's calls do to a server: how it is opened, and what it takes.
 use Rattle.std.specs.Prelude.{◌≡◌, ℕ, true, ◌<◌, ◌≤◌, ◌⊎◌}
 use Rattle.zprotocol.specs.declared.limits.TheConstants.{MAX_SERVERS}
-use Rattle.zanswering.specs.declared.clock.Clock.{Clock}
 use Rattle.zfront.specs.Front.{FrontView}
 use Rattle.zfront.specs.Inputs.{ServerView, IsNew, IsSound}
 use Rattle.zfront_c.specs.declared.server.Server.{Server}
