@@ -8,6 +8,8 @@
 #![tactic(auto)]
 
 mod exports;
+pub mod laws;
 mod pieces;
+pub mod rows;
 mod server;
 mod status;
