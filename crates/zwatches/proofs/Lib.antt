@@ -3,4 +3,5 @@ pub mod Sets
 pub mod Places
 pub mod Insertion
 pub mod Telling
+pub mod Listing
 pub mod Worked

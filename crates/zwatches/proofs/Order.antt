@@ -11,9 +11,10 @@ use Rattle.std.proofs.lemmas.Cmp.{then_total, on_total, nat_cmp_total}
 use Rattle.std.proofs.lemmas.List.Elements.{All-from_recursion}
 use Rattle.zpath.specs.Grammar.{path_cmp}
 use Rattle.zwatches.specs.declared.kind.Kind.{Kind}
-use Rattle.zwatches.specs.declared.kind.Kind.TheVariants.{Data, Children}
+use Rattle.zwatches.specs.declared.kind.Kind.TheVariants.{Data, Missing, Children}
+use Rattle.zwatches.specs.declared.place.Place.{Place}
 use Rattle.zwatches.specs.declared.watch.Watch.{Watch}
-use Rattle.zwatches.specs.Watches.{Place, place_cmp, place_of, watch_cmp, kind_number}
+use Rattle.zwatches.specs.Watches.{place_cmp, place_of, watch_cmp, kind_number}
 
 paths_total : IsTotalOrder path_cmp
 paths_total = lists_total nat_list_cmp_total
@@ -22,7 +23,7 @@ same_path : IsAntisymmetric path_cmp
 same_path = slice_cmp-IsAntisymmetric (slice_cmp-IsAntisymmetric nat_cmp-IsAntisymmetric)
 
 pub places_total : IsTotalOrder place_cmp
-places_total = then_total (on_total (λ (p : Place). p.0) paths_total) (on_total (λ (p : Place). p.1) nat_cmp_total)
+places_total = then_total (on_total (λ (p : Place). p.path) paths_total) (on_total (λ (p : Place). kind_number p.kind) nat_cmp_total)
 
 pub watches_total : IsTotalOrder watch_cmp
 watches_total = then_total (on_total place_of places_total) (on_total (λ (w : Watch). w.connection) nat_cmp_total)
@@ -34,18 +35,28 @@ then_equal Greater b e = absurd cc
 
 kind_same : (a b : Kind) → kind_number a ≡ kind_number b → a ≡ b
 kind_same Data Data e = refl
+kind_same Missing Missing e = refl
 kind_same Children Children e = refl
+kind_same Data Missing e = absurd (omega (arith, e))
 kind_same Data Children e = absurd (omega (arith, e))
+kind_same Missing Data e = absurd (omega (arith, e))
+kind_same Missing Children e = absurd (omega (arith, e))
 kind_same Children Data e = absurd (omega (arith, e))
+kind_same Children Missing e = absurd (omega (arith, e))
+
+pub same_place : IsAntisymmetric place_cmp
+same_place a b e =
+    let parts = then_equal (path_cmp a.path b.path) (nat_cmp (kind_number a.kind) (kind_number b.kind)) e in
+    let path = same_path a.path b.path parts.0 in
+    let kind = kind_same a.kind b.kind (nat_cmp-IsAntisymmetric _ _ parts.1) in
+    λ i. record { path = path i; kind = kind i }
 
 pub same_watch : IsAntisymmetric watch_cmp
 same_watch a b e =
     let parts = then_equal (place_cmp (place_of a) (place_of b)) (nat_cmp a.connection b.connection) e in
-    let place = then_equal (path_cmp a.path b.path) (nat_cmp (kind_number a.kind) (kind_number b.kind)) parts.0 in
-    let path = same_path a.path b.path place.0 in
-    let kind = kind_same a.kind b.kind (nat_cmp-IsAntisymmetric _ _ place.1) in
+    let place = same_place (place_of a) (place_of b) parts.0 in
     let connection = nat_cmp-IsAntisymmetric _ _ parts.1 in
-    λ i. record { path = path i; kind = kind i; connection = connection i }
+    λ i. record { path = (place i).path; kind = (place i).kind; connection = connection i }
 
 -- ---- what comes later stands no lower to a key
 

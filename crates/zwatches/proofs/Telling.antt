@@ -10,10 +10,10 @@ use Rattle.std.proofs.lemmas.Cmp.{nat_cmp_total}
 use Rattle.std.proofs.lemmas.List.Folds.{list_any-append}
 use Rattle.std.proofs.lemmas.List.Kept.{IsStrictlySortedBy-filter, Contains-dedup_nat, Contains-from_dedup}
 use Rattle.std.proofs.lemmas.List.Sorted.{list_any-IsPermutation}
-use Rattle.std.proofs.lemmas.Map.Keys.{IsStrictlyIncreasing-dedup}
+use Rattle.std.proofs.lemmas.Map.Keys.{IsStrictlyIncreasing-dedup, sorted_from_strictly_increasing}
 use Rattle.std.proofs.lemmas.Map.Views.{Contains-from_any, list_any-from_Contains}
-use Rattle.zwatches.specs.declared.kind.Kind.{Kind}
-use Rattle.zwatches.specs.declared.kind.Event.{Event}
+use Rattle.zjute.specs.declared.event.EventKind.{EventKind}
+use Rattle.zwatches.specs.declared.place.Place.{Place}
 use Rattle.zwatches.specs.declared.watch.Watch.{Watch}
 use Rattle.zwatches.specs.Watches.{Path, watch_cmp}
 use Rattle.zwatches.specs.Events.{is_at, fired_at, fires, told, unfired, without, Lists}
@@ -43,7 +43,7 @@ filter_true : {X : Type 0} (xs : List X) → filter (λ _. true) xs ≡ xs
 filter_true [] = refl
 filter_true (x ∷ xs) = ap (λ ys. x ∷ ys) (filter_true xs)
 
-pub kept_is : (rows : List Watch) (places : List (Path × Kind)) → kept rows places ≡ filter (λ w. not (list_any (λ at. is_at at w) places)) rows
+pub kept_is : (rows : List Watch) (places : List Place) → kept rows places ≡ filter (λ w. not (list_any (λ at. is_at at w) places)) rows
 kept_is rows [] = sym (filter_true rows)
 kept_is rows (at ∷ places) =
     kept_is (filter (λ w. not (is_at at w)) rows) places
@@ -90,37 +90,42 @@ any_either : {X : Type 0} (p q r : X → Bool) (xs : List X) → (list_any (λ x
 any_either p q r [] = refl
 any_either p q r (x ∷ xs) = either_step (p x) (q x) (r x) _ _ _ (any_either p q r xs)
 
-told_members : (rows : List Watch) (places : List (Path × Kind)) (p : ℕ → Bool) → list_any p (told_by rows places) ≡ list_any (λ w. p w.connection && list_any (λ at. is_at at w) places) rows
+told_members : (rows : List Watch) (places : List Place) (p : ℕ → Bool) → list_any p (told_by rows places) ≡ list_any (λ w. p w.connection && list_any (λ at. is_at at w) places) rows
 told_members rows [] p = sym (any_none (λ (w : Watch). p w.connection) rows)
 told_members rows (at ∷ places) p =
     list_any-append p (map (λ w. w.connection) (filter (is_at at) rows)) (told_by rows places)
     ∙ rw (any_map p (λ (w : Watch). w.connection) (filter (is_at at) rows), any_filter (λ (w : Watch). p w.connection) (is_at at) rows, told_members rows places p)
     (any_either (λ (w : Watch). p w.connection) (is_at at) (λ w. list_any (λ at. is_at at w) places) rows)
 
+-- the items of a table that a test keeps
+pub any_retained : (rows : List Watch) (test p : Watch → Bool) → list_any p (items (retain (from_list {R = watch_cmp} rows) test)) ≡ list_any (λ w. p w && test w) rows
+any_retained rows test p =
+    ap (λ set. list_any p (items set)) (sym (from_list-filter watches_total same_watch test rows))
+    ∙ any-items watches_total same_watch p (filter test rows)
+    ∙ any_filter p test rows
+
 -- the connections that the rows tell are those to tell
-pub told_is : (rows : List Watch) (event : Event) (path : Path)
+pub told_is : (rows : List Watch) (event : EventKind) (path : Path)
     → from_list {R = nat_cmp} (told_by rows (fired_at event path)) ≡ told (from_list {R = watch_cmp} rows) event path
 told_is rows event path =
     same_list nat_cmp_total nat_cmp-IsAntisymmetric _ _ (λ q.
     told_members rows (fired_at event path) (eq_by_cmp nat_cmp q)
     ∙ sym (any_map (eq_by_cmp nat_cmp q) (λ (w : Watch). w.connection) (items (retain (from_list rows) (fires event path)))
-    ∙ ap (λ set. list_any (λ (w : Watch). eq_by_cmp nat_cmp q w.connection) (items set)) (sym (from_list-filter watches_total same_watch (fires event path) rows))
-    ∙ any-items watches_total same_watch (λ (w : Watch). eq_by_cmp nat_cmp q w.connection) (filter (fires event path) rows)
-    ∙ any_filter (λ (w : Watch). eq_by_cmp nat_cmp q w.connection) (fires event path) rows))
+    ∙ any_retained rows (fires event path) (λ (w : Watch). eq_by_cmp nat_cmp q w.connection)))
 
-pub unfired_is : (rows : List Watch) (event : Event) (path : Path) → from_list {R = watch_cmp} (kept rows (fired_at event path)) ≡ unfired (from_list rows) event path
+pub unfired_is : (rows : List Watch) (event : EventKind) (path : Path) → from_list {R = watch_cmp} (kept rows (fired_at event path)) ≡ unfired (from_list rows) event path
 unfired_is rows event path =
     ap from_list (kept_is rows (fired_at event path)) ∙ from_list-filter watches_total same_watch (λ w. not (fires event path w)) rows
 
-pub told_lists : (rows : List Watch) (event : Event) (path : Path) (all numbers : List ℕ) → all ≡ told_by rows (fired_at event path)
-    → Lists numbers (from_list all) → Lists numbers (told (from_list {R = watch_cmp} rows) event path)
+pub told_lists : (rows : List Watch) (event : EventKind) (path : Path) (all numbers : List ℕ) → all ≡ told_by rows (fired_at event path)
+    → Lists numbers (from_list {R = nat_cmp} all) → Lists numbers (told (from_list {R = watch_cmp} rows) event path)
 told_lists rows event path all numbers is lists = subst (λ s. Lists numbers s) (ap from_list is ∙ told_is rows event path) lists
 
-pub unfired_rows : (rows new : List Watch) (event : Event) (path : Path) → new ≡ kept rows (fired_at event path)
+pub unfired_rows : (rows new : List Watch) (event : EventKind) (path : Path) → new ≡ kept rows (fired_at event path)
     → from_list {R = watch_cmp} new ≡ unfired (from_list rows) event path
 unfired_rows rows new event path is = ap from_list is ∙ unfired_is rows event path
 
-pub kept_all_sorted : (rows : List Watch) (places : List (Path × Kind)) → IsStrictlySortedBy watch_cmp rows → IsStrictlySortedBy watch_cmp (kept rows places)
+pub kept_all_sorted : (rows : List Watch) (places : List Place) → IsStrictlySortedBy watch_cmp rows → IsStrictlySortedBy watch_cmp (kept rows places)
 kept_all_sorted rows [] sorted = sorted
 kept_all_sorted rows (at ∷ places) sorted = kept_all_sorted (filter (λ w. not (is_at at w)) rows) places (kept_sorted rows (λ w. not (is_at at w)) sorted)
 
@@ -138,8 +143,8 @@ dedup_members xs q = both_ways _ _
     (λ one. list_any-from_Contains (eq_by_cmp_equiv nat_cmp_total) q xs (Contains-from_dedup eqb xs q (Contains-from_any tied q (dedup eqb xs) one)))
     (λ one. list_any-from_Contains (eq_by_cmp_equiv nat_cmp_total) q (dedup eqb xs) (Contains-dedup_nat xs q (Contains-from_any tied q xs one)))
 
-pub rising_lists : (xs ys zs : List ℕ) → IsPermutation xs ys → IsSorted nat_cmp ys → zs ≡ dedup eqb ys → Lists zs (from_list xs)
-rising_lists xs ys zs moved sorted is = subst (λ vs. Lists vs (from_list xs)) (sym is) (record {
-  rising = IsStrictlyIncreasing-dedup ys sorted;
+pub rising_lists : (xs ys zs : List ℕ) → IsPermutation xs ys → IsSorted nat_cmp ys → zs ≡ dedup eqb ys → Lists zs (from_list {R = nat_cmp} xs)
+rising_lists xs ys zs moved sorted is = subst (λ vs. Lists vs (from_list {R = nat_cmp} xs)) (sym is) (record {
+  rising = sorted_from_strictly_increasing (dedup eqb ys) (IsStrictlyIncreasing-dedup ys sorted);
   same = same_list nat_cmp_total nat_cmp-IsAntisymmetric _ _ (λ q. dedup_members ys q ∙ sym (list_any-IsPermutation (eq_by_cmp nat_cmp q) xs ys moved));
 })

@@ -1,20 +1,22 @@
 -- The laws, and what the tables of the worked examples answer.
-use Rattle.std.proofs.Common.{◌≡◌, ℕ, Bool, true, false, not, ◌&&◌, List, map, refl, sym, ap, ◌∙◌}
+use Rattle.std.proofs.Common.{◌≡◌, ◌↔◌, ℕ, Bool, true, false, not, ◌&&◌, List, map, refl, sym, ap, ◌∙◌}
+use Rattle.std.specs.declared.cmp.Ordering.{Ordering}
 use Rattle.std.specs.Ordering.{eq_by_cmp, nat_cmp}
-use Rattle.std.specs.Cmp.{eq_by_cmp_equiv, Equal-is}
+use Rattle.std.specs.Cmp.{IsTotalOrder, eq_by_cmp_equiv, Equal-is}
 use Rattle.std.specs.List.{list_any}
-use Rattle.std.specs.FinSet.{contains, items, retain, contains-items, contains-retain, contains-from_list}
-use Rattle.std.specs.FinMap.{nat_cmp-IsAntisymmetric}
+use Rattle.std.specs.FinSet.{contains, items, retain, from_list, contains-items, contains-retain, contains-from_list}
+use Rattle.std.specs.FinMap.{IsAntisymmetric, nat_cmp-IsAntisymmetric}
 use Rattle.std.proofs.lemmas.Cmp.{nat_cmp_total}
 use Rattle.std.proofs.lemmas.List.Folds.{Any-from_list_any, list_any-from_Any}
 use Rattle.std.proofs.lemmas.Map.Views.{Contains-from_any, list_any-from_Contains}
-use Rattle.zwatches.specs.declared.kind.Event.{Event}
+use Rattle.zjute.specs.declared.event.EventKind.{EventKind}
 use Rattle.zwatches.specs.declared.watch.Watch.{Watch}
-use Rattle.zwatches.specs.Watches.{Path, Watches, watch_cmp}
+use Rattle.zwatches.specs.Watches.{Path, Watches, watch_cmp, place_of}
 use Rattle.zwatches.specs.Events.{fires, fired_at, told, unfired}
-use Rattle.zwatches.specs.Laws.{IsFired, TellsWhoWaits, FiresOnce}
+use Rattle.zwatches.specs.Places.{is_of_node}
+use Rattle.zwatches.specs.Laws.{TellsWhoWaits, FiresOnce, HasEachNode}
 use Rattle.zwatches.specs.support.Groups.{set_of, told_by}
-use Rattle.zwatches.proofs.Order.{watches_total, same_watch}
+use Rattle.zwatches.proofs.Order.{places_total, watches_total, same_place, same_watch}
 use Rattle.zwatches.proofs.Telling.{told_is, any_map}
 
 both_true : (a b : Bool) → (a && b) ≡ true → (a ≡ true) × (b ≡ true)
@@ -29,32 +31,36 @@ tied x y e = same_watch x y ((Equal-is (watch_cmp x y)).0 e)
 pub contains-kept : (table : Watches) (test : Watch → Bool) (w : Watch) → contains (retain table test) w ≡ (contains table w && test w)
 contains-kept table test w = contains-retain table test w (λ x e. ap test (sym (same_watch w x e)))
 
--- a connection is told if one of the kept watches is its
-pub contains-told : (table : Watches) (event : Event) (path : Path) (connection : ℕ)
-    → contains (told table event path) connection ≡ list_any (λ (w : Watch). eq_by_cmp nat_cmp connection w.connection) (items (retain table (fires event path)))
-contains-told table event path connection =
-    contains-from_list nat_cmp_total (map (λ (w : Watch). w.connection) (items (retain table (fires event path)))) connection
-    ∙ any_map (eq_by_cmp nat_cmp connection) (λ (w : Watch). w.connection) (items (retain table (fires event path)))
+module _ {K : Type 0} {R : K → K → Ordering} (o : IsTotalOrder R) (same : IsAntisymmetric R) (f : Watch → K) (table : Watches) (test : Watch → Bool) (x : K) where
+  -- what is of the kept watches is of one of them
+  contains-images : contains (from_list {R = R} (map f (items (retain table test)))) x ≡ list_any (λ (w : Watch). eq_by_cmp R x (f w)) (items (retain table test))
+  contains-images = contains-from_list o (map f (items (retain table test))) x ∙ any_map (eq_by_cmp R x) f (items (retain table test))
+
+  kept_images : (contains (from_list {R = R} (map f (items (retain table test)))) x ≡ true) ↔ ((w : Watch) × ((contains table w ≡ true) × (test w ≡ true) × (f w ≡ x)))
+  kept_images = (there, back)
+    where
+      there : contains (from_list {R = R} (map f (items (retain table test)))) x ≡ true → (w : Watch) × ((contains table w ≡ true) × (test w ≡ true) × (f w ≡ x))
+      there is =
+          let found = Any-from_list_any (λ (w : Watch). eq_by_cmp R x (f w)) (items (retain table test)) (sym contains-images ∙ is) in
+          let in_kept = contains-items (retain table test) found.1
+          ∙ list_any-from_Contains (eq_by_cmp_equiv watches_total) found.1 (items (retain table test)) (found.0, found.2, found.3) in
+          let parts = both_true _ _ (sym (contains-kept table test found.1) ∙ in_kept) in
+          (found.1, (parts.0, parts.1, sym (same x (f found.1) ((Equal-is (R x (f found.1))).0 found.4))))
+
+      back : (w : Watch) × ((contains table w ≡ true) × (test w ≡ true) × (f w ≡ x)) → contains (from_list {R = R} (map f (items (retain table test)))) x ≡ true
+      back fired =
+          let w = fired.0 in
+          let in_kept : contains (retain table test) w ≡ true = contains-kept table test w ∙ rw (fired.1.0, fired.1.1) refl in
+          let at = Contains-from_any tied w (items (retain table test)) (sym (contains-items (retain table test) w) ∙ in_kept) in
+          contains-images
+          ∙ list_any-from_Any (λ (w : Watch). eq_by_cmp R x (f w)) (items (retain table test))
+          (at.0, w, at.1, at.2, rw fired.1.2 ((eq_by_cmp_equiv o).refl x))
 
 pub tells_who_waits : TellsWhoWaits
-tells_who_waits table event path connection = (there, back)
-  where
-    there : contains (told table event path) connection ≡ true → (w : Watch) × IsFired table event path connection w
-    there is =
-        let found = Any-from_list_any (λ (w : Watch). eq_by_cmp nat_cmp connection w.connection) (items (retain table (fires event path))) (sym (contains-told table event path connection) ∙ is) in
-        let in_kept = contains-items (retain table (fires event path)) found.1
-        ∙ list_any-from_Contains (eq_by_cmp_equiv watches_total) found.1 (items (retain table (fires event path))) (found.0, found.2, found.3) in
-        let parts = both_true _ _ (sym (contains-kept table (fires event path) found.1) ∙ in_kept) in
-        (found.1, (parts.0, parts.1, sym (nat_cmp-IsAntisymmetric connection found.1.connection ((Equal-is (nat_cmp connection found.1.connection)).0 found.4))))
+tells_who_waits table event path connection = kept_images nat_cmp_total nat_cmp-IsAntisymmetric (λ w. w.connection) table (fires event path) connection
 
-    back : (w : Watch) × IsFired table event path connection w → contains (told table event path) connection ≡ true
-    back fired =
-        let w = fired.0 in
-        let in_kept : contains (retain table (fires event path)) w ≡ true = contains-kept table (fires event path) w ∙ rw (fired.1.0, fired.1.1) refl in
-        let at = Contains-from_any tied w (items (retain table (fires event path))) (sym (contains-items (retain table (fires event path)) w) ∙ in_kept) in
-        contains-told table event path connection
-        ∙ list_any-from_Any (λ (w : Watch). eq_by_cmp nat_cmp connection w.connection) (items (retain table (fires event path)))
-        (at.0, w, at.1, at.2, rw fired.1.2 ((eq_by_cmp_equiv nat_cmp_total).refl connection))
+pub has_each_node : HasEachNode
+has_each_node table at = kept_images places_total same_place place_of table (λ w. is_of_node w.kind) at
 
 pub fires_once : FiresOnce
 fires_once table event path w = (there, back)
@@ -72,7 +78,7 @@ fires_once table event path w = (there, back)
     back both = contains-kept table (λ w. not (fires event path w)) w ∙ rw (both.0, both.1) refl
 
 -- of a table of rows
-pub told_here : (rows : List Watch) (event : Event) (path : Path) (connection : ℕ) (answer : Bool)
+pub told_here : (rows : List Watch) (event : EventKind) (path : Path) (connection : ℕ) (answer : Bool)
     → list_any (eq_by_cmp nat_cmp connection) (told_by rows (fired_at event path)) ≡ answer → contains (told (set_of rows) event path) connection ≡ answer
 told_here rows event path connection answer is =
     ap (λ set. contains set connection) (sym (told_is rows event path)) ∙ contains-from_list nat_cmp_total (told_by rows (fired_at event path)) connection ∙ is

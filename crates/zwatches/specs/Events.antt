@@ -1,42 +1,36 @@
 -- Which watches an event fires, and which connections it tells. The source is the ZooKeeper
 -- Programmer's Guide, sections "ZooKeeper Watches" and "Semantics of Watches".
-use Rattle.std.specs.Prelude.{◌≡◌, ℕ, ◌-◌, Bool, not, List, [], ◌∷◌, length, map, take, ◌==◌}
+use Rattle.std.specs.Prelude.{◌≡◌, ℕ, Bool, not, List, [], ◌∷◌, map, ◌==◌}
+use Rattle.std.specs.declared.cmp.Ordering.{Ordering}
 use Rattle.std.specs.List.{list_any}
-use Rattle.std.specs.List.Sorted.{IsStrictlyIncreasing}
+use Rattle.std.specs.List.Sorted.{IsStrictlySortedBy}
 use Rattle.std.specs.FinSet.{FinSet, items, from_list, retain}
 use Rattle.std.specs.Ordering.{nat_cmp, is_eq}
-use Rattle.zwatches.specs.declared.kind.Kind.{Kind}
-use Rattle.zwatches.specs.declared.kind.Kind.TheVariants.{Data, Children}
-use Rattle.zwatches.specs.declared.kind.Event.{Event}
-use Rattle.zwatches.specs.declared.kind.Event.TheVariants.{Created, DataSet, Deleted}
+use Rattle.zjute.specs.declared.event.EventKind.{EventKind}
+use Rattle.zjute.specs.declared.event.EventKind.TheVariants.{NodeCreated, NodeDeleted, NodeDataChanged, NodeChildrenChanged}
+use Rattle.zwatches.specs.declared.kind.Kind.TheVariants.{Data, Missing, Children}
+use Rattle.zwatches.specs.declared.place.Place.{Place}
 use Rattle.zwatches.specs.declared.watch.Watch.{Watch}
-use Rattle.zwatches.specs.Watches.{Path, Watches, place_cmp, place_of, kind_number}
+use Rattle.zwatches.specs.Watches.{Path, Watches, place, place_cmp, place_of}
 
--- the watch is of this kind, at this path
-abbrev pub is_at : Path × Kind → Watch → Bool
-is_at at w = is_eq (place_cmp (place_of w) (at.0, kind_number at.1))
-
--- the path without its last name
-abbrev pub parent_of : Path → Path
-parent_of path = take (length path - 1) path
-
--- the children of the node above; the root has none above it
-abbrev pub above : Path → List (Path × Kind)
-above [] = []
-above (name ∷ names) = (parent_of (name ∷ names), Children) ∷ []
+-- the watch is at this place
+abbrev pub is_at : Place → Watch → Bool
+is_at at w = is_eq (place_cmp (place_of w) at)
 
 -- where the watches are that an event at a path fires
-abbrev pub fired_at : Event → Path → List (Path × Kind)
-fired_at Created path = (path, Data) ∷ above path
-fired_at DataSet path = (path, Data) ∷ []
-fired_at Deleted path = (path, Data) ∷ (path, Children) ∷ above path
+abbrev pub fired_at : EventKind → Path → List Place
+fired_at NodeCreated path = place path Data ∷ place path Missing ∷ []
+fired_at NodeDataChanged path = place path Data ∷ []
+fired_at NodeDeleted path = place path Data ∷ place path Children ∷ []
+fired_at NodeChildrenChanged path = place path Children ∷ []
+fired_at other path = []
 
 -- the event fires the watch
-abbrev pub fires : Event → Path → Watch → Bool
+abbrev pub fires : EventKind → Path → Watch → Bool
 fires event path w = list_any (λ at. is_at at w) (fired_at event path)
 
 -- the watches that stay
-abbrev pub unfired : Watches → Event → Path → Watches
+abbrev pub unfired : Watches → EventKind → Path → Watches
 unfired table event path = retain table (λ w. not (fires event path w))
 
 -- the connections of watches
@@ -44,13 +38,13 @@ abbrev pub connections : List Watch → FinSet nat_cmp
 connections ws = from_list (map (λ w. w.connection) ws)
 
 -- the connections to tell
-abbrev pub told : Watches → Event → Path → FinSet nat_cmp
+abbrev pub told : Watches → EventKind → Path → FinSet nat_cmp
 told table event path = connections (items (retain table (fires event path)))
 
--- the numbers are those of the set, each once, in rising order
-pub record Lists (numbers : List ℕ) (set : FinSet nat_cmp) : Type 0 where
-  pub rising : IsStrictlyIncreasing numbers
-  pub same : from_list numbers ≡ set
+-- the list has the elements of the set, each once, in rising order
+pub record Lists {K : Type 0} {R : K → K → Ordering} (list : List K) (set : FinSet R) : Type 0 where
+  pub rising : IsStrictlySortedBy R list
+  pub same : from_list list ≡ set
 
 -- the watches of other connections
 abbrev pub without : Watches → ℕ → Watches

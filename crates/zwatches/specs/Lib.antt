@@ -1,5 +1,6 @@
 pub mod Watches
 pub mod Events
+pub mod Places
 pub mod Laws
 pub mod Samples
 pub mod support

@@ -1,7 +1,7 @@
 -- The paths and watches of the worked examples.
 use Rattle.std.specs.Prelude.{List, [], ◌∷◌}
 use Rattle.std.specs.FinSet.{from_list}
-use Rattle.zwatches.specs.declared.kind.Kind.TheVariants.{Data, Children}
+use Rattle.zwatches.specs.declared.kind.Kind.TheVariants.{Data, Missing, Children}
 use Rattle.zwatches.specs.declared.watch.Watch.{Watch}
 use Rattle.zwatches.specs.Watches.{Path, Watches, watch}
 
@@ -13,10 +13,12 @@ at_a = (97 ∷ []) ∷ []
 abbrev pub at_a_b : Path
 at_a_b = (97 ∷ []) ∷ (98 ∷ []) ∷ []
 
--- connection 1 waits for `/a` and its children, 2 for the children of `/a`, 3 for those of the root
+-- connection 1 waits for `/a` and its children, 2 for the children of `/a`, 3 for those of the
+-- root, and 4 for a node at `/a/b`
 abbrev pub some_rows : List Watch
 some_rows =
-    watch [] Children 3 ∷ watch at_a Data 1 ∷ watch at_a Children 1 ∷ watch at_a Children 2 ∷ []
+    watch [] Children 3 ∷ watch at_a Data 1 ∷ watch at_a Children 1 ∷ watch at_a Children 2
+    ∷ watch at_a_b Missing 4 ∷ []
 
 abbrev pub some_table : Watches
 some_table = from_list some_rows

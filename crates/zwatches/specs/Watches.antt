@@ -1,5 +1,5 @@
--- The table of watches: a set of watches, each of a connection, a kind and a path. The source is the
--- ZooKeeper Programmer's Guide, section "ZooKeeper Watches". The limit is this project's profile.
+-- The table of watches: a set of watches, each of a connection, a kind and a path. The source is
+-- the ZooKeeper Programmer's Guide, section "ZooKeeper Watches". The limit is this project's profile.
 use Rattle.std.specs.Prelude.{◌≡◌, ℕ, List, Bool, true, false, not, ◌&&◌, nat_le}
 use Rattle.std.specs.FinSet.{FinSet, contains, len}
 use Rattle.std.specs.Ordering.{nat_cmp, ordering_then}
@@ -8,8 +8,9 @@ use Rattle.zpath.specs.Grammar.{path_cmp}
 use Rattle.zwatches.specs.declared.fault.WatchFault.{WatchFault}
 use Rattle.zwatches.specs.declared.fault.WatchFault.TheVariants.{Full, Memory}
 use Rattle.zwatches.specs.declared.kind.Kind.{Kind}
-use Rattle.zwatches.specs.declared.kind.Kind.TheVariants.{Data, Children}
+use Rattle.zwatches.specs.declared.kind.Kind.TheVariants.{Data, Missing, Children}
 use Rattle.zwatches.specs.declared.limits.TheConstants.{MAX_WATCHES}
+use Rattle.zwatches.specs.declared.place.Place.{Place}
 use Rattle.zwatches.specs.declared.watch.Watch.{Watch}
 
 -- a path is its names from the root down
@@ -23,17 +24,21 @@ watch path kind connection = record { path = path; kind = kind; connection = con
 -- the order of the kinds
 abbrev pub kind_number : Kind → ℕ
 kind_number Data = 0
-kind_number Children = 1
+kind_number Missing = 1
+kind_number Children = 2
 
--- a place: a path, and the number of a kind
-abbrev pub Place : Type 0
-Place = Path × ℕ
+-- a place by its parts
+abbrev pub place : Path → Kind → Place
+place path kind = record { path = path; kind = kind }
 
+-- places in order: by path, and by kind
 abbrev pub place_cmp : Place → Place → Ordering
-place_cmp a b = ordering_then (path_cmp a.0 b.0) (nat_cmp a.1 b.1)
+place_cmp a b =
+    ordering_then (path_cmp a.path b.path) (nat_cmp (kind_number a.kind) (kind_number b.kind))
 
+-- where a watch is
 abbrev pub place_of : Watch → Place
-place_of w = (w.path, kind_number w.kind)
+place_of w = place w.path w.kind
 
 -- watches in order: by path, by kind, and by connection
 abbrev pub watch_cmp : Watch → Watch → Ordering

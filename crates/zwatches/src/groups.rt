@@ -1,34 +1,25 @@
 //! The rows of the places of an event: whom they tell, and the rows without them.
 
-ghost use Rattle.std.specs.Prelude.{◌≡◌, ◌≤◌, [], ◌∷◌, ◌++◌, not, length, map, IfNone, IfSome, IfOk, OnOk, ◌==◌, vec_len};
+ghost use Rattle.std.specs.Prelude.{◌≡◌, ◌≤◌, ◌++◌, not, map, IfOk, OnOk, ◌==◌, vec_len};
 ghost use Rattle.std.specs.List.{filter, remove_range};
 ghost use Rattle.std.specs.FinSet.{from_list};
-ghost use Rattle.zwatches.specs.declared.kind.Kind.TheVariants.{Children as OfChildren};
-ghost use Rattle.zwatches.specs.Events.{is_at, above, fired_at, told, unfired, without, Lists};
+ghost use Rattle.std.specs.Ordering.{nat_cmp};
+ghost use Rattle.zwatches.specs.Watches.{place};
+ghost use Rattle.zwatches.specs.Events.{is_at, fired_at, told, unfired, without, Lists};
 ghost use Rattle.zwatches.specs.support.Groups.{AreRows, set_of, told_by, kept};
 
-use crate::kind::{Event, Kind};
+use crate::kind::Kind;
 use crate::search::rows_at;
 use crate::watch::Watch;
 use std::alloc::Global;
+use zjute::EventKind;
 use zpath::{Memory, Name};
-
-// The path above, unless the path is the root.
-fn path_above(names: &[Name]) -> Option<&[Name]>
-    ensures root { IfNone result (above names.now ≡ []) }
-    ensures some { IfSome result (λ front. above names.now ≡ (front.now, OfChildren) ∷ []) }
-{
-    if names.is_empty() {
-        return None;
-    }
-    Some(&names[..names.len() - 1])
-}
 
 // Adds the connections of the rows of a place.
 fn tell_at(rows: &[Watch], told: &mut Vec<u32>, names: &[Name], kind: Kind) -> Result<(), Memory>
     requires { AreRows rows.now }
     ensures { OnOk result (told.new.items ≡ told.old.items
-        ++ map (λ row. row.connection) (filter (is_at (names.now, kind)) rows.now)) }
+        ++ map (λ row. row.connection) (filter (is_at (place names.now kind)) rows.now)) }
 {
     let (first, end) = rows_at(rows, names, kind);
     for row in &rows[first..end] {
@@ -37,37 +28,31 @@ fn tell_at(rows: &[Watch], told: &mut Vec<u32>, names: &[Name], kind: Kind) -> R
     Ok(())
 }
 
-fn tell_above(rows: &[Watch], told: &mut Vec<u32>, names: &[Name]) -> Result<(), Memory>
-    requires { AreRows rows.now }
-    ensures { OnOk result (told.new.items ≡ told.old.items ++ told_by rows.now (above names.now)) }
-{
-    match path_above(names) {
-        None => Ok(()),
-        Some(above) => tell_at(rows, told, above, Kind::Children),
-    }
-}
-
 // Adds the connections of the rows that an event fires.
 #[tactic(auto, using(std::proofs::Common::append_assoc))]
-fn tell(rows: &[Watch], told: &mut Vec<u32>, event: Event, names: &[Name]) -> Result<(), Memory>
+fn tell(rows: &[Watch], told: &mut Vec<u32>, event: EventKind, names: &[Name]) -> Result<(), Memory>
     requires { AreRows rows.now }
     ensures { OnOk result (told.new.items ≡ told.old.items
         ++ told_by rows.now (fired_at event names.now)) }
 {
-    tell_at(rows, told, names, Kind::Data)?;
     match event {
-        Event::Created => tell_above(rows, told, names),
-        Event::DataSet => Ok(()),
-        Event::Deleted => {
-            tell_at(rows, told, names, Kind::Children)?;
-            tell_above(rows, told, names)
+        EventKind::NodeCreated => {
+            tell_at(rows, told, names, Kind::Data)?;
+            tell_at(rows, told, names, Kind::Missing)
         }
+        EventKind::NodeDataChanged => tell_at(rows, told, names, Kind::Data),
+        EventKind::NodeDeleted => {
+            tell_at(rows, told, names, Kind::Data)?;
+            tell_at(rows, told, names, Kind::Children)
+        }
+        EventKind::NodeChildrenChanged => tell_at(rows, told, names, Kind::Children),
+        _ => Ok(()),
     }
 }
 
 // Sorts numbers, and leaves each once.
 fn make_rising(numbers: &mut Vec<u32>)
-    ensures { Lists numbers.new.items (from_list numbers.old.items) }
+    ensures { Lists numbers.new.items (from_list {R = nat_cmp} numbers.old.items) }
 {
     numbers.sort_unstable();
     numbers.dedup();
@@ -77,7 +62,7 @@ fn make_rising(numbers: &mut Vec<u32>)
 pub(crate) fn told_of(
     alloc: Global,
     rows: &[Watch],
-    event: Event,
+    event: EventKind,
     names: &[Name],
 ) -> Result<Vec<u32>, Memory>
     requires { AreRows rows.now }
@@ -102,39 +87,35 @@ fn remove_between(rows: &mut Vec<Watch>, first: usize, end: usize)
 // Removes the rows of a place.
 fn remove_at(rows: &mut Vec<Watch>, names: &[Name], kind: Kind)
     requires { AreRows rows.old.items }
-    ensures { rows.new.items ≡ filter (λ row. not (is_at (names.now, kind) row)) rows.old.items }
+    ensures { rows.new.items
+        ≡ filter (λ row. not (is_at (place names.now kind) row)) rows.old.items }
 {
     let (first, end) = rows_at(rows, names, kind);
     remove_between(rows, first, end);
 }
 
-fn remove_above(rows: &mut Vec<Watch>, names: &[Name])
-    requires { AreRows rows.old.items }
-    ensures { rows.new.items ≡ kept rows.old.items (above names.now) }
-{
-    if let Some(above) = path_above(names) {
-        remove_at(rows, above, Kind::Children);
-    }
-}
-
 // Removes the rows of the places of an event.
-fn remove_each(rows: &mut Vec<Watch>, event: Event, names: &[Name])
+fn remove_each(rows: &mut Vec<Watch>, event: EventKind, names: &[Name])
     requires { AreRows rows.old.items }
     ensures { rows.new.items ≡ kept rows.old.items (fired_at event names.now) }
 {
-    remove_at(rows, names, Kind::Data);
     match event {
-        Event::Created => remove_above(rows, names),
-        Event::DataSet => {}
-        Event::Deleted => {
-            remove_at(rows, names, Kind::Children);
-            remove_above(rows, names);
+        EventKind::NodeCreated => {
+            remove_at(rows, names, Kind::Data);
+            remove_at(rows, names, Kind::Missing);
         }
+        EventKind::NodeDataChanged => remove_at(rows, names, Kind::Data),
+        EventKind::NodeDeleted => {
+            remove_at(rows, names, Kind::Data);
+            remove_at(rows, names, Kind::Children);
+        }
+        EventKind::NodeChildrenChanged => remove_at(rows, names, Kind::Children),
+        _ => {}
     }
 }
 
 // Removes the rows that an event fires.
-pub(crate) fn remove_fired(rows: &mut Vec<Watch>, event: Event, names: &[Name])
+pub(crate) fn remove_fired(rows: &mut Vec<Watch>, event: EventKind, names: &[Name])
     requires { AreRows rows.old.items }
     ensures rows { AreRows rows.new.items }
     ensures gone { set_of rows.new.items

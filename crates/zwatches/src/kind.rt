@@ -1,21 +1,12 @@
-//! Kinds of watches, and events.
+//! Kinds of watches.
 
 /// What a watch waits for.
 #[derive(Clone, Copy, Debug, PartialEq, Eq)]
 pub enum Kind {
-    /// The node's data or existence, as `getData` and `exists` set it.
+    /// The data or the end of a node: set by `getData`, and by `exists` that found the node.
     Data,
-    /// The node's children, as `getChildren` sets it.
+    /// That a node is created: set by `exists` at a path where no node is.
+    Missing,
+    /// The children or the end of a node: set by `getChildren`.
     Children,
-}
-
-/// What happened to a node.
-#[derive(Clone, Copy, Debug, PartialEq, Eq)]
-pub enum Event {
-    /// It was created.
-    Created,
-    /// Its data was set.
-    DataSet,
-    /// It was deleted.
-    Deleted,
 }

@@ -1,6 +1,6 @@
 //! Laws of the definitions. Each function's contract is a law; its body does nothing.
 
-ghost use Rattle.zwatches.specs.Laws.{TellsWhoWaits, FiresOnce};
+ghost use Rattle.zwatches.specs.Laws.{TellsWhoWaits, FiresOnce, HasEachNode};
 
 /// An event tells exactly the connections of the watches that it fires.
 pub fn who_waits_is_told()
@@ -10,4 +10,9 @@ pub fn who_waits_is_told()
 /// An event leaves exactly the watches that it doesn't fire. So a watch fires once.
 pub fn watches_fire_once()
     ensures { FiresOnce }
+{}
+
+/// The places of nodes are exactly those of the watches that were set where the node was.
+pub fn each_node_has_a_place()
+    ensures { HasEachNode }
 {}

@@ -3,56 +3,84 @@
 ghost use Rattle.std.specs.Prelude.{◌≡◌, [], ◌∷◌, true, false};
 ghost use Rattle.std.specs.declared.cmp.Ordering.TheVariants.{Less};
 ghost use Rattle.std.specs.FinSet.{contains, from_list};
+ghost use Rattle.std.specs.Ordering.{nat_cmp};
 ghost use Rattle.zwatches.specs.declared.fault.WatchFault.TheVariants.{Full, Memory};
-ghost use Rattle.zwatches.specs.declared.kind.Kind.TheVariants.{Data, Children};
-ghost use Rattle.zwatches.specs.declared.kind.Event.TheVariants.{Created, DataSet, Deleted};
+ghost use Rattle.zjute.specs.declared.event.EventKind.TheVariants as event;
+ghost use Rattle.zjute.specs.declared.event.EventKind.TheVariants.{NodeCreated, NodeDeleted, NodeDataChanged, NodeChildrenChanged};
+ghost use Rattle.zwatches.specs.declared.kind.Kind.TheVariants.{Data, Missing, Children};
 ghost use Rattle.zwatches.specs.declared.limits.TheConstants.{MAX_WATCHES};
-ghost use Rattle.zwatches.specs.Watches.{watch, watch_cmp, IsSetFault};
+ghost use Rattle.zwatches.specs.Watches.{place, watch, watch_cmp, IsSetFault};
 ghost use Rattle.zwatches.specs.Events.{fired_at, fires, told, unfired, without, Lists};
+ghost use Rattle.zwatches.specs.Places.{node_places};
 ghost use Rattle.zwatches.specs.Samples.{at_a, at_a_b, some_table};
 
 /// Watches differ by path, by kind and by connection.
 pub fn watches_differ()
     ensures path { watch_cmp (watch [] Children 2) (watch at_a Data 1) ≡ Less }
     ensures deeper { watch_cmp (watch at_a Children 2) (watch at_a_b Data 1) ≡ Less }
-    ensures kind { watch_cmp (watch at_a Data 2) (watch at_a Children 1) ≡ Less }
+    ensures missing { watch_cmp (watch at_a Data 2) (watch at_a Missing 1) ≡ Less }
+    ensures children { watch_cmp (watch at_a Missing 2) (watch at_a Children 1) ≡ Less }
     ensures connection { watch_cmp (watch at_a Data 1) (watch at_a Data 2) ≡ Less }
 {}
 
-/// A created node fires its data watches and the children watches of the node above.
+/// A created node fires the watches that waited for it and those of its data. It fires none of the
+/// node above: that its children changed is an event of its own.
 pub fn created()
-    ensures node { fires Created at_a_b (watch at_a_b Data 1) ≡ true }
-    ensures children { fires Created at_a_b (watch at_a_b Children 1) ≡ false }
-    ensures above { fires Created at_a_b (watch at_a Children 1) ≡ true }
-    ensures node_above { fires Created at_a_b (watch at_a Data 1) ≡ false }
-    ensures far_above { fires Created at_a_b (watch [] Children 1) ≡ false }
+    ensures missing { fires NodeCreated at_a_b (watch at_a_b Missing 1) ≡ true }
+    ensures node { fires NodeCreated at_a_b (watch at_a_b Data 1) ≡ true }
+    ensures children { fires NodeCreated at_a_b (watch at_a_b Children 1) ≡ false }
+    ensures above { fires NodeCreated at_a_b (watch at_a Children 1) ≡ false }
 {}
 
-/// A node whose data is set fires its data watches alone.
-pub fn data_set()
-    ensures node { fires DataSet at_a (watch at_a Data 1) ≡ true }
-    ensures children { fires DataSet at_a (watch at_a Children 1) ≡ false }
-    ensures above { fires DataSet at_a (watch [] Children 1) ≡ false }
-    ensures below { fires DataSet at_a (watch at_a_b Data 1) ≡ false }
+/// A node whose data changed fires the watches of its data alone.
+pub fn data_changed()
+    ensures node { fires NodeDataChanged at_a (watch at_a Data 1) ≡ true }
+    ensures missing { fires NodeDataChanged at_a (watch at_a Missing 1) ≡ false }
+    ensures children { fires NodeDataChanged at_a (watch at_a Children 1) ≡ false }
+    ensures below { fires NodeDataChanged at_a (watch at_a_b Data 1) ≡ false }
 {}
 
-/// A deleted node fires all its watches and the children watches of the node above.
+/// A deleted node fires the watches of its data and of its children.
 pub fn deleted()
-    ensures node { fires Deleted at_a (watch at_a Data 1) ≡ true }
-    ensures children { fires Deleted at_a (watch at_a Children 1) ≡ true }
-    ensures above { fires Deleted at_a (watch [] Children 1) ≡ true }
-    ensures node_above { fires Deleted at_a (watch [] Data 1) ≡ false }
-    ensures root { fired_at Deleted [] ≡ ([], Data) ∷ ([], Children) ∷ [] }
+    ensures node { fires NodeDeleted at_a (watch at_a Data 1) ≡ true }
+    ensures children { fires NodeDeleted at_a (watch at_a Children 1) ≡ true }
+    ensures missing { fires NodeDeleted at_a (watch at_a Missing 1) ≡ false }
+    ensures above { fires NodeDeleted at_a (watch [] Children 1) ≡ false }
+{}
+
+/// A node whose children changed fires the watches of its children alone.
+pub fn children_changed()
+    ensures children { fires NodeChildrenChanged at_a (watch at_a Children 1) ≡ true }
+    ensures node { fires NodeChildrenChanged at_a (watch at_a Data 1) ≡ false }
+    ensures missing { fires NodeChildrenChanged at_a (watch at_a Missing 1) ≡ false }
+    ensures below { fires NodeChildrenChanged at_a (watch at_a_b Children 1) ≡ false }
+{}
+
+/// What else is told to watches fires none.
+pub fn other_events()
+    ensures none { fired_at event.None at_a ≡ [] }
+    ensures of_data { fired_at event.DataWatchRemoved at_a ≡ [] }
+    ensures of_children { fired_at event.ChildWatchRemoved at_a ≡ [] }
+    ensures persistent { fired_at event.PersistentWatchRemoved at_a ≡ [] }
 {}
 
 /// Whom an event tells, and what it leaves.
 pub fn one_event()
-    ensures told_of_both { contains (told some_table Deleted at_a) 1 ≡ true }
-    ensures told_of_one { contains (told some_table Deleted at_a) 2 ≡ true }
-    ensures told_above { contains (told some_table Deleted at_a) 3 ≡ true }
-    ensures not_told { contains (told some_table DataSet at_a) 2 ≡ false }
-    ensures gone { contains (unfired some_table DataSet at_a) (watch at_a Data 1) ≡ false }
-    ensures stays { contains (unfired some_table DataSet at_a) (watch at_a Children 1) ≡ true }
+    ensures told_of_both { contains (told some_table NodeDeleted at_a) 1 ≡ true }
+    ensures told_of_one { contains (told some_table NodeDeleted at_a) 2 ≡ true }
+    ensures above { contains (told some_table NodeDeleted at_a) 3 ≡ false }
+    ensures missing { contains (told some_table NodeCreated at_a_b) 4 ≡ true }
+    ensures not_told { contains (told some_table NodeDataChanged at_a) 2 ≡ false }
+    ensures gone { contains (unfired some_table NodeDataChanged at_a) (watch at_a Data 1) ≡ false }
+    ensures stays { contains (unfired some_table NodeDataChanged at_a) (watch at_a Children 1)
+        ≡ true }
+{}
+
+/// The places of nodes: each once, and none where a node is waited for.
+pub fn places_of_nodes()
+    ensures listed { Lists (place [] Children ∷ place at_a Data ∷ place at_a Children ∷ [])
+        (node_places some_table) }
+    ensures missing { contains (node_places some_table) (place at_a_b Missing) ≡ false }
 {}
 
 /// What a connection leaves that is forgotten.
@@ -63,9 +91,9 @@ pub fn forgotten()
 
 /// Numbers that are listed, each once, in rising order.
 pub fn lists()
-    ensures twice { Lists (1 ∷ 1 ∷ []) (from_list (1 ∷ [])) → ⊥ }
-    ensures falling { Lists (2 ∷ 1 ∷ []) (from_list (1 ∷ 2 ∷ [])) → ⊥ }
-    ensures another { Lists [] (from_list (1 ∷ [])) → ⊥ }
+    ensures twice { Lists (1 ∷ 1 ∷ []) (from_list {R = nat_cmp} (1 ∷ [])) → ⊥ }
+    ensures falling { Lists (2 ∷ 1 ∷ []) (from_list {R = nat_cmp} (1 ∷ 2 ∷ [])) → ⊥ }
+    ensures another { Lists [] (from_list {R = nat_cmp} (1 ∷ [])) → ⊥ }
 {}
 
 /// The limit, and when each fault comes.

@@ -2,7 +2,7 @@
 
 ghost use Rattle.std.specs.Prelude.{◌≡◌, true, IfOk, IfErr};
 ghost use Rattle.std.specs.FinSet.{contains, len};
-ghost use Rattle.zwatches.specs.Watches.{watch, kind_number as number_of, place_cmp, place_of, watch_cmp};
+ghost use Rattle.zwatches.specs.Watches.{place, watch, kind_number as number_of, place_cmp, place_of, watch_cmp};
 ghost use Rattle.zwatches.specs.Events.{is_at};
 ghost use Rattle.zwatches.specs.support.Groups.{AreRows, set_of, IsGap, IsGroup};
 
@@ -17,14 +17,14 @@ fn kind_number(kind: Kind) -> u8
 {
     match kind {
         Kind::Data => 0,
-        Kind::Children => 1,
+        Kind::Missing => 1,
+        Kind::Children => 2,
     }
 }
 
 // How a row stands to a path and a kind.
-fn row_to_place(row: &Watch, names: &[Name], kind: Kind) -> Ordering
-    ensures { result ≡ place_cmp (place_of row.now)
-        (names.now, number_of kind) }
+pub(crate) fn row_to_place(row: &Watch, names: &[Name], kind: Kind) -> Ordering
+    ensures { result ≡ place_cmp (place_of row.now) (place names.now kind) }
 {
     let paths = row.path.names().cmp(names);
     paths.then(kind_number(row.kind).cmp(&kind_number(kind)))
@@ -63,7 +63,7 @@ pub(crate) fn count_of(rows: &[Watch]) -> usize
 // The rows of a path and a kind: from the first index up to the second.
 pub(crate) fn rows_at(rows: &[Watch], names: &[Name], kind: Kind) -> (usize, usize)
     requires { AreRows rows.now }
-    ensures { IsGroup (is_at (names.now, kind)) rows.now result.0 result.1 }
+    ensures { IsGroup (is_at (place names.now kind)) rows.now result.0 result.1 }
 {
     let first = rows.partition_point(|row| row_to_place(row, names, kind).is_lt());
     let end = rows.partition_point(|row| row_to_place(row, names, kind).is_le());

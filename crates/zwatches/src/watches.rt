@@ -5,15 +5,19 @@ ghost use Rattle.std.specs.FinSet as sets;
 ghost use Rattle.std.specs.FinSet.{contains, insert, len};
 ghost use Rattle.zwatches.specs.Watches.{watch, is_full, IsSetFault};
 ghost use Rattle.zwatches.specs.Events.{told, unfired, without, Lists};
+ghost use Rattle.zwatches.specs.Places.{node_places};
 
 use crate::fault::WatchFault;
 use crate::groups::{remove_all, remove_fired, told_of};
-use crate::kind::{Event, Kind};
+use crate::kind::Kind;
+use crate::nodes::places_in;
+use crate::place::Place;
 use crate::search::count_of;
 use crate::setting::set_in;
 use crate::watch::Watch;
 use std::alloc::Global;
 use std::marker::Model;
+use zjute::EventKind;
 use zpath::{Memory, Path};
 
 /// A set of watches, at most `MAX_WATCHES`.
@@ -70,8 +74,9 @@ impl Watches {
     }
 
     /// Removes the watches that an event at a path fires, and returns the connections to tell: each
-    /// once, in rising order. After `Memory` nothing has changed.
-    pub fn changed(&mut self, event: Event, path: &Path) -> Result<Vec<u32>, Memory>
+    /// once, in rising order. The event of the node above is one of its own. After `Memory` nothing
+    /// has changed.
+    pub fn changed(&mut self, event: EventKind, path: &Path) -> Result<Vec<u32>, Memory>
         ensures told { IfOk result (λ connections. Lists connections.items
             (told self.old event path.now)) }
         ensures gone { OnOk result (self.new ≡ unfired self.old event path.now) }
@@ -80,6 +85,14 @@ impl Watches {
         let connections = told_of(self.alloc, &self.rows, event, path.names())?;
         remove_fired(&mut self.rows, event, path.names());
         Ok(connections)
+    }
+
+    /// Returns the places of nodes, each once, by path and kind: where watches of data or of
+    /// children are.
+    pub fn places(&self) -> Result<Vec<Place>, Memory>
+        ensures { IfOk result (λ places. Lists places.items (node_places self.now)) }
+    {
+        places_in(self.alloc, &self.rows)
     }
 
     /// Removes all watches of a connection. Allocates nothing.

@@ -4,9 +4,9 @@ use Rattle.std.specs.List.{AllWithin, filter}
 use Rattle.std.specs.List.Sorted.{IsStrictlySortedBy, IsPartitionPoint}
 use Rattle.std.specs.declared.cmp.Ordering.TheVariants.{Less, Greater}
 use Rattle.std.specs.FinSet.{from_list}
-use Rattle.zwatches.specs.declared.kind.Kind.{Kind}
+use Rattle.zwatches.specs.declared.place.Place.{Place}
 use Rattle.zwatches.specs.declared.watch.Watch.{Watch}
-use Rattle.zwatches.specs.Watches.{Path, Watches, watch_cmp}
+use Rattle.zwatches.specs.Watches.{Watches, watch_cmp}
 use Rattle.zwatches.specs.Events.{is_at}
 
 -- each row is below those after it
@@ -32,12 +32,12 @@ pub record IsGroup (test : Watch → Bool) (rows : List Watch) (first end : ℕ)
   pub after : AllWithin (λ w. test w ≡ false) rows end (length rows)
 
 -- the connections of the rows of each place, one place after the other
-abbrev pub told_by : List Watch → List (Path × Kind) → List ℕ
+abbrev pub told_by : List Watch → List Place → List ℕ
 told_by rows [] = []
 told_by rows (at ∷ places) =
     map (λ w. w.connection) (filter (is_at at) rows) ++ told_by rows places
 
 -- the rows without those of each place
-abbrev pub kept : List Watch → List (Path × Kind) → List Watch
+abbrev pub kept : List Watch → List Place → List Watch
 kept rows [] = rows
 kept rows (at ∷ places) = kept (filter (λ w. not (is_at at w)) rows) places

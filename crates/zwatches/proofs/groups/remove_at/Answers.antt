@@ -1,4 +1,5 @@
 use Rattle.std.proofs.Common.{subst, ◌∙◌, arith}
+use Rattle.zwatches.specs.Watches.{place}
 use Rattle.zwatches.specs.Events.{is_at}
 use Rattle.zwatches.specs.support.Groups.{IsGroup}
 use Rattle.zwatches.proofs.Places.{filter_others}
@@ -10,5 +11,5 @@ remove_between-requires-clause-bound c = omega (arith, c.rows_at-first.ensures.b
 pub returns : goal.returns
 returns c =
     c.remove_between.ensures
-    ∙ filter_others (is_at (c.args.names.now, c.args.kind)) c.args.rows.now.items c.rows_at-first.result.0 c.rows_at-first.result.1
-    (subst (λ xs. IsGroup (is_at (c.args.names.now, c.args.kind)) xs c.rows_at-first.result.0 c.rows_at-first.result.1) c.deref.ensures.value c.rows_at-first.ensures)
+    ∙ filter_others (is_at (place c.args.names.now c.args.kind)) c.args.rows.now.items c.rows_at-first.result.0 c.rows_at-first.result.1
+    (subst (λ xs. IsGroup (is_at (place c.args.names.now c.args.kind)) xs c.rows_at-first.result.0 c.rows_at-first.result.1) c.deref.ensures.value c.rows_at-first.ensures)

@@ -3,9 +3,8 @@ use Rattle.zwatches.proofs.rows.created.Goals as goal
 
 pub returns : goal.returns
 returns c = record {
+  missing = refl;
   node = refl;
   children = refl;
   above = refl;
-  node_above = refl;
-  far_above = refl;
 }

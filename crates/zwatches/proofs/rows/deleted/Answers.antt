@@ -5,7 +5,6 @@ pub returns : goal.returns
 returns c = record {
   node = refl;
   children = refl;
+  missing = refl;
   above = refl;
-  node_above = refl;
-  root = refl;
 }

@@ -5,6 +5,7 @@ pub returns : goal.returns
 returns c = record {
   path = refl;
   deeper = refl;
-  kind = refl;
+  missing = refl;
+  children = refl;
   connection = refl;
 }

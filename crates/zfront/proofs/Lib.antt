@@ -1,0 +1,4 @@
+mod Results
+mod Frames
+mod Late
+mod Lines

@@ -1,0 +1,9 @@
+pub mod Front
+pub mod Requests
+pub mod Greeting
+pub mod Words
+pub mod Reading
+pub mod Ticking
+pub mod Orders
+pub mod Inputs
+pub mod support

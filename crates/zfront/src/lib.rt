@@ -1,0 +1,30 @@
+//! A server for ZooKeeper's clients, without sockets and without a clock.
+//!
+//! It consumes what a host tells it: connections that come and go, the bytes that come on them,
+//! ticks, and lines of the chain's operator. It produces pieces of bytes to be sent. All calls of
+//! all connections are made by one client of the service, one after the other.
+//!
+//! `specs/` says exactly what each input does, for whatever the service replies.
+#![tactic(auto)]
+
+mod asking;
+mod inner;
+mod front;
+mod greeting;
+mod hearing;
+pub mod limits;
+mod orders;
+mod reading;
+mod requests;
+
+mod ticking;
+mod word;
+mod words;
+
+pub use front::Front;
+pub use zanswering::Clock;
+pub use zasking::TickLength;
+pub use zpath::Memory;
+pub use zpieces::Piece;
+pub use zprotocol::ServerId;
+pub use zsittings::Password;

@@ -1,0 +1,56 @@
+-- What came on each connection and is no whole frame yet. A read gives any number of bytes, so a
+-- frame may come in several, and what is no whole frame is kept until more comes. The frames are
+-- those of ZooKeeper's clients (`zjute`). How far a connection is, is this project's.
+use Rattle.std.specs.Prelude.{ℕ, List, [], Option, length}
+use Rattle.std.specs.List.{sum_by}
+use Rattle.std.specs.Map.{values_of}
+use Rattle.std.specs.Option.{option_map, option_map_or}
+use Rattle.std.specs.Ordering.{nat_cmp}
+use Rattle.std.specs.FinMap.{FinMap, entries, get, insert}
+use Rattle.zpieces.specs.declared.phase.Phase.{Phase}
+use Rattle.zpieces.specs.declared.phase.Phase.TheVariants.{Silent, Closing}
+
+-- the stream of one connection: how far it is, and what came and is no whole frame
+pub record StreamView : Type 0 where
+  pub phase : Phase
+  pub bytes : List ℕ
+
+-- the streams, each under its connection's number
+abbrev pub StreamRows : Type 0
+StreamRows = FinMap nat_cmp StreamView
+
+-- a stream without bytes
+abbrev pub empty_in : Phase → StreamView
+empty_in phase = record { phase = phase; bytes = [] }
+
+-- the stream of a connection on which nothing was read yet, by the password of a session on it
+abbrev pub opened : List ℕ → StreamView
+opened password = empty_in (Silent password)
+
+-- the streams with that of one connection changed, if it has one
+abbrev pub changed : (StreamView → StreamView) → StreamRows → ℕ → StreamRows
+changed to rows connection = option_map_or (λ s. insert rows connection (to s)) (get rows connection) rows
+
+-- and with another phase
+abbrev pub with_phase : StreamRows → ℕ → Phase → StreamRows
+with_phase rows connection phase = changed (λ s. record s { phase = phase }) rows connection
+
+-- and with other bytes
+abbrev pub with_bytes : StreamRows → ℕ → List ℕ → StreamRows
+with_bytes rows connection bytes = changed (λ s. record s { bytes = bytes }) rows connection
+
+-- and closing, without bytes
+abbrev pub closed : StreamRows → ℕ → StreamRows
+closed rows connection = changed (λ s. empty_in Closing) rows connection
+
+-- how far a connection is, if it has a stream
+abbrev pub phase_of : StreamRows → ℕ → Option Phase
+phase_of rows connection = option_map (λ s. s.phase) (get rows connection)
+
+-- the bytes of a connection: none, if it has no stream
+abbrev pub bytes_of : StreamRows → ℕ → List ℕ
+bytes_of rows connection = option_map_or (λ s. s.bytes) (get rows connection) []
+
+-- how many bytes the streams hold together
+abbrev pub held_of : StreamRows → ℕ
+held_of rows = sum_by (λ (s : StreamView). length s.bytes) (values_of (entries rows))

@@ -1,0 +1,21 @@
+-- Samples for the worked rows.
+use Rattle.std.specs.Prelude.{ℕ, List, [], ◌∷◌}
+use Rattle.std.specs.FinMap.{from_entries}
+use Rattle.zpieces.specs.declared.phase.Phase.{Phase}
+use Rattle.zpieces.specs.declared.phase.Phase.TheVariants.{Silent, Speaking}
+use Rattle.zpieces.specs.Streams.{StreamView, StreamRows}
+
+-- nothing was read on connection 5, and a session on it will have this password
+abbrev pub silent : StreamView
+silent = record { phase = Silent (8 ∷ 9 ∷ []); bytes = [] }
+
+-- connection 3, in some phase, with some bytes
+abbrev pub entries_with : Phase → List ℕ → List (ℕ × StreamView)
+entries_with phase bytes = (3, record { phase = phase; bytes = bytes }) ∷ (5, silent) ∷ []
+
+abbrev pub streams_with : Phase → List ℕ → StreamRows
+streams_with phase bytes = from_entries (entries_with phase bytes)
+
+-- it has session 7, and two bytes came
+abbrev pub streams : StreamRows
+streams = streams_with (Speaking 7) (1 ∷ 2 ∷ [])

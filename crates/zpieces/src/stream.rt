@@ -1,0 +1,24 @@
+//! The stream of one connection.
+
+use crate::phase::Phase;
+use std::marker::Model;
+
+/// The stream of one connection.
+#[derive(Drop)]
+pub struct Stream {
+    /// How far the connection is.
+    pub phase: Phase,
+    /// What came and is no whole frame.
+    pub bytes: Vec<u8>,
+}
+
+impl Model for Stream {
+    ghost use Rattle.zpieces.specs.Streams.{StreamView};
+    ghost use Rattle.zpieces.specs.support.Codes.{coded_stream};
+
+    ghost Value = { StreamView };
+
+    ghost coded = { coded_stream };
+
+    ghost view = { λ s. record { phase = s.phase; bytes = s.bytes.items } };
+}

@@ -1,0 +1,58 @@
+-- Answers as frames. The source is zookeeper.jute (`ReplyHeader`, `ConnectResponse`).
+use Rattle.std.specs.Prelude.{ℕ, ℤ, pos, Bool, true, false, List, Option, length, nat_lt, if◌then◌else◌}
+use Rattle.std.specs.Option.{option_map}
+use Rattle.zjute.specs.declared.limits.TheConstants.{MAX_FRAME}
+use Rattle.zjute.specs.declared.code.Code.{Code}
+use Rattle.zjute.specs.declared.code.Code.TheVariants as code
+use Rattle.zjute.specs.declared.connecting.ConnectRequest.{ConnectRequest}
+use Rattle.zjute.specs.declared.connecting.ConnectResponse.{ConnectResponse}
+use Rattle.zjute.specs.Connecting.{connect_response}
+use Rattle.zjute.specs.Frames.{frame}
+use Rattle.zjute.specs.Replies.{reply_text}
+use Rattle.zknown.specs.Known.{KnownView}
+use Rattle.zanswering.specs.declared.answer.Answer.{Answer}
+use Rattle.zanswering.specs.Answers.{failed}
+use Rattle.zanswering.specs.Stats.{long_of}
+
+-- an answer to the request with this xid, behind its header, which has the zxid of the tree
+abbrev pub answer_text : KnownView → ℤ → Answer → List ℕ
+answer_text known xid answer =
+    reply_text (record { xid = xid; zxid = long_of known.zxid; code = answer.code; body = answer.body })
+
+-- what is told in the place of an answer that no frame can hold
+abbrev pub too_long : Answer
+too_long = failed code.MarshallingError
+
+-- the text that a frame can hold
+abbrev pub text_told : KnownView → ℤ → Answer → List ℕ
+text_told known xid answer =
+    if nat_lt MAX_FRAME (length (answer_text known xid answer))
+    then answer_text known xid too_long
+    else answer_text known xid answer
+
+-- an answer as a frame
+abbrev pub answer_frame : KnownView → ℤ → Answer → List ℕ
+answer_frame known xid answer = frame (text_told known xid answer)
+
+-- a client that isn't who it says is told so, and its connection is closed
+abbrev pub ends_connection : Code → Bool
+ends_connection code.AuthFailed = true
+ends_connection other = false
+
+-- a server that doesn't only read says so to a client that knows the flag
+abbrev pub flag_told : ConnectRequest → Option Bool
+flag_told request = option_map (λ asked. false) request.read_only
+
+-- the answer to a connection's first frame
+abbrev pub response : ConnectRequest → ℤ → ℤ → List ℕ → ConnectResponse
+response request timeout session password = record {
+  protocol_version = pos 0;
+  timeout = timeout;
+  session_id = session;
+  password = password;
+  read_only = flag_told request;
+}
+
+-- as a frame
+abbrev pub response_frame : ConnectRequest → ℤ → ℤ → List ℕ → List ℕ
+response_frame request timeout session password = frame (connect_response.spell (response request timeout session password))

@@ -1,0 +1,37 @@
+//! What becomes of calls that were answered.
+
+ghost use Rattle.std.specs.Prelude.{◌≡◌, OnOk};
+ghost use Rattle.zserving.specs.Replying.{absorbed, absorbed_all};
+
+use std::alloc::Global;
+use zcalls::{Call, Reply};
+use zevents::events_of;
+use zpath::Memory;
+use ztables::Tables;
+
+/// Tells the events of a call that was answered, and notes whether it made an ephemeral node.
+pub fn absorb(alloc: Global, tables: &mut Tables, call: &Call, reply: &Reply) -> Result<(), Memory>
+    ensures { OnOk result (tables.new ≡ absorbed call.now reply.now tables.old) }
+{
+    let Call::Update(update) = call else {
+        return Ok(());
+    };
+    tables.note(update, reply);
+    let events = events_of(alloc, update, reply)?;
+    tables.tell_all(events.as_slice())
+}
+
+/// The same for calls in their order, each with its reply.
+pub(crate) fn absorb_all(
+    alloc: Global,
+    tables: &mut Tables,
+    calls: &[Call],
+    replies: &[Reply],
+) -> Result<(), Memory>
+    ensures { OnOk result (tables.new ≡ absorbed_all calls.now replies.now tables.old) }
+{
+    for place in 0..calls.len().min(replies.len()) {
+        absorb(alloc, tables, &calls[place], &replies[place])?;
+    }
+    Ok(())
+}

@@ -1,0 +1,91 @@
+//! Answers to requests.
+
+ghost use Rattle.std.specs.Prelude.{◌≡◌, IfOk, OnOk};
+ghost use Rattle.zserving.specs.Answering as table;
+ghost use Rattle.zserving.specs.Answering.{answered, granted_and_answered};
+
+use crate::absorbing::absorb_all;
+use crate::replying::reply;
+use crate::watching::grant_all;
+use crate::wishes::wishes;
+use std::alloc::Global;
+use zanswering::{Clock, Now, answer_to};
+use zcalls::{Call, Reply};
+use zjute::{Body, Code, Request};
+use zknown::Known;
+use zpath::Memory;
+use ztables::Tables;
+
+/// A request whose calls were all answered.
+#[derive(Drop)]
+pub struct Done<'a> {
+    /// The connection that it came on.
+    pub connection: u32,
+    /// What was asked.
+    pub request: &'a Request,
+    /// The calls that it meant.
+    pub calls: &'a [Call],
+    /// The reply to each of them.
+    pub replies: &'a [Reply],
+}
+
+/// Tells the answer to a request whose calls were all answered. The events of its calls are told
+/// first, and then the watches that it asks for are set.
+pub fn answer(
+    alloc: Global,
+    tables: &mut Tables,
+    clock: &Clock,
+    known: &Known,
+    done: &Done,
+) -> Result<(), Memory>
+    ensures { OnOk result (tables.new
+        ≡ answered clock.now known.now done.now.connection done.now.request.now
+        done.now.calls.now done.now.replies.now tables.old) }
+{
+    absorb_all(alloc, tables, done.calls, done.replies)?;
+    grant_and_answer(alloc, tables, clock, known, done)
+}
+
+// Sets the watches of a request, and tells its answer.
+fn grant_and_answer(
+    alloc: Global,
+    tables: &mut Tables,
+    clock: &Clock,
+    known: &Known,
+    done: &Done,
+) -> Result<(), Memory>
+    ensures { OnOk result (tables.new
+        ≡ granted_and_answered clock.now known.now done.now.connection done.now.request.now
+        done.now.calls.now done.now.replies.now tables.old) }
+{
+    let wishes = wishes(alloc, &done.request.asked, done.calls, done.replies)?;
+    let lacked = grant_all(tables, done.connection, &wishes)?;
+    drop(wishes);
+    let answer = answer_unless(alloc, lacked, clock, known, done)?;
+    reply(alloc, tables, known, done.connection, done.request.xid, answer)
+}
+
+// Returns the answer to a request: an error, if there was no room for a watch.
+fn answer_unless(
+    alloc: Global,
+    lacked: bool,
+    clock: &Clock,
+    known: &Known,
+    done: &Done,
+) -> Result<zanswering::Answer, Memory>
+    ensures { IfOk result (λ answer. answer
+        ≡ table.answer_unless lacked clock.now known.now done.now.request.now.asked
+        done.now.calls.now done.now.replies.now) }
+{
+    if lacked {
+        return Ok(zanswering::Answer {
+            code: Code::SystemError,
+            body: Body::Nothing,
+        });
+    }
+    let at = Now {
+        zxid: known.zxid(),
+        time: known.time(),
+    };
+    answer_to(alloc, clock, &at, &done.request.asked, done.calls, done.replies)
+}

@@ -1,0 +1,97 @@
+//! Answers as frames.
+
+ghost use Rattle.std.specs.Prelude.{◌≡◌, IfOk};
+ghost use Rattle.zserving.specs.Frames as table;
+ghost use Rattle.zserving.specs.Frames.{answer_text, too_long};
+ghost use Rattle.zjute.specs.Frames.{frame};
+
+use crate::numbers::long_of;
+use std::alloc::Global;
+use zanswering::Answer;
+use zjute::{
+    Body, Bytes, Code, ConnectRequest, ConnectResponse, WriteError, write_connect_response,
+    write_reply,
+};
+use zknown::Known;
+use zpath::Memory;
+use zsittings::Password;
+
+/// Returns whether a connection is closed behind an answer with this code.
+pub(crate) fn ends_connection(code: Code) -> bool
+    ensures { result ≡ table.ends_connection code }
+{
+    matches!(code, Code::AuthFailed)
+}
+
+/// Returns an answer as a frame. One that no frame can hold is told as an error.
+pub(crate) fn answer_frame(
+    alloc: Global,
+    known: &Known,
+    xid: i32,
+    answer: Answer,
+) -> Result<Vec<u8>, Memory>
+    ensures { IfOk result (λ bytes. bytes.items ≡ table.answer_frame known.now xid answer) }
+{
+    let zxid = long_of(known.zxid().number());
+    let Answer { code, body } = answer;
+    let told = zjute::Reply { xid, zxid, code, body };
+    match write_reply(alloc, &told) {
+        Ok(bytes) => Ok(bytes),
+        Err(WriteError::Memory) => Err(Memory),
+        Err(WriteError::TooLong) => too_long_frame(alloc, known, xid),
+    }
+}
+
+// Returns what is told where no frame can hold an answer.
+fn too_long_frame(alloc: Global, known: &Known, xid: i32) -> Result<Vec<u8>, Memory>
+    ensures { IfOk result (λ bytes. bytes.items ≡ frame (answer_text known.now xid too_long)) }
+{
+    let told = zjute::Reply {
+        xid,
+        zxid: long_of(known.zxid().number()),
+        code: Code::MarshallingError,
+        body: Body::Nothing,
+    };
+    match write_reply(alloc, &told) {
+        Ok(bytes) => Ok(bytes),
+        Err(WriteError::Memory) => Err(Memory),
+        // A header alone is short.
+        Err(WriteError::TooLong) => unreachable!(),
+    }
+}
+
+/// Returns the answer to a connection's first frame as a frame.
+pub(crate) fn response_frame(
+    alloc: Global,
+    request: &ConnectRequest,
+    timeout: i32,
+    session_id: i64,
+    password: &Password,
+) -> Result<Vec<u8>, Memory>
+    ensures { IfOk result (λ bytes. bytes.items
+        ≡ table.response_frame request.now timeout session_id password.now) }
+{
+    let told = ConnectResponse {
+        protocol_version: 0,
+        timeout,
+        session_id,
+        password: Bytes::copied(alloc, password.as_bytes())?,
+        read_only: told_flag(request),
+    };
+    match write_connect_response(alloc, &told) {
+        Ok(bytes) => Ok(bytes),
+        Err(WriteError::Memory) => Err(Memory),
+        // A password is short.
+        Err(WriteError::TooLong) => unreachable!(),
+    }
+}
+
+// Returns that the server doesn't only read, to a client that knows the flag.
+fn told_flag(request: &ConnectRequest) -> Option<bool>
+    ensures { result ≡ table.flag_told request.now }
+{
+    match request.read_only {
+        Some(_) => Some(false),
+        None => None,
+    }
+}

@@ -1,0 +1,33 @@
+//! Replies.
+
+ghost use Rattle.std.specs.Prelude.{◌≡◌, OnOk};
+ghost use Rattle.zserving.specs.Replying.{replied};
+
+use crate::frames::{answer_frame, ends_connection};
+use std::alloc::Global;
+use zanswering::Answer;
+use zknown::Known;
+use zpath::Memory;
+use ztables::Tables;
+
+/// Tells the answer to the request with this number, as a frame. A client that isn't who it says is
+/// told so, and its connection is closed.
+pub fn reply(
+    alloc: Global,
+    tables: &mut Tables,
+    known: &Known,
+    connection: u32,
+    xid: i32,
+    answer: Answer,
+) -> Result<(), Memory>
+    ensures { OnOk result (tables.new ≡ replied known.now connection xid answer tables.old) }
+{
+    let is_last = ends_connection(answer.code);
+    let frame = answer_frame(alloc, known, xid, answer)?;
+    tables.send(connection, frame)?;
+    if is_last {
+        tables.close(connection)
+    } else {
+        Ok(())
+    }
+}

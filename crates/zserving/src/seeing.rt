@@ -1,0 +1,76 @@
+//! What is seen at watched places.
+
+ghost use Rattle.std.specs.Prelude.{◌≡◌, ◌++◌, ◌∷◌, [], IfOk, OnOk};
+ghost use Rattle.zevents.specs.Events.{event};
+ghost use Rattle.zserving.specs.Looking as table;
+ghost use Rattle.zserving.specs.Looking.{seen_at};
+
+use std::alloc::Global;
+use zcalls::{Refusal, Reply, Stat};
+use zevents::{Event, EventKind};
+use zpath::{Memory, Path};
+use ztree::Zxid;
+use zwatches::{Kind, Place};
+
+/// Returns the events of the nodes that went away, and of those whose children changed, with the
+/// change of this zxid.
+pub(crate) fn seen(
+    alloc: Global,
+    zxid: Zxid,
+    places: &[Place],
+    replies: &[Reply],
+) -> Result<Vec<Event>, Memory>
+    ensures { IfOk result (λ events. events.items ≡ table.seen zxid places.now replies.now) }
+{
+    let mut events = Vec::new(alloc);
+    for index in 0..places.len().min(replies.len()) {
+        see(alloc, zxid, &places[index], &replies[index], &mut events)?;
+    }
+    Ok(events)
+}
+
+// Adds what is seen at a place.
+fn see(
+    alloc: Global,
+    zxid: Zxid,
+    place: &Place,
+    reply: &Reply,
+    events: &mut Vec<Event>,
+) -> Result<(), Memory>
+    ensures { OnOk result
+        (events.new.items ≡ events.old.items ++ seen_at zxid place.now reply.now) }
+{
+    match reply {
+        Reply::Refused(Refusal::NoNode) => add(alloc, EventKind::NodeDeleted, &place.path, events),
+        Reply::Exists(stat) => see_node(alloc, zxid, place, stat, events),
+        _ => Ok(()),
+    }
+}
+
+// Adds what is seen of a node that is there.
+fn see_node(
+    alloc: Global,
+    zxid: Zxid,
+    place: &Place,
+    stat: &Stat,
+    events: &mut Vec<Event>,
+) -> Result<(), Memory>
+    ensures { OnOk result (events.new.items
+        ≡ events.old.items ++ table.node_seen zxid place.now.kind place.now stat.now) }
+{
+    match place.kind {
+        Kind::Children if stat.pzxid == zxid => {
+            add(alloc, EventKind::NodeChildrenChanged, &place.path, events)
+        }
+        _ => Ok(()),
+    }
+}
+
+// Adds an event.
+fn add(alloc: Global, kind: EventKind, path: &Path, events: &mut Vec<Event>) -> Result<(), Memory>
+    ensures { OnOk result (events.new.items ≡ events.old.items ++ event kind path.now ∷ []) }
+{
+    let path = path.copied(alloc)?;
+    events.push(Event { kind, path })?;
+    Ok(())
+}

@@ -1,0 +1,59 @@
+-- Which session has which connection, and by which password a connection takes a session up. The
+-- source is the ZooKeeper Programmer's Guide, "ZooKeeper Sessions". A sitting is what a server
+-- keeps of a session beside the tree.
+use Rattle.std.specs.Prelude.{ℕ, Bool, true, false, List, None, Some, if◌then◌else◌, map, nat_eq}
+use Rattle.std.specs.Option.{option_map_or}
+use Rattle.std.specs.Ordering.{nat_cmp}
+use Rattle.std.specs.List.{filter_map}
+use Rattle.std.specs.FinMap.{FinMap, get, insert, entries, from_entries}
+use lib.Pointwise.{pointwise}
+use Rattle.zsittings.specs.declared.sitting.Sitting.{Sitting}
+
+-- a sitting for each session, under the session's id
+abbrev pub SittingsView : Type 0
+SittingsView = FinMap nat_cmp Sitting
+
+-- the sitting of a session that a connection opens
+abbrev pub new_sitting : List ℕ → ℕ → Sitting
+new_sitting password connection =
+    record { password = password; connection = Some connection; is_touched = false; made_ephemeral = false }
+
+-- with a connection, which asked for it just now
+abbrev pub taken_up : ℕ → Sitting → Sitting
+taken_up connection s = record s { connection = Some connection; is_touched = true }
+
+-- with something asked for since the last rest
+abbrev pub touched : Sitting → Sitting
+touched s = record s { is_touched = true }
+
+-- with an ephemeral node made at some time
+abbrev pub with_ephemeral : Sitting → Sitting
+with_ephemeral s = record s { made_ephemeral = true }
+
+-- without a connection
+abbrev pub left : Sitting → Sitting
+left s = record s { connection = None }
+
+-- with nothing asked for since the last rest
+abbrev pub rested : Sitting → Sitting
+rested s = record s { is_touched = false }
+
+-- the sittings with that of one session changed, if it exists
+abbrev pub with_changed : (Sitting → Sitting) → SittingsView → ℕ → SittingsView
+with_changed change m id = option_map_or (λ s. insert m id (change s)) (get m id) m
+
+-- the bytes given are all those of the session's password
+abbrev pub passes : SittingsView → ℕ → List ℕ → Bool
+passes m id given = option_map_or (λ s. pointwise nat_eq given s.password) (get m id) false
+
+-- the sittings after a connection gives a password for a session: it has the session if it passes
+abbrev pub after_take_up : SittingsView → ℕ → List ℕ → ℕ → SittingsView
+after_take_up m id given connection = if passes m id given then with_changed (taken_up connection) m id else m
+
+-- the sessions that asked for anything since the last rest, in the order of ids
+abbrev pub touched_ids : SittingsView → List ℕ
+touched_ids m = filter_map (λ e. if e.1.is_touched then Some e.0 else None) (entries m)
+
+-- the sittings, each of them rested
+abbrev pub all_rested : SittingsView → SittingsView
+all_rested m = from_entries (map (λ e. (e.0, rested e.1)) (entries m))

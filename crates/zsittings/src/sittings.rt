@@ -1,0 +1,178 @@
+//! The sittings of all sessions.
+
+ghost use Rattle.std.specs.Prelude.{◌≡◌, IfOk, OnErr, OnOk};
+ghost use Rattle.std.specs.FinMap as finite;
+ghost use Rattle.zsittings.specs.Sittings.{after_take_up, all_rested, left, new_sitting, passes};
+ghost use Rattle.zsittings.specs.Sittings.{taken_up, touched, touched_ids, with_changed};
+ghost use Rattle.zsittings.specs.Sittings.{with_ephemeral};
+
+use crate::password::Password;
+use crate::sitting::Sitting;
+use crate::table::SittingTable;
+use std::alloc::Global;
+use std::marker::Model;
+use zpath::Memory;
+use ztree::SessionId;
+
+/// Which session has which connection, and by which password another may take it up. Only `open`,
+/// `touched` and `ids` allocate.
+#[derive(Drop)]
+pub struct Sittings {
+    table: SittingTable,
+}
+
+impl Model for Sittings {
+    ghost use Rattle.zsittings.specs.Sittings.{SittingsView};
+    ghost use Rattle.zsittings.specs.support.Codes.{coded_sittings};
+
+    ghost Value = { SittingsView };
+
+    ghost coded = { coded_sittings };
+
+    ghost view = { λ s. s.table };
+}
+
+impl Sittings {
+    /// Returns no sittings.
+    pub fn new(alloc: Global) -> Sittings
+        ensures { result ≡ finite.empty }
+    {
+        Sittings {
+            table: SittingTable::new(alloc),
+        }
+    }
+
+    /// Returns the number of sessions.
+    pub fn count(&self) -> usize
+        ensures { result ≡ finite.len self.now }
+    {
+        self.table.len()
+    }
+
+    /// Returns what is kept of a session, if it exists.
+    pub fn sitting(&self, id: SessionId) -> Option<Sitting>
+        ensures { result ≡ finite.get self.now id }
+    {
+        self.table.get(id)
+    }
+
+    /// Adds a session that a connection opens. After `Memory` nothing has changed.
+    pub fn open(&mut self, id: SessionId, password: Password, connection: u32) -> Result<(), Memory>
+        ensures ok { OnOk result
+            (self.new ≡ finite.insert self.old id (new_sitting password connection)) }
+        ensures err { OnErr result (self.new ≡ self.old) }
+    {
+        let sitting = Sitting {
+            password,
+            connection: Some(connection),
+            is_touched: false,
+            made_ephemeral: false,
+        };
+        self.table.insert(id, sitting)
+    }
+
+    /// Gives a session to a connection, if the bytes given are all those of its password. Returns
+    /// whether they are; if not, nothing has changed.
+    pub fn take_up(&mut self, id: SessionId, given: &[u8], connection: u32) -> bool
+        ensures passes { result ≡ passes self.old id given.now }
+        ensures after { self.new ≡ after_take_up self.old id given.now connection }
+    {
+        if !self.passes(id, given) {
+            return false;
+        }
+        self.seat(id, connection);
+        true
+    }
+
+    /// Returns whether the bytes given are all those of the session's password.
+    pub fn passes(&self, id: SessionId, given: &[u8]) -> bool
+        ensures { result ≡ passes self.now id given.now }
+    {
+        match self.table.get(id) {
+            Some(sitting) => given == sitting.password.as_bytes(),
+            None => false,
+        }
+    }
+
+    /// Gives a session to a connection, if it exists.
+    pub fn seat(&mut self, id: SessionId, connection: u32)
+        ensures { self.new ≡ with_changed (taken_up connection) self.old id }
+    {
+        if let Some(sitting) = self.table.get(id) {
+            let taken_up = Sitting {
+                connection: Some(connection),
+                is_touched: true,
+                ..sitting
+            };
+            self.table.put(id, taken_up);
+        }
+    }
+
+    /// Notes that a session asked for something, if it exists.
+    pub fn touch(&mut self, id: SessionId)
+        ensures { self.new ≡ with_changed touched self.old id }
+    {
+        if let Some(sitting) = self.table.get(id) {
+            let touched = Sitting {
+                is_touched: true,
+                ..sitting
+            };
+            self.table.put(id, touched);
+        }
+    }
+
+    /// Notes that a session made an ephemeral node, if it exists.
+    pub fn note_ephemeral(&mut self, id: SessionId)
+        ensures { self.new ≡ with_changed with_ephemeral self.old id }
+    {
+        if let Some(sitting) = self.table.get(id) {
+            let noted = Sitting {
+                made_ephemeral: true,
+                ..sitting
+            };
+            self.table.put(id, noted);
+        }
+    }
+
+    /// Takes a session from its connection, if it exists.
+    pub fn leave(&mut self, id: SessionId)
+        ensures { self.new ≡ with_changed left self.old id }
+    {
+        if let Some(sitting) = self.table.get(id) {
+            let left = Sitting {
+                connection: None,
+                ..sitting
+            };
+            self.table.put(id, left);
+        }
+    }
+
+    /// Removes a session, if it exists.
+    pub fn remove(&mut self, id: SessionId)
+        ensures { self.new ≡ finite.remove self.old id }
+    {
+        self.table.remove(id);
+    }
+
+    /// Returns the ids of the sessions that asked for anything since the last rest, in order; or
+    /// `Memory`.
+    pub fn touched(&self) -> Result<Vec<SessionId>, Memory>
+        ensures { IfOk result (λ ids. ids.items ≡ touched_ids self.now) }
+    {
+        self.table.touched()
+    }
+
+    /// Rests every session: it has asked for nothing since now.
+    pub fn rest(&mut self)
+        ensures { self.new ≡ all_rested self.old }
+    {
+        self.table.rest();
+    }
+
+    /// Returns the ids of all sessions, in order; or `Memory`.
+    pub fn ids(&self) -> Result<Vec<SessionId>, Memory>
+        ensures { IfOk result (λ ids. ids.items ≡ finite.keys self.now) }
+    {
+        self.table.ids()
+    }
+}

@@ -1,0 +1,4 @@
+pub mod Closed
+pub mod Frames
+pub mod Rising
+pub mod Worked

@@ -1,0 +1,5 @@
+pub mod Laws
+pub mod Sweeping
+pub mod Tables
+pub mod Telling
+pub mod support

@@ -1,0 +1,111 @@
+-- The state of a server for ZooKeeper's clients: the connections with what came on them, the
+-- sessions with their connections, the watches, and what is still to be sent. The source is the
+-- ZooKeeper Programmer's Guide, "ZooKeeper Sessions".
+use Rattle.std.specs.Prelude.{ℕ, Bool, true, false, List, [], ◌∷◌, ◌++◌, Option, None, Some, if◌then◌else◌}
+use Rattle.std.specs.Option.{option_map_or, option_and_then}
+use Rattle.std.specs.FinMap as finite
+use Rattle.zpieces.specs.declared.phase.Phase.{Phase}
+use Rattle.zpieces.specs.declared.phase.Phase.TheVariants.{Silent, Speaking, Closing}
+use Rattle.zpieces.specs.Streams.{StreamRows, phase_of, with_phase}
+use Rattle.zpieces.specs.Streams as stream
+use Rattle.zpieces.specs.Outbox.{PieceView}
+use Rattle.zpieces.specs.Outbox as outbox
+use Rattle.zsittings.specs.Sittings.{SittingsView, with_changed, left, new_sitting}
+use Rattle.zsittings.specs.Sittings as seats
+use Rattle.zwatches.specs.Watches.{Watches}
+use Rattle.zwatches.specs.Events as watch
+
+pub record TablesView : Type 0 where
+  pub streams : StreamRows
+  pub sittings : SittingsView
+  pub watches : Watches
+  pub unsent : List PieceView
+
+-- something may still be sent in this phase of a connection
+abbrev pub may_send : Option Phase → Bool
+may_send (Some (Silent password)) = true
+may_send (Some (Speaking session)) = true
+may_send (Some Closing) = false
+may_send None = false
+
+-- the connection is there, and isn't closing
+abbrev pub is_open : TablesView → ℕ → Bool
+is_open t c = may_send (phase_of t.streams c)
+
+-- the session of a connection in this phase
+abbrev pub session_in : Option Phase → Option ℕ
+session_in (Some (Silent password)) = None
+session_in (Some (Speaking session)) = Some session
+session_in (Some Closing) = None
+session_in None = None
+
+-- a piece that isn't the last of its connection, and one that is
+abbrev pub piece : ℕ → List ℕ → PieceView
+piece c bytes = record { connection = c; bytes = bytes; is_last = false }
+
+abbrev pub last_piece : ℕ → PieceView
+last_piece c = record { connection = c; bytes = []; is_last = true }
+
+-- a piece is to be sent, behind the others
+abbrev pub with_piece : PieceView → TablesView → TablesView
+with_piece p t = record t { unsent = t.unsent ++ p ∷ [] }
+
+-- bytes are to be sent on a connection; on one that is closing nothing goes
+abbrev pub sent : ℕ → List ℕ → TablesView → TablesView
+sent c bytes t = if is_open t c then with_piece (piece c bytes) t else t
+
+-- bytes are to be sent to the operator, who has the number 0 and is no connection of a client
+abbrev pub operator_sent : List ℕ → TablesView → TablesView
+operator_sent bytes t = with_piece (piece 0 bytes) t
+
+-- the session of a connection has no connection any more, if there is one
+abbrev pub without_seat : Option ℕ → TablesView → SittingsView
+without_seat session t = option_map_or (λ s. with_changed left t.sittings s) session t.sittings
+
+-- a connection leaves its session, and its watches are gone
+abbrev pub parted : ℕ → TablesView → TablesView
+parted c t =
+    record t {
+      sittings = without_seat (session_in (phase_of t.streams c)) t;
+      watches = watch.without t.watches c;
+    }
+
+-- nothing more is read on a connection, and it is to be closed behind what is to be sent on it
+abbrev pub closing : ℕ → TablesView → TablesView
+closing c t = with_piece (last_piece c) (record (parted c t) { streams = stream.closed t.streams c })
+
+abbrev pub closed : ℕ → TablesView → TablesView
+closed c t = if is_open t c then closing c t else t
+
+-- a connection ended
+abbrev pub ended : ℕ → TablesView → TablesView
+ended c t =
+    record (parted c t) { streams = finite.remove t.streams c; unsent = outbox.without t.unsent c }
+
+-- a session was opened on a connection
+abbrev pub sitting : ℕ → List ℕ → ℕ → TablesView → TablesView
+sitting session password c t =
+    record t {
+      streams = with_phase t.streams c (Speaking session);
+      sittings = finite.insert t.sittings session (new_sitting password c);
+    }
+
+-- the connection that a session has
+abbrev pub connection_of : SittingsView → ℕ → Option ℕ
+connection_of rows session = option_and_then (λ s. s.connection) (finite.get rows session)
+
+-- the connection that a session has is to be closed
+abbrev pub moved : ℕ → TablesView → TablesView
+moved session t = option_map_or (λ c. closed c t) (connection_of t.sittings session) t
+
+-- a connection has a session, which a client took up on it
+abbrev pub seated : ℕ → ℕ → TablesView → TablesView
+seated session c t =
+    record t {
+      streams = with_phase t.streams c (Speaking session);
+      sittings = with_changed (seats.taken_up c) t.sittings session;
+    }
+
+-- a session is taken up by a connection, and that which it had is to be closed
+abbrev pub taken_up : ℕ → ℕ → TablesView → TablesView
+taken_up session c t = seated session c (moved session t)

@@ -1,0 +1,19 @@
+-- How the tables are stored, by the codes of their parts: a proof tells two of them apart by them.
+use Rattle.std.specs.Prelude.{List, refl}
+use Rattle.std.specs.Coded.{Coded, code_by, coded×}
+use Rattle.zpieces.specs.Outbox.{PieceView}
+use Rattle.zpieces.specs.Streams.{StreamRows}
+use Rattle.zpieces.specs.support.Codes.{coded_pieces, coded_rows}
+use Rattle.zsittings.specs.Sittings.{SittingsView}
+use Rattle.zsittings.specs.support.Codes.{coded_sittings}
+use Rattle.zwatches.specs.Watches.{Watches}
+use Rattle.zwatches.specs.support.Codes.{coded_watches}
+use Rattle.ztables.specs.Tables.{TablesView}
+
+-- how the tables are stored
+abbrev pub coded_tables : Coded TablesView
+coded_tables =
+    code_by (StreamRows × (SittingsView × (Watches × List PieceView)))
+    (coded× coded_rows (coded× coded_sittings (coded× coded_watches coded_pieces)))
+    (λ t. (t.streams, (t.sittings, (t.watches, t.unsent))))
+    (λ p. record { streams = p.0; sittings = p.1.0; watches = p.1.1.0; unsent = p.1.1.1 }) (λ _. refl)

@@ -1,0 +1,74 @@
+//! Connections, and the bytes that came on them.
+
+ghost use Rattle.std.specs.Prelude.{◌≡◌, ◌<◌, ◌^◌, [], OnOk};
+ghost use Rattle.std.specs.FinMap as finite;
+ghost use Rattle.zpieces.specs.Streams.{bytes_of, held_of, opened, phase_of, with_bytes};
+ghost use Rattle.ztables.specs.Tables.{is_open, session_in};
+
+use crate::tables::Tables;
+use zpath::Memory;
+use zpieces::Phase;
+use zsittings::Password;
+use ztree::SessionId;
+
+impl Tables {
+    /// Opens a connection: a session that is opened on it will have this password.
+    pub fn open(&mut self, connection: u32, password: Password) -> Result<(), Memory>
+        ensures { OnOk result (self.new ≡ record self.old {
+          streams = finite.insert self.old.streams connection (opened password);
+        }) }
+    {
+        self.streams.open(connection, password)
+    }
+
+    /// Returns how far a connection is, if it is there.
+    pub fn phase(&self, connection: u32) -> Option<Phase>
+        ensures { result ≡ phase_of self.now.streams connection }
+    {
+        self.streams.phase(connection)
+    }
+
+    /// Returns the session of a connection, if it has one.
+    pub fn session(&self, connection: u32) -> Option<SessionId>
+        ensures { result ≡ session_in (phase_of self.now.streams connection) }
+    {
+        match self.phase(connection)? {
+            Phase::Speaking(session) => Some(session),
+            Phase::Silent(_) | Phase::Closing => None,
+        }
+    }
+
+    /// Returns whether something may still be sent on a connection.
+    pub fn is_open(&self, connection: u32) -> bool
+        ensures { result ≡ is_open self.now connection }
+    {
+        match self.phase(connection) {
+            Some(Phase::Silent(_) | Phase::Speaking(_)) => true,
+            Some(Phase::Closing) | None => false,
+        }
+    }
+
+    /// Takes the bytes that came on a connection and weren't read yet.
+    pub fn take_bytes(&mut self, connection: u32) -> Vec<u8>
+        ensures bytes { result.items ≡ bytes_of self.old.streams connection }
+        ensures rest { self.new
+            ≡ record self.old { streams = with_bytes self.old.streams connection [] } }
+    {
+        self.streams.take(connection)
+    }
+
+    /// Keeps these bytes in the place of those that came on a connection and weren't read yet.
+    pub fn keep_bytes(&mut self, connection: u32, bytes: Vec<u8>)
+        ensures { self.new
+            ≡ record self.old { streams = with_bytes self.old.streams connection bytes.items } }
+    {
+        self.streams.keep(connection, bytes);
+    }
+
+    /// Returns how many bytes are kept for all connections together: fewer than a machine can have.
+    pub fn kept(&self) -> usize
+        ensures { held_of self.now.streams < 2 ^ 64 → result ≡ held_of self.now.streams }
+    {
+        self.streams.held()
+    }
+}

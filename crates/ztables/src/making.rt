@@ -1,0 +1,49 @@
+//! Which sessions made ephemeral nodes.
+
+ghost use Rattle.std.specs.Prelude.{◌≡◌};
+ghost use Rattle.ztables.specs.Sweeping.{made_by, made_by_parts, noted};
+
+use crate::tables::Tables;
+use zcalls::{Kind, Part, Reply, Update};
+
+impl Tables {
+    /// Notes which sessions made an ephemeral node, by an update and its reply.
+    pub fn note(&mut self, update: &Update, reply: &Reply)
+        ensures { self.new
+            ≡ record self.old { sittings = noted update.now reply.now self.old.sittings } }
+    {
+        match (update, reply) {
+            (Update::Create(create), Reply::Created(_)) => self.note_kind(create.kind),
+            (Update::Multi(parts), Reply::Multi(_)) => self.note_parts(parts.as_slice()),
+            _ => {}
+        }
+    }
+
+    // Notes the owners of the nodes that parts of a multi made.
+    fn note_parts(&mut self, parts: &[Part])
+        ensures { self.new
+            ≡ record self.old { sittings = made_by_parts parts.now self.old.sittings } }
+    {
+        for part in parts {
+            if let Part::Create(create) = part {
+                self.note_kind(create.kind);
+            }
+        }
+    }
+
+    // Notes the owner of a node of this kind that was made.
+    fn note_kind(&mut self, kind: Kind)
+        ensures { self.new
+            ≡ record self.old { sittings = made_by kind self.old.sittings } }
+    {
+        match kind {
+            Kind::Ephemeral(session) | Kind::EphemeralSequential(session) => {
+                self.sittings.note_ephemeral(session);
+            }
+            Kind::Persistent
+            | Kind::PersistentSequential
+            | Kind::PersistentWithTtl(_)
+            | Kind::PersistentSequentialWithTtl(_) => {}
+        }
+    }
+}

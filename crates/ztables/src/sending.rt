@@ -1,0 +1,52 @@
+//! What is to be sent.
+
+ghost use Rattle.std.specs.Prelude.{◌≡◌, drop, OnOk};
+ghost use Rattle.std.specs.Option.{option_copied};
+ghost use Rattle.zpieces.specs.Outbox.{first_of};
+ghost use Rattle.ztables.specs.Tables.{operator_sent, sent};
+
+use crate::tables::Tables;
+use zpath::Memory;
+use zpieces::Piece;
+
+impl Tables {
+    /// Sends bytes on a connection. On one that is closing nothing goes.
+    pub fn send(&mut self, connection: u32, bytes: Vec<u8>) -> Result<(), Memory>
+        ensures { OnOk result (self.new ≡ sent connection bytes.items self.old) }
+    {
+        if !self.is_open(connection) {
+            return Ok(());
+        }
+        self.outbox.push(Piece {
+            connection,
+            bytes,
+            is_last: false,
+        })
+    }
+
+    /// Sends bytes to the operator, who has the number 0 and is no connection of a client.
+    pub fn answer_operator(&mut self, bytes: Vec<u8>) -> Result<(), Memory>
+        ensures { OnOk result (self.new ≡ operator_sent bytes.items self.old) }
+    {
+        self.outbox.push(Piece {
+            connection: 0,
+            bytes,
+            is_last: false,
+        })
+    }
+
+    /// Returns the piece to be sent first, if there is one.
+    pub fn first_piece(&self) -> Option<&Piece>
+        ensures { option_copied result ≡ first_of self.now.unsent }
+    {
+        self.outbox.first()
+    }
+
+    /// Takes the piece to be sent first, if there is one.
+    pub fn next_piece(&mut self) -> Option<Piece>
+        ensures first { result ≡ first_of self.old.unsent }
+        ensures rest { self.new ≡ record self.old { unsent = drop 1 self.old.unsent } }
+    {
+        self.outbox.next()
+    }
+}
