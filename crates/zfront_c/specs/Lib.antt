@@ -1,0 +1,4 @@
+pub mod Server
+pub mod Pieces
+pub mod Uses
+pub mod support

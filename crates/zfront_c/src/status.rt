@@ -1,0 +1,29 @@
+//! The status of a call, as C receives it.
+
+ghost use Rattle.std.specs.Prelude.{◌≡◌};
+ghost use Rattle.zfront_c.specs.Server.{code_of};
+
+/// The status of a call.
+#[derive(Clone, Copy, Drop)]
+pub enum Status {
+    /// The call was done.
+    Done,
+    /// Out of memory, now or before.
+    Memory,
+    /// The server was opened with a number of servers out of the range, or with ticks that have no
+    /// length.
+    NoServers,
+}
+
+impl Status {
+    /// Returns its number in C.
+    pub(crate) fn code(self) -> u32
+        ensures { result ≡ code_of self }
+    {
+        match self {
+            Status::Done => 0,
+            Status::Memory => 2,
+            Status::NoServers => 3,
+        }
+    }
+}
