@@ -1,0 +1,399 @@
+"""A client of ZooKeeper's protocol over a raw socket, for tests: it sends what it is told to send.
+
+    with Client(address) as it:                   # a connection, and a session
+        it.create("/a", b"hi")                    # '/a'
+        it.ask(GET, text("/a") + flag(True))      # an Answer: header and body as they came
+
+`Wire` is the connection alone: whole frames or any bytes. `Client.seen` has all that came, events
+and answers, in their order. A call that is refused raises `Refused` with its code. The bytes are
+those of zookeeper.jute.
+"""
+import socket
+import struct
+from typing import NamedTuple
+
+CREATE, DELETE, EXISTS, GET, SET, GET_ACL, SET_ACL, LS, SYNC = range(1, 10)
+PING, LS2, CHECK, MULTI, CREATE2 = 11, 12, 13, 14, 15
+RECONFIG, CHECK_WATCHES, REMOVE_WATCHES, CREATE_CONTAINER = 16, 17, 18, 19
+CREATE_TTL, MULTI_READ = 21, 22
+AUTH, SET_WATCHES, SASL, SET_WATCHES2, ADD_WATCH, CLOSE = 100, 101, 102, 105, 106, -11
+# The xids of what no client numbers.
+EVENT_XID, PING_XID, AUTH_XID = -1, -2, -4
+CREATED, DELETED, CHANGED, CHILD = 1, 2, 3, 4
+# Kinds of nodes.
+PERSISTENT, EPHEMERAL, SEQUENTIAL, EPHEMERAL_SEQUENTIAL, CONTAINER, TTL, TTL_SEQUENTIAL = range(7)
+OK, SYSTEM, INCONSISTENT, MARSHALLING, UNIMPLEMENTED, ARGUMENTS = 0, -1, -2, -5, -6, -8
+NO_NODE, VERSION, NO_CHILDREN, EXISTS_ALREADY, NOT_EMPTY = -101, -103, -108, -110, -111
+EXPIRED, ACL, AUTH_FAILED = -112, -114, -115
+MAX_FRAME = 0xfffff
+
+
+class Refused(Exception):
+    def __init__(self, code):
+        super().__init__(code)
+        self.code = code
+
+
+class Ended(Exception):
+    """The connection is closed."""
+
+
+class Stat(NamedTuple):
+    czxid: int
+    mzxid: int
+    ctime: int
+    mtime: int
+    version: int
+    cversion: int
+    aversion: int
+    owner: int
+    length: int
+    children: int
+    pzxid: int
+
+
+class Answer(NamedTuple):
+    """A reply: its header, and what stands behind it."""
+    xid: int
+    zxid: int
+    code: int
+    body: bytes
+
+
+class Event(NamedTuple):
+    kind: int
+    path: str
+
+
+class Greeted(NamedTuple):
+    """The answer to a greeting; `last` is the byte that older clients don't know."""
+    timeout: int
+    session: int
+    password: bytes
+    last: bytes
+
+
+# ---- spelling
+
+
+def int4(number):
+    return struct.pack(">i", number)
+
+
+def int8(number):
+    return struct.pack(">q", number)
+
+
+def flag(is_set):
+    return bytes([is_set])
+
+
+def buffer(data):
+    return int4(-1) if data is None else int4(len(data)) + data
+
+
+def text(it):
+    return buffer(it if it is None or isinstance(it, bytes) else it.encode())
+
+
+def texts(them):
+    return int4(len(them)) + b"".join(map(text, them))
+
+
+def acls(*them):
+    found = (int4(perms) + text(scheme) + text(name) for perms, scheme, name in them)
+    return int4(len(them)) + b"".join(found)
+
+
+OPEN = acls((31, "world", "anyone"))
+
+
+def frame(body):
+    return int4(len(body)) + body
+
+
+def request(xid, op, body=b""):
+    return frame(int4(xid) + int4(op) + body)
+
+
+def greeting(timeout=10000, session=0, password=bytes(16), seen=0, last=b"\0"):
+    body = int4(0) + int8(seen) + int4(timeout) + int8(session) + buffer(password)
+    return frame(body + last)
+
+
+def create_body(path, data=b"", flags=PERSISTENT, acl=OPEN, ttl=None):
+    return text(path) + buffer(data) + acl + int4(flags) + (b"" if ttl is None else int8(ttl))
+
+
+def delete_body(path, version=-1):
+    return text(path) + int4(version)
+
+
+def set_body(path, data=b"", version=-1):
+    return text(path) + buffer(data) + int4(version)
+
+
+def look_body(path, watch=False):
+    return text(path) + flag(watch)
+
+
+def part(op, body, last=False, code=-1):
+    return int4(op) + flag(last) + int4(code) + body
+
+
+def multi_body(*parts):
+    return b"".join(part(op, body) for op, body in parts) + part(-1, b"", True)
+
+
+def watches_body(seen, data=(), exist=(), child=()):
+    return int8(seen) + texts(data) + texts(exist) + texts(child)
+
+
+class Reader:
+    """Reads from the left what stands in some bytes."""
+
+    def __init__(self, data):
+        self.data, self.at = data, 0
+
+    def take(self, count):
+        if count < 0 or self.at + count > len(self.data):
+            raise ValueError(f"{count} bytes wanted at {self.at} of {self.data!r}")
+        self.at += count
+        return self.data[self.at - count : self.at]
+
+    def int4(self):
+        return struct.unpack(">i", self.take(4))[0]
+
+    def int8(self):
+        return struct.unpack(">q", self.take(8))[0]
+
+    def flag(self):
+        return self.take(1) != b"\0"
+
+    def buffer(self):
+        count = self.int4()
+        return None if count < 0 else self.take(count)
+
+    def text(self):
+        return self.buffer().decode()
+
+    def texts(self):
+        return [self.text() for _ in range(self.int4())]
+
+    def stat(self):
+        return Stat(*struct.unpack(">qqqqiiiqiiq", self.take(68)))
+
+    def done(self, found):
+        """What was read, where nothing is left behind it."""
+        if self.at != len(self.data):
+            raise ValueError(f"{len(self.data) - self.at} bytes too many in {self.data!r}")
+        return found
+
+
+def result(reader):
+    """One result of a multi: its kind, and what stands behind its header; or None at the end."""
+    kind, is_last, code = reader.int4(), reader.flag(), reader.int4()
+    if is_last:
+        return None
+    if kind == -1:
+        return kind, reader.int4()
+    if code != OK:
+        raise ValueError(f"code {code} of a result of kind {kind}")
+    read = {
+        CREATE: reader.text, SET: reader.stat, LS: reader.texts, CHECK: lambda: None,
+        DELETE: lambda: None, GET: lambda: (reader.buffer(), reader.stat()),
+        CREATE2: lambda: (reader.text(), reader.stat()),
+    }
+    return kind, read[kind]()
+
+
+class Wire:
+    """A connection."""
+
+    def __init__(self, address, seconds=20, room=None):
+        # (a name or IPv6 isn't wanted here)
+        self.socket = socket.socket()
+        if room:
+            self.socket.setsockopt(socket.SOL_SOCKET, socket.SO_RCVBUF, room)
+        self.socket.settimeout(seconds)
+        self.socket.connect(address)
+        self.socket.setsockopt(socket.IPPROTO_TCP, socket.TCP_NODELAY, 1)
+        self.held = b""
+
+    def __enter__(self):
+        return self
+
+    def __exit__(self, *_):
+        self.drop()
+
+    def drop(self):
+        """Closes it, whatever is under way."""
+        self.socket.close()
+
+    def send(self, data):
+        try:
+            self.socket.sendall(data)
+        except OSError as error:
+            raise Ended from error
+
+    def take(self, count):
+        while len(self.held) < count:
+            try:
+                came = self.socket.recv(1 << 20)
+            except ConnectionError as error:
+                raise Ended from error
+            if not came:
+                raise Ended
+            self.held += came
+        found, self.held = self.held[:count], self.held[count:]
+        return found
+
+    def frame(self):
+        """The next frame, without its length."""
+        return self.take(struct.unpack(">i", self.take(4))[0])
+
+    def rest(self):
+        """All that comes until the connection is closed."""
+        try:
+            while True:
+                self.held += self.take(len(self.held) + 1)
+        except Ended:
+            found, self.held = self.held, b""
+            return found
+
+    def is_ended(self):
+        """Whether the connection is closed, and nothing else came before that."""
+        return self.rest() == b""
+
+    def greet(self, **given):
+        self.send(greeting(**given))
+        reader = Reader(self.frame())
+        if reader.int4():
+            raise ValueError("the version of the protocol isn't 0")
+        found = reader.int4(), reader.int8(), reader.buffer()
+        return Greeted(*found, reader.take(len(reader.data) - reader.at))
+
+
+class Client(Wire):
+    """A connection with a session, which is opened, or taken up from another client."""
+
+    def __init__(self, address, timeout=10000, of=None, seconds=20, **given):
+        super().__init__(address, seconds)
+        self.xid, self.zxid, self.seen, self.waits = 0, 0, [], {}
+        if of:
+            given = {"session": of.session, "password": of.password, "seen": of.zxid, **given}
+        self.greeted = self.greet(timeout=timeout, **given)
+        self.session, self.password = self.greeted.session, self.greeted.password
+
+    def post(self, op, body=b"", xid=None):
+        """Sends a request, and doesn't wait. Returns the xid of its answer."""
+        if xid is None:
+            self.xid += 1
+            xid = self.xid
+        self.send(request(xid, op, body))
+        return xid
+
+    def next(self):
+        """What comes next: an event or an answer."""
+        reader = Reader(self.frame())
+        xid, zxid, code = reader.int4(), reader.int8(), reader.int4()
+        if xid == EVENT_XID:
+            kind, state = reader.int4(), reader.int4()
+            if (code, state) != (OK, 3):
+                raise ValueError(f"an event with code {code} and state {state}")
+            found = reader.done(Event(kind, reader.text()))
+        else:
+            if zxid < self.zxid and xid != AUTH_XID:
+                raise ValueError(f"the zxid fell from {self.zxid} to {zxid}")
+            self.zxid = max(zxid, self.zxid)
+            found = Answer(xid, zxid, code, reader.take(len(reader.data) - reader.at))
+            if code != OK and found.body:
+                raise ValueError(f"a body behind code {code}: {found.body!r}")
+        self.seen.append(found)
+        return found
+
+    def answer(self, xid):
+        """The next answer, which is to have this xid; events may stand before it."""
+        found = self.next()
+        while isinstance(found, Event):
+            found = self.next()
+        if found.xid != xid:
+            raise ValueError(f"an answer to {found.xid} in the place of {xid}")
+        return found
+
+    def ask(self, op, body=b"", xid=None):
+        return self.answer(self.post(op, body, xid))
+
+    def events(self):
+        """The events since this was last asked, as pairs of a kind and a path."""
+        self.ask(PING, xid=PING_XID)
+        found = [it for it in self.seen if isinstance(it, Event)]
+        self.seen.clear()
+        return found
+
+    def call(self, op, body, read=lambda reader: None):
+        """What `read` finds in the answer's body, and nothing behind it."""
+        found = self.ask(op, body)
+        if found.code != OK:
+            raise Refused(found.code)
+        reader = Reader(found.body)
+        return reader.done(read(reader))
+
+    def create(self, path, data=b"", flags=PERSISTENT, acl=OPEN):
+        return self.call(CREATE, create_body(path, data, flags, acl), Reader.text)
+
+    def create2(self, path, data=b"", flags=PERSISTENT, acl=OPEN):
+        read = lambda it: (it.text(), it.stat())
+        return self.call(CREATE2, create_body(path, data, flags, acl), read)
+
+    def create_ttl(self, path, ttl, data=b"", flags=TTL, acl=OPEN):
+        read = lambda it: (it.text(), it.stat())
+        return self.call(CREATE_TTL, create_body(path, data, flags, acl, ttl), read)
+
+    def delete(self, path, version=-1):
+        return self.call(DELETE, delete_body(path, version))
+
+    def exists(self, path, watch=False):
+        return self.call(EXISTS, look_body(path, watch), Reader.stat)
+
+    def get(self, path, watch=False):
+        return self.call(GET, look_body(path, watch), lambda it: (it.buffer(), it.stat()))
+
+    def set(self, path, data=b"", version=-1):
+        return self.call(SET, set_body(path, data, version), Reader.stat)
+
+    def ls(self, path, watch=False):
+        return self.call(LS, look_body(path, watch), Reader.texts)
+
+    def ls2(self, path, watch=False):
+        return self.call(LS2, look_body(path, watch), lambda it: (it.texts(), it.stat()))
+
+    def get_acl(self, path):
+        read = lambda it: (it.take(len(OPEN)), it.stat())
+        return self.call(GET_ACL, text(path), read)
+
+    def sync(self, path):
+        return self.call(SYNC, text(path), Reader.text)
+
+    def multi(self, *parts, op=MULTI):
+        """The results, each with its kind: op, body, op, body, .."""
+        return self.call(op, multi_body(*parts), lambda it: list(iter(lambda: result(it), None)))
+
+    def set_watches(self, seen, **paths):
+        return self.call(SET_WATCHES, watches_body(seen, **paths))
+
+    def close(self):
+        """Ends the session; the server closes the connection behind its answer."""
+        self.call(CLOSE, b"")
+        if not self.is_ended():
+            raise ValueError("something came behind the end of the session")
+        self.drop()
+
+
+def refused(call, *words, **given):
+    """The code by which a call is refused, or None."""
+    try:
+        call(*words, **given)
+    except Refused as error:
+        return error.code
+    return None
