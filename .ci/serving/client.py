@@ -254,11 +254,11 @@ class Wire:
 
     def rest(self):
         """All that comes until the connection is closed."""
+        found = b""
         try:
             while True:
-                self.held += self.take(len(self.held) + 1)
+                found += self.take(max(1, len(self.held)))
         except Ended:
-            found, self.held = self.held, b""
             return found
 
     def is_ended(self):
