@@ -32,11 +32,11 @@
 enum {
     /* The connections that are served at once. */
     MOST = 1000,
-    /* The bytes that are read at a time, and that are handed on at a time. (A request has at least
-       some 20 bytes, and its reply up to a million: so few are answered before they are sent.) */
+    /* The bytes that are read of a connection before others are, and that are handed on at a time.
+       (A request has some 20 bytes or more, and its reply up to a million.) */
     READ = 16 << 10,
     HANDED = 1 << 10,
-    /* A connection that is to be sent more isn't read. */
+    /* A connection that is to be sent more than this isn't read. */
     OWED = 1 << 20,
     /* The bytes that are to be sent or came of an unfinished request, of all connections together.
        Where there are more, the connection with the most of them is closed. */
@@ -207,8 +207,7 @@ static void send_on(uint32_t number) {
     if (!owed(it)) forget_sent(it);
     /* (its client closes it, or else patience ends: so what was sent isn't lost by what came) */
     if (!owed(it) && it->state == LAST) shutdown(it->socket, SHUT_WR);
-    bool is_read = it->state == LAST || owed(it) <= OWED;
-    wait_for(number, (is_read ? EPOLLIN : 0) | (owed(it) ? EPOLLOUT : 0));
+    wait_for(number, (owed(it) <= OWED ? EPOLLIN : 0) | (owed(it) ? EPOLLOUT : 0));
 }
 
 /* Writes answers to the operator, as far as somebody reads them: nothing waits for a full pipe. */
@@ -243,27 +242,29 @@ static void finish(void) {
     }
 }
 
-/* Takes what came on a connection. */
+/* Takes what came on a connection, as long as it takes what it is told. */
 static void read_from(uint32_t number) {
-    static uint8_t block[READ];
+    static uint8_t block[HANDED];
     struct connection *it = &all[number];
-    ssize_t count = recv(it->socket, block, READ, 0);
-    if (count < 0 && (errno == EAGAIN || errno == EINTR)) return;
-    if (count <= 0) return shut(number);
-    for (size_t at = 0; at < (size_t)count && it->state == OPEN; at += HANDED) {
-        size_t handed = (size_t)count - at < HANDED ? (size_t)count - at : HANDED;
-        it->given += handed, held += handed;
-        done(jellqupas_front_came(front, number, block + at, handed));
-        bound();
+    for (int parts = READ / HANDED; parts && it->state != GONE && owed(it) <= OWED; parts--) {
+        ssize_t count = recv(it->socket, block, HANDED, 0);
+        if (count < 0 && (errno == EAGAIN || errno == EINTR)) return;
+        if (count <= 0) return shut(number);
+        if (it->state == OPEN) {
+            it->given += count, held += count;
+            done(jellqupas_front_came(front, number, block, count));
+            bound();
+        }
+        if (count < HANDED) return;
     }
 }
 
 /* Takes lines of the operator. The end of them ends nothing else. */
 static void hear(void) {
     /* (a line has one byte more where it is too long) */
-    static uint8_t line[LINE + 1], block[READ];
+    static uint8_t line[LINE + 1], block[4096];
     static size_t length;
-    ssize_t count = read(STDIN_FILENO, block, READ);
+    ssize_t count = read(STDIN_FILENO, block, sizeof block);
     if (count < 0 && (errno == EAGAIN || errno == EINTR)) return;
     for (ssize_t i = 0; i < count; i++) {
         if (block[i] != '\n' && length <= LINE) line[length++] = block[i];

@@ -277,8 +277,8 @@ class Wire:
 class Client(Wire):
     """A connection with a session, which is opened, or taken up from another client."""
 
-    def __init__(self, address, timeout=10000, of=None, seconds=20, **given):
-        super().__init__(address, seconds)
+    def __init__(self, address, timeout=10000, of=None, seconds=20, room=None, **given):
+        super().__init__(address, seconds, room)
         self.xid, self.zxid, self.seen, self.waits = 0, 0, [], {}
         if of:
             given = {"session": of.session, "password": of.password, "seen": of.zxid, **given}
