@@ -1,14 +1,16 @@
-"""The words of a script and of a race: what is wrong with them, before anything is built.
+"""The words of the commands that run something: what is wrong with them, before anything is built.
 
 The programs say `zk: bad words` themselves. Whatever they take passes here: `--clients=31`,
 `+3` and `007` too.
 """
 import re
+import socket
 
-# The options of each command, and the numbers that each takes.
+# The options of each command, and the numbers that each takes, or the form of its text.
 OPTIONS = {
     "script": {"servers": (1, 16)},
     "race": {"servers": (1, 16), "clients": (1, 31), "rounds": (1, 1000), "halt": (0, 16)},
+    "serve": {"servers": (1, 16), "tick": (10, 3600000), "listen": "ADDRESS:PORT"},
 }
 # The servers of a race that doesn't name them.
 RACE_SERVERS = 3
@@ -17,6 +19,20 @@ RACE_SERVERS = 3
 def number_in(text):
     """The number that a word is, as clap reads a u16, or None."""
     return int(text) if re.fullmatch(r"\+?[0-9]+", text, re.ASCII) else None
+
+
+def is_address(text):
+    """Whether it is an address of IPv4, or one of IPv6 in brackets, and a port."""
+    host, _, port = text.rpartition(":")
+    number = int(port) if re.fullmatch("[0-9]{1,9}", port, re.ASCII) else -1
+    try:
+        if host[:1] + host[-1:] == "[]":
+            socket.inet_pton(socket.AF_INET6, host[1:-1])
+        else:
+            socket.inet_pton(socket.AF_INET, host)
+    except (OSError, ValueError):
+        return False
+    return 0 <= number <= 65535
 
 
 def wrong(command, words):
@@ -32,10 +48,16 @@ def wrong(command, words):
             return f"{command} takes no word '{word}'"
         if name in given:
             return f"--{name} is given twice"
+        is_text = isinstance(options[name], str)
         if not is_joined:
             if not left:
-                return f"--{name} wants a number behind it"
+                return f"--{name} wants {options[name] if is_text else 'a number'} behind it"
             value = left.pop(0)
+        if is_text:
+            given[name] = value
+            if not is_address(value):
+                return f"--{name} takes {options[name]}, as 127.0.0.1:2181 or [::1]:2181, not '{value}'"
+            continue
         first, last = options[name]
         given[name] = number_in(value)
         if given[name] is None or not first <= given[name] <= last:
