@@ -357,6 +357,7 @@ static void serve(uint32_t tick) {
 /* A number from `least` to `most`, or -1. */
 static long number_in(const char *text, long least, long most) {
     char *end;
+    text += *text == '+';
     long found = strtol(text, &end, 10);
     return *text >= '0' && *text <= '9' && !*end && least <= found && found <= most ? found : -1;
 }
@@ -423,6 +424,7 @@ static struct words understood(char **words) {
         size_t length = value ? (size_t)(value - word) : strlen(word);
         if (!strcmp(word, "--help")) exit(fputs(USAGE, stdout) < 0);
         if (!strcmp(word, "--version")) exit(puts("jellqupas " JELLQUPAS_VERSION) < 0);
+        if (!strcmp(word, "--") && !words[1]) break;
         const char *const names[] = {"--listen", "--servers", "--tick"};
         size_t which = 0;
         while (which < 3 && (strlen(names[which]) != length || memcmp(word, names[which], length)))

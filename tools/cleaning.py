@@ -40,12 +40,10 @@ def used():
     """The sums of the programs, and the names of the crates, of all checkouts that are there."""
     keys, crates = set(), set()
     for root in places.checkouts():
-        known = sources.known_lines(root)
         for name in TOPS:
-            if name in known:
-                lines = sources.lines_below(name, root)
-                keys.add(sources.key_of(lines, root))
-                crates.update(lines)
+            lines = sources.lines_below(name, root)
+            keys.add(sources.key_of(lines, root))
+            crates.update(lines)
     return keys, crates
 
 

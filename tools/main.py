@@ -104,6 +104,8 @@ def do(is_folder, words):
     command = words.pop(0) if words else "" if mode else "help"
     if command in HELP or any(it in HELP[1:] for it in words):
         sys.stdout.write(usage.usage())
+    elif command == "serve" and words == ["--version"]:
+        sys.stdout.write(usage.version())
     elif command in words_of.OPTIONS:
         wrong = words_of.wrong(command, words)
         if wrong:
