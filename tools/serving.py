@@ -52,10 +52,10 @@ def archive(tell):
     return f"{archives.built(CRATE, 'front', make, tell)}/{ARCHIVE}"
 
 
-def compile_host(front, to, words=()):
-    """Compiles the host around an archive; more words go to the compiler."""
-    words = [compiler(), *FLAGS, f"-I{sources.ROOT}/include", *words]
-    archives.run([*words, "-o", to, f"{sources.ROOT}/host/serve.c", front], sources.ROOT)
+def compile_host(front, to, flags=(), linked=()):
+    """Compiles the host around an archive, with more flags, and with what it is linked with."""
+    words = [compiler(), *FLAGS, *flags, f"-I{sources.ROOT}/include", "-o", to]
+    archives.run([*words, f"{sources.ROOT}/host/serve.c", front, *linked], sources.ROOT)
 
 
 def build(tell):
