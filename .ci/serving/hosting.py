@@ -194,20 +194,21 @@ def test_stall(program):
 def test_operator(program):
     with Server(program) as server, server.client() as it:
         it.create("/a", b"x")
-        for line in ("join s4", "fail s1", "retire s2", "settle"):
-            answer = server.play(line)
-            want(answer == "done" or answer.startswith("done"), f"{line}: {answer}")
+        for line, answer in (
+            ("join s4", "done"), ("settle", "quiet"), ("fail s1", "done"), ("settle", "quiet"),
+            ("retire s2", "done"), ("settle", "quiet"), ("join s1", "no Used"), ("fail s1", "idle"),
+            ("retire s2", "no NotMember"),
+        ):
+            want_same(server.play(line), answer, line)
             want_same(it.get("/a")[0], b"x", f"behind {line}")
-        for line in ("", "frob", "join s1", "join s17", "fail s1 ", " fail s3", "fail  s3", "0 tick",
-                     "1 create /b p -", "help", "\0", "\xe4", "x" * 524288):
-            answer = server.play(line)
-            holds = answer.startswith("no ") if line == "join s1" else answer == "bad line"
-            want(holds, f"{line[:40]!r}: {answer[:100]}")
+        for line in ("", "frob", "join s17", "join m", "fail s1 ", " fail s3", "fail  s3", "0 tick",
+                     "1 create /b p -", "help", "\0", "\xe4", "settle now", "x" * 524288):
+            want_same(server.play(line), "bad line", f"{line[:40]!r}")
         # a line that is too long is one line, however long it is
         server.ran.stdin.write(b"fail s3" + b" " * (3 << 20) + b"\nsettle\n")
         server.ran.stdin.flush()
         answers = [server.ran.stdout.readline() for _ in range(2)]
-        want(answers[0] == b"bad line\n" and answers[1].startswith(b"done"), f"{answers}")
+        want_same(answers, [b"bad line\n", b"quiet\n"], "a line that is too long")
         want_same(it.get("/a")[0], b"x", "the server stays")
         # answers that nobody reads
         server.ran.stdin.write(b"x\n" * 40000)
@@ -219,7 +220,7 @@ def test_operator(program):
         # the end of the lines, the last one without its LF
         server.ran.stdin.write(b"join s5")
         server.ran.stdin.close()
-        want(server.ran.stdout.readline().startswith(b"done"), "the last line is played")
+        want_same(server.ran.stdout.readline(), b"done\n", "the last line is played")
         time.sleep(0.1)
         want_same(it.get("/a")[0], b"x", "the end of the operator's lines ends nothing")
 
@@ -243,7 +244,7 @@ def test_operator_files(program):
         file.seek(0)
         with Server(program, stdin=file) as server:
             told = [server.ran.stdout.readline() for _ in range(3)]
-            want(told[1] == b"bad line\n" and told[2].startswith(b"done"), f"a file: {told}")
+            want_same(told, [b"done\n", b"bad line\n", b"done\n"], "a file's lines")
             want(is_served(server), "over the server that is left")
     os.remove(path)
     closed = lambda: [os.close(it) for it in (0, 1)]
@@ -277,9 +278,9 @@ def test_busy(program):
         for number in range(4, 17):
             time.sleep(0.05)
             old = chain.pop(0)
-            for line in (f"join s{number}", "settle", f"{'retire' if number % 2 else 'fail'} s{old}"):
-                answer = server.play(line)
-                want(answer.startswith("done"), f"{line}: {answer}")
+            for line in (f"join s{number}", f"{'retire' if number % 2 else 'fail'} s{old}"):
+                want_same(server.play(line), "done", line)
+                want_same(server.play("settle"), "quiet", f"behind {line}")
                 events += 1
             chain.append(number)
         for it in workers:
@@ -290,7 +291,7 @@ def test_busy(program):
         want_same(len(it.ls("/")), 4 * rounds + 1, "each name is there once")
         # all of them but one; and then the last
         for number in chain[:-1]:
-            server.play(f"fail s{number}")
+            want_same(server.play(f"fail s{number}"), "done", "a server fails")
         want_same(it.get("/count")[0], b"%d" % (4 * rounds), "one server has it all")
         server.play(f"fail s{chain[-1]}")
         for it in clients:
@@ -387,7 +388,7 @@ def test_ends(program):
 
 
 def test_memory(program):
-    """Without memory it ends, with status 1 and a line."""
+    """Without memory it ends with status 1 and a line, unless its servers alone have failed."""
     limit = 96 << 20
     given = {"preexec_fn": lambda: resource.setrlimit(resource.RLIMIT_AS, (limit, limit))}
     server = Server(program, tick=2000, **given)
@@ -398,11 +399,15 @@ def test_memory(program):
         want(False, "memory never ran out")
     except Ended:
         pass
-    status = server.ran.wait(20)
-    said = server.said().split("\n")
-    want(status == 1 and len(said) == 6 and "memory" in said[4], f"out of memory: {status}, {said}")
-    for it in (server.ran.stdin, server.ran.stdout, server.error):
-        it.close()
+    if until(lambda: server.ran.poll() is not None, 5):
+        said = server.said().split("\n")
+        holds = server.ran.returncode == 1 and len(said) == 6 and "memory" in said[4]
+        want(holds, f"out of memory: {server.ran.returncode}, {said}")
+        for it in (server.ran.stdin, server.ran.stdout, server.error):
+            it.close()
+    else:
+        # (the servers of the chain have failed, one after the other, and the front has not)
+        server.stop()
 
 
 HOST = (

@@ -40,8 +40,7 @@ class Place:
     def fails(self):
         """A server joins, and the oldest one fails: at the head, in the middle, at the tail."""
         for line in (f"join s{self.next}", "settle", f"fail s{self.next - 3}"):
-            answer = self.server.play(line)
-            want(answer.startswith("done"), f"{line}: {answer}")
+            want_same(self.server.play(line), "quiet" if line == "settle" else "done", line)
         self.next += 1
 
     def stop(self):
