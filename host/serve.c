@@ -8,14 +8,12 @@
    One thread does all. It waits for events of at most 1,000 connections, of the operator's lines,
    and of the signals that end it. A connection's number is its place in `all`. */
 #define _GNU_SOURCE
-#include <arpa/inet.h>
 #include <errno.h>
 #include <fcntl.h>
 #include <limits.h>
 #include <netinet/tcp.h>
 #include <poll.h>
 #include <signal.h>
-#include <stdarg.h>
 #include <stdbool.h>
 #include <stdio.h>
 #include <stdlib.h>
@@ -28,6 +26,7 @@
 #include <time.h>
 #include <unistd.h>
 #include "jellqupas_front.h"
+#include "words.h"
 
 enum {
     /* The connections that are served at once. */
@@ -84,27 +83,6 @@ static bool is_over, is_deaf;
 static uint32_t touched[MOST + 1], gone[MOST];
 static size_t touched_count, gone_count;
 
-static void say(const char *format, va_list words) {
-    fputs("zk: ", stderr);
-    vfprintf(stderr, format, words);
-    fputc('\n', stderr);
-}
-
-static void tell(const char *format, ...) {
-    va_list words;
-    va_start(words, format);
-    say(format, words);
-    va_end(words);
-}
-
-static _Noreturn void stop(int status, const char *format, ...) {
-    va_list words;
-    va_start(words, format);
-    say(format, words);
-    va_end(words);
-    exit(status);
-}
-
 /* Milliseconds of a clock that nobody sets. */
 static uint64_t now(void) {
     struct timespec at;
@@ -113,6 +91,10 @@ static uint64_t now(void) {
 }
 
 static bool is_drawn(uint8_t *password) { return getrandom(password, 16, 0) == 16; }
+
+static bool is_there(const struct connection *it) {
+    return it->state == OPEN || it->state == LAST;
+}
 
 static size_t owed(const struct connection *it) { return it->count - it->sent; }
 
@@ -135,10 +117,10 @@ static void wait_for(uint32_t number, uint32_t wanted) {
     it->events = wanted;
 }
 
-/* Closes a connection at once. The front is told later, since it may be in the middle of telling. */
+/* Closes a connection at once. The front is told later: it may be in the middle of telling. */
 static void shut(uint32_t number) {
     struct connection *it = &all[number];
-    if (it->state != OPEN && it->state != LAST) return;
+    if (!is_there(it)) return;
     held -= owed(it) + it->given;
     close(it->socket);
     free(it->out);
@@ -197,11 +179,15 @@ static void forget_sent(struct connection *it) {
 /* Sends what can be sent on a connection. */
 static void send_on(uint32_t number) {
     struct connection *it = &all[number];
+    if (!is_there(it)) return;
     while (owed(it)) {
         ssize_t sent = send(it->socket, it->out + it->sent, owed(it), MSG_NOSIGNAL);
         if (sent < 0 && errno == EINTR) continue;
         if (sent < 0 && errno == EAGAIN) break;
-        if (sent < 0) return shut(number);
+        if (sent < 0) {
+            shut(number);
+            return;
+        }
         it->sent += sent, held -= sent;
     }
     if (!owed(it)) forget_sent(it);
@@ -231,7 +217,7 @@ static void finish(void) {
             uint32_t number = touched[--touched_count];
             all[number].is_touched = false;
             if (number == OPERATOR) answer();
-            else if (all[number].state == OPEN || all[number].state == LAST) send_on(number);
+            else send_on(number);
         }
         while (gone_count) {
             uint32_t number = gone[--gone_count];
@@ -246,10 +232,11 @@ static void finish(void) {
 static void read_from(uint32_t number) {
     static uint8_t block[HANDED];
     struct connection *it = &all[number];
-    for (int parts = READ / HANDED; parts && it->state != GONE && owed(it) <= OWED; parts--) {
+    for (int parts = READ / HANDED; parts && is_there(it) && owed(it) <= OWED; parts--) {
         ssize_t count = recv(it->socket, block, HANDED, 0);
         if (count < 0 && (errno == EAGAIN || errno == EINTR)) return;
-        if (count <= 0) return shut(number);
+        if (count <= 0) shut(number);
+        if (count <= 0) return;
         if (it->state == OPEN) {
             it->given += count, held += count;
             done(jellqupas_front_came(front, number, block, count));
@@ -278,12 +265,10 @@ static void hear(void) {
     epoll_ctl(events, EPOLL_CTL_DEL, STDIN_FILENO, NULL);
 }
 
-static void add(int descriptor, uint32_t number) {
+/* Waits for what comes on a descriptor; whether that can be. */
+static bool is_added(int descriptor, uint32_t number) {
     struct epoll_event event = {.events = EPOLLIN, .data.u32 = number};
-    if (epoll_ctl(events, EPOLL_CTL_ADD, descriptor, &event) == 0) return;
-    if (number != OPERATOR) stop(3, "nothing can be waited for: %s", strerror(errno));
-    /* (a file: its lines are taken before anybody is served) */
-    while (!is_deaf) hear();
+    return epoll_ctl(events, EPOLL_CTL_ADD, descriptor, &event) == 0;
 }
 
 /* Takes one who has connected, and closes the connection at once where there is no place. */
@@ -299,11 +284,12 @@ static bool is_welcomed(void) {
     }
     uint32_t number = 1;
     while (number <= MOST && all[number].state != FREE) number++;
-    if (number > MOST || !is_drawn(password)) return close(socket), true;
+    if (number > MOST || !is_drawn(password) || !is_added(socket, number)) {
+        return close(socket), true;
+    }
     setsockopt(socket, IPPROTO_TCP, TCP_NODELAY, &on, sizeof on);
-    all[number].state = OPEN, all[number].socket = socket, all[number].events = EPOLLIN;
-    all[number].until = now() + PATIENCE;
-    add(socket, number);
+    all[number] = (struct connection){
+        .state = OPEN, .socket = socket, .events = EPOLLIN, .until = now() + PATIENCE};
     done(jellqupas_front_opened(front, number, password));
     return true;
 }
@@ -317,10 +303,8 @@ static int pass(int milliseconds) {
         if (number == SIGNALS) is_over = true;
         else if (number == OPERATOR) hear();
         else if (number == LISTENER) for (int most = 64; most && is_welcomed(); most--) continue;
-        else if (all[number].state != FREE) {
-            if (came & EPOLLOUT) send_on(number);
-            if (all[number].state != GONE && came & ~EPOLLOUT) read_from(number);
-        }
+        else if (came & EPOLLOUT) send_on(number);
+        else read_from(number);
         finish();
     }
     if (owed(&all[OPERATOR])) answer();
@@ -354,40 +338,6 @@ static void serve(uint32_t tick) {
     }
 }
 
-/* A number from `least` to `most`, or -1. */
-static long number_in(const char *text, long least, long most) {
-    char *end;
-    text += *text == '+';
-    long found = strtol(text, &end, 10);
-    return *text >= '0' && *text <= '9' && !*end && least <= found && found <= most ? found : -1;
-}
-
-union address {
-    struct sockaddr any;
-    struct sockaddr_in four;
-    struct sockaddr_in6 six;
-};
-
-/* Reads ADDRESS:PORT. Returns its size, or 0 where it is none. */
-static socklen_t read_address(const char *text, union address *to) {
-    char host[INET6_ADDRSTRLEN + 2];
-    const char *colon = strrchr(text, ':');
-    size_t length = colon ? (size_t)(colon - text) : 0;
-    long port = colon ? number_in(colon + 1, 0, 65535) : -1;
-    if (!length || length >= sizeof host || port < 0) return 0;
-    memcpy(host, text, length);
-    host[length] = 0;
-    memset(to, 0, sizeof *to);
-    if (inet_pton(AF_INET, host, &to->four.sin_addr) == 1) {
-        to->four.sin_family = AF_INET, to->four.sin_port = htons((uint16_t)port);
-        return sizeof to->four;
-    }
-    if (host[0] != '[' || host[length - 1] != ']') return 0;
-    host[length - 1] = 0;
-    to->six.sin6_family = AF_INET6, to->six.sin6_port = htons((uint16_t)port);
-    return inet_pton(AF_INET6, host + 1, &to->six.sin6_addr) == 1 ? sizeof to->six : 0;
-}
-
 /* Listens there, and returns the port. */
 static unsigned listen_at(const char *text) {
     int on = 1;
@@ -401,42 +351,6 @@ static unsigned listen_at(const char *text) {
         stop(3, "nothing can listen on %s: %s", text, strerror(errno));
     }
     return ntohs(at.any.sa_family == AF_INET ? at.four.sin_port : at.six.sin6_port);
-}
-
-/* What the words ask for. */
-struct words {
-    const char *listen;
-    long servers, tick;
-};
-
-static const char USAGE[] =
-    "Serves ZooKeeper's clients, until SIGINT or SIGTERM comes.\n\n"
-    "  --listen ADDRESS:PORT    where it listens (127.0.0.1:2181); port 0 is any that is free\n"
-    "  --servers N              how many servers the chain begins with, 1 to 16 (3)\n"
-    "  --tick MS                the milliseconds of a tick, 10 to 3600000 (2000)\n"
-    "  --version, --help\n\n"
-    "Lines on standard input let servers join, fail and leave: join s4, fail s1, retire s2.\n";
-
-static struct words understood(char **words) {
-    struct words found = {.listen = "127.0.0.1:2181", .servers = 3, .tick = 2000};
-    for (; *words; words++) {
-        const char *word = *words, *value = strchr(word, '=');
-        size_t length = value ? (size_t)(value - word) : strlen(word);
-        if (!strcmp(word, "--help")) exit(fputs(USAGE, stdout) < 0);
-        if (!strcmp(word, "--version")) exit(puts("jellqupas " JELLQUPAS_VERSION) < 0);
-        if (!strcmp(word, "--") && !words[1]) break;
-        const char *const names[] = {"--listen", "--servers", "--tick"};
-        size_t which = 0;
-        while (which < 3 && (strlen(names[which]) != length || memcmp(word, names[which], length)))
-            which++;
-        if (which == 3) stop(2, "there is no word '%s'", word);
-        value = value ? value + 1 : words[1] ? *++words : "";
-        if (which == 0) found.listen = value;
-        if (which == 1) found.servers = number_in(value, 1, 16);
-        if (which == 2) found.tick = number_in(value, 10, 3600000);
-        if (found.servers < 0 || found.tick < 0) stop(2, "%s isn't '%s'", names[which], value);
-    }
-    return found;
 }
 
 /* Opens what the process needs besides sockets. */
@@ -465,34 +379,35 @@ static void prepare(void) {
     if (signals < 0 || events < 0) stop(3, "nothing can be waited for: %s", strerror(errno));
 }
 
+static const char SAID[] =
+    "zk: jellqupas " JELLQUPAS_VERSION " for ZooKeeper's clients: %ld server%s, ticks of %ld ms\n"
+    "zk: listening on %.*s:%u\n"
+    "zk: all is in the memory of this one process: when it ends, nothing is left\n"
+    "zk: whoever can connect may do everything: nobody is asked who they are\n";
+
 int main(int count, char **given) {
     struct words words = understood(given + (count > 0));
     prepare();
     unsigned port = listen_at(words.listen);
-    struct timespec since;
-    clock_gettime(CLOCK_REALTIME, &since);
-    uint64_t started = (uint64_t)since.tv_sec * 1000 + (uint64_t)since.tv_nsec / 1000000;
-    front = malloc(jellqupas_front_size());
-    uint32_t status = JELLQUPAS_MEMORY;
-    if (front) status = jellqupas_front_open((uint8_t)words.servers, (uint32_t)words.tick, started, front);
-    if (status != JELLQUPAS_DONE) stop(1, "%s", jellqupas_status_text(status));
-    tell("jellqupas " JELLQUPAS_VERSION " for ZooKeeper's clients, by a chain of %ld server%s, ticks of %ld ms",
-         words.servers, words.servers > 1 ? "s" : "", words.tick);
-    tell("listening on %.*s:%u", (int)(strrchr(words.listen, ':') - words.listen), words.listen, port);
-    tell("all servers are this one process, and all is in its memory: nothing is kept when it ends");
-    tell("whoever can connect may do everything: nobody is asked for a name or a password");
-    all[OPERATOR].state = OPEN, all[OPERATOR].events = EPOLLIN;
-    add(signals, SIGNALS);
-    add(STDIN_FILENO, OPERATOR);
-    finish();
-    add(listener, LISTENER);
-    serve((uint32_t)words.tick);
-    close(listener);
-    for (uint32_t i = 1; i <= MOST; i++) {
-        if (all[i].state != FREE) shut(i);
+    struct timespec at;
+    clock_gettime(CLOCK_REALTIME, &at);
+    uint64_t started = (uint64_t)at.tv_sec * 1000 + (uint64_t)at.tv_nsec / 1000000;
+    if (!(front = malloc(jellqupas_front_size()))) stop(1, "out of memory");
+    done(jellqupas_front_open((uint8_t)words.servers, (uint32_t)words.tick, started, front));
+    int host = (int)(strrchr(words.listen, ':') - words.listen);
+    const char *many = words.servers > 1 ? "s" : "";
+    fprintf(stderr, SAID, words.servers, many, words.tick, host, words.listen, port);
+    if (!is_added(signals, SIGNALS) || !is_added(listener, LISTENER)) {
+        stop(3, "nothing can be waited for: %s", strerror(errno));
     }
+    all[OPERATOR].state = OPEN, all[OPERATOR].events = EPOLLIN;
+    /* (what can't be waited for is a file: its lines are taken before anybody is served) */
+    if (!is_added(STDIN_FILENO, OPERATOR)) while (!is_deaf) hear();
+    finish();
+    serve((uint32_t)words.tick);
+    for (uint32_t i = 1; i <= MOST; i++) shut(i);
+    for (uint32_t i = 0; i <= MOST; i++) free(all[i].out);
     jellqupas_front_close(front);
-    free(all[OPERATOR].out);
     free(front);
     return 0;
 }

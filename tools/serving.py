@@ -1,4 +1,4 @@
-"""The server for ZooKeeper's clients: host/serve.c, compiled around the archive of the front.
+"""The server for ZooKeeper's clients: the host in C, compiled around the archive of the front.
 
 The archive is proved, built and kept as archives.py says. The program stands beside it, by the sum
 of what it is compiled of. It wants the machine's own compiler of C: that of the toolchain has no
@@ -17,7 +17,8 @@ from told import Stopped
 
 # The crate with the exports, and what the program is compiled of beside its archive.
 CRATE = "zfront_c"
-SOURCES = ("host/serve.c", "include/jellqupas_front.h", "include/jellqupas.h")
+PROGRAM = ("host/serve.c", "host/words.c")
+SOURCES = (*PROGRAM, "host/words.h", "include/jellqupas_front.h", "include/jellqupas.h")
 ARCHIVE = "libjellqupas_front.a"
 FLAGS = "-std=c11 -O2 -Wall -Wextra".split()
 COMPILERS = ("cc", "gcc", "clang")
@@ -55,7 +56,7 @@ def archive(tell):
 def compile_host(front, to, flags=(), linked=()):
     """Compiles the host around an archive, with more flags, and with what it is linked with."""
     words = [compiler(), *FLAGS, *flags, f"-I{sources.ROOT}/include", "-o", to]
-    archives.run([*words, f"{sources.ROOT}/host/serve.c", front, *linked], sources.ROOT)
+    archives.run([*words, *PROGRAM, front, *linked], sources.ROOT)
 
 
 def build(tell):
