@@ -6,7 +6,9 @@ It wants the package kazoo. The status is 1 where something isn't as wanted.
 """
 import logging
 import os
+import subprocess
 import sys
+import textwrap
 import threading
 import time
 
@@ -20,6 +22,7 @@ import testing
 from testing import Server, say, until, want, want_same
 
 SECONDS = 15
+GUIDE = f"{os.path.dirname(os.path.dirname(os.path.dirname(os.path.abspath(__file__))))}/docs/GUIDE.md"
 
 
 class Place:
@@ -239,9 +242,27 @@ def test_transaction(place):
     want_same(one.get_children("/a"), ["b"], "and does nothing")
 
 
+def test_guide(place):
+    """The session of docs/GUIDE.md prints what stands behind its lines."""
+    with open(GUIDE, encoding="utf-8") as file:
+        text = file.read().partition("    from kazoo.client import KazooClient\n")
+    lines = [text[1]]
+    for line in text[2].split("\n"):
+        if line and not line.startswith("    "):
+            break
+        lines.append(f"{line}\n")
+    address = f"{place.server.address[0]}:{place.server.address[1]}"
+    program = textwrap.dedent("".join(lines)).replace("127.0.0.1:2181", address)
+    wanted = [it.partition("  # ")[2] for it in program.split("\n") if "  # " in it]
+    words = [sys.executable, "-c", program]
+    ran = subprocess.run(words, capture_output=True, text=True, timeout=60)
+    want_same(ran.stdout.split("\n")[:-1], wanted, f"the session of the guide {ran.stderr}")
+    want(len(wanted) >= 4, f"a session in the guide: {program}")
+
+
 RECIPES = (
     test_lock, test_election, test_barrier, test_double_barrier, test_queue, test_locking_queue,
-    test_party, test_counter, test_data_watch, test_children_watch, test_transaction,
+    test_party, test_counter, test_data_watch, test_children_watch, test_transaction, test_guide,
 )
 
 
