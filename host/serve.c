@@ -9,24 +9,21 @@
    and of the signals that end it. A connection's number is its place in `all`. */
 #define _GNU_SOURCE
 #include <errno.h>
-#include <fcntl.h>
 #include <limits.h>
+#include <netinet/in.h>
 #include <netinet/tcp.h>
 #include <poll.h>
-#include <signal.h>
 #include <stdbool.h>
 #include <stdio.h>
 #include <stdlib.h>
 #include <string.h>
 #include <sys/epoll.h>
 #include <sys/random.h>
-#include <sys/resource.h>
-#include <sys/signalfd.h>
 #include <sys/socket.h>
 #include <time.h>
 #include <unistd.h>
 #include "jellqupas_front.h"
-#include "words.h"
+#include "start.h"
 
 enum {
     /* The connections that are served at once. */
@@ -338,47 +335,6 @@ static void serve(uint32_t tick) {
     }
 }
 
-/* Listens there, and returns the port. */
-static unsigned listen_at(const char *text) {
-    int on = 1;
-    union address at;
-    socklen_t size = read_address(text, &at);
-    if (!size) stop(2, "--listen wants ADDRESS:PORT, as 127.0.0.1:2181, not '%s'", text);
-    listener = socket(at.any.sa_family, SOCK_STREAM | SOCK_NONBLOCK | SOCK_CLOEXEC, 0);
-    if (listener >= 0) setsockopt(listener, SOL_SOCKET, SO_REUSEADDR, &on, sizeof on);
-    if (listener < 0 || bind(listener, &at.any, size) || listen(listener, SOMAXCONN) ||
-        getsockname(listener, &at.any, &size)) {
-        stop(3, "nothing can listen on %s: %s", text, strerror(errno));
-    }
-    return ntohs(at.any.sa_family == AF_INET ? at.four.sin_port : at.six.sin6_port);
-}
-
-/* Opens what the process needs besides sockets. */
-static void prepare(void) {
-    /* (a socket isn't to be standard input or output) */
-    int at;
-    while ((at = open("/dev/null", O_RDWR | O_CLOEXEC)) >= 0 && at <= STDERR_FILENO) continue;
-    if (at > STDERR_FILENO) close(at);
-    uint8_t password[16];
-    if (!is_drawn(password)) stop(3, "no passwords can be drawn: %s", strerror(errno));
-    struct rlimit files;
-    if (getrlimit(RLIMIT_NOFILE, &files) == 0 && files.rlim_cur < MOST + 32) {
-        files.rlim_cur = files.rlim_max < MOST + 32 ? files.rlim_max : MOST + 32;
-        setrlimit(RLIMIT_NOFILE, &files);
-    }
-    signal(SIGPIPE, SIG_IGN);
-    /* (in the background a terminal can't be read: that is an error, and not a stop) */
-    signal(SIGTTIN, SIG_IGN);
-    sigset_t ending;
-    sigemptyset(&ending);
-    sigaddset(&ending, SIGINT);
-    sigaddset(&ending, SIGTERM);
-    sigprocmask(SIG_BLOCK, &ending, NULL);
-    signals = signalfd(-1, &ending, SFD_CLOEXEC | SFD_NONBLOCK);
-    events = epoll_create1(EPOLL_CLOEXEC);
-    if (signals < 0 || events < 0) stop(3, "nothing can be waited for: %s", strerror(errno));
-}
-
 static const char SAID[] =
     "zk: jellqupas " JELLQUPAS_VERSION " for ZooKeeper's clients: %ld server%s, ticks of %ld ms\n"
     "zk: listening on %.*s:%u\n"
@@ -387,8 +343,13 @@ static const char SAID[] =
 
 int main(int count, char **given) {
     struct words words = understood(given + (count > 0));
-    prepare();
-    unsigned port = listen_at(words.listen);
+    unsigned port;
+    uint8_t password[16];
+    if (!is_drawn(password)) stop(3, "no passwords can be drawn: %s", strerror(errno));
+    make_ready(MOST + 32);
+    signals = ending_signals();
+    listener = listening_at(words.listen, &port);
+    events = epoll_create1(EPOLL_CLOEXEC);
     struct timespec at;
     clock_gettime(CLOCK_REALTIME, &at);
     uint64_t started = (uint64_t)at.tv_sec * 1000 + (uint64_t)at.tv_nsec / 1000000;

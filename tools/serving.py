@@ -17,8 +17,8 @@ from told import Stopped
 
 # The crate with the exports, and what the program is compiled of beside its archive.
 CRATE = "zfront_c"
-PROGRAM = ("host/serve.c", "host/words.c")
-SOURCES = (*PROGRAM, "host/words.h", "include/jellqupas_front.h", "include/jellqupas.h")
+PROGRAM = ("host/serve.c", "host/start.c")
+SOURCES = (*PROGRAM, "host/start.h", "include/jellqupas_front.h", "include/jellqupas.h")
 ARCHIVE = "libjellqupas_front.a"
 FLAGS = "-std=c11 -O2 -Wall -Wextra".split()
 COMPILERS = ("cc", "gcc", "clang")

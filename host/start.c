@@ -1,12 +1,19 @@
-/* What the words of the server mean, and the lines that are said of them. */
+/* What comes before a server serves: its words, its place, its signals. */
 #define _GNU_SOURCE
 #include <arpa/inet.h>
+#include <errno.h>
+#include <fcntl.h>
+#include <signal.h>
 #include <stdarg.h>
 #include <stdio.h>
 #include <stdlib.h>
 #include <string.h>
+#include <sys/resource.h>
+#include <sys/signalfd.h>
+#include <sys/socket.h>
+#include <unistd.h>
 #include "jellqupas.h"
-#include "words.h"
+#include "start.h"
 
 _Noreturn void stop(int status, const char *format, ...) {
     va_list words;
@@ -25,7 +32,14 @@ static long number_in(const char *text, long least, long most) {
     return *text >= '0' && *text <= '9' && !*end && least <= found && found <= most ? found : -1;
 }
 
-socklen_t read_address(const char *text, union address *to) {
+union address {
+    struct sockaddr any;
+    struct sockaddr_in four;
+    struct sockaddr_in6 six;
+};
+
+/* Reads ADDRESS:PORT. Returns its size, or 0 where it is none. */
+static socklen_t read_address(const char *text, union address *to) {
     char host[INET6_ADDRSTRLEN + 2];
     const char *colon = strrchr(text, ':');
     size_t length = colon ? (size_t)(colon - text) : 0;
@@ -42,6 +56,45 @@ socklen_t read_address(const char *text, union address *to) {
     host[length - 1] = 0;
     to->six.sin6_family = AF_INET6, to->six.sin6_port = htons((uint16_t)port);
     return inet_pton(AF_INET6, host + 1, &to->six.sin6_addr) == 1 ? sizeof to->six : 0;
+}
+
+int listening_at(const char *text, unsigned *port) {
+    int on = 1;
+    union address at;
+    socklen_t size = read_address(text, &at);
+    if (!size) stop(2, "--listen wants ADDRESS:PORT, as 127.0.0.1:2181, not '%s'", text);
+    int found = socket(at.any.sa_family, SOCK_STREAM | SOCK_NONBLOCK | SOCK_CLOEXEC, 0);
+    if (found >= 0) setsockopt(found, SOL_SOCKET, SO_REUSEADDR, &on, sizeof on);
+    if (found < 0 || bind(found, &at.any, size) || listen(found, SOMAXCONN) ||
+        getsockname(found, &at.any, &size)) {
+        stop(3, "nothing can listen on %s: %s", text, strerror(errno));
+    }
+    *port = ntohs(at.any.sa_family == AF_INET ? at.four.sin_port : at.six.sin6_port);
+    return found;
+}
+
+void make_ready(unsigned descriptors) {
+    /* (a socket isn't to be standard input or output) */
+    int at;
+    while ((at = open("/dev/null", O_RDWR | O_CLOEXEC)) >= 0 && at <= STDERR_FILENO) continue;
+    if (at > STDERR_FILENO) close(at);
+    struct rlimit files;
+    if (getrlimit(RLIMIT_NOFILE, &files) == 0 && files.rlim_cur < descriptors) {
+        files.rlim_cur = files.rlim_max < descriptors ? files.rlim_max : descriptors;
+        setrlimit(RLIMIT_NOFILE, &files);
+    }
+    signal(SIGPIPE, SIG_IGN);
+    /* (in the background a terminal can't be read: that is an error, and not a stop) */
+    signal(SIGTTIN, SIG_IGN);
+}
+
+int ending_signals(void) {
+    sigset_t ending;
+    sigemptyset(&ending);
+    sigaddset(&ending, SIGINT);
+    sigaddset(&ending, SIGTERM);
+    sigprocmask(SIG_BLOCK, &ending, NULL);
+    return signalfd(-1, &ending, SFD_CLOEXEC | SFD_NONBLOCK);
 }
 
 static const char USAGE[] =
