@@ -56,7 +56,7 @@ def wrong(command, words):
         if is_text:
             given[name] = value
             if not is_address(value):
-                return f"--{name} takes {options[name]}, as 127.0.0.1:2181 or [::1]:2181, not '{value}'"
+                return f"--{name} takes {options[name]}, as 127.0.0.1:2181, not '{value}'"
             continue
         first, last = options[name]
         given[name] = number_in(value)

@@ -1,13 +1,17 @@
 """Tests of each kind of request, and of each refusal. `server.is_real`: over a real ZooKeeper."""
-from client import (
+from client import Wire, refused
+from spelling import (
     ACL, ADD_WATCH, ARGUMENTS, AUTH, AUTH_FAILED, AUTH_XID, CHECK, CHECK_WATCHES, CREATE, CREATE2,
     CREATE_CONTAINER, CREATE_TTL, DELETE, EPHEMERAL, EPHEMERAL_SEQUENTIAL, EXISTS, EXISTS_ALREADY,
-    GET, GET_ACL, INCONSISTENT, LS, LS2, MULTI, MULTI_READ, NO_CHILDREN, NO_NODE, NOT_EMPTY, OK,
-    OPEN, PING, PING_XID, RECONFIG, REMOVE_WATCHES, SASL, SEQUENTIAL, SET, SET_ACL, SET_WATCHES2,
-    SYNC, SYSTEM, TTL, TTL_SEQUENTIAL, UNIMPLEMENTED, VERSION, Ended, acls, buffer, create_body,
-    delete_body, greeting, int4, look_body, part, refused, request, set_body, text, watches_body,
+    GET, INCONSISTENT, LS, MULTI_READ, NOT_EMPTY, NO_CHILDREN, NO_NODE, OK, OPEN, PING, PING_XID,
+    RECONFIG, REMOVE_WATCHES, SASL, SEQUENTIAL, SET, SET_ACL, SET_WATCHES2, SYSTEM, TTL,
+    TTL_SEQUENTIAL, UNIMPLEMENTED, VERSION, acls, buffer, create_body, delete_body, greeting, int4,
+    look_body, request, set_body, text, watches_body,
 )
 from testing import want, want_code, want_same
+
+# The milliseconds of a tick for these tests.
+TICK = 2000
 
 
 def test_creates(server):
@@ -197,10 +201,8 @@ def test_what_is_not_served(server):
         # a null buffer is no bytes
         it.create(f"{top}/null", None)
         want_same(it.get(f"{top}/null")[0], b"", "null data")
-        want_same(it.call(CHECK, delete_body(top), lambda _: None), None, "a check") \
-            if it.ask(CHECK, delete_body(top)).body == b"" else None
-        want_code(VERSION, "a check of another version",
-                  lambda: it.call(CHECK, delete_body(top, 5)))
+        want_same(it.ask(CHECK, delete_body(top, 0))[2:], (OK, b""), "a check")
+        want_code(VERSION, "of another version", it.call, CHECK, delete_body(top, 5))
 
 
 def test_ping_and_auth(server):
@@ -284,7 +286,7 @@ def test_no_session(server):
         ("a greeting without its end", int4(20) + greeting()[4:24]),
         ("a length below 0", int4(-1)), ("a length that is too great", int4(0x100000)),
     ):
-        with server.client() as other, type(other).__mro__[1](server.address) as wire:
+        with server.client() as other, Wire(server.address) as wire:
             wire.send(data)
             want(wire.is_ended(), f"{what} in the place of a greeting closes the connection")
             want_same(other.exists("/").aversion, 0, "and no other")

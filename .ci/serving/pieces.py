@@ -1,11 +1,12 @@
 """Tests of bytes: what comes in any pieces, and what no client means."""
 import random
 
-from client import (
+from client import Wire
+from spelling import (
     AUTH, CHECK, CLOSE, CREATE, CREATE2, CREATE_TTL, DELETE, EXISTS, GET, GET_ACL, LS, LS2,
-    MAX_FRAME, MULTI, MULTI_READ, OPEN, PING, PING_XID, SET, SET_WATCHES, SYNC, Wire, acls, buffer,
-    create_body, delete_body, flag, frame, greeting, int4, int8, look_body, multi_body,
-    part, request, set_body, text, watches_body,
+    MAX_FRAME, MULTI, MULTI_READ, OPEN, PING, PING_XID, SET, SET_WATCHES, SYNC, acls, buffer,
+    create_body, delete_body, flag, frame, greeting, int4, int8, look_body, multi_body, part,
+    request, set_body, text, watches_body,
 )
 from testing import Server, say, want, want_same
 
@@ -16,13 +17,15 @@ SCRIPTS = 10_000
 OF_ONE = 250
 PATHS = (b"/a", b"/a/b", b"/c-", b"/", b"/a//", b"", b"/zookeeper", b"/\xc3\xbc", b"/a b", b"/d",
          b"/x" * 70, b"/a\n1 delete /a any", b"/n" * 500, None, b"/a\0b", b"/d/e")
-KINDS = (1, 1, 2, 3, 4, 5, 6, 7, 8, 9, 11, 12, 13, 14, 14, 15, 16, 17, 18, 19, 21, 22, 100, 101, 101,
-         102, 105, 106, 999, -1, -2**31)
+KINDS = (1, 1, 2, 3, 4, 5, 6, 7, 8, 9, 11, 12, 13, 14, 14, 15, 16, 17, 18, 19, 21, 22, 100, 101,
+         101, 102, 105, 106, 999, -1, -2**31)
+WORDS = (b"ruok", b"isro", b"srvr", b"mntr", b"ruo", b"xxxx", b"ruok" + b"x" * 9)
 
 
 def some_body(chance, kind):
     path, version = chance.choice(PATHS), chance.choice((-1, 0, 1, -2, 2**31 - 1))
-    data = chance.choice((None, b"", b"hi", b"z" * 300, b"\0" * 65537 if chance.random() < 0.1 else b""))
+    much = bytes(65537) if chance.random() < 0.1 else b""
+    data = chance.choice((None, b"", b"hi", b"z" * 300, much))
     flags = chance.randrange(-1, 8)
     acl = OPEN if chance.random() < 0.9 else acls((chance.randrange(40), "world", "anyone"))
     if kind in (CREATE, CREATE2, 19):
@@ -53,7 +56,8 @@ def broken(chance, data):
     """Some bytes changed, left out or cut off."""
     found = bytearray(data)
     for _ in range(chance.randrange(1, 4)):
-        found[chance.randrange(len(found))] = chance.choice((0, 1, 127, 128, 255, chance.randrange(256)))
+        byte = chance.choice((0, 1, 127, 128, 255, chance.randrange(256)))
+        found[chance.randrange(len(found))] = byte
     end = chance.randrange(len(found) + 1) if chance.random() < 0.3 else len(found)
     return bytes(found[:end])
 
@@ -80,7 +84,7 @@ def some_greeting(chance):
     if how < 0.94:
         return broken(chance, greeting(last=last))
     if how < 0.97:
-        return chance.choice((b"ruok", b"isro", b"srvr", b"mntr", b"ruo", b"xxxx", b"ruok" + b"x" * 9))
+        return chance.choice(WORDS)
     return chance.randbytes(chance.randrange(50))
 
 
@@ -176,10 +180,10 @@ class Player:
                 continue
             if what == "take":
                 came = wires[data].came
-                data = greeting(session=int.from_bytes(came[12:20], "big", signed=True),
-                                password=came[24:40])
-            cuts = sorted(chance.randrange(len(data) + 1) for _ in range(chance.randrange(1, 5))) \
-                if chance else []
+                session = int.from_bytes(came[12:20], "big", signed=True)
+                data = greeting(session=session, password=came[24:40])
+            cuts = range(chance.randrange(1, 5) if chance else 0)
+            cuts = sorted(chance.randrange(len(data) + 1) for _ in cuts)
             for begin, end in zip([0, *cuts], [*cuts, len(data)]):
                 if begin < end and not wires[at].is_over:
                     wires[at].put(data[begin:end])
@@ -223,8 +227,8 @@ def each_request(top):
     """A request of each kind, as bytes, under rising xids."""
     bodies = (
         (CREATE, create_body(f"{top}/a", b"data")), (CREATE2, create_body(f"{top}/b", None)),
-        (CREATE_TTL, create_body(f"{top}/c", b"x", 5, ttl=9000)), (EXISTS, look_body(f"{top}/a", True)),
-        (GET, look_body(f"{top}/a", True)), (SET, set_body(f"{top}/a", b"new")),
+        (CREATE_TTL, create_body(f"{top}/c", b"x", 5, ttl=9000)), (SET, set_body(f"{top}/a", b"y")),
+        (EXISTS, look_body(f"{top}/a", True)), (GET, look_body(f"{top}/a", True)),
         (LS, look_body(top, True)), (LS2, look_body(top)), (GET_ACL, text(top)), (SYNC, text(top)),
         (MULTI, multi_body((CHECK, delete_body(top)), (CREATE, create_body(f"{top}/d")))),
         (MULTI_READ, multi_body((GET, look_body(top)), (LS, look_body(top)))),

@@ -22,7 +22,7 @@ import testing
 from testing import Server, say, until, want, want_same
 
 SECONDS = 15
-GUIDE = f"{os.path.dirname(os.path.dirname(os.path.dirname(os.path.abspath(__file__))))}/docs/GUIDE.md"
+GUIDE = f"{os.path.dirname(os.path.abspath(__file__))}/../../docs/GUIDE.md"
 
 
 class Place:

@@ -1,12 +1,12 @@
 """Tests of sessions. `server.is_real`: over a real ZooKeeper."""
 import time
 
-from client import (
-    CLOSE, CREATE, EPHEMERAL, NO_NODE, OK, PING, PING_XID, Ended, Greeted, Wire, create_body,
-    greeting, refused,
-)
+from client import Ended, Greeted, Wire, refused
+from spelling import CLOSE, CREATE, EPHEMERAL, NO_NODE, OK, PING, PING_XID, create_body, greeting
 from testing import until, want, want_code, want_same
 
+# The milliseconds of a tick for these tests.
+TICK = 300
 REFUSED = Greeted(0, 0, bytes(16), b"\0")
 
 

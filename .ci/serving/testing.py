@@ -1,17 +1,15 @@
 """What the tests share: what is wanted, and the server that they speak to."""
 import os
 import signal
-import socket
 import subprocess
-import sys
 import tempfile
 import time
 
 from client import Client, Ended, Refused, refused
 
 failures, skipped = [], []
-# The milliseconds of a tick, where a test doesn't need others.
-TICK = 200
+# The milliseconds of a tick, where a test doesn't need others: a slow machine ends no session.
+TICK = 2000
 # The failures that are shown.
 SHOWN = 100
 
@@ -58,10 +56,10 @@ class Server:
     is_real = False
 
     def __init__(self, program, tick=TICK, servers=3, listen="127.0.0.1:0", words=(), **given):
-        words = [program, "--listen", listen, "--servers", str(servers), "--tick", str(tick), *words]
-        self.tick, self.paths, self.error = tick, 0, tempfile.TemporaryFile()
         given = {"stdin": subprocess.PIPE, "stdout": subprocess.PIPE, **given}
-        self.ran = subprocess.Popen(words, stderr=self.error, **given)
+        options = ["--listen", listen, "--servers", str(servers), "--tick", str(tick), *words]
+        self.tick, self.paths, self.error = tick, 0, tempfile.TemporaryFile()
+        self.ran = subprocess.Popen([program, *options], stderr=self.error, **given)
         until(lambda: self.said().count("\n") >= 4 or self.ran.poll() is not None)
         found = self.said().partition("listening on ")[2].split("\n")[0]
         if not found:
@@ -76,8 +74,8 @@ class Server:
 
     def said(self):
         """What it said on standard error."""
-        self.error.seek(0)
-        return self.error.read().decode(errors="replace")
+        # (the place in the file is the host's)
+        return os.pread(self.error.fileno(), 1 << 20, 0).decode(errors="replace")
 
     def play(self, line):
         """The answer to a line of the operator."""
@@ -93,6 +91,14 @@ class Server:
         self.paths += 1
         with self.client() as client:
             return client.create(f"/t{self.paths}-{os.getpid()}")
+
+    def serves(self):
+        """Whether a client is served."""
+        try:
+            with self.client() as it:
+                return it.get("/")[0] == b""
+        except Ended:
+            return False
 
     def resident(self):
         """The bytes that it has in memory."""

@@ -1,12 +1,15 @@
 """Tests of watches. `server.is_real`: over a real ZooKeeper."""
 import threading
 
-from client import (
+from client import Answer, Event, refused
+from spelling import (
     CHANGED, CHILD, CREATE, CREATED, DELETE, DELETED, EPHEMERAL, EXISTS, GET, NO_NODE, OK, SET,
-    SET_WATCHES, Answer, Event, create_body, delete_body, look_body, refused, set_body,
-    watches_body,
+    SET_WATCHES, create_body, delete_body, look_body, set_body, watches_body,
 )
 from testing import until, want, want_code, want_same
+
+# The milliseconds of a tick for these tests.
+TICK = 500
 
 
 def waiting(client, server, seconds=10):
@@ -154,8 +157,8 @@ def test_multi_events(server):
             (SET, set_body(f"{top}/a")), (DELETE, delete_body(f"{top}/b")),
             (CREATE, create_body(f"{top}/c")), (SET, set_body(f"{top}/a")),
         )
-        wanted = [Event(CHANGED, f"{top}/a"), Event(DELETED, f"{top}/b"), Event(CREATED, f"{top}/c"),
-                  Event(CHILD, top)]
+        wanted = [Event(CREATED, f"{top}/c"), Event(DELETED, f"{top}/b"),
+                  Event(CHANGED, f"{top}/a"), Event(CHILD, top)]
         want_same(sorted(it.events()), sorted(wanted), "the events of a multi, each once")
 
 
@@ -263,13 +266,12 @@ def test_gone_with_the_connection(server):
 
 def test_watches_at_most(server):
     """10,000 watches of all connections together."""
-    top = server.root()
-    with server.client() as it, server.client() as other:
-        count = 10000
-        for number in range(count):
-            it.post(EXISTS, look_body(f"{top}/{number}", True))
-        codes = {it.next().code for _ in range(count)}
-        want_same(codes, {NO_NODE}, "10,000 watches")
+    top, it, count = server.root(), server.client(), 10000
+    for number in range(count):
+        it.post(EXISTS, look_body(f"{top}/{number}", True))
+    codes = {it.next().code for _ in range(count)}
+    want_same(codes, {NO_NODE}, "10,000 watches")
+    with server.client() as other:
         code = refused(other.get, top, True)
         want(code not in (None, OK, NO_NODE), f"one more is refused: {code}")
         for call in (lambda: other.ls(top, True), lambda: other.exists(top, True),
