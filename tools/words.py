@@ -6,11 +6,13 @@ The programs say `zk: bad words` themselves. Whatever they take passes here: `--
 import re
 import socket
 
-# The options of each command, and the numbers that each takes, or the form of its text.
+# The form of a place to listen at.
+ADDRESS = "ADDRESS:PORT"
+# The options of each command, and the numbers that each takes, or that form.
 OPTIONS = {
     "script": {"servers": (1, 16)},
     "race": {"servers": (1, 16), "clients": (1, 31), "rounds": (1, 1000), "halt": (0, 16)},
-    "serve": {"servers": (1, 16), "tick": (10, 3600000), "listen": "ADDRESS:PORT"},
+    "serve": {"servers": (1, 16), "tick": (10, 3600000), "listen": ADDRESS},
 }
 # The servers of a race that doesn't name them.
 RACE_SERVERS = 3
@@ -35,6 +37,14 @@ def is_address(text):
     return 0 <= number <= 65535
 
 
+def value_in(option, text):
+    """The value that a word is for an option, or None."""
+    if option == ADDRESS:
+        return text if is_address(text) else None
+    number, (first, last) = number_in(text), option
+    return number if number is not None and first <= number <= last else None
+
+
 def wrong(command, words):
     """What is wrong with the words behind a command, or None."""
     options, given, left = OPTIONS[command], {}, list(words)
@@ -48,20 +58,15 @@ def wrong(command, words):
             return f"{command} takes no word '{word}'"
         if name in given:
             return f"--{name} is given twice"
-        is_text = isinstance(options[name], str)
+        option = options[name]
         if not is_joined:
             if not left:
-                return f"--{name} wants {options[name] if is_text else 'a number'} behind it"
+                return f"--{name} wants {'a number' if option != ADDRESS else ADDRESS} behind it"
             value = left.pop(0)
-        if is_text:
-            given[name] = value
-            if not is_address(value):
-                return f"--{name} takes {options[name]}, as 127.0.0.1:2181, not '{value}'"
-            continue
-        first, last = options[name]
-        given[name] = number_in(value)
-        if given[name] is None or not first <= given[name] <= last:
-            return f"--{name} takes a number from {first} to {last}, not '{value}'"
+        given[name] = value_in(option, value)
+        if given[name] is None:
+            form = ADDRESS if option == ADDRESS else f"a number from {option[0]} to {option[1]}"
+            return f"--{name} takes {form}, not '{value}'"
     return wrong_halt(given) if command == "race" else None
 
 

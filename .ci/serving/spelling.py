@@ -1,4 +1,4 @@
-"""The bytes of ZooKeeper's protocol, as zookeeper.jute has them: its numbers, spelling and reading."""
+"""The bytes of ZooKeeper's protocol, as zookeeper.jute has them."""
 import struct
 from typing import NamedTuple
 
