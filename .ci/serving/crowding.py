@@ -3,9 +3,10 @@ import resource
 import threading
 import time
 
-from client import Client, Wire
+from client import Client, Ended, Wire
 from spelling import (
-    CREATE, GET, OK, PING, PING_XID, SEQUENTIAL, create_body, greeting, look_body, request, text,
+    CREATE, GET, OK, PING, PING_XID, SEQUENTIAL, create_body, greeting, int4, look_body, request,
+    text,
 )
 from testing import Server, say, until, want, want_same
 
@@ -112,6 +113,42 @@ def test_readers_that_never_read(program):
         say(f"readers that never read: {size} MiB")
 
 
+def is_closed(client):
+    """Whether the connection is closed by now."""
+    client.socket.settimeout(0.01)
+    try:
+        return client.socket.recv(1) == b""
+    except ConnectionError:
+        return True
+    except TimeoutError:
+        return False
+
+
+def test_unfinished_requests(program):
+    """Requests that don't come to their end are bounded, by closing whoever holds most."""
+    with Server(program) as server, server.client(timeout=40000) as other:
+        count, length = 90, 1_000_000
+        clients = [server.client(timeout=40000) for _ in range(count)]
+        for number, it in enumerate(clients):
+            try:
+                it.send(int4(length + 9) + bytes(length - number))
+            except Ended:
+                pass
+        for _ in range(20):
+            want_same(other.ask(PING, xid=PING_XID).code, OK, "others are served")
+        want(until(lambda: server.resident() < 300 << 20), f"{server.resident() >> 20} MiB")
+        closed = set()
+
+        def are_closed():
+            closed.update(it for it in clients if it not in closed and is_closed(it))
+            return len(closed) >= 20
+
+        want(until(are_closed) and len(closed) < count, f"{len(closed)} of {count} are closed")
+        want(server.serves(), "new ones are served")
+        for it in clients:
+            it.drop()
+
+
 def test_silence(program):
     """Who says nothing, or half a greeting, is closed after 10 s; who has a session isn't."""
     with Server(program) as server:
@@ -130,5 +167,6 @@ def test_silence(program):
 
 
 HOST = (
-    test_many_connections, test_reader_that_waits, test_readers_that_never_read, test_silence,
+    test_many_connections, test_reader_that_waits, test_readers_that_never_read,
+    test_unfinished_requests, test_silence,
 )

@@ -1,5 +1,6 @@
 """Tests of the host: lines of the operator beneath busy connections, and stalls."""
 import os
+import pty
 import signal
 import subprocess
 import threading
@@ -72,6 +73,21 @@ def test_operator_files(program):
     closed = lambda: [os.close(it) for it in (0, 1)]
     with Server(program, stdin=None, stdout=None, preexec_fn=closed) as server:
         want(server.serves(), "where both are closed")
+
+
+def test_terminal(program):
+    """Lines that are typed."""
+    top, inner = pty.openpty()
+    with Server(program, stdin=inner, stdout=inner, start_new_session=True) as server:
+        os.close(inner)
+        told = b""
+        for line, answer in ((b"settle\n", b"quiet"), (b"frob\n", b"bad line")):
+            os.write(top, line)
+            while answer not in told:
+                told += os.read(top, 100)
+        os.write(top, b"\x04")
+        want(server.serves(), "behind the end that was typed")
+    os.close(top)
 
 
 def test_busy(program):
@@ -153,4 +169,4 @@ def test_stall(program):
             it.drop()
 
 
-HOST = (test_operator, test_operator_files, test_busy, test_stall)
+HOST = (test_operator, test_operator_files, test_terminal, test_busy, test_stall)
