@@ -82,6 +82,17 @@ def test_reader_that_waits(program):
         it.drop()
 
 
+def is_cut(client):
+    """Whether the connection is closed, so that nothing can be sent on it."""
+    try:
+        client.socket.send(b"\0")
+    except BlockingIOError:
+        pass
+    except ConnectionError:
+        return True
+    return False
+
+
 def test_readers_that_never_read(program):
     """What isn't read is bounded, by closing whoever leaves most of it."""
     with Server(program) as server, server.client(timeout=40000) as other:
@@ -93,22 +104,10 @@ def test_readers_that_never_read(program):
             want_same(other.ask(PING, xid=PING_XID).code, OK, "others are served")
         size = server.resident() >> 20
         want(size < 200, f"{size} MiB for {count} that never read")
-        closed = 0
+        closed = sum(is_cut(it) for it, _ in readers)
         for it, _ in readers:
-            it.socket.setblocking(True)
-            it.socket.settimeout(30)
-            try:
-                while it.socket.recv(1 << 20):
-                    pass
-                closed += 1
-            except ConnectionError:
-                closed += 1
-            except TimeoutError:
-                pass
             it.drop()
-            if closed:
-                break
-        want(closed > 0, "one of them is closed")
+        want(0 < closed < count, f"{closed} of {count} are closed")
         want(server.serves(), "new ones are served")
         say(f"readers that never read: {size} MiB")
 
