@@ -8,7 +8,7 @@ import time
 
 from client import Ended, Wire, refused
 from spelling import (
-    CREATE, EPHEMERAL, GET, OK, PING, PING_XID, SEQUENTIAL, create_body, greeting, look_body,
+    CREATE, GET, OK, PING, PING_XID, SEQUENTIAL, create_body, greeting, look_body,
     request,
 )
 from testing import Server, say, want, want_same
@@ -147,13 +147,21 @@ def test_busy(program):
         say(f"busy: {events} lines of the operator beneath {8 * rounds} changes")
 
 
+def wait_for_tick(client):
+    """Waits until the next tick has come: it takes away a node that lives for one."""
+    path = f"/tick-{client.session}"
+    client.create_ttl(path, 1)
+    client.exists(path, True)
+    client.next()
+
+
 def test_stall(program):
     """After a stall what waits is taken first, and then one tick is given."""
-    with Server(program, tick=400) as server:
-        kept, silent = (server.client(timeout=3 * server.tick) for _ in range(2))
-        for it in (kept, silent):
-            it.create(f"/e{it.session}", flags=EPHEMERAL)
-        # (right behind a tick: the next one is far)
+    with Server(program, tick=400) as server, server.client() as it:
+        wait_for_tick(it)
+        # (two ticks end them, unless something comes)
+        kept, silent = server.client(timeout=0), server.client(timeout=2 * server.tick)
+        wait_for_tick(it)
         server.ran.send_signal(signal.SIGSTOP)
         kept.post(PING, xid=PING_XID)
         time.sleep(8 * server.tick / 1000)
@@ -163,10 +171,11 @@ def test_stall(program):
         want_same(kept.answer(PING_XID).code, OK, "what waited is answered")
         late.frame()
         late.frame()
-        want_same(silent.exists(f"/e{silent.session}").owner, silent.session, "no burst of ticks")
-        want_same(kept.ls("/").count("late"), 1, "who connected meanwhile is served")
-        for it in (kept, silent, late):
-            it.drop()
+        want_same(it.ls("/"), ["late"], "who connected meanwhile is served")
+        want_same(silent.ask(PING, xid=PING_XID).code, OK, "there is no burst of ticks")
+        want_same(kept.ask(PING, xid=PING_XID).code, OK, "what waited stands before the tick")
+        for one in (kept, silent, late):
+            one.drop()
 
 
 HOST = (test_operator, test_operator_files, test_terminal, test_busy, test_stall)

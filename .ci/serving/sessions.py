@@ -2,7 +2,9 @@
 import time
 
 from client import Ended, Greeted, Wire, refused
-from spelling import CLOSE, CREATE, EPHEMERAL, NO_NODE, OK, PING, PING_XID, create_body, greeting
+from spelling import (
+    CLOSE, CREATE, EPHEMERAL, NO_NODE, OK, PING, PING_XID, create_body, greeting, request,
+)
 from testing import until, want, want_code, want_same
 
 # The milliseconds of a tick for these tests.
@@ -153,11 +155,7 @@ def test_close(server):
     top = server.root()
     it = server.client()
     it.create(f"{top}/e", flags=EPHEMERAL)
-    it.post(CLOSE)
-    try:
-        it.post(CREATE, create_body(f"{top}/late"))
-    except Ended:
-        pass
+    it.send(request(1, CLOSE) + request(2, CREATE, create_body(f"{top}/late")))
     want_same(it.next().code, OK, "a session is closed")
     want(it.is_ended(), "and its connection")
     with server.client() as other:
