@@ -103,9 +103,13 @@ class Wire:
         except Ended:
             return found
 
-    def is_ended(self):
-        """Whether the connection is closed, and nothing else came before that."""
-        return self.rest() == b""
+    def is_ended(self, seconds=5):
+        """Whether the connection is closed by then, and nothing else came before that."""
+        self.socket.settimeout(seconds)
+        try:
+            return self.rest() == b""
+        except TimeoutError:
+            return False
 
     def greet(self, **given):
         self.send(greeting(**given))

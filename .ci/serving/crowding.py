@@ -158,7 +158,7 @@ def test_silence(program):
         time.sleep(5)
         half.send(greeting()[20:30])
         for wire in (silent, half):
-            want(wire.is_ended(), "it is closed")
+            want(wire.is_ended(20), "it is closed")
             took = time.monotonic() - began
             want(9 <= took < 14, f"after {took:.1f} s")
         want_same(it.ask(PING, xid=PING_XID).code, OK, "not who has a session")
