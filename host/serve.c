@@ -232,8 +232,10 @@ static void read_from(uint32_t number) {
     for (int parts = READ / HANDED; parts && is_there(it) && owed(it) <= OWED; parts--) {
         ssize_t count = recv(it->socket, block, HANDED, 0);
         if (count < 0 && (errno == EAGAIN || errno == EINTR)) return;
-        if (count <= 0) shut(number);
-        if (count <= 0) return;
+        if (count <= 0) {
+            shut(number);
+            return;
+        }
         if (it->state == OPEN) {
             it->given += count, held += count;
             done(jellqupas_front_came(front, number, block, count));
