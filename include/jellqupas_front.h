@@ -68,8 +68,8 @@ size_t jellqupas_front_size(void);
 
 /* Makes a front with an empty tree and without connections. Its chain begins with so many servers,
    1 to 16. A tick takes `tick_ms` milliseconds, at least 1.
-   JELLQUPAS_DONE: it is open. JELLQUPAS_NO_SERVERS: the number of servers isn't 1 to 16.
-   JELLQUPAS_MEMORY: out of memory. Whatever it returns, there is a front now, which
+   JELLQUPAS_DONE: it is open. JELLQUPAS_NO_SERVERS: the number of servers isn't 1 to 16, or a tick
+   has no length. JELLQUPAS_MEMORY: out of memory. Whatever it returns, there is a front now, which
    jellqupas_front_close closes; but it takes inputs only where it was JELLQUPAS_DONE. */
 uint32_t jellqupas_front_open(uint8_t servers, uint32_t tick_ms, uint64_t started_ms,
                               jellqupas_front *front);

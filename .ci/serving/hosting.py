@@ -16,8 +16,8 @@ def test_four_letters(program):
         other.create("/a")
         for word, begins, has in (
             (b"ruok", b"imok", b""), (b"isro", b"rw", b""),
-            (b"srvr", b"Zookeeper version: ", b"\nNode count: 2\n"),
-            (b"mntr", b"zk_version\t", b"\nzk_znode_count\t2\n"),
+            (b"srvr", b"Zookeeper version: ", b"\nMode: standalone\n"),
+            (b"mntr", b"zk_version\t", b"\nzk_num_alive_connections\t"),
         ):
             with Wire(server.address) as it:
                 it.send(word)
