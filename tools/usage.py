@@ -25,8 +25,8 @@ A coordination service with ZooKeeper's data model and chain replication.
                               serves ZooKeeper's clients at 127.0.0.1:2181, in
                               memory: N is 1 to 16 (3), MS 10 to 3600000 (2000);
                               it is proved first, and then compiled by cc
-The first call builds the program without proof, in about a minute, and each
-call says that it isn't proved. Once it is proved, the proved program runs.
+The first script or race builds its program without proof, in about a minute,
+and each says that it isn't proved. Once it is proved, the proved program runs.
 
 ./zk prove [script|race]      proves the program; where that was stopped, it
                               goes on
