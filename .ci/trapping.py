@@ -10,7 +10,7 @@ import time
 
 ROOT = os.path.dirname(os.path.dirname(os.path.abspath(__file__)))
 # What a checkout needs to be called.
-PARTS = ["zk", "check", "library", "include", "tools", "crates.txt", "HANDLES", "crates"]
+PARTS = ["zk", "check", "library", "include", "host", "tools", "crates.txt", "HANDLES", "crates"]
 failures = []
 
 

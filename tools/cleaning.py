@@ -9,7 +9,7 @@ import sources
 
 # The folders of a former layout, one for each checkout.
 FORMER = re.compile(r"[0-9a-f]{16}(\.kept)?")
-TOPS = ("zk", "zk_race", "zclib")
+TOPS = ("zk", "zk_race", "zclib", "zfront_c")
 
 
 def size_of(folder):
@@ -40,12 +40,10 @@ def used():
     """The sums of the programs, and the names of the crates, of all checkouts that are there."""
     keys, crates = set(), set()
     for root in places.checkouts():
-        known = sources.known_lines(root)
         for name in TOPS:
-            if name in known:
-                lines = sources.lines_below(name, root)
-                keys.add(sources.key_of(lines, root))
-                crates.update(lines)
+            lines = sources.lines_below(name, root)
+            keys.add(sources.key_of(lines, root))
+            crates.update(lines)
     return keys, crates
 
 

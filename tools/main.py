@@ -11,6 +11,7 @@ import sys
 import cleaning
 import programs
 import proving
+import serving
 import sources
 import unproved
 import usage
@@ -20,7 +21,7 @@ from told import Stopped, teller
 tell = teller("zk")
 HELP = ("help", "--help", "-h")
 MODES = ("--proved", "--unproved")
-PROVED = ("script", "race", "library")
+PROVED = ("script", "race", "library", "serve")
 
 
 def refuse(text):
@@ -63,6 +64,18 @@ def run(mode, command, words, is_folder):
     run_unproved(command, words)
 
 
+def serve(mode, words, is_folder):
+    """Runs the server for ZooKeeper's clients, which is proved and built first."""
+    if mode == "--unproved":
+        refuse("the server has no build without proof")
+    if is_folder:
+        raise Stopped("standard input is a folder")
+    path = serving.proved()
+    if not path and mode == "--proved":
+        raise Stopped("the server is not proved; './zk prove serve' proves it")
+    become(path or serving.build(tell), words)
+
+
 def prove(words):
     """Proves what the word names, a script's program where there is none, and prints its path."""
     what = words[0] if words else "script"
@@ -70,8 +83,12 @@ def prove(words):
         refuse(f"prove takes one word of {', '.join(PROVED)}, not '{' '.join(words)}'")
     if what == "library":
         os.execv(f"{sources.ROOT}/library", [f"{sources.ROOT}/library"])
-    path = proving.prove(programs.NAMES[what], tell)
-    tell(f"the program of a {what} is proved")
+    if what == "serve":
+        path = serving.build(tell)
+        tell("the front of the server is proved")
+    else:
+        path = proving.prove(programs.NAMES[what], tell)
+        tell(f"the program of a {what} is proved")
     print(path)
 
 
@@ -87,13 +104,18 @@ def do(is_folder, words):
     command = words.pop(0) if words else "" if mode else "help"
     if command in HELP or any(it in HELP[1:] for it in words):
         sys.stdout.write(usage.usage())
-    elif command in programs.NAMES:
+    elif command == "serve" and words == ["--version"]:
+        sys.stdout.write(usage.version())
+    elif command in words_of.OPTIONS:
         wrong = words_of.wrong(command, words)
         if wrong:
             refuse(wrong)
-        run(mode, command, words, is_folder)
+        if command == "serve":
+            serve(mode, words, is_folder)
+        else:
+            run(mode, command, words, is_folder)
     elif mode:
-        refuse(f"{mode} wants script or race behind it, not '{command}'")
+        refuse(f"{mode} wants script, race or serve behind it, not '{command}'")
     elif command == "prove":
         prove(words)
     elif command == "clean":

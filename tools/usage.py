@@ -8,6 +8,7 @@ import kit
 import places
 import programs
 import proof
+import serving
 import sources
 from told import Stopped
 
@@ -20,13 +21,18 @@ A coordination service with ZooKeeper's data model and chain replication.
                               runs the service in threads, and audits the run:
                               N is 1 to 16 (3), C clients 1 to 31 (4), R nodes
                               1 to 1000 (100), S a server that is halted halfway
-The first call builds the program without proof, in about a minute, and each
-call says that it isn't proved. Once it is proved, the proved program runs.
+./zk serve [--listen ADDRESS:PORT] [--servers N] [--tick MS]
+                              serves ZooKeeper's clients at 127.0.0.1:2181, in
+                              memory: N is 1 to 16 (3), MS 10 to 3600000 (2000);
+                              it is proved first, and then compiled by cc
+The first script or race builds its program without proof, in about a minute,
+and each says that it isn't proved. Once it is proved, the proved program runs.
 
 ./zk prove [script|race]      proves the program; where that was stopped, it
                               goes on
-./zk prove library            the same for the library, as ./library does
-./zk --proved script ..       runs the proved program, or nothing; race too
+./zk prove library|serve      the same for the library, as ./library does, and
+                              for the server
+./zk --proved script ..       runs the proved program, or nothing; race, serve too
 ./zk --unproved script ..     runs the one without proof; race too
 ./zk --version                the version, and which program would run
 ./zk clean [--all]            removes what is kept and no checkout uses, or all
@@ -98,8 +104,18 @@ def would_run(command):
         return f"not proved ({error})"
 
 
+def would_serve():
+    """Which server would run."""
+    try:
+        path = serving.proved()
+        return f"proved, by {programs.kit_of(path)}" if path else "not proved"
+    except Stopped as error:
+        return f"not proved ({error})"
+
+
 def version():
     lines = [f"jellqupas {version_number()}", f"commit: {commit()}"]
     lines += [f"{it}: {would_run(it)}" for it in programs.NAMES]
+    lines += [f"serve: {would_serve()}"]
     lines += [f"toolchain: {kit.identity() or 'rt is not on the PATH'}", f"kept in: {kept()}"]
     return "\n".join(lines) + "\n"

@@ -1,0 +1,376 @@
+/* The server for ZooKeeper's clients: sockets and a clock around a front (jellqupas_front.h). It
+   hands on what came, sends what the front tells, draws passwords and gives ticks.
+
+   Nothing here is proved. It is to uphold what jellqupas_front.h asks: each connection's bytes are
+   handed on once and in their order, what is told is sent in that order and whole, or the
+   connection is closed, and passwords can't be guessed.
+
+   One thread does all. It waits for events of at most 1,000 connections, of the operator's lines,
+   and of the signals that end it. A connection's number is its place in `all`. */
+#define _GNU_SOURCE
+#include <errno.h>
+#include <limits.h>
+#include <netinet/in.h>
+#include <netinet/tcp.h>
+#include <poll.h>
+#include <stdbool.h>
+#include <stdio.h>
+#include <stdlib.h>
+#include <string.h>
+#include <sys/epoll.h>
+#include <sys/random.h>
+#include <sys/socket.h>
+#include <time.h>
+#include <unistd.h>
+#include "jellqupas_front.h"
+#include "start.h"
+
+enum {
+    /* The connections that are served at once. */
+    MOST = 1000,
+    /* The bytes that are read of a connection before others are, and that are handed on at a time.
+       (A request has some 20 bytes or more, and its reply up to a million.) */
+    READ = 16 << 10,
+    HANDED = 1 << 10,
+    /* A connection that is to be sent more than this isn't read. */
+    OWED = 1 << 20,
+    /* The bytes that are to be sent or came of an unfinished request, of all connections together.
+       Where there are more, the connection with the most of them is closed. */
+    HELD = 64 << 20,
+    /* The milliseconds for a greeting, and for taking what is sent before a connection's end. */
+    PATIENCE = 10000,
+    /* The longest line of the operator. */
+    LINE = 524288,
+    /* Events that aren't a connection's. */
+    OPERATOR = 0,
+    LISTENER = MOST + 1,
+    SIGNALS
+};
+
+enum state {
+    FREE,
+    OPEN,
+    /* Its last piece was told: what comes is dropped, and it is closed once all is sent. */
+    LAST,
+    /* It is closed, and the front isn't told yet. */
+    GONE
+};
+
+struct connection {
+    enum state state;
+    int socket;
+    /* What is to be sent: `out` up to `count`, of which `sent` bytes are. */
+    uint8_t *out;
+    size_t sent, count, room;
+    /* The bytes that were handed on since its last piece: so an unfinished request has no more. */
+    size_t given;
+    /* When it is closed, in milliseconds; 0 for never. */
+    uint64_t until;
+    /* The events that it waits for. */
+    uint32_t events;
+    bool is_touched;
+};
+
+static jellqupas_front *front;
+static struct connection all[MOST + 1];
+static int events, listener, signals;
+static size_t held;
+static bool is_over, is_deaf;
+/* The connections that were told something, and those that are GONE. */
+static uint32_t touched[MOST + 1], gone[MOST];
+static size_t touched_count, gone_count;
+
+/* Milliseconds of a clock that nobody sets. */
+static uint64_t now(void) {
+    struct timespec at;
+    clock_gettime(CLOCK_MONOTONIC, &at);
+    return (uint64_t)at.tv_sec * 1000 + (uint64_t)at.tv_nsec / 1000000;
+}
+
+static bool is_drawn(uint8_t *password) { return getrandom(password, 16, 0) == 16; }
+
+static bool is_there(const struct connection *it) {
+    return it->state == OPEN || it->state == LAST;
+}
+
+static size_t owed(const struct connection *it) { return it->count - it->sent; }
+
+/* Makes room for so many bytes more. */
+static void make_room(struct connection *it, size_t more) {
+    if (it->room - it->count >= more) return;
+    size_t left = owed(it), room = it->room ? it->room : 4096;
+    while (room - left < more) room *= 2;
+    if (it->sent) memmove(it->out, it->out + it->sent, left);
+    if (room > it->room) it->out = realloc(it->out, room);
+    if (!it->out) stop(1, "out of memory");
+    it->sent = 0, it->count = left, it->room = room;
+}
+
+/* Waits for these events of a connection from now on. */
+static void wait_for(uint32_t number, uint32_t wanted) {
+    struct connection *it = &all[number];
+    struct epoll_event event = {.events = wanted, .data.u32 = number};
+    if (wanted != it->events) epoll_ctl(events, EPOLL_CTL_MOD, it->socket, &event);
+    it->events = wanted;
+}
+
+/* Closes a connection at once. The front is told later: it may be in the middle of telling. */
+static void shut(uint32_t number) {
+    struct connection *it = &all[number];
+    if (!is_there(it)) return;
+    held -= owed(it) + it->given;
+    close(it->socket);
+    free(it->out);
+    *it = (struct connection){.state = GONE, .is_touched = it->is_touched};
+    gone[gone_count++] = number;
+}
+
+/* Closes those that hold most, where all hold too much. */
+static void bound(void) {
+    while (held > HELD) {
+        uint32_t most = 1;
+        for (uint32_t i = 2; i <= MOST; i++) {
+            if (owed(&all[i]) + all[i].given > owed(&all[most]) + all[most].given) most = i;
+        }
+        shut(most);
+    }
+}
+
+/* Takes the pieces that the front has. */
+static void take(void) {
+    uint32_t next;
+    while ((next = jellqupas_front_piece(front)) != JELLQUPAS_FRONT_NONE) {
+        uint32_t number = jellqupas_front_connection(front);
+        struct connection *it = &all[number];
+        size_t count = 4096;
+        do {
+            make_room(it, count);
+            count = jellqupas_front_tell(front, it->out + it->count, it->room - it->count);
+        } while (count > it->room - it->count);
+        if (it->state != OPEN) continue;
+        it->count += count;
+        it->until = 0;
+        if (next == JELLQUPAS_FRONT_LAST) it->state = LAST, it->until = now() + PATIENCE;
+        if (!it->is_touched) touched[touched_count++] = number;
+        it->is_touched = true;
+        if (number == OPERATOR) continue;
+        held += count - it->given;
+        it->given = 0;
+        bound();
+    }
+}
+
+/* What follows each input of the front. */
+static void done(uint32_t status) {
+    if (status != JELLQUPAS_DONE) stop(1, "%s", jellqupas_status_text(status));
+    take();
+}
+
+static void forget_sent(struct connection *it) {
+    it->sent = it->count = 0;
+    if (it->room <= 65536) return;
+    free(it->out);
+    it->out = NULL, it->room = 0;
+}
+
+/* Sends what can be sent on a connection. */
+static void send_on(uint32_t number) {
+    struct connection *it = &all[number];
+    if (!is_there(it)) return;
+    while (owed(it)) {
+        ssize_t sent = send(it->socket, it->out + it->sent, owed(it), MSG_NOSIGNAL);
+        if (sent < 0 && errno == EINTR) continue;
+        if (sent < 0 && errno == EAGAIN) break;
+        if (sent < 0) {
+            shut(number);
+            return;
+        }
+        it->sent += sent, held -= sent;
+    }
+    if (!owed(it)) forget_sent(it);
+    /* (its client closes it, or else patience ends: so what was sent isn't lost by what came) */
+    if (!owed(it) && it->state == LAST) shutdown(it->socket, SHUT_WR);
+    wait_for(number, (owed(it) <= OWED ? EPOLLIN : 0) | (owed(it) ? EPOLLOUT : 0));
+}
+
+/* Writes answers to the operator, as far as somebody reads them: nothing waits for a full pipe. */
+static void answer(void) {
+    struct connection *it = &all[OPERATOR];
+    struct pollfd output = {.fd = STDOUT_FILENO, .events = POLLOUT};
+    while (owed(it) && poll(&output, 1, 0) == 1) {
+        size_t count = owed(it) < PIPE_BUF ? owed(it) : PIPE_BUF;
+        ssize_t written = write(STDOUT_FILENO, it->out + it->sent, count);
+        if (written < 0 && (errno == EINTR || errno == EAGAIN)) break;
+        it->sent += written < 0 ? owed(it) : (size_t)written;
+    }
+    if (!owed(it)) forget_sent(it);
+    if (!is_deaf) wait_for(OPERATOR, owed(it) ? 0 : EPOLLIN);
+}
+
+/* Sends what was told, and tells the front which connections are closed. */
+static void finish(void) {
+    while (touched_count || gone_count) {
+        while (touched_count) {
+            uint32_t number = touched[--touched_count];
+            all[number].is_touched = false;
+            if (number == OPERATOR) answer();
+            else send_on(number);
+        }
+        while (gone_count) {
+            uint32_t number = gone[--gone_count];
+            done(jellqupas_front_ended(front, number));
+            free(all[number].out);
+            all[number] = (struct connection){.is_touched = all[number].is_touched};
+        }
+    }
+}
+
+/* Takes what came on a connection, as long as it takes what it is told. */
+static void read_from(uint32_t number) {
+    static uint8_t block[HANDED];
+    struct connection *it = &all[number];
+    for (int parts = READ / HANDED; parts && is_there(it) && owed(it) <= OWED; parts--) {
+        ssize_t count = recv(it->socket, block, HANDED, 0);
+        if (count < 0 && (errno == EAGAIN || errno == EINTR)) return;
+        if (count <= 0) {
+            shut(number);
+            return;
+        }
+        if (it->state == OPEN) {
+            it->given += count, held += count;
+            done(jellqupas_front_came(front, number, block, count));
+            bound();
+        }
+        if (count < HANDED) return;
+    }
+}
+
+/* Takes lines of the operator. The end of them ends nothing else. */
+static void hear(void) {
+    /* (a line has one byte more where it is too long) */
+    static uint8_t line[LINE + 1], block[4096];
+    static size_t length;
+    ssize_t count = read(STDIN_FILENO, block, sizeof block);
+    if (count < 0 && (errno == EAGAIN || errno == EINTR)) return;
+    for (ssize_t i = 0; i < count; i++) {
+        if (block[i] != '\n' && length <= LINE) line[length++] = block[i];
+        if (block[i] != '\n') continue;
+        done(jellqupas_front_line(front, line, length));
+        length = 0;
+    }
+    if (count > 0) return;
+    if (length) done(jellqupas_front_line(front, line, length));
+    is_deaf = true;
+    epoll_ctl(events, EPOLL_CTL_DEL, STDIN_FILENO, NULL);
+}
+
+/* Waits for what comes on a descriptor; whether that can be. */
+static bool is_added(int descriptor, uint32_t number) {
+    struct epoll_event event = {.events = EPOLLIN, .data.u32 = number};
+    return epoll_ctl(events, EPOLL_CTL_ADD, descriptor, &event) == 0;
+}
+
+/* Takes one who has connected, and closes the connection at once where there is no place. */
+static bool is_welcomed(void) {
+    uint8_t password[16];
+    int on = 1, socket = accept4(listener, NULL, NULL, SOCK_NONBLOCK | SOCK_CLOEXEC);
+    if (socket < 0) {
+        /* (where descriptors or memory are short, nobody is welcomed for a second) */
+        struct epoll_event none = {.data.u32 = LISTENER};
+        bool is_short = errno != EAGAIN && errno != EINTR && errno != ECONNABORTED;
+        if (is_short) epoll_ctl(events, EPOLL_CTL_MOD, listener, &none);
+        return false;
+    }
+    uint32_t number = 1;
+    while (number <= MOST && all[number].state != FREE) number++;
+    if (number > MOST || !is_drawn(password) || !is_added(socket, number)) {
+        return close(socket), true;
+    }
+    setsockopt(socket, IPPROTO_TCP, TCP_NODELAY, &on, sizeof on);
+    all[number] = (struct connection){
+        .state = OPEN, .socket = socket, .events = EPOLLIN, .until = now() + PATIENCE};
+    done(jellqupas_front_opened(front, number, password));
+    return true;
+}
+
+/* Waits at most so long, and does once what each event asks for. Returns how many there were. */
+static int pass(int milliseconds) {
+    static struct epoll_event ready[MOST + 3];
+    int count = epoll_wait(events, ready, MOST + 3, milliseconds);
+    for (int i = 0; i < count; i++) {
+        uint32_t number = ready[i].data.u32, came = ready[i].events;
+        if (number == SIGNALS) is_over = true;
+        else if (number == OPERATOR) hear();
+        else if (number == LISTENER) for (int most = 64; most && is_welcomed(); most--) continue;
+        else if (came & EPOLLOUT) send_on(number);
+        else read_from(number);
+        finish();
+    }
+    if (owed(&all[OPERATOR])) answer();
+    return count;
+}
+
+/* Closes those whose patience has ended; once a second. */
+static void look(void) {
+    struct epoll_event event = {.events = EPOLLIN, .data.u32 = LISTENER};
+    epoll_ctl(events, EPOLL_CTL_MOD, listener, &event);
+    for (uint32_t i = 1; i <= MOST; i++) {
+        if (all[i].until && now() >= all[i].until) shut(i);
+    }
+    finish();
+}
+
+/* Serves until a signal comes. After a stall the requests that wait are taken, for at most the time
+   of a tick, and then one tick is given. */
+static void serve(uint32_t tick) {
+    uint64_t ticks_at = now() + tick, looks_at = now() + 1000;
+    while (!is_over) {
+        uint64_t at = now(), next = ticks_at < looks_at ? ticks_at : looks_at;
+        int left = at < next ? (int)(next - at) : 0;
+        pass(owed(&all[OPERATOR]) && left > 100 ? 100 : left);
+        if (now() >= looks_at) look(), looks_at = now() + 1000;
+        if (now() < ticks_at) continue;
+        for (uint64_t most = now() + tick; !is_over && pass(0) > 0 && now() < most;) continue;
+        done(jellqupas_front_tick(front));
+        finish();
+        ticks_at = now() + tick;
+    }
+}
+
+static const char SAID[] =
+    "zk: jellqupas " JELLQUPAS_VERSION " for ZooKeeper's clients: %ld server%s, ticks of %ld ms\n"
+    "zk: listening on %.*s:%u\n"
+    "zk: all is in the memory of this one process: when it ends, nothing is left\n"
+    "zk: whoever can connect may do everything: nobody is asked who they are\n";
+
+int main(int count, char **given) {
+    struct words words = understood(given + (count > 0));
+    unsigned port;
+    uint8_t password[16];
+    if (!is_drawn(password)) stop(3, "no passwords can be drawn: %s", strerror(errno));
+    make_ready(MOST + 32);
+    signals = ending_signals();
+    listener = listening_at(words.listen, &port);
+    events = epoll_create1(EPOLL_CLOEXEC);
+    struct timespec at;
+    clock_gettime(CLOCK_REALTIME, &at);
+    uint64_t started = (uint64_t)at.tv_sec * 1000 + (uint64_t)at.tv_nsec / 1000000;
+    if (!(front = malloc(jellqupas_front_size()))) stop(1, "out of memory");
+    done(jellqupas_front_open((uint8_t)words.servers, (uint32_t)words.tick, started, front));
+    int host = (int)(strrchr(words.listen, ':') - words.listen);
+    const char *many = words.servers > 1 ? "s" : "";
+    fprintf(stderr, SAID, words.servers, many, words.tick, host, words.listen, port);
+    if (!is_added(signals, SIGNALS) || !is_added(listener, LISTENER)) {
+        stop(3, "nothing can be waited for: %s", strerror(errno));
+    }
+    all[OPERATOR].state = OPEN, all[OPERATOR].events = EPOLLIN;
+    /* (what can't be waited for is a file: its lines are taken before anybody is served) */
+    if (!is_added(STDIN_FILENO, OPERATOR)) while (!is_deaf) hear();
+    finish();
+    serve((uint32_t)words.tick);
+    for (uint32_t i = 1; i <= MOST; i++) shut(i);
+    for (uint32_t i = 0; i <= MOST; i++) free(all[i].out);
+    jellqupas_front_close(front);
+    free(front);
+    return 0;
+}

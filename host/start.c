@@ -1,0 +1,128 @@
+/* What comes before a server serves: its words, its place, its signals. */
+#define _GNU_SOURCE
+#include <arpa/inet.h>
+#include <errno.h>
+#include <fcntl.h>
+#include <signal.h>
+#include <stdarg.h>
+#include <stdio.h>
+#include <stdlib.h>
+#include <string.h>
+#include <sys/resource.h>
+#include <sys/signalfd.h>
+#include <sys/socket.h>
+#include <unistd.h>
+#include "jellqupas.h"
+#include "start.h"
+
+_Noreturn void stop(int status, const char *format, ...) {
+    va_list words;
+    va_start(words, format);
+    fputs("zk: ", stderr);
+    vfprintf(stderr, format, words);
+    fputc('\n', stderr);
+    exit(status);
+}
+
+/* A number from `least` to `most`, or -1. */
+static long number_in(const char *text, long least, long most) {
+    char *end;
+    text += *text == '+';
+    long found = strtol(text, &end, 10);
+    return *text >= '0' && *text <= '9' && !*end && least <= found && found <= most ? found : -1;
+}
+
+union address {
+    struct sockaddr any;
+    struct sockaddr_in four;
+    struct sockaddr_in6 six;
+};
+
+/* Reads ADDRESS:PORT. Returns its size, or 0 where it is none. */
+static socklen_t read_address(const char *text, union address *to) {
+    char host[INET6_ADDRSTRLEN + 2];
+    const char *colon = strrchr(text, ':');
+    size_t length = colon ? (size_t)(colon - text) : 0;
+    long port = colon ? number_in(colon + 1, 0, 65535) : -1;
+    if (!length || length >= sizeof host || port < 0) return 0;
+    memcpy(host, text, length);
+    host[length] = 0;
+    memset(to, 0, sizeof *to);
+    if (inet_pton(AF_INET, host, &to->four.sin_addr) == 1) {
+        to->four.sin_family = AF_INET, to->four.sin_port = htons((uint16_t)port);
+        return sizeof to->four;
+    }
+    if (host[0] != '[' || host[length - 1] != ']') return 0;
+    host[length - 1] = 0;
+    to->six.sin6_family = AF_INET6, to->six.sin6_port = htons((uint16_t)port);
+    return inet_pton(AF_INET6, host + 1, &to->six.sin6_addr) == 1 ? sizeof to->six : 0;
+}
+
+int listening_at(const char *text, unsigned *port) {
+    int on = 1;
+    union address at;
+    socklen_t size = read_address(text, &at);
+    if (!size) stop(2, "--listen wants ADDRESS:PORT, as 127.0.0.1:2181, not '%s'", text);
+    int found = socket(at.any.sa_family, SOCK_STREAM | SOCK_NONBLOCK | SOCK_CLOEXEC, 0);
+    if (found >= 0) setsockopt(found, SOL_SOCKET, SO_REUSEADDR, &on, sizeof on);
+    if (found < 0 || bind(found, &at.any, size) || listen(found, SOMAXCONN) ||
+        getsockname(found, &at.any, &size)) {
+        stop(3, "nothing can listen on %s: %s", text, strerror(errno));
+    }
+    *port = ntohs(at.any.sa_family == AF_INET ? at.four.sin_port : at.six.sin6_port);
+    return found;
+}
+
+void make_ready(unsigned descriptors) {
+    /* (a socket isn't to be standard input or output) */
+    int at;
+    while ((at = open("/dev/null", O_RDWR | O_CLOEXEC)) >= 0 && at <= STDERR_FILENO) continue;
+    if (at > STDERR_FILENO) close(at);
+    struct rlimit files;
+    if (getrlimit(RLIMIT_NOFILE, &files) == 0 && files.rlim_cur < descriptors) {
+        files.rlim_cur = files.rlim_max < descriptors ? files.rlim_max : descriptors;
+        setrlimit(RLIMIT_NOFILE, &files);
+    }
+    signal(SIGPIPE, SIG_IGN);
+    /* (in the background a terminal can't be read: that is an error, and not a stop) */
+    signal(SIGTTIN, SIG_IGN);
+}
+
+int ending_signals(void) {
+    sigset_t ending;
+    sigemptyset(&ending);
+    sigaddset(&ending, SIGINT);
+    sigaddset(&ending, SIGTERM);
+    sigprocmask(SIG_BLOCK, &ending, NULL);
+    return signalfd(-1, &ending, SFD_CLOEXEC | SFD_NONBLOCK);
+}
+
+static const char USAGE[] =
+    "Serves ZooKeeper's clients, until SIGINT or SIGTERM comes.\n\n"
+    "  --listen ADDRESS:PORT    where it listens (127.0.0.1:2181); port 0 is any that is free\n"
+    "  --servers N              how many servers the chain begins with, 1 to 16 (3)\n"
+    "  --tick MS                the milliseconds of a tick, 10 to 3600000 (2000)\n"
+    "  --version, --help\n\n"
+    "Lines on standard input let servers join, fail and leave: join s4, fail s1, retire s2.\n";
+
+struct words understood(char **words) {
+    struct words found = {.listen = "127.0.0.1:2181", .servers = 3, .tick = 2000};
+    for (; *words; words++) {
+        const char *word = *words, *value = strchr(word, '=');
+        size_t length = value ? (size_t)(value - word) : strlen(word);
+        if (!strcmp(word, "--help")) exit(fputs(USAGE, stdout) < 0);
+        if (!strcmp(word, "--version")) exit(puts("jellqupas " JELLQUPAS_VERSION) < 0);
+        if (!strcmp(word, "--") && !words[1]) break;
+        const char *const names[] = {"--listen", "--servers", "--tick"};
+        size_t which = 0;
+        while (which < 3 && (strlen(names[which]) != length || memcmp(word, names[which], length)))
+            which++;
+        if (which == 3) stop(2, "there is no word '%s'", word);
+        value = value ? value + 1 : words[1] ? *++words : "";
+        if (which == 0) found.listen = value;
+        if (which == 1) found.servers = number_in(value, 1, 16);
+        if (which == 2) found.tick = number_in(value, 10, 3600000);
+        if (found.servers < 0 || found.tick < 0) stop(2, "%s isn't '%s'", names[which], value);
+    }
+    return found;
+}
