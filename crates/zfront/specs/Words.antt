@@ -8,13 +8,14 @@ use Rattle.std.specs.Fmt.{decimal}
 use Rattle.ztables.specs.Tables.{sent, closed}
 use Rattle.zfront.specs.Front.{FrontView, with_tables}
 use Rattle.zfront.specs.declared.word.Word.{Word}
-use Rattle.zfront.specs.declared.word.Word.TheVariants.{Ruok, Isro, Srvr, Mntr}
+use Rattle.zfront.specs.declared.word.Word.TheVariants.{Ruok, Isro, Envi, Srvr, Mntr}
 
 -- the word that stands in front of what came
 abbrev pub word_in : List ℕ → Option Word
 word_in came =
     if bytes_eq (take 4 came) (codes "ruok") then Some Ruok else
     if bytes_eq (take 4 came) (codes "isro") then Some Isro else
+    if bytes_eq (take 4 came) (codes "envi") then Some Envi else
     if bytes_eq (take 4 came) (codes "srvr") then Some Srvr else
     if bytes_eq (take 4 came) (codes "mntr") then Some Mntr else
     None
@@ -43,6 +44,7 @@ mntr_text v =
 abbrev pub text_of_word : Word → FrontView → List ℕ
 text_of_word Ruok v = codes "imok"
 text_of_word Isro v = codes "rw"
+text_of_word Envi v = codes "Environment:\nzookeeper.version=3.8.0-jellqupas\n"
 text_of_word Srvr v = srvr_text v
 text_of_word Mntr v = mntr_text v
 

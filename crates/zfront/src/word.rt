@@ -7,6 +7,8 @@ pub(crate) enum Word {
     Ruok,
     /// `isro`: whether the server only reads.
     Isro,
+    /// `envi`: the version of ZooKeeper that it stands for.
+    Envi,
     /// `srvr`: the server in lines.
     Srvr,
     /// `mntr`: the same for monitoring.

@@ -54,6 +54,7 @@ impl Inner {
         match word {
             Word::Ruok => out.push_str("imok")?,
             Word::Isro => out.push_str("rw")?,
+            Word::Envi => out.push_str("Environment:\nzookeeper.version=3.8.0-jellqupas\n")?,
             Word::Srvr => self.write_srvr(out)?,
             Word::Mntr => self.write_mntr(out)?,
         }
@@ -102,6 +103,7 @@ fn word_in(came: &[u8]) -> Option<Word>
     match came {
         [b'r', b'u', b'o', b'k', ..] => Some(Word::Ruok),
         [b'i', b's', b'r', b'o', ..] => Some(Word::Isro),
+        [b'e', b'n', b'v', b'i', ..] => Some(Word::Envi),
         [b's', b'r', b'v', b'r', ..] => Some(Word::Srvr),
         [b'm', b'n', b't', b'r', ..] => Some(Word::Mntr),
         _ => None,
