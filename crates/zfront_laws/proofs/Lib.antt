@@ -1,0 +1,6 @@
+mod GoingOn
+mod Calling
+mod Serving
+mod Coming
+mod Inputs
+mod Sessions

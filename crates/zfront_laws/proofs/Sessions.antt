@@ -1,0 +1,46 @@
+-- The calls of a frame act for the session of its connection.
+use Rattle.std.proofs.Common.{◌≡◌, ℕ, List, Result, Ok, Err, inl, inr, ap, subst, refl}
+use Rattle.std.specs.Prelude.{◌⊎◌}
+use Rattle.std.specs.List.{AllByRecursion}
+use Rattle.zforms.specs.Readers.{whole}
+use Rattle.zforms.specs.declared.fault.Fault.{Fault}
+use Rattle.zcalls.specs.declared.call.Call.{Call}
+use Rattle.zjute.specs.Asking.{request}
+use Rattle.zjute.specs.declared.request.Request.{Request}
+use Rattle.zasking.specs.Asking.{Meaning}
+use Rattle.zasking.specs.Laws.{CallIsFor}
+use Rattle.zasking.specs.Requests.{calls_in}
+use Rattle.zasking.specs.declared.fault.Unasked.TheVariants.{Refused, Memory}
+use Rattle.zasking.proofs.SessionCalls.{calls_are_for_their_session}
+use Rattle.ztables.specs.Tables.{closed}
+use Rattle.zfront.specs.Front.{FrontView, with_tables}
+use Rattle.zfront.specs.Requests.{touched_by, Makes, Acts, Requests}
+use Rattle.zfront_laws.specs.Laws.{NoRequestMakesNoCall, RequestsAreForTheirSession}
+
+pub no_request_makes_no_call : NoRequestMakesNoCall
+no_request_makes_no_call bytes session c fault old new no_request has =
+    let is : new ≡ with_tables (closed c old.tables) old = subst (λ read. Requests read session c old new) no_request has in
+    (is, ap (λ (v : FrontView). v.asker) is)
+
+-- what a frame does that was read so
+abbrev Outcome : Result Request Fault → ℕ → ℕ → FrontView → FrontView → Type 0
+Outcome read session c old new =
+    (new.asker ≡ old.asker)
+    ⊎ ((asked : Request) × (calls : List Call) × (read ≡ Ok asked) × AllByRecursion (CallIsFor session) calls
+    × Makes calls c asked (touched_by session old) new)
+
+acted : (meaning : Meaning (List Call)) (session c : ℕ) (asked : Request) (old new : FrontView)
+    → ((calls : List Call) → meaning ≡ Ok calls → AllByRecursion (CallIsFor session) calls) → Acts meaning c asked (touched_by session old) new
+    → Outcome (Ok asked) session c old new
+acted (Err (Refused code)) session c asked old new for_it is = inl (ap (λ (v : FrontView). v.asker) is)
+acted (Err Memory) session c asked old new for_it is = absurd is
+acted (Ok calls) session c asked old new for_it has = inr (asked, calls, refl, for_it calls refl, has)
+
+by_reading : (read : Result Request Fault) (session c : ℕ) (old new : FrontView) → Requests read session c old new → Outcome read session c old new
+by_reading (Err fault) session c old new is = inl (ap (λ (v : FrontView). v.asker) is)
+by_reading (Ok asked) session c old new has =
+    acted (calls_in old.clock.tick session asked.asked) session c asked old new
+    (calls_are_for_their_session old.clock.tick session asked.asked) has
+
+pub requests_are_for_their_session : RequestsAreForTheirSession
+requests_are_for_their_session bytes session c old new has = by_reading (whole request bytes) session c old new has

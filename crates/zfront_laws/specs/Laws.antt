@@ -1,0 +1,45 @@
+-- What holds of every server for ZooKeeper's clients. The functions of `src/laws.rt` promise it.
+use Rattle.std.specs.Prelude.{◌≡◌, ◌⊎◌, ℕ, List, Option, Ok, Err}
+use Rattle.std.specs.List.{AllByRecursion}
+use Rattle.zforms.specs.Readers.{whole}
+use Rattle.zforms.specs.declared.fault.Fault.{Fault}
+use Rattle.zcalls.specs.declared.call.Call.{Call}
+use Rattle.zjute.specs.Asking.{request}
+use Rattle.zjute.specs.declared.request.Request.{Request}
+use Rattle.zasking.specs.Laws.{CallIsFor}
+use Rattle.zanswering.specs.declared.clock.Clock.{Clock}
+use Rattle.zturns.specs.Turns.{Log, IsOneTrees}
+use Rattle.zalone.specs.Told.{HasTold}
+use Rattle.ztables.specs.Tables.{closed}
+use Rattle.zfront.specs.Front.{FrontView, with_tables}
+use Rattle.zfront.specs.Inputs.{Begins}
+use Rattle.zfront.specs.Requests.{Serves, Makes, touched_by}
+use Rattle.zfront_laws.specs.Runs.{Input, Does, Runs, GoesOn}
+
+-- at each input the log goes on
+abbrev pub EveryInputGoesOn : Type 0
+EveryInputGoesOn = (input : Input) (old new : FrontView) → Does input old new → GoesOn old new
+
+-- and at inputs, one after the other
+abbrev pub EveryRunGoesOn : Type 0
+EveryRunGoesOn = (inputs : List Input) (old new : FrontView) → Runs inputs old new → GoesOn old new
+
+-- so all calls of all connections stand in one log, and its replies are those of one plain tree
+abbrev pub EveryFrontIsOneTree : Type 0
+EveryFrontIsOneTree =
+    (last : ℕ) (times : Clock) (inputs : List Input) (first v : FrontView) → Begins last times first → Runs inputs first v
+    → (log : Log) × (waiting : Option Call) × HasTold v.asker log waiting × IsOneTrees log
+
+-- bytes that spell no request close their connection, and no call is made
+abbrev pub NoRequestMakesNoCall : Type 0
+NoRequestMakesNoCall =
+    (bytes : List ℕ) (session c : ℕ) (fault : Fault) (old new : FrontView) → whole request bytes ≡ Err fault → Serves bytes session c old new
+    → (new ≡ with_tables (closed c old.tables) old) × (new.asker ≡ old.asker)
+
+-- a frame makes calls that act for the session of its connection alone, or it makes none
+abbrev pub RequestsAreForTheirSession : Type 0
+RequestsAreForTheirSession =
+    (bytes : List ℕ) (session c : ℕ) (old new : FrontView) → Serves bytes session c old new
+    → (new.asker ≡ old.asker)
+    ⊎ ((asked : Request) × (calls : List Call) × (whole request bytes ≡ Ok asked) × AllByRecursion (CallIsFor session) calls
+    × Makes calls c asked (touched_by session old) new)

@@ -1,0 +1,53 @@
+-- The inputs of a server for ZooKeeper's clients, one after the other, and how the log of its calls
+-- goes on at them. The calls of all connections are made by one client, so they stand in one log.
+use Rattle.std.specs.Prelude.{◌≡◌, ℕ, ◌<◌, ◌^◌, List, [], ◌∷◌, ◌++◌, Option}
+use Rattle.zcalls.specs.declared.call.Call.{Call}
+use Rattle.zpieces.specs.Streams.{bytes_of, held_of}
+use Rattle.zturns.specs.Turns.{Log}
+use Rattle.zalone.specs.Alone.{AloneView}
+use Rattle.zalone.specs.Told.{HasTold}
+use Rattle.zfront.specs.Front.{FrontView}
+use Rattle.zfront.specs.Inputs.{Opens, Ends, without_first}
+use Rattle.zfront.specs.Reading.{Reads, Comes, emptied}
+use Rattle.zfront.specs.Ticking.{Ticks}
+use Rattle.zfront.specs.Orders.{Hears}
+
+-- a connection was opened, with a password for its session; bytes came on one; one ended; a tick
+-- went by; the chain's operator gave a line; the first piece was sent
+pub data Input : Type 0 where
+  Opened : ℕ → List ℕ → Input
+  Came : ℕ → List ℕ → Input
+  Ended : ℕ → Input
+  Tick : Input
+  Line : List ℕ → Input
+  Sent : Input
+
+-- whichever frames are done of the bytes that came, all connections then keep less than 2 ^ 64
+-- bytes. No machine keeps more
+abbrev pub HasRoom : ℕ → List ℕ → FrontView → Type 0
+HasRoom c bytes v =
+    (rest : List ℕ) (middle : FrontView) → Reads (bytes_of v.tables.streams c ++ bytes) c (emptied c v) rest middle
+    → held_of middle.tables.streams < 2 ^ 64
+
+-- one input
+abbrev pub Does : Input → FrontView → FrontView → Type 0
+Does (Opened c password) old new = Opens c password old new
+Does (Came c bytes) old new = HasRoom c bytes old × Comes bytes c old new
+Does (Ended c) old new = Ends c old new
+Does Tick old new = Ticks old new
+Does (Line text) old new = Hears text old new
+Does Sent old new = new ≡ without_first old
+
+-- inputs, one after the other
+abbrev pub Runs : List Input → FrontView → FrontView → Type 0
+Runs [] old new = new ≡ old
+Runs (input ∷ inputs) old new = (middle : FrontView) × Does input old middle × Runs inputs middle new
+
+-- a log of the one client goes on: what stood in it stays, and more may come behind it
+abbrev pub LogGoesOn : AloneView → AloneView → Type 0
+LogGoesOn old new =
+    (log : Log) (waiting : Option Call) → HasTold old log waiting → (more : Log) × (later : Option Call) × HasTold new (log ++ more) later
+
+-- and so a log of a server
+abbrev pub GoesOn : FrontView → FrontView → Type 0
+GoesOn old new = LogGoesOn old.asker new.asker

@@ -1,0 +1,31 @@
+//! The laws. No body does anything.
+
+ghost use Rattle.zfront_laws.specs.Laws.{EveryFrontIsOneTree, EveryInputGoesOn, EveryRunGoesOn};
+ghost use Rattle.zfront_laws.specs.Laws.{NoRequestMakesNoCall, RequestsAreForTheirSession};
+
+/// At each input the log of the server's calls goes on: what stood in it stays, and more may come
+/// behind it. The inputs are connections, their bytes and ends, ticks, and the operator's lines.
+pub fn every_input_goes_on()
+    ensures { EveryInputGoesOn }
+{}
+
+/// So it goes on at any number of inputs, whatever they are.
+pub fn every_run_goes_on()
+    ensures { EveryRunGoesOn }
+{}
+
+/// Whatever the inputs of a new server were, all its calls stand in one log. The replies are those
+/// of one plain tree that does these calls in their order. No connection sees another tree.
+pub fn every_front_is_one_tree()
+    ensures { EveryFrontIsOneTree }
+{}
+
+/// Bytes that spell no request close their connection, and no call is made.
+pub fn no_request_makes_no_call()
+    ensures { NoRequestMakesNoCall }
+{}
+
+/// A frame makes calls for the session of its own connection alone, or it makes none.
+pub fn requests_are_for_their_session()
+    ensures { RequestsAreForTheirSession }
+{}

@@ -1,0 +1,7 @@
+//! What holds of every server for ZooKeeper's clients (`zfront`), whatever its inputs are.
+//!
+//! Every call that it makes stands in one log, and the replies of that log are those of one plain
+//! tree (`specs/Laws.antt`). Each law is the contract of a function whose body does nothing.
+#![tactic(auto)]
+
+pub mod laws;
