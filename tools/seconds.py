@@ -9,7 +9,9 @@ ONE_JOB = {
     "zworld_model": 34, "zlinks": 105, "zworld": 349, "zorder": 26, "zlines": 225, "zdevices": 31,
     "zscript": 241, "zoptions": 40, "zcommand": 96, "ztraces": 41, "zaudit": 180, "zwords": 44,
     "zrings": 37, "zmesh": 60, "zconsole": 41, "zdesks": 143, "zthreads": 173, "zcaller": 160,
-    "zgather": 137, "zrun": 700, "zrace": 250, "zracing": 100,
+    "zgather": 137, "zrun": 700, "zrace": 250, "zracing": 100, "zforms": 45, "zjute": 240,
+    "zasking": 140, "zevents": 45, "zanswering": 150, "zwatches": 100, "zknown": 70, "zturns": 60,
+    "zalone": 220, "zsittings": 60, "zpieces": 70, "ztables": 130, "zserving": 150, "zfront": 230,
 }
 # Of them, the seconds in which more jobs don't help: reading, loading, writing.
 ONE_THREAD = {
