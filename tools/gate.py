@@ -89,10 +89,10 @@ def prove(room, outcome):
     return status == 0
 
 
-def chosen(found, half, number):
+def chosen(found, third, number):
     """The edits to try now, and those that are tried alone beside: a twentieth, by the commit."""
-    if half is not None:
-        found = [it for it in found if sum_of(it.label) % 2 == half]
+    if third is not None:
+        found = [it for it in found if sum_of(it.label) % 3 == third]
     return found, [it.label for it in found if sum_of(f"{number} {it.label}") % 20 == 0]
 
 
@@ -106,14 +106,14 @@ def listed(root):
         return {it.strip() for it in file if it.strip() and not it.startswith("#")}
 
 
-def try_edits(crates, known, outcome, half=None, number=0, over_kept=False):
+def try_edits(crates, known, outcome, third=None, number=0, over_kept=False):
     """Tries the crates' edits, and returns the trials. `known` are those that say little."""
     began, busy = time.monotonic(), os.times()
     lanes, trials = Lanes(), []
     for crate in crates:
         found, bad = edits.edits_of(crate)
         outcome.wrong += [f"{it}: no edit stands there, or under such a name" for it in bad]
-        found, alone = chosen(found, half, number)
+        found, alone = chosen(found, third, number)
         if found:
             start = f"{crate.folder}/out/incremental" if over_kept else None
             trials.append(rounds.Trial(crate, found, lanes, start, alone, known))
@@ -201,7 +201,7 @@ def end(outcome, began):
     return 1 if outcome.wrong else 0
 
 
-def gate(root, half=None):
+def gate(root, third=None):
     """The whole gate. Returns the exit status."""
     began, outcome, now = time.monotonic(), Outcome(), time.time_ns()
     toolchain().rtlib.guarded()
@@ -213,8 +213,8 @@ def gate(root, half=None):
             copy_edits(root, room)
             crates = crates_of(room)
             little = listed(root)
-            trials = try_edits(crates, little, outcome, half, number_of(root))
-            judge(little, trials, outcome, half is None, True)
+            trials = try_edits(crates, little, outcome, third, number_of(root))
+            judge(little, trials, outcome, third is None, True)
             give(root, room, now)
             build_archive(root, crates, outcome)
         os.chdir(root)
