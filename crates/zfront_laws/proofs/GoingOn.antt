@@ -1,5 +1,5 @@
 -- A log that goes on: at nothing, at one step behind another, and at what the one client does.
-use Rattle.std.proofs.Common.{◌≡◌, ◌∙◌, List, [], ◌∷◌, ◌++◌, length, drop, Option, None, Some, inl, inr, sym, ap, subst, append_assoc}
+use Rattle.std.proofs.Common.{◌≡◌, List, [], ◌∷◌, ◌++◌, length, drop, Option, None, Some, inl, inr, sym, subst, append_assoc}
 use Rattle.std.proofs.lemmas.List.{append-nil}
 use Rattle.std.specs.Prelude.{zip}
 use Rattle.zcalls.specs.declared.call.Call.{Call}
@@ -7,8 +7,7 @@ use Rattle.zcalls.specs.declared.reply.Reply.{Reply}
 use Rattle.zturns.specs.Turns.{Log}
 use Rattle.zalone.specs.Alone.{AloneView}
 use Rattle.zalone.specs.Told.{HasTold, GoesOnAskedAll, GoesOnSettled, StopsBefore, TellsAskedAll, TellsSettled, TellsOrdered}
-use Rattle.zfront.specs.Front.{FrontView}
-use Rattle.zfront_laws.specs.Runs.{LogGoesOn, GoesOn}
+use Rattle.zfront_laws.specs.Runs.{LogGoesOn}
 
 -- what a log goes on with, if it does
 abbrev pub HasMore : AloneView → Log → Type 0
@@ -55,11 +54,3 @@ settles old new told tells log waiting has = settled new log waiting told (tells
 -- an order is given
 pub ordered : (old new : AloneView) → TellsOrdered old new → LogGoesOn old new
 ordered old new tells log waiting has = stays new log waiting (tells log waiting has)
-
--- a server whose client is the same
-pub same_front : (old new like : FrontView) → new ≡ like → like.asker ≡ old.asker → GoesOn old new
-same_front old new like is kept = same old.asker new.asker (ap (λ (v : FrontView). v.asker) is ∙ kept)
-
--- or is what another one became
-pub as_asker : (old new : FrontView) (asker : AloneView) → new.asker ≡ asker → LogGoesOn old.asker asker → GoesOn old new
-as_asker old new asker is goes = subst (LogGoesOn old.asker) (sym is) goes

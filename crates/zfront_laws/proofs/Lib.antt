@@ -1,4 +1,8 @@
+mod Held
+mod Lighter
+mod Wishes
 mod GoingOn
+mod Steps
 mod Calling
 mod Serving
 mod Coming

@@ -1,4 +1,4 @@
--- The log goes on at greetings and at requests.
+-- A step at greetings and at requests.
 use Rattle.std.proofs.Common.{ℕ, Bool, true, false, List, [], ◌∷◌, Result, Ok, Err, refl}
 use Rattle.std.specs.Prelude.{is_some, pos}
 use Rattle.std.specs.Ordering.{int_eq}
@@ -14,6 +14,7 @@ use Rattle.zasking.specs.Asking.{Meaning}
 use Rattle.zasking.specs.Requests.{calls_in}
 use Rattle.zasking.specs.declared.fault.Unasked.TheVariants.{Refused, Memory}
 use Rattle.zanswering.specs.Answers.{failed}
+use Rattle.zpieces.specs.Streams.{held_of}
 use Rattle.ztables.specs.Tables.{closed}
 use Rattle.zserving.specs.Answering.{answered}
 use Rattle.zserving.specs.Greeting.{is_ahead, returned}
@@ -21,53 +22,64 @@ use Rattle.zserving.specs.Replying.{replied}
 use Rattle.zfront.specs.Front.{FrontView, with_tables}
 use Rattle.zfront.specs.Greeting.{opening, opened, Opens, GreetsIf, GreetsUnless, GreetsBy, Greets}
 use Rattle.zfront.specs.Requests.{touched_by, EndsIf, Makes, Acts, Requests, Serves}
-use Rattle.zfront_laws.specs.Runs.{GoesOn}
-use Rattle.zfront_laws.proofs.GoingOn.{both, same_front}
+use Rattle.zfront_laws.proofs.Lighter.{closes, replies_to, unmoved}
+use Rattle.zfront_laws.proofs.Lighter as tables
+use Rattle.zfront_laws.proofs.Wishes.{answers}
+use Rattle.zfront_laws.proofs.Steps.{Step, both, retabled}
 use Rattle.zfront_laws.proofs.Calling.{asks, tidies}
 
 ends_if : (late : Bool) (c : ℕ) (asked : Request) (calls : List Call) (replies : List Reply) (old new : FrontView)
-    → EndsIf late c asked calls replies old new → GoesOn old new
-ends_if true c asked calls replies old new is = same_front old new (with_tables (closed c old.tables) old) is refl
+    → EndsIf late c asked calls replies old new → Step old new
+ends_if true c asked calls replies old new is = retabled (closed c old.tables) old new is (closes c old.tables)
 ends_if false c asked calls replies old new has =
-    tidies replies (with_tables (answered old.clock old.asker.known c asked calls replies old.tables) old) new has
+    let t = answered old.clock old.asker.known c asked calls replies old.tables in
+    both old (with_tables t old) new
+    (retabled t old (with_tables t old) refl (answers old.clock old.asker.known c asked calls replies old.tables))
+    (tidies replies (with_tables t old) new has)
 
-makes : (calls : List Call) (c : ℕ) (asked : Request) (old new : FrontView) → Makes calls c asked old new → GoesOn old new
+makes : (calls : List Call) (c : ℕ) (asked : Request) (old new : FrontView) → Makes calls c asked old new → Step old new
 makes calls c asked old new has =
-    both old.asker has.0.asker new.asker (asks old calls has.0 has.1 has.2) (ends_if (is_some has.0.late) c asked calls has.1 has.0 new has.3)
+    both old has.0 new (asks old calls has.0 has.1 has.2) (ends_if (is_some has.0.late) c asked calls has.1 has.0 new has.3)
 
-acts : (meaning : Meaning (List Call)) (c : ℕ) (asked : Request) (old new : FrontView) → Acts meaning c asked old new → GoesOn old new
+acts : (meaning : Meaning (List Call)) (c : ℕ) (asked : Request) (old new : FrontView) → Acts meaning c asked old new → Step old new
 acts (Err (Refused code)) c asked old new is =
-    same_front old new (with_tables (replied old.asker.known c asked.xid (failed code) old.tables) old) is refl
+    retabled (replied old.asker.known c asked.xid (failed code) old.tables) old new is
+    (replies_to old.asker.known c asked.xid (failed code) old.tables)
 acts (Err Memory) c asked old new is = absurd is
 acts (Ok calls) c asked old new has = makes calls c asked old new has
 
-requests : (read : Result Request Fault) (session c : ℕ) (old new : FrontView) → Requests read session c old new → GoesOn old new
-requests (Err fault) session c old new is = same_front old new (with_tables (closed c old.tables) old) is refl
-requests (Ok asked) session c old new has = acts (calls_in old.clock.tick session asked.asked) c asked (touched_by session old) new has
+requests : (read : Result Request Fault) (session c : ℕ) (old new : FrontView) → Requests read session c old new → Step old new
+requests (Err fault) session c old new is = retabled (closed c old.tables) old new is (closes c old.tables)
+requests (Ok asked) session c old new has =
+    both old (touched_by session old) new
+    (retabled (touched_by session old).tables old (touched_by session old) refl (unmoved (held_of old.tables.streams)))
+    (acts (calls_in old.clock.tick session asked.asked) c asked (touched_by session old) new has)
 
-pub serves : (bytes : List ℕ) (session c : ℕ) (old new : FrontView) → Serves bytes session c old new → GoesOn old new
+pub serves : (bytes : List ℕ) (session c : ℕ) (old new : FrontView) → Serves bytes session c old new → Step old new
 serves bytes session c old new has = requests (whole request bytes) session c old new has
 
-opens : (greeting : ConnectRequest) (password : List ℕ) (c : ℕ) (old new : FrontView) → Opens greeting password c old new → GoesOn old new
+opens : (greeting : ConnectRequest) (password : List ℕ) (c : ℕ) (old new : FrontView) → Opens greeting password c old new → Step old new
 opens greeting password c old new has =
-    both old.asker has.0.asker new.asker (asks old (opening old.clock.tick greeting ∷ []) has.0 has.1 has.2)
-    (same_front has.0 new (with_tables (opened has.0.clock.tick greeting password c has.1 has.0.tables) has.0) has.3 refl)
+    both old has.0 new (asks old (opening old.clock.tick greeting ∷ []) has.0 has.1 has.2)
+    (retabled (opened has.0.clock.tick greeting password c has.1 has.0.tables) has.0 new has.3
+    (tables.opens has.0.clock.tick greeting password c has.1 has.0.tables))
 
 greets_if : (is_new : Bool) (greeting : ConnectRequest) (password : List ℕ) (c : ℕ) (old new : FrontView)
-    → GreetsIf is_new greeting password c old new → GoesOn old new
+    → GreetsIf is_new greeting password c old new → Step old new
 greets_if true greeting password c old new has = opens greeting password c old new has
 greets_if false greeting password c old new is =
-    same_front old new (with_tables (returned old.clock.tick old.asker.known greeting greeting.session_id c old.tables) old) is refl
+    retabled (returned old.clock.tick old.asker.known greeting greeting.session_id c old.tables) old new is
+    (tables.returns old.clock.tick old.asker.known greeting greeting.session_id c old.tables)
 
 greets_unless : (ahead : Bool) (greeting : ConnectRequest) (password : List ℕ) (c : ℕ) (old new : FrontView)
-    → GreetsUnless ahead greeting password c old new → GoesOn old new
-greets_unless true greeting password c old new is = same_front old new (with_tables (closed c old.tables) old) is refl
+    → GreetsUnless ahead greeting password c old new → Step old new
+greets_unless true greeting password c old new is = retabled (closed c old.tables) old new is (closes c old.tables)
 greets_unless false greeting password c old new has = greets_if (int_eq greeting.session_id (pos 0)) greeting password c old new has
 
 greets_by : (read : Result ConnectRequest Fault) (password : List ℕ) (c : ℕ) (old new : FrontView)
-    → GreetsBy read password c old new → GoesOn old new
-greets_by (Err fault) password c old new is = same_front old new (with_tables (closed c old.tables) old) is refl
+    → GreetsBy read password c old new → Step old new
+greets_by (Err fault) password c old new is = retabled (closed c old.tables) old new is (closes c old.tables)
 greets_by (Ok greeting) password c old new has = greets_unless (is_ahead old.asker.known greeting) greeting password c old new has
 
-pub greets : (bytes password : List ℕ) (c : ℕ) (old new : FrontView) → Greets bytes password c old new → GoesOn old new
+pub greets : (bytes password : List ℕ) (c : ℕ) (old new : FrontView) → Greets bytes password c old new → Step old new
 greets bytes password c old new has = greets_by (whole connect_request bytes) password c old new has

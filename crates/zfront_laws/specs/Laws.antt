@@ -14,15 +14,19 @@ use Rattle.ztables.specs.Tables.{closed}
 use Rattle.zfront.specs.Front.{FrontView, with_tables}
 use Rattle.zfront.specs.Inputs.{Begins}
 use Rattle.zfront.specs.Requests.{Serves, Makes, touched_by}
-use Rattle.zfront_laws.specs.Runs.{Input, Does, Runs, GoesOn}
+use Rattle.zfront_laws.specs.Runs.{Input, KeepsFew, Does, Runs, GoesOn}
 
--- at each input the log goes on
+-- at each input the log goes on, and few bytes are kept
 abbrev pub EveryInputGoesOn : Type 0
-EveryInputGoesOn = (input : Input) (old new : FrontView) → Does input old new → GoesOn old new
+EveryInputGoesOn = (input : Input) (old new : FrontView) → KeepsFew old → Does input old new → GoesOn old new × KeepsFew new
 
 -- and at inputs, one after the other
 abbrev pub EveryRunGoesOn : Type 0
-EveryRunGoesOn = (inputs : List Input) (old new : FrontView) → Runs inputs old new → GoesOn old new
+EveryRunGoesOn = (inputs : List Input) (old new : FrontView) → KeepsFew old → Runs inputs old new → GoesOn old new × KeepsFew new
+
+-- a server that began keeps few bytes
+abbrev pub EveryFrontKeepsFew : Type 0
+EveryFrontKeepsFew = (last : ℕ) (times : Clock) (inputs : List Input) (first v : FrontView) → Begins last times first → Runs inputs first v → KeepsFew v
 
 -- so all calls of all connections stand in one log, and its replies are those of one plain tree
 abbrev pub EveryFrontIsOneTree : Type 0

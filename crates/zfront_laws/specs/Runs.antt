@@ -1,14 +1,15 @@
 -- The inputs of a server for ZooKeeper's clients, one after the other, and how the log of its calls
 -- goes on at them. The calls of all connections are made by one client, so they stand in one log.
-use Rattle.std.specs.Prelude.{◌≡◌, ℕ, ◌<◌, ◌^◌, List, [], ◌∷◌, ◌++◌, Option}
+use Rattle.std.specs.Prelude.{◌≡◌, ℕ, ◌≤◌, List, [], ◌∷◌, ◌++◌, Option}
 use Rattle.zcalls.specs.declared.call.Call.{Call}
-use Rattle.zpieces.specs.Streams.{bytes_of, held_of}
+use Rattle.zpieces.specs.Streams.{held_of}
 use Rattle.zturns.specs.Turns.{Log}
 use Rattle.zalone.specs.Alone.{AloneView}
 use Rattle.zalone.specs.Told.{HasTold}
+use Rattle.zfront.specs.declared.limits.TheConstants.{MAX_KEPT}
 use Rattle.zfront.specs.Front.{FrontView}
 use Rattle.zfront.specs.Inputs.{Opens, Ends, without_first}
-use Rattle.zfront.specs.Reading.{Reads, Comes, emptied}
+use Rattle.zfront.specs.Reading.{Comes}
 use Rattle.zfront.specs.Ticking.{Ticks}
 use Rattle.zfront.specs.Orders.{Hears}
 
@@ -22,17 +23,14 @@ pub data Input : Type 0 where
   Line : List ℕ → Input
   Sent : Input
 
--- whichever frames are done of the bytes that came, all connections then keep less than 2 ^ 64
--- bytes. No machine keeps more
-abbrev pub HasRoom : ℕ → List ℕ → FrontView → Type 0
-HasRoom c bytes v =
-    (rest : List ℕ) (middle : FrontView) → Reads (bytes_of v.tables.streams c ++ bytes) c (emptied c v) rest middle
-    → held_of middle.tables.streams < 2 ^ 64
+-- of frames that aren't whole yet, all connections together keep no more bytes than this
+abbrev pub KeepsFew : FrontView → Type 0
+KeepsFew v = held_of v.tables.streams ≤ MAX_KEPT
 
 -- one input
 abbrev pub Does : Input → FrontView → FrontView → Type 0
 Does (Opened c password) old new = Opens c password old new
-Does (Came c bytes) old new = HasRoom c bytes old × Comes bytes c old new
+Does (Came c bytes) old new = Comes bytes c old new
 Does (Ended c) old new = Ends c old new
 Does Tick old new = Ticks old new
 Does (Line text) old new = Hears text old new

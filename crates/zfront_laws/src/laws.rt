@@ -1,6 +1,7 @@
 //! The laws. No body does anything.
 
-ghost use Rattle.zfront_laws.specs.Laws.{EveryFrontIsOneTree, EveryInputGoesOn, EveryRunGoesOn};
+ghost use Rattle.zfront_laws.specs.Laws.{EveryFrontIsOneTree, EveryFrontKeepsFew};
+ghost use Rattle.zfront_laws.specs.Laws.{EveryInputGoesOn, EveryRunGoesOn};
 ghost use Rattle.zfront_laws.specs.Laws.{NoRequestMakesNoCall, RequestsAreForTheirSession};
 
 /// At each input the log of the server's calls goes on: what stood in it stays, and more may come
@@ -12,6 +13,12 @@ pub fn every_input_goes_on()
 /// So it goes on at any number of inputs, whatever they are.
 pub fn every_run_goes_on()
     ensures { EveryRunGoesOn }
+{}
+
+/// Of frames that aren't whole yet, a server keeps no more than `MAX_KEPT` bytes of all connections
+/// together, whatever its inputs are.
+pub fn every_front_keeps_few()
+    ensures { EveryFrontKeepsFew }
 {}
 
 /// Whatever the inputs of a new server were, all its calls stand in one log. The replies are those
