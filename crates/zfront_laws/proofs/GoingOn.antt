@@ -42,6 +42,16 @@ asked_all new log None calls told goes = stopped new log (zip calls told) (drop 
 pub asks : (old : AloneView) (calls : List Call) (new : AloneView) (told : List Reply) → TellsAskedAll old calls new told → LogGoesOn old new
 asks old calls new told tells log waiting has = asked_all new log waiting calls told (tells log waiting has)
 
+-- the same, with the calls that were answered
+stopped_with : (new : AloneView) (log : Log) (calls : List Call) → StopsBefore (HasTold new) log calls → (later : Option Call) × HasTold new log later
+stopped_with new log [] has = (None, has)
+stopped_with new log (call ∷ calls) (inl has) = (Some call, has)
+stopped_with new log (call ∷ calls) (inr has) = (None, has.1)
+
+pub asks_with : (old : AloneView) (calls : List Call) (new : AloneView) (told : List Reply) → TellsAskedAll old calls new told → (log : Log)
+    → HasTold old log None → (later : Option Call) × HasTold new (log ++ zip calls told) later
+asks_with old calls new told tells log has = stopped_with new (log ++ zip calls told) (drop (length told) calls) (tells log None has).1
+
 -- the service settles
 settled : (new : AloneView) (log : Log) (waiting : Option Call) (told : Option Reply) → GoesOnSettled (HasTold new) log waiting told → HasMore new log
 settled new log waiting None goes = stays new log waiting goes

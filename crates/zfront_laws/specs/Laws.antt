@@ -1,17 +1,19 @@
 -- What holds of every server for ZooKeeper's clients. The functions of `src/laws.rt` promise it.
-use Rattle.std.specs.Prelude.{◌≡◌, ◌⊎◌, ℕ, List, Option, Ok, Err}
+use Rattle.std.specs.Prelude.{◌≡◌, ◌⊎◌, ℕ, List, ◌++◌, length, take, zip, Option, None, Ok, Err}
 use Rattle.std.specs.List.{AllByRecursion}
 use Rattle.zforms.specs.Readers.{whole}
 use Rattle.zforms.specs.declared.fault.Fault.{Fault}
+use Rattle.ztree.specs.Tree.{opening_tree}
 use Rattle.zcalls.specs.declared.call.Call.{Call}
+use Rattle.zcalls.specs.declared.reply.Reply.{Reply}
 use Rattle.zjute.specs.Asking.{request}
 use Rattle.zjute.specs.declared.request.Request.{Request}
 use Rattle.zasking.specs.Laws.{CallIsFor}
 use Rattle.zanswering.specs.declared.clock.Clock.{Clock}
-use Rattle.zturns.specs.Turns.{Log, IsOneTrees}
+use Rattle.zturns.specs.Turns.{Log, calls_of, served, tree_after, IsOneTrees}
 use Rattle.zalone.specs.Told.{HasTold}
 use Rattle.ztables.specs.Tables.{closed}
-use Rattle.zfront.specs.Front.{FrontView, with_tables}
+use Rattle.zfront.specs.Front.{FrontView, with_tables, Asks}
 use Rattle.zfront.specs.Inputs.{Begins}
 use Rattle.zfront.specs.Requests.{Serves, Makes, touched_by}
 use Rattle.zfront_laws.specs.Runs.{Input, KeepsFew, Does, Runs, GoesOn}
@@ -33,6 +35,14 @@ abbrev pub EveryFrontIsOneTree : Type 0
 EveryFrontIsOneTree =
     (last : ℕ) (times : Clock) (inputs : List Input) (first v : FrontView) → Begins last times first → Runs inputs first v
     → (log : Log) × (waiting : Option Call) × HasTold v.asker log waiting × IsOneTrees log
+
+-- the replies to the calls that a server makes are those of the tree that its log left, and each
+-- call with its reply comes behind that log
+abbrev pub CallsStandInTheLog : Type 0
+CallsStandInTheLog =
+    (old new : FrontView) (log : Log) (calls : List Call) (replies : List Reply) → HasTold old.asker log None → Asks old calls new replies
+    → (replies ≡ served (tree_after opening_tree (calls_of log)) (take (length replies) calls))
+    × ((later : Option Call) × HasTold new.asker (log ++ zip calls replies) later)
 
 -- bytes that spell no request close their connection, and no call is made
 abbrev pub NoRequestMakesNoCall : Type 0

@@ -1,8 +1,10 @@
-//! The laws. No body does anything.
+//! The laws. No body does anything. One calls the law of another crate from which it follows.
 
 ghost use Rattle.zfront_laws.specs.Laws.{EveryFrontIsOneTree, EveryFrontKeepsFew};
-ghost use Rattle.zfront_laws.specs.Laws.{EveryInputGoesOn, EveryRunGoesOn};
+ghost use Rattle.zfront_laws.specs.Laws.{CallsStandInTheLog, EveryInputGoesOn, EveryRunGoesOn};
 ghost use Rattle.zfront_laws.specs.Laws.{NoRequestMakesNoCall, RequestsAreForTheirSession};
+
+use zalone::laws::replies_are_the_trees;
 
 /// At each input the log of the server's calls goes on: what stood in it stays, and more may come
 /// behind it. The inputs are connections, their bytes and ends, ticks, and the operator's lines.
@@ -26,6 +28,14 @@ pub fn every_front_keeps_few()
 pub fn every_front_is_one_tree()
     ensures { EveryFrontIsOneTree }
 {}
+
+/// The replies to the calls that a server makes are those of the plain tree that its log left, and
+/// each call with its reply comes behind that log.
+pub fn calls_stand_in_the_log()
+    ensures { CallsStandInTheLog }
+{
+    replies_are_the_trees();
+}
 
 /// Bytes that spell no request close their connection, and no call is made.
 pub fn no_request_makes_no_call()
