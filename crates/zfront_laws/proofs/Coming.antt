@@ -1,5 +1,5 @@
 -- The log goes on at the bytes that come on a connection, and few of them are kept.
-use Rattle.std.proofs.Common.{◌≡◌, ◌∙◌, ℕ, ◌+◌, ◌≤◌, Bool, true, false, List, [], ◌∷◌, ◌++◌, length, Option, None, Some, refl, sym, ap, subst, arith}
+use Rattle.std.proofs.Common.{◌≡◌, ℕ, ◌+◌, ◌≤◌, Bool, true, false, List, [], ◌∷◌, ◌++◌, length, Option, None, Some, refl, sym, subst, arith}
 use Rattle.std.specs.Prelude.{is_some, nat_lt, ◌||◌, if◌then◌else◌}
 use Rattle.std.proofs.lemmas.Bool.{ltb-false}
 use Rattle.zjute.specs.Frames.{next_of}
@@ -9,29 +9,29 @@ use Rattle.zpieces.specs.Streams.{bytes_of, held_of, phase_of, with_bytes}
 use Rattle.ztables.specs.Tables.{TablesView, closed, is_open}
 use Rattle.zfront.specs.declared.limits.TheConstants.{MAX_KEPT}
 use Rattle.zfront.specs.Front.{FrontView, with_tables}
-use Rattle.zfront.specs.Reading.{HandlesIn, HandlesUnless, Handles, HandlesAll, Reads, is_too_long, kept, Keeps, word_asked, ComesBy, ComesBehind, ComesIf, Comes, emptied}
+use Rattle.zfront.specs.Reading.{HandlesIn, HandlesUnless, Handles, HandlesAll, Reads, is_too_long, kept, keeps, Keeps, word_asked, ComesBy, ComesBehind, ComesIf, Comes, emptied}
 use Rattle.zfront.specs.Words.{said, text_of_word}
 use Rattle.zfront_laws.specs.Runs.{GoesOn, KeepsFew}
 use Rattle.zfront_laws.proofs.GoingOn as log
 use Rattle.zfront_laws.proofs.Held.{held-changed}
 use Rattle.zfront_laws.proofs.Lighter.{closes, says}
-use Rattle.zfront_laws.proofs.Steps.{Step, both, same, retabled}
+use Rattle.zfront_laws.proofs.Steps.{Step, both, same, retabled, none_late}
 use Rattle.zfront_laws.proofs.Calling.{is_ready}
 use Rattle.zfront_laws.proofs.Serving.{serves, greets}
 
-handles_in : (phase : Option Phase) (bytes : List ℕ) (c : ℕ) (old new : FrontView) → HandlesIn phase bytes c old new → Step old new
-handles_in (Some (Silent password)) bytes c old new has = greets bytes password c old new has
-handles_in (Some (Speaking session)) bytes c old new has = serves bytes session c old new has
-handles_in (Some Closing) bytes c old new is = same old new is
-handles_in None bytes c old new is = same old new is
+handles_in : (phase : Option Phase) (bytes : List ℕ) (c : ℕ) (old new : FrontView) → old.late ≡ None → HandlesIn phase bytes c old new → Step old new
+handles_in (Some (Silent password)) bytes c old new free has = greets bytes password c old new free has
+handles_in (Some (Speaking session)) bytes c old new free has = serves bytes session c old new free has
+handles_in (Some Closing) bytes c old new free is = same old new is
+handles_in None bytes c old new free is = same old new is
 
-handles_unless : (late : Bool) (bytes : List ℕ) (c : ℕ) (old new : FrontView) → HandlesUnless late bytes c old new → Step old new
-handles_unless true bytes c old new is = retabled (closed c old.tables) old new is (closes c old.tables)
-handles_unless false bytes c old new has = handles_in (phase_of old.tables.streams c) bytes c old new has
+handles_unless : (late : Bool) (bytes : List ℕ) (c : ℕ) (old new : FrontView) → (late ≡ false → old.late ≡ None) → HandlesUnless late bytes c old new → Step old new
+handles_unless true bytes c old new free is = retabled (closed c old.tables) old new is (closes c old.tables)
+handles_unless false bytes c old new free has = handles_in (phase_of old.tables.streams c) bytes c old new (free refl) has
 
 handles : (bytes : List ℕ) (c : ℕ) (old new : FrontView) → Handles bytes c old new → Step old new
 handles bytes c old new has =
-    both old has.0 new (is_ready old has.0 has.1) (handles_unless (is_some has.0.late) bytes c has.0 new has.2)
+    both old has.0 new (is_ready old has.0 has.1) (handles_unless (is_some has.0.late) bytes c has.0 new (none_late has.0.late) has.2)
 
 handles_all : (frames : List (List ℕ)) (c : ℕ) (old new : FrontView) → HandlesAll frames c old new → Step old new
 handles_all [] c old new is = same old new is
@@ -42,6 +42,10 @@ handles_all (bytes ∷ frames) c old new has =
 kept_if : (on : Bool) (rest : List ℕ) (c : ℕ) (v : FrontView) → (if on then with_tables (kept rest c v.tables) v else v).asker ≡ v.asker
 kept_if true rest c v = refl
 kept_if false rest c v = refl
+
+late_if : (on : Bool) (rest : List ℕ) (c : ℕ) (v : FrontView) → (if on then with_tables (kept rest c v.tables) v else v).late ≡ v.late
+late_if true rest c v = refl
+late_if false rest c v = refl
 
 with_rest : (rest : List ℕ) (c : ℕ) (t : TablesView) → nat_lt MAX_KEPT (held_of t.streams + length rest) ≡ false
     → held_of (with_bytes t.streams c rest) ≤ MAX_KEPT
@@ -77,8 +81,9 @@ reads came rest c old middle new has few after =
     let done = with_few old middle few (handles_all has.frames c old middle has.handles) in
     let little : held_of middle.tables.streams ≤ MAX_KEPT = done.1 in
     let is = after (omega (arith, little)) in (
-      log.both old.asker middle.asker new.asker done.0
-          (log.same middle.asker new.asker (ap (λ (v : FrontView). v.asker) is ∙ kept_if (is_open middle.tables c) rest c middle)),
+      log.both old middle new done.0
+          (subst (GoesOn middle) (sym is)
+          (log.same middle (keeps rest c middle) (kept_if (is_open middle.tables c) rest c middle) (late_if (is_open middle.tables c) rest c middle))),
       subst KeepsFew (sym is) (keeps_few (is_open middle.tables c) rest c middle done.1),
     )
 
@@ -94,7 +99,8 @@ emptied_few c v few = omega (arith, held-changed v.tables.streams c (λ s. recor
 comes_if : (on : Bool) (bytes : List ℕ) (c : ℕ) (old new : FrontView) → KeepsFew old → ComesIf on bytes c old new → GoesOnWithFew old new
 comes_if false bytes c old new few is = with_few old new few (same old new is)
 comes_if true bytes c old new few has =
-    comes_behind (bytes_of old.tables.streams c ++ bytes) c (emptied c old) new (emptied_few c old few) has
+    let done = comes_behind (bytes_of old.tables.streams c ++ bytes) c (emptied c old) new (emptied_few c old few) has in
+    (log.both old (emptied c old) new (log.same old (emptied c old) refl refl) done.0, done.1)
 
 pub comes : (bytes : List ℕ) (c : ℕ) (old new : FrontView) → KeepsFew old → Comes bytes c old new → GoesOnWithFew old new
 comes bytes c old new few has = comes_if (is_open old.tables c) bytes c old new few has

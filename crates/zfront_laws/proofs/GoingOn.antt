@@ -1,46 +1,68 @@
 -- A log that goes on: at nothing, at one step behind another, and at what the one client does.
-use Rattle.std.proofs.Common.{◌≡◌, List, [], ◌∷◌, ◌++◌, length, drop, Option, None, Some, inl, inr, sym, subst, append_assoc}
+use Rattle.std.proofs.Common.{◌≡◌, ◌∙◌, ℕ, zero, suc, List, [], ◌∷◌, ◌++◌, length, drop, Option, None, Some, inl, inr, refl, sym, ap, subst, append_assoc}
 use Rattle.std.proofs.lemmas.List.{append-nil}
+use Rattle.std.specs.List.{slice_get}
 use Rattle.std.specs.Prelude.{zip}
 use Rattle.zcalls.specs.declared.call.Call.{Call}
 use Rattle.zcalls.specs.declared.reply.Reply.{Reply}
 use Rattle.zturns.specs.Turns.{Log}
 use Rattle.zalone.specs.Alone.{AloneView}
-use Rattle.zalone.specs.Told.{HasTold, GoesOnAskedAll, GoesOnSettled, StopsBefore, TellsAskedAll, TellsSettled, TellsOrdered}
-use Rattle.zfront_laws.specs.Runs.{LogGoesOn}
+use Rattle.zalone.specs.Told.{HasTold, GoesOnSettled, StopsBefore, TellsAskedAll, TellsSettled, TellsOrdered}
+use Rattle.zfront.specs.Front.{FrontView}
+use Rattle.zfront_laws.specs.Runs.{IsLog, GoesOn}
 
 -- what a log goes on with, if it does
-abbrev pub HasMore : AloneView → Log → Type 0
-HasMore new log = (more : Log) × (later : Option Call) × HasTold new (log ++ more) later
+abbrev pub HasMore : FrontView → Log → Type 0
+HasMore new log = (more : Log) × (later : Option Call) × IsLog new (log ++ more) later
+
+-- no call waits
+quiet : (v : FrontView) (log : Log) → HasTold v.asker log None → IsLog v log None
+quiet v log has = record { told = has; late = λ call is. absurd (cc is) }
 
 -- it stays
-stays : (new : AloneView) (log : Log) (waiting : Option Call) → HasTold new log waiting → HasMore new log
-stays new log waiting has = ([], waiting, subst (λ l. HasTold new l waiting) (sym (append-nil log)) has)
+stays : (new : FrontView) (log : Log) (waiting : Option Call) → IsLog new log waiting → HasMore new log
+stays new log waiting has = ([], waiting, subst (λ l. IsLog new l waiting) (sym (append-nil log)) has)
 
--- the same client
-pub same : (old new : AloneView) → new ≡ old → LogGoesOn old new
-same old new is log waiting has = stays new log waiting (subst (λ v. HasTold v log waiting) (sym is) has)
+-- the same client, and the same late call
+pub same : (old new : FrontView) → new.asker ≡ old.asker → new.late ≡ old.late → GoesOn old new
+same old new asker late log waiting has =
+    stays new log waiting (record {
+      told = subst (λ a. HasTold a log waiting) (sym asker) has.told;
+      late = λ call is. late ∙ has.late call is;
+    })
 
 -- one step behind another
-pub both : (old middle new : AloneView) → LogGoesOn old middle → LogGoesOn middle new → LogGoesOn old new
+pub both : (old middle new : FrontView) → GoesOn old middle → GoesOn middle new → GoesOn old new
 both old middle new one two log waiting has =
     let first = one log waiting has in
     let second = two (log ++ first.0) first.1 first.2 in
-    (first.0 ++ second.0, second.1, subst (λ l. HasTold new l second.1) (append_assoc log first.0 second.0) second.2)
+    (first.0 ++ second.0, second.1, subst (λ l. IsLog new l second.1) (append_assoc log first.0 second.0) second.2)
 
--- calls are made
-stopped : (new : AloneView) (log more : Log) (calls : List Call) → StopsBefore (HasTold new) (log ++ more) calls → HasMore new log
-stopped new log more [] has = (more, None, has)
-stopped new log more (call ∷ calls) (inl has) = (more, Some call, has)
-stopped new log more (call ∷ calls) (inr has) = (more, None, has.1)
+-- the call at the place where the others stop
+at_drop : (calls : List Call) (n : ℕ) (call : Call) (rest : List Call) → drop n calls ≡ call ∷ rest → slice_get calls n ≡ Some call
+at_drop [] zero call rest is = absurd (cc is)
+at_drop [] (suc n) call rest is = absurd (cc is)
+at_drop (first ∷ calls) zero call rest is =
+    let here : first ≡ call = cc in
+    ap (λ c. Some c) here
+at_drop (first ∷ calls) (suc n) call rest is = at_drop calls n call rest is
 
-asked_all : (new : AloneView) (log : Log) (waiting : Option Call) (calls : List Call) (told : List Reply)
-    → GoesOnAskedAll (HasTold new) log waiting calls told → HasMore new log
-asked_all new log (Some other) calls told goes = stays new log (Some other) goes.1
-asked_all new log None calls told goes = stopped new log (zip calls told) (drop (length told) calls) goes.1
+-- calls are made while none is late
+stopped : (new : FrontView) (log more : Log) (calls : List Call) → ((call : Call) (rest : List Call) → calls ≡ call ∷ rest → new.late ≡ Some call)
+    → StopsBefore (HasTold new.asker) (log ++ more) calls → HasMore new log
+stopped new log more [] late has = (more, None, quiet new (log ++ more) has)
+stopped new log more (call ∷ calls) late (inl has) =
+    (more, Some call, record { told = has; late = λ c is. late call calls refl ∙ is })
+stopped new log more (call ∷ calls) late (inr has) = (more, None, quiet new (log ++ more) has.1)
 
-pub asks : (old : AloneView) (calls : List Call) (new : AloneView) (told : List Reply) → TellsAskedAll old calls new told → LogGoesOn old new
-asks old calls new told tells log waiting has = asked_all new log waiting calls told (tells log waiting has)
+pub asks : (old : FrontView) (calls : List Call) (new : FrontView) (told : List Reply) → old.late ≡ None → new.late ≡ slice_get calls (length told)
+    → TellsAskedAll old.asker calls new.asker told → GoesOn old new
+asks old calls new told free is tells log (Some other) has =
+    let clash : None ≡ Some other = sym free ∙ has.late other refl in
+    absurd (cc clash)
+asks old calls new told free is tells log None has =
+    stopped new log (zip calls told) (drop (length told) calls) (λ call rest from. is ∙ at_drop calls (length told) call rest from)
+    (tells log None has.told).1
 
 -- the same, with the calls that were answered
 stopped_with : (new : AloneView) (log : Log) (calls : List Call) → StopsBefore (HasTold new) log calls → (later : Option Call) × HasTold new log later
@@ -52,15 +74,18 @@ pub asks_with : (old : AloneView) (calls : List Call) (new : AloneView) (told : 
     → HasTold old log None → (later : Option Call) × HasTold new (log ++ zip calls told) later
 asks_with old calls new told tells log has = stopped_with new (log ++ zip calls told) (drop (length told) calls) (tells log None has).1
 
--- the service settles
-settled : (new : AloneView) (log : Log) (waiting : Option Call) (told : Option Reply) → GoesOnSettled (HasTold new) log waiting told → HasMore new log
-settled new log waiting None goes = stays new log waiting goes
-settled new log None (Some reply) goes = absurd goes
-settled new log (Some call) (Some reply) goes = ((call, reply) ∷ [], None, goes)
+-- the service settles: where no reply came the late call is the same
+settled : (old new : FrontView) (log : Log) (waiting : Option Call) (told : Option Reply) → (told ≡ None → new.late ≡ old.late)
+    → IsLog old log waiting → GoesOnSettled (HasTold new.asker) log waiting told → HasMore new log
+settled old new log waiting None kept has goes =
+    stays new log waiting (record { told = goes; late = λ call is. kept refl ∙ has.late call is })
+settled old new log None (Some reply) kept has goes = absurd goes
+settled old new log (Some call) (Some reply) kept has goes = ((call, reply) ∷ [], None, quiet new (log ++ (call, reply) ∷ []) goes)
 
-pub settles : (old new : AloneView) (told : Option Reply) → TellsSettled old new told → LogGoesOn old new
-settles old new told tells log waiting has = settled new log waiting told (tells log waiting has)
+pub settles : (old new : FrontView) (told : Option Reply) → (told ≡ None → new.late ≡ old.late) → TellsSettled old.asker new.asker told → GoesOn old new
+settles old new told kept tells log waiting has = settled old new log waiting told kept has (tells log waiting has.told)
 
 -- an order is given
-pub ordered : (old new : AloneView) → TellsOrdered old new → LogGoesOn old new
-ordered old new tells log waiting has = stays new log waiting (tells log waiting has)
+pub ordered : (old new : FrontView) → new.late ≡ old.late → TellsOrdered old.asker new.asker → GoesOn old new
+ordered old new kept tells log waiting has =
+    stays new log waiting (record { told = tells log waiting has.told; late = λ call is. kept ∙ has.late call is })

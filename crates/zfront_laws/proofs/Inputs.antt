@@ -21,12 +21,12 @@ use Rattle.zfront.specs.Front.{FrontView}
 use Rattle.zfront.specs.Inputs.{Begins, without_first}
 use Rattle.zfront.specs.Ticking.{tick_calls, rested, TicksIf, TicksBy, TicksUnless, Ticks}
 use Rattle.zfront.specs.Orders.{told_operator, did_text, IsGiven, SettlesIf, SettlesNow, wanted_of, Obeys, ObeysLine, Hears}
-use Rattle.zfront_laws.specs.Runs.{KeepsFew}
+use Rattle.zfront_laws.specs.Runs.{KeepsFew, IsLog}
 use Rattle.zfront_laws.specs.Runs as run
 use Rattle.zfront_laws.specs.Laws.{EveryInputGoesOn, EveryRunGoesOn, EveryFrontKeepsFew, EveryFrontIsOneTree}
 use Rattle.zfront_laws.proofs.Held.{held-insert, held-remove, held-empty}
 use Rattle.zfront_laws.proofs.Lighter.{none_more, unmoved}
-use Rattle.zfront_laws.proofs.Steps.{Step, both, becomes, same, retabled}
+use Rattle.zfront_laws.proofs.Steps.{Step, both, becomes, same, retabled, none_late}
 use Rattle.zfront_laws.proofs.GoingOn as log
 use Rattle.zfront_laws.proofs.Calling.{asks, hears_if, is_ready, tidies}
 use Rattle.zfront_laws.proofs.Coming.{comes, with_few}
@@ -38,26 +38,29 @@ ticks_if false replies old new has =
     both old (rested old) new (retabled (rested old).tables old (rested old) refl (unmoved (held_of old.tables.streams)))
     (tidies replies (rested old) new has)
 
-ticks_by : (calls : List Call) (old new : FrontView) → TicksBy calls old new → Step old new
-ticks_by calls old new has =
-    both old has.0 new (asks old calls has.0 has.1 has.2) (ticks_if (is_some has.0.late) has.1 has.0 new has.3)
+ticks_by : (calls : List Call) (old new : FrontView) → old.late ≡ None → TicksBy calls old new → Step old new
+ticks_by calls old new free has =
+    both old has.0 new (asks old calls has.0 has.1 free has.2) (ticks_if (is_some has.0.late) has.1 has.0 new has.3)
 
-ticks_unless : (late : Bool) (old new : FrontView) → TicksUnless late old new → Step old new
-ticks_unless true old new is = same old new is
-ticks_unless false old new has = ticks_by (tick_calls (touched_ids old.tables.sittings)) old new has
+ticks_unless : (late : Bool) (old new : FrontView) → (late ≡ false → old.late ≡ None) → TicksUnless late old new → Step old new
+ticks_unless true old new free is = same old new is
+ticks_unless false old new free has = ticks_by (tick_calls (touched_ids old.tables.sittings)) old new (free refl) has
 
 ticks : (old new : FrontView) → Ticks old new → Step old new
-ticks old new has = both old has.0 new (is_ready old has.0 has.1) (ticks_unless (is_some has.0.late) has.0 new has.2)
+ticks old new has =
+    both old has.0 new (is_ready old has.0 has.1) (ticks_unless (is_some has.0.late) has.0 new (none_late has.0.late) has.2)
 
 -- a line of the operator
 is_given : (given : Order) (old new : FrontView) → IsGiven given old new → Step old new
 is_given given old new has =
-    becomes old new (told_operator (did_text has.did) (record old { asker = has.asker })) has.told (log.ordered old.asker has.asker has.tells)
+    becomes old new (told_operator (did_text has.did) (record old { asker = has.asker })) has.told
+    (log.ordered old (told_operator (did_text has.did) (record old { asker = has.asker })) refl has.tells)
     (unmoved (held_of old.tables.streams))
 
 settles_if : (late : Option Call) (old new : FrontView) → SettlesIf late old new → Step old new
 settles_if None old new has =
-    becomes old new (record old { asker = has.0 }) has.4 (log.settles old.asker has.0 has.1 has.3) (unmoved (held_of old.tables.streams))
+    becomes old new (record old { asker = has.0 }) has.4
+    (log.settles old (record old { asker = has.0 }) has.1 (λ none. refl) has.3) (unmoved (held_of old.tables.streams))
 settles_if (Some call) old new has = hears_if (Some call) old new has
 
 settles_now : (old new : FrontView) → SettlesNow old new → Step old new
@@ -97,7 +100,7 @@ every_run_goes_on [] old new few is = with_few old new few (same old new is)
 every_run_goes_on (input ∷ inputs) old new few has =
     let first = every_input_goes_on input old has.0 few has.1 in
     let rest = every_run_goes_on inputs has.0 new first.1 has.2 in
-    (log.both old.asker has.0.asker new.asker first.0 rest.0, rest.1)
+    (log.both old has.0 new first.0 rest.0, rest.1)
 
 -- a new server keeps nothing
 begins_with_few : (last : ℕ) (times : Clock) (v : FrontView) → Begins last times v → KeepsFew v
@@ -109,8 +112,11 @@ pub every_front_keeps_few : EveryFrontKeepsFew
 every_front_keeps_few last times inputs first v begins runs = (every_run_goes_on inputs first v (begins_with_few last times first begins) runs).1
 
 -- and has the empty log
+begins_quiet : (last : ℕ) (times : Clock) (v : FrontView) → Begins last times v → IsLog v [] None
+begins_quiet last times v begins = record { told = begins.told; late = λ call is. absurd (cc is) }
+
 pub every_front_is_one_tree : EveryFrontIsOneTree
 every_front_is_one_tree last times inputs first v begins runs =
-    let goes = (every_run_goes_on inputs first v (begins_with_few last times first begins) runs).0 [] None begins.told in
+    let goes = (every_run_goes_on inputs first v (begins_with_few last times first begins) runs).0 [] None (begins_quiet last times first begins) in
     let has = goes.2 in
-    (goes.0, goes.1, has, is_one_trees has.servers has.events goes.0 goes.1 has.turns.told)
+    (goes.0, goes.1, has, is_one_trees has.told.servers has.told.events goes.0 goes.1 has.told.turns.told)

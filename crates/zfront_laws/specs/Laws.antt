@@ -16,7 +16,7 @@ use Rattle.ztables.specs.Tables.{closed}
 use Rattle.zfront.specs.Front.{FrontView, with_tables, Asks}
 use Rattle.zfront.specs.Inputs.{Begins}
 use Rattle.zfront.specs.Requests.{Serves, Makes, touched_by}
-use Rattle.zfront_laws.specs.Runs.{Input, KeepsFew, Does, Runs, GoesOn}
+use Rattle.zfront_laws.specs.Runs.{Input, KeepsFew, Does, Runs, IsLog, GoesOn}
 
 -- at each input the log goes on, and few bytes are kept
 abbrev pub EveryInputGoesOn : Type 0
@@ -34,7 +34,7 @@ EveryFrontKeepsFew = (last : ℕ) (times : Clock) (inputs : List Input) (first v
 abbrev pub EveryFrontIsOneTree : Type 0
 EveryFrontIsOneTree =
     (last : ℕ) (times : Clock) (inputs : List Input) (first v : FrontView) → Begins last times first → Runs inputs first v
-    → (log : Log) × (waiting : Option Call) × HasTold v.asker log waiting × IsOneTrees log
+    → (log : Log) × (waiting : Option Call) × IsLog v log waiting × IsOneTrees log
 
 -- the replies to the calls that a server makes are those of the tree that its log left, and each
 -- call with its reply comes behind that log

@@ -1,10 +1,9 @@
 -- The inputs of a server for ZooKeeper's clients, one after the other, and how the log of its calls
 -- goes on at them. The calls of all connections are made by one client, so they stand in one log.
-use Rattle.std.specs.Prelude.{◌≡◌, ℕ, ◌≤◌, List, [], ◌∷◌, ◌++◌, Option}
+use Rattle.std.specs.Prelude.{◌≡◌, ℕ, ◌≤◌, List, [], ◌∷◌, ◌++◌, Option, Some}
 use Rattle.zcalls.specs.declared.call.Call.{Call}
 use Rattle.zpieces.specs.Streams.{held_of}
 use Rattle.zturns.specs.Turns.{Log}
-use Rattle.zalone.specs.Alone.{AloneView}
 use Rattle.zalone.specs.Told.{HasTold}
 use Rattle.zfront.specs.declared.limits.TheConstants.{MAX_KEPT}
 use Rattle.zfront.specs.Front.{FrontView}
@@ -41,11 +40,13 @@ abbrev pub Runs : List Input → FrontView → FrontView → Type 0
 Runs [] old new = new ≡ old
 Runs (input ∷ inputs) old new = (middle : FrontView) × Does input old middle × Runs inputs middle new
 
--- a log of the one client goes on: what stood in it stays, and more may come behind it
-abbrev pub LogGoesOn : AloneView → AloneView → Type 0
-LogGoesOn old new =
-    (log : Log) (waiting : Option Call) → HasTold old log waiting → (more : Log) × (later : Option Call) × HasTold new (log ++ more) later
+-- the server made the calls of this log and got their replies, and this call waits: it is the late
+-- one
+pub record IsLog (v : FrontView) (log : Log) (waiting : Option Call) : Type 0 where
+  pub told : HasTold v.asker log waiting
+  pub late : (call : Call) → waiting ≡ Some call → v.late ≡ Some call
 
--- and so a log of a server
+-- the log goes on: what stood in it stays, and more may come behind it
 abbrev pub GoesOn : FrontView → FrontView → Type 0
-GoesOn old new = LogGoesOn old.asker new.asker
+GoesOn old new =
+    (log : Log) (waiting : Option Call) → IsLog old log waiting → (more : Log) × (later : Option Call) × IsLog new (log ++ more) later
