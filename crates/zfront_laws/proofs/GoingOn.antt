@@ -16,7 +16,7 @@ abbrev pub HasMore : FrontView → Log → Type 0
 HasMore new log = (more : Log) × (later : Option Call) × IsLog new (log ++ more) later
 
 -- no call waits
-quiet : (v : FrontView) (log : Log) → HasTold v.asker log None → IsLog v log None
+pub quiet : (v : FrontView) (log : Log) → HasTold v.asker log None → IsLog v log None
 quiet v log has = record { told = has; late = λ call is. absurd (cc is) }
 
 -- it stays

@@ -7,4 +7,5 @@ mod Calling
 mod Serving
 mod Coming
 mod Inputs
+mod Late
 mod Sessions

@@ -1,5 +1,5 @@
 -- What holds of every server for ZooKeeper's clients. The functions of `src/laws.rt` promise it.
-use Rattle.std.specs.Prelude.{◌≡◌, ◌⊎◌, ℕ, List, ◌++◌, length, take, zip, Option, None, Ok, Err}
+use Rattle.std.specs.Prelude.{◌≡◌, ◌⊎◌, ℕ, List, ◌++◌, length, take, zip, [], ◌∷◌, Option, None, Some, Ok, Err}
 use Rattle.std.specs.List.{AllByRecursion}
 use Rattle.zforms.specs.Readers.{whole}
 use Rattle.zforms.specs.declared.fault.Fault.{Fault}
@@ -11,9 +11,10 @@ use Rattle.zjute.specs.declared.request.Request.{Request}
 use Rattle.zasking.specs.Laws.{CallIsFor}
 use Rattle.zanswering.specs.declared.clock.Clock.{Clock}
 use Rattle.zturns.specs.Turns.{Log, calls_of, served, tree_after, IsOneTrees}
+use Rattle.zalone.specs.Alone.{AloneView}
 use Rattle.zalone.specs.Told.{HasTold}
 use Rattle.ztables.specs.Tables.{closed}
-use Rattle.zfront.specs.Front.{FrontView, with_tables, Asks}
+use Rattle.zfront.specs.Front.{FrontView, with_tables, Asks, heard, HearsIf}
 use Rattle.zfront.specs.Inputs.{Begins}
 use Rattle.zfront.specs.Requests.{Serves, Makes, touched_by}
 use Rattle.zfront_laws.specs.Runs.{Input, KeepsFew, Does, Runs, IsLog, GoesOn}
@@ -43,6 +44,14 @@ CallsStandInTheLog =
     (old new : FrontView) (log : Log) (calls : List Call) (replies : List Reply) → HasTold old.asker log None → Asks old calls new replies
     → (replies ≡ served (tree_after opening_tree (calls_of log)) (take (length replies) calls))
     × ((later : Option Call) × HasTold new.asker (log ++ zip calls replies) later)
+
+-- where a late call is heard of, it still waits, or its own reply comes behind the log and is taken up
+abbrev pub LateCallsStandInTheLog : Type 0
+LateCallsStandInTheLog =
+    (old new : FrontView) (log : Log) (waiting : Option Call) (call : Call) → IsLog old log waiting → old.late ≡ Some call → HearsIf (Some call) old new
+    → IsLog new log waiting
+    ⊎ ((asker : AloneView) × (reply : Reply) × (new ≡ heard call (Some reply) (record old { asker = asker }))
+    × IsLog new (log ++ (call, reply) ∷ []) None)
 
 -- bytes that spell no request close their connection, and no call is made
 abbrev pub NoRequestMakesNoCall : Type 0

@@ -2,7 +2,8 @@
 
 ghost use Rattle.zfront_laws.specs.Laws.{EveryFrontIsOneTree, EveryFrontKeepsFew};
 ghost use Rattle.zfront_laws.specs.Laws.{CallsStandInTheLog, EveryInputGoesOn, EveryRunGoesOn};
-ghost use Rattle.zfront_laws.specs.Laws.{NoRequestMakesNoCall, RequestsAreForTheirSession};
+ghost use Rattle.zfront_laws.specs.Laws.{LateCallsStandInTheLog, NoRequestMakesNoCall};
+ghost use Rattle.zfront_laws.specs.Laws.{RequestsAreForTheirSession};
 
 use zalone::laws::replies_are_the_trees;
 
@@ -36,6 +37,12 @@ pub fn calls_stand_in_the_log()
 {
     replies_are_the_trees();
 }
+
+/// Where a late call is heard of, it still waits, or its own reply comes behind the log. No other
+/// reply is taken up for it.
+pub fn late_calls_stand_in_the_log()
+    ensures { LateCallsStandInTheLog }
+{}
 
 /// Bytes that spell no request close their connection, and no call is made.
 pub fn no_request_makes_no_call()
