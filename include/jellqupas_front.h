@@ -75,8 +75,8 @@ uint32_t jellqupas_front_open(uint8_t servers, uint32_t tick_ms, uint64_t starte
                               jellqupas_front *front);
 
 /* The inputs. Each returns JELLQUPAS_DONE, or JELLQUPAS_MEMORY: out of memory, for good. Then
-   nothing is promised of this input, every later one comes to this too, and no piece is told: close
-   the connections, and the front. A front that was opened with a wrong number of servers answers
+   nothing is promised of this input, and every later one comes to this too: close the connections,
+   and the front. Pieces that were made can still be told. A front that was opened with a wrong number of servers answers
    JELLQUPAS_NO_SERVERS. What is pointed to is read during the call alone. */
 
 /* Somebody has connected: this number is theirs now, and this the password of the session that they
