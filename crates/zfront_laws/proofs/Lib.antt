@@ -9,3 +9,4 @@ mod Coming
 mod Inputs
 mod Late
 mod Sessions
+mod Seated

@@ -4,6 +4,7 @@ ghost use Rattle.zfront_laws.specs.Laws.{EveryFrontIsOneTree, EveryFrontKeepsFew
 ghost use Rattle.zfront_laws.specs.Laws.{CallsStandInTheLog, EveryInputGoesOn, EveryRunGoesOn};
 ghost use Rattle.zfront_laws.specs.Laws.{LateCallsStandInTheLog, NoRequestMakesNoCall};
 ghost use Rattle.zfront_laws.specs.Laws.{RequestsAreForTheirSession};
+ghost use Rattle.zfront_laws.specs.Seats.{OneSpeaks, SeatsAreKept};
 
 use zalone::laws::replies_are_the_trees;
 
@@ -52,4 +53,16 @@ pub fn no_request_makes_no_call()
 /// A frame makes calls for the session of its own connection alone, or it makes none.
 pub fn requests_are_for_their_session()
     ensures { RequestsAreForTheirSession }
+{}
+
+/// Where each connection that speaks for a session has this session's seat, no two connections speak
+/// for one session.
+pub fn one_speaks()
+    ensures { OneSpeaks }
+{}
+
+/// Each connection that speaks for a session has this session's seat, and it stays so. A connection
+/// is closed or ends, something is sent or told, sessions are gone, taken up, or opened.
+pub fn seats_are_kept()
+    ensures { SeatsAreKept }
 {}

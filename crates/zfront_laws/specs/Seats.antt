@@ -1,0 +1,34 @@
+-- Which connection speaks for a session: that which has the session's seat, so no two of them do.
+-- The source is the ZooKeeper Programmer's Guide, "ZooKeeper Sessions".
+use Rattle.std.specs.Prelude.{◌≡◌, ℕ, true, List, None, Some}
+use Rattle.zevents.specs.declared.event.Event.{Event}
+use Rattle.zpieces.specs.declared.phase.Phase.TheVariants.{Speaking}
+use Rattle.zpieces.specs.Streams.{phase_of}
+use Rattle.zsittings.specs.Sittings.{passes}
+use Rattle.ztables.specs.Tables.{TablesView, connection_of, closed, ended, sent, sitting, taken_up}
+use Rattle.ztables.specs.Sweeping.{swept_all}
+use Rattle.ztables.specs.Telling.{told_all}
+
+-- each connection that speaks for a session has the seat of this session
+abbrev pub IsSeated : TablesView → Type 0
+IsSeated t = (c session : ℕ) → phase_of t.streams c ≡ Some (Speaking session) → connection_of t.sittings session ≡ Some c
+
+-- so no two connections speak for one session
+abbrev pub OneSpeaks : Type 0
+OneSpeaks =
+    (t : TablesView) (c d session : ℕ) → IsSeated t → phase_of t.streams c ≡ Some (Speaking session) → phase_of t.streams d ≡ Some (Speaking session) → c ≡ d
+
+-- it stays so
+abbrev pub Seats : (TablesView → TablesView) → TablesView → Type 0
+Seats change t = IsSeated t → IsSeated (change t)
+
+-- where a connection is closed or ends, where something is sent, where events are told, where
+-- sessions are gone, where a session is taken up by its password, and where a new one is opened
+pub record SeatsAreKept : Type 0 where
+  pub closed : (c : ℕ) (t : TablesView) → Seats (closed c) t
+  pub ended : (c : ℕ) (t : TablesView) → Seats (ended c) t
+  pub sent : (c : ℕ) (bytes : List ℕ) (t : TablesView) → Seats (sent c bytes) t
+  pub told : (events : List Event) (t : TablesView) → Seats (told_all events) t
+  pub swept : (sessions : List ℕ) (t : TablesView) → Seats (swept_all sessions) t
+  pub taken_up : (session c : ℕ) (password : List ℕ) (t : TablesView) → passes t.sittings session password ≡ true → Seats (taken_up session c) t
+  pub opened : (session c : ℕ) (password : List ℕ) (t : TablesView) → connection_of t.sittings session ≡ None → Seats (sitting session password c) t
