@@ -15,13 +15,12 @@ use Rattle.zalone.specs.Told.{TellsSettled}
 use Rattle.zfront.specs.Front.{FrontView, Asks, heard, HearsIf, LooksBy, LooksIf, Looks, IsReady, Tidies, tidied, takes_nodes}
 use Rattle.zfront_laws.proofs.GoingOn as log
 use Rattle.zfront_laws.proofs.Lighter.{Lighter, lighter, unmoved, absorbs, sweeps_all, tells_all}
-use Rattle.zfront_laws.proofs.Steps.{Step, both, same, same_client, free_to_look}
+use Rattle.zfront_laws.proofs.Steps.{Step, steps, both, same, same_client, free_to_look}
 
 pub asks : (old : FrontView) (calls : List Call) (new : FrontView) (replies : List Reply) → old.late ≡ None → Asks old calls new replies → Step old new
-asks old calls new replies free has = record {
-  goes = log.asks old calls new replies free (ap (λ (v : FrontView). v.late) has.rest) has.tells;
-  light = subst (λ (v : FrontView). Lighter old.tables v.tables) (sym has.rest) (unmoved (held_of old.tables.streams));
-}
+asks old calls new replies free has =
+    steps old new (log.asks old calls new replies free (ap (λ (v : FrontView). v.late) has.rest) has.tells)
+    (subst (λ (v : FrontView). Lighter old.tables v.tables) (sym has.rest) (unmoved old.tables))
 
 -- sessions that ended are swept
 pub tidies_up : (took : Bool) (v : FrontView) → Step v (tidied took v)
@@ -30,18 +29,15 @@ tidies_up took v = same_client v (tidied took v) (tidied took v) refl refl refl 
 -- what is heard of a call
 hears_of : (call : Call) (told : Option Reply) (old : FrontView) (asker : AloneView) → TellsSettled old.asker asker told
     → Step old (heard call told (record old { asker = asker }))
-hears_of call None old asker tells = record {
-  goes = log.settles old (record old { asker = asker }) None (λ none. refl) tells;
-  light = unmoved (held_of old.tables.streams);
-}
+hears_of call None old asker tells =
+    let after = record old { asker = asker } in
+    steps old after (log.settles old after None (λ none. refl) tells) (unmoved old.tables)
 hears_of call (Some reply) old asker tells =
-    let middle = record old { asker = asker; tables = absorbed call reply old.tables; late = None } in
+    let t = absorbed call reply old.tables in
+    let middle = record old { asker = asker; tables = t; late = None } in
     let after = tidied (takes_nodes reply) middle in
-    record {
-      goes = log.settles old after (Some reply) (λ none. absurd (cc none)) tells;
-      light =
-          lighter old.tables middle.tables after.tables (absorbs call reply old.tables) (tidies_up (takes_nodes reply) middle).light;
-    }
+    steps old after (log.settles old after (Some reply) (λ none. absurd (cc none)) tells)
+    (lighter old.tables t after.tables (absorbs call reply old.tables) (sweeps_all (gone asker.known.sessions t.sittings) t))
 
 pub hears_if : (late : Option Call) (old new : FrontView) → HearsIf late old new → Step old new
 hears_if None old new is = same old new is

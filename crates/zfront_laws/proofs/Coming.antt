@@ -14,8 +14,9 @@ use Rattle.zfront.specs.Words.{said, text_of_word}
 use Rattle.zfront_laws.specs.Runs.{GoesOn, KeepsFew}
 use Rattle.zfront_laws.proofs.GoingOn as log
 use Rattle.zfront_laws.proofs.Held.{held-changed}
+use Rattle.zfront_laws.proofs.Kept.{Kept, unchanged, closes_kept, bytes_kept}
 use Rattle.zfront_laws.proofs.Lighter.{closes, says}
-use Rattle.zfront_laws.proofs.Steps.{Step, both, same, retabled, none_late}
+use Rattle.zfront_laws.proofs.Steps.{Step, Seats, seats_both, seats_kept, both, same, retabled, none_late}
 use Rattle.zfront_laws.proofs.Calling.{is_ready}
 use Rattle.zfront_laws.proofs.Serving.{serves, greets}
 
@@ -58,8 +59,8 @@ with_rest rest c t fits =
 
 keeps_by : (long over : Bool) (rest : List ℕ) (c : ℕ) (t : TablesView) → nat_lt MAX_KEPT (held_of t.streams + length rest) ≡ over
     → held_of t.streams ≤ MAX_KEPT → held_of (if long || over then closed c t else record t { streams = with_bytes t.streams c rest }).streams ≤ MAX_KEPT
-keeps_by true over rest c t is few = omega (arith, closes c t, few)
-keeps_by false true rest c t is few = omega (arith, closes c t, few)
+keeps_by true over rest c t is few = omega (arith, (closes c t).0, few)
+keeps_by false true rest c t is few = omega (arith, (closes c t).0, few)
 keeps_by false false rest c t is few = with_rest rest c t is
 
 keeps_few : (on : Bool) (rest : List ℕ) (c : ℕ) (v : FrontView) → KeepsFew v → KeepsFew (if on then with_tables (kept rest c v.tables) v else v)
@@ -67,12 +68,22 @@ keeps_few true rest c v few =
     keeps_by (is_too_long (next_of rest)) (nat_lt MAX_KEPT (held_of v.tables.streams + length rest)) rest c v.tables refl few
 keeps_few false rest c v few = few
 
+rest_kept : (over : Bool) (rest : List ℕ) (c : ℕ) (t : TablesView)
+    → Kept t (if over then closed c t else record t { streams = with_bytes t.streams c rest })
+rest_kept true rest c t = closes_kept c t
+rest_kept false rest c t = bytes_kept c rest t
+
+keeps_kept : (on : Bool) (rest : List ℕ) (c : ℕ) (v : FrontView) → Kept v.tables (if on then with_tables (kept rest c v.tables) v else v).tables
+keeps_kept true rest c v =
+    rest_kept (is_too_long (next_of rest) || nat_lt MAX_KEPT (held_of v.tables.streams + length rest)) rest c v.tables
+keeps_kept false rest c v = unchanged v.tables
+
 -- so the log goes on, and few bytes are kept
 abbrev pub GoesOnWithFew : FrontView → FrontView → Type 0
-GoesOnWithFew old new = GoesOn old new × KeepsFew new
+GoesOnWithFew old new = GoesOn old new × KeepsFew new × Seats old new
 
 pub with_few : (old new : FrontView) → KeepsFew old → Step old new → GoesOnWithFew old new
-with_few old new few step = (step.goes, omega (arith, few, step.light))
+with_few old new few step = (step.goes, omega (arith, few, step.few), step.seats)
 
 -- frames are read of what came, and the rest is kept
 reads : (came rest : List ℕ) (c : ℕ) (old middle new : FrontView) → Reads came c old rest middle → KeepsFew old → Keeps rest c middle new
@@ -80,11 +91,15 @@ reads : (came rest : List ℕ) (c : ℕ) (old middle new : FrontView) → Reads 
 reads came rest c old middle new has few after =
     let done = with_few old middle few (handles_all has.frames c old middle has.handles) in
     let little : held_of middle.tables.streams ≤ MAX_KEPT = done.1 in
-    let is = after (omega (arith, little)) in (
-      log.both old middle new done.0
-          (subst (GoesOn middle) (sym is)
-          (log.same middle (keeps rest c middle) (kept_if (is_open middle.tables c) rest c middle) (late_if (is_open middle.tables c) rest c middle))),
+    let is = after (omega (arith, little)) in
+    let like = keeps rest c middle in
+    let goes : GoesOn middle like =
+        log.same middle like (kept_if (is_open middle.tables c) rest c middle) (late_if (is_open middle.tables c) rest c middle) in
+    let seats : Seats middle like = seats_kept middle like goes (keeps_kept (is_open middle.tables c) rest c middle) in
+    (
+      log.both old middle new done.0 (subst (GoesOn middle) (sym is) goes),
       subst KeepsFew (sym is) (keeps_few (is_open middle.tables c) rest c middle done.1),
+      seats_both old middle new done.0 done.2 (subst (Seats middle) (sym is) seats),
     )
 
 comes_behind : (came : List ℕ) (c : ℕ) (old new : FrontView) → KeepsFew old → ComesBehind came c old new → GoesOnWithFew old new
@@ -100,7 +115,12 @@ comes_if : (on : Bool) (bytes : List ℕ) (c : ℕ) (old new : FrontView) → Ke
 comes_if false bytes c old new few is = with_few old new few (same old new is)
 comes_if true bytes c old new few has =
     let done = comes_behind (bytes_of old.tables.streams c ++ bytes) c (emptied c old) new (emptied_few c old few) has in
-    (log.both old (emptied c old) new (log.same old (emptied c old) refl refl) done.0, done.1)
+    let goes : GoesOn old (emptied c old) = log.same old (emptied c old) refl refl in
+    (
+      log.both old (emptied c old) new goes done.0,
+      done.1,
+      seats_both old (emptied c old) new goes (seats_kept old (emptied c old) goes (bytes_kept c [] old.tables)) done.2,
+    )
 
 pub comes : (bytes : List ℕ) (c : ℕ) (old new : FrontView) → KeepsFew old → Comes bytes c old new → GoesOnWithFew old new
 comes bytes c old new few has = comes_if (is_open old.tables c) bytes c old new few has

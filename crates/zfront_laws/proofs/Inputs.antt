@@ -1,11 +1,15 @@
 -- The log goes on at each input, and at inputs one after the other. It is one tree's.
-use Rattle.std.proofs.Common.{◌≡◌, ◌∙◌, arith, ℕ, Bool, true, false, List, [], ◌∷◌, Option, None, Some, Result, Ok, Err, ap, refl}
+use Rattle.std.proofs.Common.{◌≡◌, ◌∙◌, arith, ℕ, Bool, true, false, List, [], ◌∷◌, Option, None, Some, Result, Ok, Err, ap, refl, sym}
 use Rattle.std.specs.Prelude.{codes, is_some}
 use Rattle.std.specs.FinMap as finite
+use Rattle.std.specs.Option.{option_map}
+use Rattle.std.specs.Ordering.{nat_cmp}
+use Rattle.ztree.proofs.Maps.{none_some}
 use Rattle.zcalls.specs.declared.call.Call.{Call}
 use Rattle.zcalls.specs.declared.reply.Reply.{Reply}
 use Rattle.zanswering.specs.declared.clock.Clock.{Clock}
-use Rattle.zpieces.specs.Streams.{held_of}
+use Rattle.zpieces.specs.declared.phase.Phase.TheVariants.{Speaking}
+use Rattle.zpieces.specs.Streams.{StreamView, held_of, phase_of}
 use Rattle.zpieces.specs.Streams as streams
 use Rattle.zlines.specs.declared.line.Line.{Line}
 use Rattle.zlines.specs.declared.line.Line.TheVariants as line
@@ -18,24 +22,26 @@ use Rattle.zalone.specs.declared.order.Order.TheVariants as order
 use Rattle.ztables.specs.Tables.{TablesView}
 use Rattle.ztables.specs.Tables as tables
 use Rattle.zfront.specs.Front.{FrontView}
-use Rattle.zfront.specs.Inputs.{Begins, without_first}
+use Rattle.zfront.specs.Inputs.{Begins, no_tables, without_first}
 use Rattle.zfront.specs.Ticking.{tick_calls, rested, TicksIf, TicksBy, TicksUnless, Ticks}
 use Rattle.zfront.specs.Orders.{told_operator, did_text, IsGiven, SettlesIf, SettlesNow, wanted_of, Obeys, ObeysLine, Hears}
-use Rattle.zfront_laws.specs.Runs.{KeepsFew, IsLog}
+use Rattle.zfront_laws.specs.Runs.{KeepsFew, IsLog, Does, Runs}
+use Rattle.zfront_laws.specs.Seats.{EveryFrontIsSeated}
+use Rattle.zfront_laws.proofs.Kept.{ends_kept, opens_kept, rests_kept}
 use Rattle.zfront_laws.specs.Runs as run
 use Rattle.zfront_laws.specs.Laws.{EveryInputGoesOn, EveryRunGoesOn, EveryFrontKeepsFew, EveryFrontIsOneTree}
 use Rattle.zfront_laws.proofs.Held.{held-insert, held-remove, held-empty}
-use Rattle.zfront_laws.proofs.Lighter.{none_more, unmoved}
-use Rattle.zfront_laws.proofs.Steps.{Step, both, becomes, same, retabled, none_late}
+use Rattle.zfront_laws.proofs.Lighter.{as_many, none_more, unmoved}
+use Rattle.zfront_laws.proofs.Steps.{Step, Fine, seats_both, both, becomes, same, retabled, none_late}
 use Rattle.zfront_laws.proofs.GoingOn as log
 use Rattle.zfront_laws.proofs.Calling.{asks, hears_if, is_ready, tidies}
-use Rattle.zfront_laws.proofs.Coming.{comes, with_few}
+use Rattle.zfront_laws.proofs.Coming.{GoesOnWithFew, comes, with_few}
 
 -- a tick
 ticks_if : (late : Bool) (replies : List Reply) (old new : FrontView) → TicksIf late replies old new → Step old new
 ticks_if true replies old new is = same old new is
 ticks_if false replies old new has =
-    both old (rested old) new (retabled (rested old).tables old (rested old) refl (unmoved (held_of old.tables.streams)))
+    both old (rested old) new (retabled (rested old).tables old (rested old) refl (as_many (held_of old.tables.streams), rests_kept old.tables))
     (tidies replies (rested old) new has)
 
 ticks_by : (calls : List Call) (old new : FrontView) → old.late ≡ None → TicksBy calls old new → Step old new
@@ -55,52 +61,62 @@ is_given : (given : Order) (old new : FrontView) → IsGiven given old new → S
 is_given given old new has =
     becomes old new (told_operator (did_text has.did) (record old { asker = has.asker })) has.told
     (log.ordered old (told_operator (did_text has.did) (record old { asker = has.asker })) refl has.tells)
-    (unmoved (held_of old.tables.streams))
+    (unmoved old.tables)
 
 settles_if : (late : Option Call) (old new : FrontView) → SettlesIf late old new → Step old new
 settles_if None old new has =
     becomes old new (record old { asker = has.0 }) has.4
-    (log.settles old (record old { asker = has.0 }) has.1 (λ none. refl) has.3) (unmoved (held_of old.tables.streams))
+    (log.settles old (record old { asker = has.0 }) has.1 (λ none. refl) has.3) (unmoved old.tables)
 settles_if (Some call) old new has = hears_if (Some call) old new has
 
 settles_now : (old new : FrontView) → SettlesNow old new → Step old new
 settles_now old new has =
     both old has.0 new (settles_if old.late old has.0 has.1)
-    (retabled (told_operator (codes "quiet") has.0).tables has.0 new has.2 (unmoved (held_of has.0.tables.streams)))
+    (retabled (told_operator (codes "quiet") has.0).tables has.0 new has.2 (unmoved has.0.tables))
 
 obeys : (said : Line) (old new : FrontView) → Obeys (wanted_of said) old new → Step old new
 obeys (line.Fail server) old new has = is_given (order.Fail server) old new has
 obeys (line.Join server) old new has = is_given (order.Join server) old new has
 obeys (line.Retire server) old new has = is_given (order.Retire server) old new has
 obeys line.Settle old new has = settles_now old new has
-obeys other old new is = retabled (told_operator (codes "bad line") old).tables old new is (unmoved (held_of old.tables.streams))
+obeys other old new is = retabled (told_operator (codes "bad line") old).tables old new is (unmoved old.tables)
 
 obeys_line : (read : Result Line LineFault) (old new : FrontView) → ObeysLine read old new → Step old new
 obeys_line (Ok said) old new has = obeys said old new has
-obeys_line (Err fault) old new is = retabled (told_operator (codes "bad line") old).tables old new is (unmoved (held_of old.tables.streams))
+obeys_line (Err fault) old new is = retabled (told_operator (codes "bad line") old).tables old new is (unmoved old.tables)
 
 hears : (text : List ℕ) (old new : FrontView) → Hears text old new → Step old new
 hears text old new has = both old has.0 new (is_ready old has.0 has.1) (obeys_line (line_of text) has.0 new has.2)
 
 -- any input
-pub every_input_goes_on : EveryInputGoesOn
-every_input_goes_on (run.Opened c password) old new few is =
+goes_with_few : (input : run.Input) (old new : FrontView) → KeepsFew old → Does input old new → GoesOnWithFew old new
+goes_with_few (run.Opened c password) old new few is =
     let t = record old.tables { streams = finite.insert old.tables.streams c (streams.opened password) } in
-    with_few old new few (retabled t old new is (none_more _ _ (held-insert old.tables.streams c (streams.opened password))))
-every_input_goes_on (run.Came c bytes) old new few has = comes bytes c old new few has
-every_input_goes_on (run.Ended c) old new few is =
-    with_few old new few (retabled (tables.ended c old.tables) old new is (held-remove old.tables.streams c))
-every_input_goes_on run.Tick old new few has = with_few old new few (ticks old new has)
-every_input_goes_on (run.Line text) old new few has = with_few old new few (hears text old new has)
-every_input_goes_on run.Sent old new few is =
-    with_few old new few (retabled (without_first old).tables old new is (unmoved (held_of old.tables.streams)))
+    with_few old new few (retabled t old new is (none_more _ _ (held-insert old.tables.streams c (streams.opened password)), opens_kept c password old.tables))
+goes_with_few (run.Came c bytes) old new few has = comes bytes c old new few has
+goes_with_few (run.Ended c) old new few is =
+    with_few old new few (retabled (tables.ended c old.tables) old new is (held-remove old.tables.streams c, ends_kept c old.tables))
+goes_with_few run.Tick old new few has = with_few old new few (ticks old new has)
+goes_with_few (run.Line text) old new few has = with_few old new few (hears text old new has)
+goes_with_few run.Sent old new few is =
+    with_few old new few (retabled (without_first old).tables old new is (unmoved old.tables))
+
+pub every_input_goes_on : EveryInputGoesOn
+every_input_goes_on input old new few does =
+    let done = goes_with_few input old new few does in
+    (done.0, done.1)
+
+run_with_few : (inputs : List run.Input) (old new : FrontView) → KeepsFew old → Runs inputs old new → GoesOnWithFew old new
+run_with_few [] old new few is = with_few old new few (same old new is)
+run_with_few (input ∷ inputs) old new few has =
+    let first = goes_with_few input old has.0 few has.1 in
+    let rest = run_with_few inputs has.0 new first.1 has.2 in
+    (log.both old has.0 new first.0 rest.0, rest.1, seats_both old has.0 new first.0 first.2 rest.2)
 
 pub every_run_goes_on : EveryRunGoesOn
-every_run_goes_on [] old new few is = with_few old new few (same old new is)
-every_run_goes_on (input ∷ inputs) old new few has =
-    let first = every_input_goes_on input old has.0 few has.1 in
-    let rest = every_run_goes_on inputs has.0 new first.1 has.2 in
-    (log.both old has.0 new first.0 rest.0, rest.1)
+every_run_goes_on inputs old new few runs =
+    let done = run_with_few inputs old new few runs in
+    (done.0, done.1)
 
 -- a new server keeps nothing
 begins_with_few : (last : ℕ) (times : Clock) (v : FrontView) → Begins last times v → KeepsFew v
@@ -120,3 +136,18 @@ every_front_is_one_tree last times inputs first v begins runs =
     let goes = (every_run_goes_on inputs first v (begins_with_few last times first begins) runs).0 [] None (begins_quiet last times first begins) in
     let has = goes.2 in
     (goes.0, goes.1, has, is_one_trees has.told.servers has.told.events goes.0 goes.1 has.told.turns.told)
+
+-- a new server has no connections
+no_rows : (v : FrontView) (t : TablesView) → v.tables ≡ t → ((c : ℕ) → finite.get t.streams c ≡ None) → ((id : ℕ) → finite.get t.sittings id ≡ None) → Fine v
+no_rows v t is streams sittings = record {
+  seated = λ c session speaks. absurd (none_some (Speaking session) (
+    sym (ap (option_map (λ (s : StreamView). s.phase)) (streams c)) ∙ ap (λ (u : TablesView). phase_of u.streams c) (sym is) ∙ speaks
+  ));
+  below = λ id has. absurd (none_some has.0 (sym (sittings id) ∙ ap (λ (u : TablesView). finite.get u.sittings id) (sym is) ∙ has.1));
+}
+
+pub every_front_is_seated : EveryFrontIsSeated
+every_front_is_seated last times inputs first v begins runs =
+    let fine = no_rows first no_tables begins.tables (λ c. finite.get-empty nat_cmp c) (λ id. finite.get-empty nat_cmp id) in
+    let done = (run_with_few inputs first v (begins_with_few last times first begins) runs).2 [] None (begins_quiet last times first begins) fine in
+    done.seated

@@ -1,7 +1,10 @@
 mod Held
+mod Seated
+mod Kept
 mod Lighter
 mod Wishes
 mod GoingOn
+mod Rising
 mod Steps
 mod Calling
 mod Serving
@@ -9,4 +12,3 @@ mod Coming
 mod Inputs
 mod Late
 mod Sessions
-mod Seated

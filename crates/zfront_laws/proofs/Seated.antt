@@ -65,11 +65,11 @@ pub seat_here : (to : Sitting → Sitting) (m : SittingsView) (id : ℕ) (s : Si
 seat_here to m id s is =
     ap (λ o. get (option_map_or (λ s. insert m id (to s)) o m) id) is ∙ get-insert-here nat_cmp_total nat_cmp-IsAntisymmetric m id (to s)
 
-abbrev connection_in : Option Sitting → Option ℕ
+abbrev pub connection_in : Option Sitting → Option ℕ
 connection_in o = option_and_then (λ s. s.connection) o
 
 -- a session that has a sitting keeps it
-abbrev Has : SittingsView → ℕ → Type 0
+abbrev pub Has : SittingsView → ℕ → Type 0
 Has m id = (s : Sitting) × (get m id ≡ Some s)
 
 changed_has : (to : Sitting → Sitting) (m : SittingsView) (id other : ℕ) → Has m other → Has (with_changed to m id) other
@@ -193,7 +193,7 @@ spoke c t d session speaks = each (is_open t c) refl speaks
       has,
     )
 
-moves : (session : ℕ) (t : TablesView) → IsSeated t → IsSeated (moved session t)
+pub moves : (session : ℕ) (t : TablesView) → IsSeated t → IsSeated (moved session t)
 moves session t seated = elim (connection_of t.sittings session) as (λ o. IsSeated (option_map_or (λ c. closed c t) o t)) [
   | None ↦ seated
   | Some c ↦ closes c t seated
@@ -210,7 +210,7 @@ nobody session t seated d speaks = each (connection_of t.sittings session) refl 
         before.0 (same_some d c (sym (seated d session before.1) ∙ is))
 
 -- sessions that are gone
-sweeps : (session : ℕ) (t : TablesView) → IsSeated t → IsSeated (swept session t)
+pub sweeps : (session : ℕ) (t : TablesView) → IsSeated t → IsSeated (swept session t)
 sweeps session t seated d other speaks = each (same_number other session)
   where
     each : (other ≡ session) ⊎ (other ≢ session) → connection_of (swept session t).sittings other ≡ Some d

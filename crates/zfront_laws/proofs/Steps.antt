@@ -1,31 +1,59 @@
--- Steps of a server: the log of its calls goes on, and its streams hold no more.
-use Rattle.std.proofs.Common.{◌≡◌, Bool, true, false, Option, None, Some, refl, sym, subst}
+-- Steps of a server: the log of its calls goes on, its streams hold no more, and seats are kept.
+use Rattle.std.proofs.Common.{◌≡◌, ℕ, ◌≤◌, ◌++◌, arith, Bool, true, false, Option, None, Some, refl, sym, subst}
 use Rattle.std.specs.Prelude.{◌&&◌, is_none, is_some}
 use Rattle.zcalls.specs.declared.call.Call.{Call}
 use Rattle.zpieces.specs.Streams.{held_of}
 use Rattle.ztables.specs.Tables.{TablesView}
 use Rattle.zfront.specs.Front.{FrontView, with_tables}
-use Rattle.zfront_laws.specs.Runs.{GoesOn}
+use Rattle.zturns.specs.Turns.{Log}
+use Rattle.zfront_laws.specs.Runs.{GoesOn, IsLog}
+use Rattle.zfront_laws.specs.Seats.{IsSeated}
+use Rattle.zfront_laws.proofs.Seated.{Has}
+use Rattle.zfront_laws.proofs.Kept.{Kept}
+use Rattle.zfront_laws.proofs.Rising.{zxid_rises}
 use Rattle.zfront_laws.proofs.GoingOn as log
-use Rattle.zfront_laws.proofs.Lighter.{Lighter, lighter, unmoved}
+use Rattle.zfront_laws.proofs.Lighter.{Lighter, unmoved}
+
+-- each connection that speaks for a session has its seat, and no session is newer than the tree
+pub record Fine (v : FrontView) : Type 0 where
+  pub seated : IsSeated v.tables
+  pub below : (id : ℕ) → Has v.tables.sittings id → id ≤ v.asker.known.zxid
+
+-- it stays so, where the server has a log
+abbrev pub Seats : FrontView → FrontView → Type 0
+Seats old new = (log : Log) (waiting : Option Call) → IsLog old log waiting → Fine old → Fine new
+
+pub seats_both : (old middle new : FrontView) → GoesOn old middle → Seats old middle → Seats middle new → Seats old new
+seats_both old middle new goes one two log waiting has fine =
+    let next = goes log waiting has in
+    two (log ++ next.0) next.1 next.2 (one log waiting has fine)
+
+pub seats_kept : (old new : FrontView) → GoesOn old new → Kept old.tables new.tables → Seats old new
+seats_kept old new goes kept log waiting has fine =
+    let next = goes log waiting has in
+    let more = zxid_rises old new log next.0 waiting next.1 has next.2 in
+    record { seated = kept.0 fine.seated; below = λ id there. omega (arith, more, fine.below id (kept.1 id there)) }
 
 pub record Step (old new : FrontView) : Type 0 where
   pub goes : GoesOn old new
-  pub light : Lighter old.tables new.tables
+  pub few : held_of new.tables.streams ≤ held_of old.tables.streams
+  pub seats : Seats old new
+
+-- a step by what it does to the log and to the tables
+pub steps : (old new : FrontView) → GoesOn old new → Lighter old.tables new.tables → Step old new
+steps old new goes light = record { goes = goes; few = light.0; seats = seats_kept old new goes light.1 }
 
 -- one step behind another
 pub both : (old middle new : FrontView) → Step old middle → Step middle new → Step old new
 both old middle new one two = record {
   goes = log.both old middle new one.goes two.goes;
-  light = lighter old.tables middle.tables new.tables one.light two.light;
+  few = omega (arith, one.few, two.few);
+  seats = seats_both old middle new one.goes one.seats two.seats;
 }
 
 -- what a server became
 pub becomes : (old new like : FrontView) → new ≡ like → GoesOn old like → Lighter old.tables like.tables → Step old new
-becomes old new like is goes light = record {
-  goes = subst (λ (v : FrontView). GoesOn old v) (sym is) goes;
-  light = subst (λ (v : FrontView). Lighter old.tables v.tables) (sym is) light;
-}
+becomes old new like is goes light = subst (λ (v : FrontView). Step old v) (sym is) (steps old like goes light)
 
 -- nothing happens to its client
 pub same_client : (old new like : FrontView) → new ≡ like → like.asker ≡ old.asker → like.late ≡ old.late → Lighter old.tables like.tables
@@ -34,7 +62,7 @@ same_client old new like is kept late light = becomes old new like is (log.same 
 
 -- nothing at all
 pub same : (old new : FrontView) → new ≡ old → Step old new
-same old new is = same_client old new old is refl refl (unmoved (held_of old.tables.streams))
+same old new is = same_client old new old is refl refl (unmoved old.tables)
 
 -- nothing but that the tables are others
 pub retabled : (t : TablesView) (old new : FrontView) → new ≡ with_tables t old → Lighter old.tables t → Step old new

@@ -46,20 +46,20 @@ waits : (c : ℕ) (kind : Kind) (path : Path) (t : TablesView) → Lighter t (wa
 waits c kind path t = by (is_full t.watches (watch path kind c)) refl
   where
     by : (b : Bool) → is_full t.watches (watch path kind c) ≡ b → Lighter t (waiting c kind path t)
-    by true is = rw is (unmoved (held_of t.streams))
-    by false is = rw is (unmoved (held_of t.streams))
+    by true is = rw is (unmoved t)
+    by false is = rw is (unmoved t)
 
 query_wished : (c : ℕ) (asks : Question) (told : Reply) (t : TablesView) → Lighter t (granted_all c (query_wish asks told) t)
 query_wished c (query.Exists path) (reply.Exists stat) t = waits c Data path t
 query_wished c (query.Exists path) (reply.Refused NoNode) t = waits c Missing path t
 query_wished c (query.GetData path) (reply.Data bytes stat) t = waits c Data path t
 query_wished c (query.GetChildren path) (reply.Children names) t = waits c Children path t
-query_wished c asks told t = unmoved (held_of t.streams)
+query_wished c asks told t = unmoved t
 
 first_wished : (c : ℕ) (calls : List Call) (replies : List Reply) (t : TablesView) → Lighter t (granted_all c (first_wish calls replies) t)
-first_wished c [] replies t = unmoved (held_of t.streams)
-first_wished c (Update update ∷ calls) replies t = unmoved (held_of t.streams)
-first_wished c (Query asks ∷ calls) [] t = unmoved (held_of t.streams)
+first_wished c [] replies t = unmoved t
+first_wished c (Update update ∷ calls) replies t = unmoved t
+first_wished c (Query asks ∷ calls) [] t = unmoved t
 first_wished c (Query asks ∷ calls) (told ∷ replies) t = query_wished c asks told t
 
 look_wished : (c : ℕ) (look : Look) (calls : List Call) (replies : List Reply) (t : TablesView) → Lighter t (granted_all c (look_wish look calls replies) t)
@@ -67,7 +67,7 @@ look_wished c look calls replies t = by look.watch refl
   where
     by : (b : Bool) → look.watch ≡ b → Lighter t (granted_all c (look_wish look calls replies) t)
     by true is = rw is (first_wished c calls replies t)
-    by false is = rw is (unmoved (held_of t.streams))
+    by false is = rw is (unmoved t)
 
 again : (c : ℕ) (kind : Kind) (seen : ℤ) (path : Path) (told : Reply) (t : TablesView) → Lighter t (granted_all c (wish_again kind seen path told) t)
 again c Data seen path (reply.Exists stat) t = by (int_lt seen (long_of stat.mzxid)) refl
@@ -84,16 +84,16 @@ again c Children seen path (reply.Exists stat) t = by (int_lt seen (long_of stat
     by true is = rw is (sends c (event_frame (event NodeChildrenChanged path)) t)
     by false is = rw is (waits c Children path t)
 again c Children seen path (reply.Refused NoNode) t = sends c (event_frame (event NodeDeleted path)) t
-again c kind seen path told t = unmoved (held_of t.streams)
+again c kind seen path told t = unmoved t
 
 calls_again : (c : ℕ) (kind : Kind) (seen : ℤ) (call : Call) (told : Reply) (t : TablesView) → Lighter t (granted_all c (call_again kind seen call told) t)
 calls_again c kind seen (Query (query.Exists path)) told t = again c kind seen path told t
-calls_again c kind seen call told t = unmoved (held_of t.streams)
+calls_again c kind seen call told t = unmoved t
 
 kind_again : (c : ℕ) (kind : Kind) (seen : ℤ) (calls : List Call) (replies : List Reply) (t : TablesView)
     → Lighter t (granted_all c (wishes_again kind seen calls replies) t)
-kind_again c kind seen [] replies t = unmoved (held_of t.streams)
-kind_again c kind seen (call ∷ calls) [] t = unmoved (held_of t.streams)
+kind_again c kind seen [] replies t = unmoved t
+kind_again c kind seen (call ∷ calls) [] t = unmoved t
 kind_again c kind seen (call ∷ calls) (told ∷ replies) t =
     behind (granted c) (granted_all c) (λ u. refl) (λ w ws u. refl) (call_again kind seen call told) (wishes_again kind seen calls replies) t
     (calls_again c kind seen call told t) (kind_again c kind seen calls replies)
@@ -118,7 +118,7 @@ wished c (asked.GetData look) calls replies t = look_wished c look calls replies
 wished c (asked.GetChildren look) calls replies t = look_wished c look calls replies t
 wished c (asked.GetChildren2 look) calls replies t = look_wished c look calls replies t
 wished c (asked.SetWatches set) calls replies t = set_again c set calls replies t
-wished c other calls replies t = unmoved (held_of t.streams)
+wished c other calls replies t = unmoved t
 
 -- a request is answered
 pub answers : (clock : Clock) (known : KnownView) (c : ℕ) (request : Request) (calls : List Call) (replies : List Reply) (t : TablesView)

@@ -8,6 +8,10 @@ use Rattle.zsittings.specs.Sittings.{passes}
 use Rattle.ztables.specs.Tables.{TablesView, connection_of, closed, ended, sent, sitting, taken_up}
 use Rattle.ztables.specs.Sweeping.{swept_all}
 use Rattle.ztables.specs.Telling.{told_all}
+use Rattle.zanswering.specs.declared.clock.Clock.{Clock}
+use Rattle.zfront.specs.Front.{FrontView}
+use Rattle.zfront.specs.Inputs.{Begins}
+use Rattle.zfront_laws.specs.Runs.{Input, Runs}
 
 -- each connection that speaks for a session has the seat of this session
 abbrev pub IsSeated : TablesView → Type 0
@@ -32,3 +36,8 @@ pub record SeatsAreKept : Type 0 where
   pub swept : (sessions : List ℕ) (t : TablesView) → Seats (swept_all sessions) t
   pub taken_up : (session c : ℕ) (password : List ℕ) (t : TablesView) → passes t.sittings session password ≡ true → Seats (taken_up session c) t
   pub opened : (session c : ℕ) (password : List ℕ) (t : TablesView) → connection_of t.sittings session ≡ None → Seats (sitting session password c) t
+
+-- of every server, whatever its inputs were
+abbrev pub EveryFrontIsSeated : Type 0
+EveryFrontIsSeated =
+    (last : ℕ) (times : Clock) (inputs : List Input) (first v : FrontView) → Begins last times first → Runs inputs first v → IsSeated v.tables

@@ -4,7 +4,7 @@ ghost use Rattle.zfront_laws.specs.Laws.{EveryFrontIsOneTree, EveryFrontKeepsFew
 ghost use Rattle.zfront_laws.specs.Laws.{CallsStandInTheLog, EveryInputGoesOn, EveryRunGoesOn};
 ghost use Rattle.zfront_laws.specs.Laws.{LateCallsStandInTheLog, NoRequestMakesNoCall};
 ghost use Rattle.zfront_laws.specs.Laws.{RequestsAreForTheirSession};
-ghost use Rattle.zfront_laws.specs.Seats.{OneSpeaks, SeatsAreKept};
+ghost use Rattle.zfront_laws.specs.Seats.{EveryFrontIsSeated, OneSpeaks, SeatsAreKept};
 
 use zalone::laws::replies_are_the_trees;
 
@@ -65,4 +65,10 @@ pub fn one_speaks()
 /// is closed or ends, something is sent or told, sessions are gone, taken up, or opened.
 pub fn seats_are_kept()
     ensures { SeatsAreKept }
+{}
+
+/// Whatever the inputs of a new server were, each connection that speaks for a session has this
+/// session's seat. So no two connections ever speak for one session.
+pub fn every_front_is_seated()
+    ensures { EveryFrontIsSeated }
 {}
