@@ -4,7 +4,6 @@ use Rattle.std.specs.Prelude.{◌&&◌, is_none, is_some}
 use Rattle.std.specs.List.{list_any}
 use Rattle.zcalls.specs.declared.call.Call.{Call}
 use Rattle.zcalls.specs.declared.reply.Reply.{Reply}
-use Rattle.zpieces.specs.Streams.{held_of}
 use Rattle.zwatches.specs.declared.place.Place.{Place}
 use Rattle.ztables.specs.Sweeping.{gone}
 use Rattle.ztables.specs.Telling.{told_all}

@@ -141,8 +141,8 @@ every_front_is_one_tree last times inputs first v begins runs =
 no_rows : (v : FrontView) (t : TablesView) → v.tables ≡ t → ((c : ℕ) → finite.get t.streams c ≡ None) → ((id : ℕ) → finite.get t.sittings id ≡ None) → Fine v
 no_rows v t is streams sittings = record {
   seated = λ c session speaks. absurd (none_some (Speaking session) (
-    sym (ap (option_map (λ (s : StreamView). s.phase)) (streams c)) ∙ ap (λ (u : TablesView). phase_of u.streams c) (sym is) ∙ speaks
-  ));
+      sym (ap (option_map (λ (s : StreamView). s.phase)) (streams c)) ∙ ap (λ (u : TablesView). phase_of u.streams c) (sym is) ∙ speaks
+      ));
   below = λ id has. absurd (none_some has.0 (sym (sittings id) ∙ ap (λ (u : TablesView). finite.get u.sittings id) (sym is) ∙ has.1));
 }
 

@@ -2,7 +2,7 @@
 use Rattle.std.proofs.Common.{◌≡◌, ◌≢◌, ◌⊎◌, inl, inr, ◌∙◌, ℕ, Bool, true, false, List, [], ◌∷◌, Option, None, Some, refl, sym, ap}
 use Rattle.std.specs.Prelude.{if◌then◌else◌}
 use Rattle.std.specs.Cmp.{nat_cmp_total}
-use Rattle.std.specs.FinMap.{get, insert, remove, nat_cmp-IsAntisymmetric}
+use Rattle.std.specs.FinMap.{get, insert, nat_cmp-IsAntisymmetric}
 use Rattle.std.specs.Option.{option_map, option_map_or}
 use Rattle.ztree.proofs.Maps.{get-insert-here, get-insert-elsewhere, get-removed}
 use Rattle.zcalls.specs.declared.call.Kind.{Kind}
@@ -12,7 +12,6 @@ use Rattle.zcalls.specs.declared.call.Update.{Update}
 use Rattle.zcalls.specs.declared.call.Update.TheVariants as act
 use Rattle.zcalls.specs.declared.reply.Reply.{Reply}
 use Rattle.zcalls.specs.declared.reply.Reply.TheVariants as reply
-use Rattle.zpieces.specs.declared.phase.Phase.{Phase}
 use Rattle.zpieces.specs.declared.phase.Phase.TheVariants.{Silent, Speaking}
 use Rattle.zpieces.specs.Streams.{StreamView, with_bytes, opened, phase_of}
 use Rattle.zsittings.specs.declared.sitting.Sitting.{Sitting}
@@ -83,7 +82,7 @@ pub sweeps_kept : (session : ℕ) (t : TablesView) → Kept t (swept session t)
 sweeps_kept session t = (
   sweeps session t,
   λ id has.
-  moved_ids session t id (has.0, (get-removed nat_cmp_total nat_cmp-IsAntisymmetric (moved session t).sittings session id has.0 has.1).1),
+      moved_ids session t id (has.0, (get-removed nat_cmp_total nat_cmp-IsAntisymmetric (moved session t).sittings session id has.0 has.1).1),
 )
 
 pub takes_up_kept : (session c : ℕ) (given : List ℕ) (t : TablesView) → passes t.sittings session given ≡ true → Kept t (taken_up session c t)
@@ -96,9 +95,6 @@ takes_up_kept session c given t is = (
 pub bytes_kept : (c : ℕ) (bytes : List ℕ) (t : TablesView) → Kept t (record t { streams = with_bytes t.streams c bytes })
 bytes_kept c bytes t = (λ seated d session speaks. seated d session (spoke d session speaks), λ id has. has)
   where
-    to : StreamView → StreamView
-    to s = record s { bytes = bytes }
-
     here : (d session : ℕ) → d ≡ c → phase_of (with_bytes t.streams c bytes) d ≡ Some (Speaking session) → phase_of t.streams d ≡ Some (Speaking session)
     here d session same has =
         let row = phase_here (λ s. record s { bytes = bytes }) t.streams c (Speaking session) (ap (phase_of (with_bytes t.streams c bytes)) (sym same) ∙ has) in
@@ -117,14 +113,11 @@ silent_phase password session is = cc
 pub opens_kept : (c : ℕ) (password : List ℕ) (t : TablesView) → Kept t (record t { streams = insert t.streams c (opened password) })
 opens_kept c password t = (λ seated d session speaks. seated d session (near d session (same_number d c) speaks), λ id has. has)
   where
-    phase : Option StreamView → Option Phase
-    phase o = option_map (λ s. s.phase) o
-
     near : (d session : ℕ) → (d ≡ c) ⊎ (d ≢ c) → phase_of (insert t.streams c (opened password)) d ≡ Some (Speaking session) → phase_of t.streams d ≡ Some (Speaking session)
     near d session (inl same) has =
         absurd (silent_phase password session (
-          sym (ap (option_map (λ (s : StreamView). s.phase)) (get-insert-here nat_cmp_total nat_cmp-IsAntisymmetric t.streams c (opened password)))
-          ∙ ap (phase_of (insert t.streams c (opened password))) (sym same) ∙ has
+        sym (ap (option_map (λ (s : StreamView). s.phase)) (get-insert-here nat_cmp_total nat_cmp-IsAntisymmetric t.streams c (opened password)))
+        ∙ ap (phase_of (insert t.streams c (opened password))) (sym same) ∙ has
         ))
     near d session (inr other) has =
         sym (ap (option_map (λ (s : StreamView). s.phase)) (get-insert-elsewhere nat_cmp_total nat_cmp-IsAntisymmetric t.streams c (opened password) d other)) ∙ has

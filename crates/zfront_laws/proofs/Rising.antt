@@ -1,5 +1,5 @@
 -- The zxid of a client's tree never falls, and a session that opens has the next one as its id.
-use Rattle.std.proofs.Common.{◌≡◌, ◌∙◌, ℕ, ◌+◌, ◌≤◌, suc, Bool, true, false, List, [], ◌∷◌, ◌++◌, Option, None, Some, sym, ap, arith}
+use Rattle.std.proofs.Common.{◌≡◌, ◌∙◌, ℕ, ◌+◌, ◌≤◌, Bool, true, false, List, [], ◌∷◌, ◌++◌, Option, None, sym, ap, arith}
 use Rattle.std.specs.Prelude.{if◌then◌else◌, nat_le, zip}
 use Rattle.std.specs.FinMap as finite
 use Rattle.ztree.specs.Tree.{Tree, opening_tree, with_next_zxid}
@@ -90,7 +90,7 @@ new_id old new ticks log id timeout rest told asks =
     let reply : Opened id timeout ≡ (step t 0 (Open ticks)).1 = placed opening_tree log (zip [] rest) ticks (Opened id timeout) one in
     let is : id ≡ t.zxid + 1 = step_opens t ticks id timeout (sym reply) in
     let next : (step t 0 (Open ticks)).0.zxid ≡ t.zxid + 1 =
-        changes_take_one_zxid t 0 (Open ticks) ∙ ap (λ r. t.zxid + (if is_change r then 1 else 0)) (sym reply) in
+    changes_take_one_zxid t 0 (Open ticks) ∙ ap (λ r. t.zxid + (if is_change r then 1 else 0)) (sym reply) in
     let before : old.asker.known.zxid ≡ t.zxid = ap (λ (k : KnownView). k.zxid) told.known in
     let behind = ap (λ (k : KnownView). k.zxid) has.known in
     (omega (arith, is, before), omega (arith, is, next, behind, log_steps opening_tree log (zip [] rest) (Update (Open ticks)) (Opened id timeout)))

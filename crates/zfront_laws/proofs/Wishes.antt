@@ -22,7 +22,6 @@ use Rattle.zanswering.specs.Stats.{long_of}
 use Rattle.zwatches.specs.declared.kind.Kind.{Kind}
 use Rattle.zwatches.specs.declared.kind.Kind.TheVariants.{Data, Missing, Children}
 use Rattle.zwatches.specs.Watches.{is_full, watch}
-use Rattle.zpieces.specs.Streams.{held_of}
 use Rattle.ztables.specs.Tables.{TablesView}
 use Rattle.ztables.specs.Telling.{event_frame}
 use Rattle.zserving.specs.Answering.{answered, answer_unless}

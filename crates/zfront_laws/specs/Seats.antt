@@ -2,13 +2,13 @@
 -- The source is the ZooKeeper Programmer's Guide, "ZooKeeper Sessions".
 use Rattle.std.specs.Prelude.{◌≡◌, ℕ, true, List, None, Some}
 use Rattle.zevents.specs.declared.event.Event.{Event}
+use Rattle.zanswering.specs.declared.clock.Clock.{Clock}
 use Rattle.zpieces.specs.declared.phase.Phase.TheVariants.{Speaking}
 use Rattle.zpieces.specs.Streams.{phase_of}
 use Rattle.zsittings.specs.Sittings.{passes}
 use Rattle.ztables.specs.Tables.{TablesView, connection_of, closed, ended, sent, sitting, taken_up}
 use Rattle.ztables.specs.Sweeping.{swept_all}
 use Rattle.ztables.specs.Telling.{told_all}
-use Rattle.zanswering.specs.declared.clock.Clock.{Clock}
 use Rattle.zfront.specs.Front.{FrontView}
 use Rattle.zfront.specs.Inputs.{Begins}
 use Rattle.zfront_laws.specs.Runs.{Input, Runs}
