@@ -55,8 +55,8 @@ pub fn requests_are_for_their_session()
     ensures { RequestsAreForTheirSession }
 {}
 
-/// Where each connection that speaks for a session has this session's seat, no two connections speak
-/// for one session.
+/// Where each connection that speaks for a session has this session's seat, no two connections
+/// speak for one session.
 pub fn one_speaks()
     ensures { OneSpeaks }
 {}
