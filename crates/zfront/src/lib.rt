@@ -16,6 +16,7 @@ pub mod limits;
 mod orders;
 mod reading;
 mod requests;
+mod rows;
 mod ticking;
 mod word;
 mod words;
