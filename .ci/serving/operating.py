@@ -3,6 +3,7 @@ import os
 import pty
 import signal
 import subprocess
+import tempfile
 import threading
 import time
 
@@ -61,15 +62,13 @@ def test_operator_files(program):
         server.ran.stdin.flush()
         for _ in range(9):
             want(server.serves(), "where nobody takes the answers")
-    path = f"/tmp/serve-{os.getpid()}"
-    with open(path, "w+b") as file:
+    with tempfile.TemporaryFile() as file:
         file.write(b"fail s1\nfrob\nfail s2")
         file.seek(0)
         with Server(program, stdin=file) as server:
             told = [server.ran.stdout.readline() for _ in range(3)]
             want_same(told, [b"done\n", b"bad line\n", b"done\n"], "a file's lines")
             want(server.serves(), "over the server that is left")
-    os.remove(path)
     closed = lambda: [os.close(it) for it in (0, 1)]
     with Server(program, stdin=None, stdout=None, preexec_fn=closed) as server:
         want(server.serves(), "where both are closed")
