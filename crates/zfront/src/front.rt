@@ -53,7 +53,8 @@ impl Front {
     /// nobody can guess. Numbers of connections begin with 1, and one is given again only behind
     /// `ended`.
     pub fn opened(&mut self, connection: u32, password: Password) -> Result<(), Memory>
-        ensures opened { OnOk result (input.Opens connection password self.old.front self.new.front) }
+        ensures opened { OnOk result
+            (input.Opens connection password self.old.front self.new.front) }
         ensures sound { OnOk result (input.IsSound self.old self.new) }
         ensures broken { OnErr result (self.new.is_broken ≡ true) }
         ensures stays { self.old.is_broken ≡ true → IsErr result }

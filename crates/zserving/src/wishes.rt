@@ -129,7 +129,8 @@ pub(crate) fn tells(
     path: &Path,
     list: &mut Vec<Wish>,
 ) -> Result<(), Memory>
-    ensures { OnOk result (list.new.items ≡ list.old.items ++ wish.Tells (event kind path.now) ∷ []) }
+    ensures { OnOk result
+        (list.new.items ≡ list.old.items ++ wish.Tells (event kind path.now) ∷ []) }
 {
     let path = path.copied(alloc)?;
     list.push(Wish::Tells(Event { kind, path }))?;

@@ -27,8 +27,8 @@ pub fn watches_of_queries()
 
 /// The watch of a request: that of its first call, if it asks for one.
 pub fn watches_of_requests()
-    ensures asked { wishes (asked.Exists (look_a true)) (exists_a ∷ []) (reply.Exists some_stat ∷ [])
-        ≡ Waits Data at_a ∷ [] }
+    ensures asked { wishes (asked.Exists (look_a true)) (exists_a ∷ [])
+        (reply.Exists some_stat ∷ []) ≡ Waits Data at_a ∷ [] }
     ensures unasked { wishes (asked.Exists (look_a false)) (exists_a ∷ [])
         (reply.Exists some_stat ∷ []) ≡ [] }
     ensures bytes { wishes (asked.GetData (look_a true)) (Query (GetData at_a) ∷ [])
