@@ -1,6 +1,7 @@
-"""How ./zk compiles, keeps and runs the server for ZooKeeper's clients.
+"""How ./zk compiles, keeps and runs the servers for ZooKeeper's clients.
 
-The gate of this checkout, so it seems, has built an archive of the front: one that does nothing.
+The gate of this checkout, so it seems, has built an archive of the front, and a program that keeps
+a folder: both do nothing.
 """
 import os
 import shutil
@@ -33,6 +34,12 @@ import kit, sources
 print(sources.key_of(sources.lines_below("zfront_c")), kit.identity())
 """
 SAID = (b"jellqupas ", b"listening on 127.0.0.1:", b"memory", b"whoever can connect")
+# It says that it is open, and ends where its input does; or it has another status.
+KEEPER = """#!/bin/sh
+if [ "$1" = refused ]; then echo "zk: data: no" >&2; exit 3; fi
+printf '\\001'
+exec cat >/dev/null
+"""
 
 
 def give_archive(root):
@@ -50,6 +57,15 @@ def give_archive(root):
         file.write(key)
 
 
+def give_keeper(root):
+    """Puts the program that keeps a folder where the gate of this clone would have."""
+    path = f"{root}/crates/zk_serve/out/zk_serve"
+    os.makedirs(os.path.dirname(path))
+    with open(path, "w", encoding="ascii") as file:
+        file.write(KEEPER)
+    os.chmod(path, 0o755)
+
+
 def proved(place, root, lines, what):
     """The path that `prove serve` prints; these lines stand on standard error."""
     ended = place.call(["zk", "prove", "serve"], root)
@@ -60,21 +76,34 @@ def proved(place, root, lines, what):
     return path
 
 
-def test_runs(place, root):
+def test_runs(place, root, more=(), left=b"memory"):
     """It says what it is, serves until a signal comes, and ends well."""
     for sent in (signal.SIGTERM, signal.SIGINT):
-        words = ["zk", "--proved", "serve", "--listen", "127.0.0.1:0", "--servers=+2"]
+        words = ["zk", "--proved", "serve", "--listen", "127.0.0.1:0", "--servers=+2", *more]
         pipes = {"stdin": subprocess.DEVNULL, "stdout": subprocess.PIPE, "stderr": subprocess.PIPE}
         ran = place.start(words, root, **pipes)
         try:
             said = [ran.stderr.readline() for _ in SAID]
-            want(all(wanted in it for wanted, it in zip(SAID, said)), f"the server says {said}")
+            wanted = (*SAID[:2], left, SAID[3])
+            want(all(one in it for one, it in zip(wanted, said)), f"the server says {said}")
             want(ran.poll() is None, "the end of standard input ends nothing")
             ran.send_signal(sent)
-            left = ran.communicate(timeout=20)
+            rest = ran.communicate(timeout=20)
         finally:
             end(ran)
-        want((ran.returncode, *left) == (0, b"", b""), f"its end: {ran.returncode}, {left}")
+        want((ran.returncode, *rest) == (0, b"", b""), f"its end: {ran.returncode}, {rest}")
+
+
+def test_keeps(place, root):
+    """A server that keeps a folder: its host is compiled at its first call, and kept."""
+    ended = place.call(["zk", "--proved", "serve", "--data", "d"], root)
+    want_line(ended, 3, "zk: the program is not proved; './zk prove serve-data' .*", "no keeper")
+    give_keeper(root)
+    test_runs(place, root, ["--data=d"], b"what is told is kept in d")
+    words = ["zk", "serve", "--listen=127.0.0.1:0", "--data", "refused", "--sync", "never"]
+    want_line(place.call(words, root), 3, "zk: data: no", "a folder that isn't opened")
+    said = place.call(["zk", "--version"], root).out
+    want(b"\nserve-data: proved, by the gate" in said, f"--version: {said}")
 
 
 def test(place):
@@ -86,6 +115,7 @@ def test(place):
     last = "the front of the server is proved"
     path = proved(place, root, ["the gate has built the archive of these sources", last], "a clone")
     test_runs(place, root)
+    test_keeps(place, root)
     said = place.call(["zk", "--version"], root).out
     want(b"\nserve: proved, by rattle-kit-" in said, f"--version: {said}")
     want(place.call(["zk", "serve", "--version"], root).out == said, "serve --version")

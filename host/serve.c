@@ -1,12 +1,16 @@
-/* The server for ZooKeeper's clients: sockets and a clock around a front (jellqupas_front.h). It
-   hands on what came, sends what the front tells, draws passwords and gives ticks.
+/* The server for ZooKeeper's clients: sockets and a clock around a front (jellqupas_front.h), in
+   memory or in a child that keeps a folder (front.h). It hands on what came, sends what the front
+   tells, draws passwords and gives ticks.
 
    Nothing here is proved. It is to uphold what jellqupas_front.h asks: each connection's bytes are
    handed on once and in their order, what is told is sent in that order and whole, or the
    connection is closed, and passwords can't be guessed.
 
    One thread does all. It waits for events of at most 1,000 connections, of the operator's lines,
-   and of the signals that end it. A connection's number is its place in `all`. */
+   and of the signals that end it. A connection's number is its place in `all`.
+
+   In memory each input is answered at once. Where a folder is kept, all that one wait brought is
+   kept together and answered then; but many requests are kept before more is read. */
 #define _GNU_SOURCE
 #include <errno.h>
 #include <limits.h>
@@ -22,6 +26,7 @@
 #include <sys/socket.h>
 #include <time.h>
 #include <unistd.h>
+#include "front.h"
 #include "jellqupas_front.h"
 #include "start.h"
 
@@ -32,6 +37,8 @@ enum {
        (A request has some 20 bytes or more, and its reply up to a million.) */
     READ = 16 << 10,
     HANDED = 1 << 10,
+    /* The requests that are kept together. */
+    KEPT = 128,
     /* A connection that is to be sent more than this isn't read. */
     OWED = 1 << 20,
     /* The bytes that are to be sent or came of an unfinished request, of all connections together.
@@ -64,6 +71,9 @@ struct connection {
     size_t sent, count, room;
     /* The bytes that were handed on since its last piece: so an unfinished request has no more. */
     size_t given;
+    /* The bytes that are still to come of a request, or of its length what came: `heads` bytes. */
+    uint32_t body, head;
+    int heads;
     /* When it is closed, in milliseconds; 0 for never. */
     uint64_t until;
     /* The events that it waits for. */
@@ -75,6 +85,8 @@ static jellqupas_front *front;
 static struct connection all[MOST + 1];
 static int events, listener, signals;
 static size_t held;
+/* The requests that were handed on since the front has kept what it was told. */
+static size_t asked;
 static bool is_over, is_deaf;
 /* The connections that were told something, and those that are GONE. */
 static uint32_t touched[MOST + 1], gone[MOST];
@@ -125,20 +137,25 @@ static void shut(uint32_t number) {
     gone[gone_count++] = number;
 }
 
-/* Closes those that hold most, where all hold too much. */
+static void send_on(uint32_t number);
+
+/* Closes those that hold most, where all hold too much, unless they take it now. */
 static void bound(void) {
     while (held > HELD) {
         uint32_t most = 1;
         for (uint32_t i = 2; i <= MOST; i++) {
             if (owed(&all[i]) + all[i].given > owed(&all[most]) + all[most].given) most = i;
         }
-        shut(most);
+        send_on(most);
+        if (held > HELD) shut(most);
     }
 }
 
-/* Takes the pieces that the front has. */
+/* Takes the pieces that the front has, once what it was told is kept. */
 static void take(void) {
     uint32_t next;
+    keep();
+    asked = 0;
     while ((next = jellqupas_front_piece(front)) != JELLQUPAS_FRONT_NONE) {
         uint32_t number = jellqupas_front_connection(front);
         struct connection *it = &all[number];
@@ -163,7 +180,7 @@ static void take(void) {
 /* What follows each input of the front. */
 static void done(uint32_t status) {
     if (status != JELLQUPAS_DONE) stop(1, "%s", jellqupas_status_text(status));
-    take();
+    if (!is_kept || asked >= KEPT) take();
 }
 
 static void forget_sent(struct connection *it) {
@@ -209,6 +226,7 @@ static void answer(void) {
 
 /* Sends what was told, and tells the front which connections are closed. */
 static void finish(void) {
+    take();
     while (touched_count || gone_count) {
         while (touched_count) {
             uint32_t number = touched[--touched_count];
@@ -225,6 +243,20 @@ static void finish(void) {
     }
 }
 
+/* How many requests begin in these bytes of a connection. */
+static size_t begun(struct connection *it, const uint8_t *bytes, size_t count) {
+    size_t found = 0;
+    while (count) {
+        size_t part = it->body < count ? it->body : count;
+        it->body -= (uint32_t)part, bytes += part, count -= part;
+        if (!count) break;
+        if (!it->heads) found++;
+        it->head = it->head << 8 | *bytes++, count--;
+        if (++it->heads == 4) it->body = it->head, it->head = 0, it->heads = 0;
+    }
+    return found;
+}
+
 /* Takes what came on a connection, as long as it takes what it is told. */
 static void read_from(uint32_t number) {
     static uint8_t block[HANDED];
@@ -237,7 +269,7 @@ static void read_from(uint32_t number) {
             return;
         }
         if (it->state == OPEN) {
-            it->given += count, held += count;
+            it->given += count, held += count, asked += begun(it, block, count);
             done(jellqupas_front_came(front, number, block, count));
             bound();
         }
@@ -304,8 +336,9 @@ static int pass(int milliseconds) {
         else if (number == LISTENER) for (int most = 64; most && is_welcomed(); most--) continue;
         else if (came & EPOLLOUT) send_on(number);
         else read_from(number);
-        finish();
+        if (!is_kept) finish();
     }
+    finish();
     if (owed(&all[OPERATOR])) answer();
     return count;
 }
@@ -339,8 +372,8 @@ static void serve(uint32_t tick) {
 
 static const char SAID[] =
     "zk: jellqupas " JELLQUPAS_VERSION " for ZooKeeper's clients: %ld server%s, ticks of %ld ms\n"
-    "zk: listening on %.*s:%u\n"
-    "zk: all is in the memory of this one process: when it ends, nothing is left\n"
+    "zk: listening on %.*s:%u\n";
+static const char OPEN_TO_ALL[] =
     "zk: whoever can connect may do everything: nobody is asked who they are\n";
 
 int main(int count, char **given) {
@@ -350,6 +383,7 @@ int main(int count, char **given) {
     if (!is_drawn(password)) stop(3, "no passwords can be drawn: %s", strerror(errno));
     make_ready(MOST + 32);
     signals = ending_signals();
+    prepare(&words, signals);
     listener = listening_at(words.listen, &port);
     events = epoll_create1(EPOLL_CLOEXEC);
     struct timespec at;
@@ -360,12 +394,14 @@ int main(int count, char **given) {
     int host = (int)(strrchr(words.listen, ':') - words.listen);
     const char *many = words.servers > 1 ? "s" : "";
     fprintf(stderr, SAID, words.servers, many, words.tick, host, words.listen, port);
+    say_what_is_left();
+    fputs(OPEN_TO_ALL, stderr);
     if (!is_added(signals, SIGNALS) || !is_added(listener, LISTENER)) {
         stop(3, "nothing can be waited for: %s", strerror(errno));
     }
     all[OPERATOR].state = OPEN, all[OPERATOR].events = EPOLLIN;
     /* (what can't be waited for is a file: its lines are taken before anybody is served) */
-    if (!is_added(STDIN_FILENO, OPERATOR)) while (!is_deaf) hear();
+    if (!is_added(STDIN_FILENO, OPERATOR)) while (!is_deaf) hear(), finish();
     finish();
     serve((uint32_t)words.tick);
     for (uint32_t i = 1; i <= MOST; i++) shut(i);

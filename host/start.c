@@ -5,6 +5,7 @@
 #include <fcntl.h>
 #include <signal.h>
 #include <stdarg.h>
+#include <stdbool.h>
 #include <stdio.h>
 #include <stdlib.h>
 #include <string.h>
@@ -102,27 +103,48 @@ static const char USAGE[] =
     "  --listen ADDRESS:PORT    where it listens (127.0.0.1:2181); port 0 is any that is free\n"
     "  --servers N              how many servers the chain begins with, 1 to 16 (3)\n"
     "  --tick MS                the milliseconds of a tick, 10 to 3600000 (2000)\n"
+    "  --data DIR               keeps what it tells in this folder\n"
+    "  --sync batch|never       whether it waits for the disk (batch)\n"
+    "  --keeper PROGRAM         what keeps the folder\n"
     "  --version, --help\n\n"
     "Lines on standard input let servers join, fail and leave: join s4, fail s1, retire s2.\n";
 
+/* Where a word's value is put: a text, or a number from `least` to `most`. */
+struct place {
+    const char *name, **text;
+    long *number, least, most;
+};
+
+/* Puts a value in its place. Returns whether it may stand there. */
+static bool is_put(const struct place *place, const char *value) {
+    if (place->text) *place->text = value;
+    else *place->number = number_in(value, place->least, place->most);
+    return place->text ? *value != 0 : *place->number >= 0;
+}
+
 struct words understood(char **words) {
-    struct words found = {.listen = "127.0.0.1:2181", .servers = 3, .tick = 2000};
+    struct words found = {
+        .listen = "127.0.0.1:2181", .sync = "batch", .servers = 3, .tick = 2000};
+    const struct place places[] = {
+        {.name = "--listen", .text = &found.listen}, {.name = "--data", .text = &found.data},
+        {.name = "--sync", .text = &found.sync}, {.name = "--keeper", .text = &found.keeper},
+        {.name = "--servers", .number = &found.servers, .least = 1, .most = 16},
+        {.name = "--tick", .number = &found.tick, .least = 10, .most = 3600000}};
+    const struct place *const end = places + sizeof places / sizeof *places;
     for (; *words; words++) {
         const char *word = *words, *value = strchr(word, '=');
         size_t length = value ? (size_t)(value - word) : strlen(word);
         if (!strcmp(word, "--help")) exit(fputs(USAGE, stdout) < 0);
         if (!strcmp(word, "--version")) exit(puts("jellqupas " JELLQUPAS_VERSION) < 0);
         if (!strcmp(word, "--") && !words[1]) break;
-        const char *const names[] = {"--listen", "--servers", "--tick"};
-        size_t which = 0;
-        while (which < 3 && (strlen(names[which]) != length || memcmp(word, names[which], length)))
-            which++;
-        if (which == 3) stop(2, "there is no word '%s'", word);
+        const struct place *it = places;
+        while (it < end && (strlen(it->name) != length || memcmp(word, it->name, length))) it++;
+        if (it == end) stop(2, "there is no word '%s'", word);
         value = value ? value + 1 : words[1] ? *++words : "";
-        if (which == 0) found.listen = value;
-        if (which == 1) found.servers = number_in(value, 1, 16);
-        if (which == 2) found.tick = number_in(value, 10, 3600000);
-        if (found.servers < 0 || found.tick < 0) stop(2, "%s isn't '%s'", names[which], value);
+        if (!is_put(it, value)) stop(2, "%s isn't '%s'", it->name, value);
+    }
+    if (strcmp(found.sync, "batch") && strcmp(found.sync, "never")) {
+        stop(2, "--sync isn't '%s'", found.sync);
     }
     return found;
 }

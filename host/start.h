@@ -5,9 +5,10 @@
 /* Says one line on standard error, and ends with this status. */
 _Noreturn void stop(int status, const char *format, ...);
 
-/* What the words ask for. */
+/* What the words ask for. Where a folder is kept, `data` is its name, and `keeper` the program that
+   keeps it. */
 struct words {
-    const char *listen;
+    const char *listen, *data, *sync, *keeper;
     long servers, tick;
 };
 

@@ -44,10 +44,12 @@ def of_the_toolchain():
     return top, f"{top}/c/liblibc_c.a"
 
 
-def merge(archive, name, folder):
-    """Makes the archive of this name in the folder, with what it needs of the toolchain's own."""
+def merge(archive, name, folder, more=()):
+    """Makes the archive of this name in the folder, with what it needs of the toolchain's own, and
+    of more of its archives by their names."""
     top, own = of_the_toolchain()
-    script = f"create {name}\naddlib {archive}\naddlib {own}\nsave\nend\n"
+    added = "".join(f"addlib {it}\n" for it in (archive, own, *(f"{top}/c/{it}" for it in more)))
+    script = f"create {name}\n{added}save\nend\n"
     run([f"{top}/toolchain/bin/llvm-ar", "-M"], folder, input=script)
 
 

@@ -9,7 +9,7 @@ import sources
 
 # The folders of a former layout, one for each checkout.
 FORMER = re.compile(r"[0-9a-f]{16}(\.kept)?")
-TOPS = ("zk", "zk_race", "zclib", "zfront_c")
+TOPS = ("zk", "zk_race", "zk_data", "zk_serve", "zclib", "zfront_c")
 
 
 def size_of(folder):

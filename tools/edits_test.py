@@ -157,6 +157,8 @@ def run():
         tried = lanes.Lanes()
         trial = rounds.Trial(crate, found, tried, sampled=["numbers/more-adds_two"])
         tried.run(trial.begin())
+        late = rounds.Trial(crate, found, tried, until=0)
+        tried.run(late.begin())
     os.chdir(here)
     wanted = {f"numbers/{name}": kind for name, _, _, kind in EDITS}
     wrong = [
@@ -164,6 +166,9 @@ def run():
         for label, kind in wanted.items()
         if trial.came.get(label) != kind
     ]
+    begun = [it for it, kind in late.came.items() if kind != rounds.LEFT]
+    if begun or len(late.came) != len(found):
+        wrong.append(f"it was too late for all edits, but not all were left: {begun}")
     of_functions = sum(it.symbol is not None for it in found)
     if of_functions < 5:
         wrong.append(f"only {of_functions} edits were tried in batches")

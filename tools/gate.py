@@ -25,7 +25,7 @@ from times import Watch
 
 LAST = re.compile(r"(\d+) passed, (\d+) failed\s*$")
 LITTLE = "tools/says-little.txt"
-PROGRAMS = ("zk", "zk_race")
+PROGRAMS = ("zk", "zk_race", "zk_data", "zk_serve")
 
 
 @dataclass
@@ -106,8 +106,11 @@ def listed(root):
         return {it.strip() for it in file if it.strip() and not it.startswith("#")}
 
 
-def try_edits(crates, known, outcome, third=None, number=0, over_kept=False):
-    """Tries the crates' edits, and returns the trials. `known` are those that say little."""
+def try_edits(crates, known, outcome, third=None, number=0, over_kept=False, until=None):
+    """Tries the crates' edits, and returns the trials. `known` are those that say little.
+
+    From the time `until` on no edit begins.
+    """
     began, busy = time.monotonic(), os.times()
     lanes, trials = Lanes(), []
     for crate in crates:
@@ -116,7 +119,8 @@ def try_edits(crates, known, outcome, third=None, number=0, over_kept=False):
         found, alone = chosen(found, third, number)
         if found:
             start = f"{crate.folder}/out/incremental" if over_kept else None
-            trials.append(rounds.Trial(crate, found, lanes, start, alone, known))
+            made = rounds.Trial(crate, found, lanes, start, alone, known, until, number)
+            trials.append(made)
     with toolchain().ending():
         lanes.run([task for it in trials for task in it.begin()])
     outcome.times["edits"] = time.monotonic() - began
@@ -138,6 +142,8 @@ def judge(little, trials, outcome, is_whole, is_gate):
         kind = came.get(label, rounds.UNSURE)
         if kind == rounds.REFUSED or kind == rounds.LITTLE and label in little:
             outcome.passed += 1
+        elif kind == rounds.LEFT:
+            pass
         elif kind == rounds.BAD and is_gate:
             say(f"edit {label}: bad, so it counts for nothing: mend it: {said[label][:300]}")
         else:
@@ -149,7 +155,11 @@ def judge(little, trials, outcome, is_whole, is_gate):
         say(f"{LITTLE}: these say enough by now, so their lines can go: {' '.join(better)}")
     count = sum(it == rounds.LITTLE for it in came.values())
     bad = sum(it == rounds.BAD for it in came.values())
-    say(f"edits: {len(known)} tried, {count} say little ({len(little)} in {LITTLE}), {bad} bad")
+    left = sorted(label for label, it in came.items() if it == rounds.LEFT)
+    tried = len(known) - len(left)
+    say(f"edits: {tried} tried, {count} say little ({len(little)} in {LITTLE}), {bad} bad")
+    if left:
+        say(f"edits: {len(left)} were left for want of time: {' '.join(left)}")
 
 
 def give(root, room, began):
@@ -201,9 +211,10 @@ def end(outcome, began):
     return 1 if outcome.wrong else 0
 
 
-def gate(root, third=None):
-    """The whole gate. Returns the exit status."""
+def gate(root, third=None, seconds=None):
+    """The whole gate, whose edits begin in so many seconds. Returns the exit status."""
     began, outcome, now = time.monotonic(), Outcome(), time.time_ns()
+    until = None if seconds is None else began + seconds
     toolchain().rtlib.guarded()
     outcome.wrong += edits_test.run()
     outcome.times["tests of how edits are tried"] = time.monotonic() - began
@@ -213,7 +224,8 @@ def gate(root, third=None):
             copy_edits(root, room)
             crates = crates_of(room)
             little = listed(root)
-            trials = try_edits(crates, little, outcome, third, number_of(root))
+            number = number_of(root)
+            trials = try_edits(crates, little, outcome, third, number, until=until)
             judge(little, trials, outcome, third is None, True)
             give(root, room, now)
             build_archive(root, crates, outcome)

@@ -21,7 +21,12 @@ from told import Stopped, teller
 tell = teller("zk")
 HELP = ("help", "--help", "-h")
 MODES = ("--proved", "--unproved")
-PROVED = ("script", "race", "library", "serve")
+PROVED = ("script", "race", "data", "library", "serve", "serve-data")
+# What is proved, in the words of who asks for it.
+TOLD = {
+    "script": "a script", "race": "a race", "data": "a script that keeps a folder",
+    "serve-data": "a server that keeps a folder",
+}
 
 
 def refuse(text):
@@ -36,8 +41,8 @@ def become(program, words):
     os.execv(program, [program, *words])
 
 
-def run_unproved(command, words):
-    """Runs the program without proof, which is built first where it isn't there."""
+def get_unproved(command):
+    """A command's program without proof, which is built first where it isn't there."""
     name = programs.NAMES[command]
     path = programs.unproved(name)
     if not path:
@@ -48,32 +53,46 @@ def run_unproved(command, words):
         del os.environ[it]
     # (where it stops at a fault it leaves no core file)
     resource.setrlimit(resource.RLIMIT_CORE, (0, resource.getrlimit(resource.RLIMIT_CORE)[1]))
-    become(path, [command, *words])
+    return path
 
 
 def run(mode, command, words, is_folder):
     """Runs a script or a race: the proved program, or the one without proof, as the mode asks."""
     if is_folder and command == "script":
         raise Stopped("standard input is a folder")
+    command, words = words_of.program_of(command, words)
     path = None if mode == "--unproved" else programs.proved(programs.NAMES[command])
     if path:
-        become(path, [command, *words])
+        become(path, words)
     if mode == "--proved":
-        asked = "prove race" if command == "race" else "prove"
+        asked = usage.asked(command)
         raise Stopped(f"the program is not proved; './zk {asked}' proves it")
-    run_unproved(command, words)
+    become(get_unproved(command), words)
 
 
 def serve(mode, words, is_folder):
     """Runs the server for ZooKeeper's clients, which is proved and built first."""
-    if mode == "--unproved":
-        refuse("the server has no build without proof")
     if is_folder:
         raise Stopped("standard input is a folder")
+    if "data" in words_of.read("serve", words):
+        become(serving.build_kept(), [f"--keeper={keeper(mode)}", *words])
+    if mode == "--unproved":
+        refuse("the server in memory has no build without proof")
     path = serving.proved()
     if not path and mode == "--proved":
         raise Stopped("the server is not proved; './zk prove serve' proves it")
     become(path or serving.build(tell), words)
+
+
+def keeper(mode):
+    """The program that keeps a server's folder, as the mode asks."""
+    name = programs.NAMES["serve-data"]
+    if mode == "--unproved":
+        return get_unproved("serve-data")
+    if mode == "--proved" and not programs.proved(name):
+        asked = usage.asked("serve-data")
+        raise Stopped(f"the program is not proved; './zk {asked}' proves it")
+    return programs.proved(name) or proving.prove(name, tell)
 
 
 def prove(words):
@@ -88,7 +107,7 @@ def prove(words):
         tell("the front of the server is proved")
     else:
         path = proving.prove(programs.NAMES[what], tell)
-        tell(f"the program of a {what} is proved")
+        tell(f"the program of {TOLD[what]} is proved")
     print(path)
 
 

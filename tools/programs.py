@@ -5,8 +5,8 @@ import os
 import places
 import sources
 
-# The program that a command runs.
-NAMES = {"script": "zk", "race": "zk_race"}
+# The program that a command runs. What keeps the folder of a script or a server is one of its own.
+NAMES = {"script": "zk", "race": "zk_race", "data": "zk_data", "serve-data": "zk_serve"}
 
 
 def of_the_gate(name, lines):

@@ -7,6 +7,9 @@ The crate is proved once into an empty folder, the seed. Edits are tried over li
    unless it is listed as an edit that says little. Where a goal is open that needs no such text,
    the refusal is enough (goals.py).
 3. All other edits, and what no batch refuses, go the toolchain's own way, each alone.
+
+Where there is a time at which no edit begins any more, those that haven't begun are left. What was
+tried in a batch and not refused there isn't left: it is tried to its end.
 """
 import collections
 import os
@@ -15,6 +18,7 @@ import subprocess
 import tempfile
 import threading
 import time
+import zlib
 
 import edits as must_fail
 import goals
@@ -24,6 +28,7 @@ from kit import toolchain
 from lanes import Task
 
 REFUSED, LITTLE, BAD, MISSED, UNSURE = "refused", "says little", "bad", "NOT REFUSED", "not tried"
+LEFT = "left"
 # A check over a seed takes this part of the memory of one from nothing.
 OVER = 0.7
 FLAGS = ["--jobs", "1"]
@@ -34,8 +39,11 @@ EACH, LONE = 10, 10**6
 class Trial:
     """A crate, its edits, and what each came to."""
 
-    def __init__(self, crate, edits, lanes, start=None, sampled=(), listed=()):
+    def __init__(
+        self, crate, edits, lanes, start=None, sampled=(), listed=(), until=None, number=0
+    ):
         self.crate, self.edits, self.lanes, self.start = crate, edits, lanes, start
+        self.until, self.number = until, number
         self.sampled, self.listed = set(sampled), set(listed)
         self.came, self.said, self.tried, self.room = {}, {}, {}, None
         self.left, self.checks, self.began = 0, 0, time.monotonic()
@@ -50,7 +58,10 @@ class Trial:
             self.left += 1
             # (a check over the seed may take more than it should: the next one then plans on that)
             held = max((it.held for it in self.tasks), default=0)
-        rank = seconds.of(self.crate.name) + EACH * len(self.edits) - LONE * is_lone
+        rank = seconds.of(self.crate.name) + EACH * len(self.edits)
+        if is_lone:
+            # (in another order at each commit, so that not always the same ones are left)
+            rank = zlib.crc32(f"{self.number} {self.crate.name} {what}".encode()) % LONE - LONE
         memory = max(memory * toolchain().need(self.crate), held)
         made = Task(rank, memory, lambda: self.done(call), f"{self.crate.name} {what}")
         if call != self.seed:
@@ -71,11 +82,22 @@ class Trial:
     def lone(self, edit, call):
         return self.task(edit.name, lambda: call(edit), is_lone=True)
 
+    def is_late(self):
+        return self.until is not None and time.monotonic() > self.until
+
+    def leave(self, edits):
+        for it in edits:
+            self.settle(it, LEFT, "no time was left for it")
+        return []
+
     def begin(self):
         return [self.task("seed", self.seed, memory=1)]
 
     def seed(self):
         """Proves the crate as it stands, and sorts its edits."""
+        if self.is_late():
+            self.stages = []
+            return self.leave(self.edits)
         self.room = tempfile.mkdtemp(prefix=f"rt-edits-{os.getpid()}-")
         toolchain().SEEDS.append(self.room)
         if self.start and os.path.isdir(self.start):
@@ -142,6 +164,8 @@ class Trial:
 
     def batch(self, batch, later, is_bare):
         """Tries edits of different functions at once. Bare: without their functions' answers."""
+        if self.is_late() and not is_bare:
+            return self.batch_late([*batch, *later])
         said, done = self.over_seed(lambda kept: self.try_batch(batch, kept, is_bare))
         left = [it for it in batch if it not in done]
         if not said.has_ended and len(batch) > 1:
@@ -158,6 +182,12 @@ class Trial:
         # (what says nothing without answers goes on saying little)
         tasks = [] if is_bare else [self.lone(it, self.alone) for it in lone]
         return [*tasks, *self.next_round(again, is_bare)]
+
+    def batch_late(self, edits):
+        """Leaves what no batch has tried yet. What no batch refused is tried alone."""
+        tried = [it for it in edits if (it.label, False) in self.tried]
+        self.leave([it for it in edits if it not in tried])
+        return [self.lone(it, self.alone) for it in tried]
 
     def try_batch(self, batch, kept, is_bare):
         with tempfile.TemporaryDirectory(prefix=f"rt-edit-{os.getpid()}-") as room:
@@ -217,6 +247,8 @@ class Trial:
 
     def other(self, edit):
         """Tries an edit that isn't of one function, first where its hint says."""
+        if self.is_late():
+            return self.leave([edit])
         if edit.row and self.over_seed(lambda kept: self.is_refused_at(edit, kept)):
             return []
         return self.alone(edit)
@@ -259,7 +291,7 @@ class Trial:
     def sample(self):
         """Tries the chosen ones of those that a batch refused once more, each alone."""
         found = [it for it in self.edits if it.label in self.sampled and it.symbol]
-        found = [it for it in found if self.came[it.label] == REFUSED]
+        found = [it for it in found if self.came[it.label] == REFUSED and not self.is_late()]
         return [self.lone(it, self.again) for it in found]
 
     def again(self, edit):

@@ -21,7 +21,8 @@ ONE_THREAD = {
     "zscript": 95, "zoptions": 10, "zcommand": 78,
 }
 # The last proof of a program, and its build, which use one core.
-BUILD = {"zk": 125, "zk_race": 200, "zclib": 180, "zfront_c": 180}
+BUILD = {"zk": 125, "zk_race": 200, "zk_data": 125, "zk_serve": 180,
+         "zclib": 180, "zfront_c": 180}
 # What each job beyond the first brings.
 GAIN = 0.6
 

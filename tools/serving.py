@@ -1,8 +1,9 @@
-"""The server for ZooKeeper's clients: the host in C, compiled around the archive of the front.
+"""The servers for ZooKeeper's clients: hosts in C.
 
-The archive is proved, built and kept as archives.py says. The program stands beside it, by the sum
-of what it is compiled of. It wants the machine's own compiler of C: that of the toolchain has no
-headers.
+The host of a server in memory is compiled around the archive of the front, which is proved, built
+and kept as archives.py says. It stands beside it, by the sum of what it is compiled of. The host of
+a server that keeps a folder starts a proved program, which is built as proving.py says, and stands
+beside that. Both want the machine's own compiler of C: that of the toolchain has no headers.
 """
 import hashlib
 import os
@@ -11,14 +12,18 @@ import tempfile
 
 import archives
 import kit
+import places
 import programs
 import sources
 from told import Stopped
 
-# The crate with the exports, and what the program is compiled of beside its archive.
+# The crate with the exports, and that of the program which keeps a folder.
 CRATE = "zfront_c"
+KEEPER = "zk_serve"
+# What both hosts are compiled of, and each: in memory beside the archive.
 PROGRAM = ("host/serve.c", "host/start.c")
-SOURCES = (*PROGRAM, "host/start.h", "include/jellqupas_front.h", "include/jellqupas.h")
+MEMORY, PIPED = "host/memory.c", "host/piped.c"
+HEADERS = ("host/front.h", "host/start.h", "include/jellqupas_front.h", "include/jellqupas.h")
 ARCHIVE = "libjellqupas_front.a"
 FLAGS = "-std=c11 -O2 -Wall -Wextra".split()
 COMPILERS = ("cc", "gcc", "clang")
@@ -32,18 +37,24 @@ def compiler():
     return found
 
 
-def place(folder):
-    """Where the program of these very sources is, beside what is kept of its crates."""
+def place(folder, own=MEMORY):
+    """Where the host of these very sources is, in the folder."""
     found = hashlib.sha256()
-    for it in SOURCES:
+    for it in (*PROGRAM, own, *HEADERS):
         found.update(repr((it, sources.text_of(f"{sources.ROOT}/{it}"))).encode())
-    return f"{os.path.dirname(folder)}/serve-{found.hexdigest()[:16]}"
+    return f"{folder}/serve-{found.hexdigest()[:16]}"
+
+
+def place_of_kept():
+    """Where the host of a server that keeps a folder is."""
+    key = sources.key_of(sources.lines_below(KEEPER))
+    return place(places.made(places.programs(key)), PIPED)
 
 
 def proved():
     """The program of these very sources, or None."""
     folder, is_there = archives.place(sources.lines_below(CRATE), "front")
-    path = place(folder)
+    path = place(os.path.dirname(folder))
     return path if is_there and os.access(path, os.X_OK) else None
 
 
@@ -53,10 +64,18 @@ def archive(tell):
     return f"{archives.built(CRATE, 'front', make, tell)}/{ARCHIVE}"
 
 
-def compile_host(front, to, flags=(), linked=()):
-    """Compiles the host around an archive, with more flags, and with what it is linked with."""
+def compile_host(parts, to, flags=()):
+    """Compiles a host of these parts beside what all are made of, with more flags."""
     words = [compiler(), *FLAGS, *flags, f"-I{sources.ROOT}/include", "-o", to]
-    archives.run([*words, *PROGRAM, front, *linked], sources.ROOT)
+    archives.run([*words, *PROGRAM, *parts], sources.ROOT)
+
+
+def compile_to(path, parts):
+    """Compiles a host of these parts, which is then at the path, whole or not at all."""
+    with tempfile.TemporaryDirectory(prefix="serve-", dir=os.path.dirname(path)) as folder:
+        compile_host(parts, f"{folder}/serve")
+        programs.keep(f"{folder}/serve", path, kit.identity())
+    return path
 
 
 def build(tell):
@@ -66,8 +85,10 @@ def build(tell):
         return path
     compiler()
     front = archive(tell)
-    path = place(os.path.dirname(front))
-    with tempfile.TemporaryDirectory(prefix="serve-", dir=os.path.dirname(path)) as folder:
-        compile_host(front, f"{folder}/serve")
-        programs.keep(f"{folder}/serve", path, kit.identity())
-    return path
+    return compile_to(place(os.path.dirname(os.path.dirname(front))), (MEMORY, front))
+
+
+def build_kept():
+    """The host of a server that keeps a folder, which is compiled where it isn't there."""
+    path = place_of_kept()
+    return path if os.access(path, os.X_OK) else compile_to(path, (PIPED,))

@@ -17,23 +17,25 @@ A coordination service with ZooKeeper's data model and chain replication.
 
 ./zk script [--servers N]     plays the script on standard input, line by line:
                               calls and events (docs/GUIDE.md); N is 1 to 16 (1)
+./zk script --data DIR [--servers N] [--sync batch|never]
+                              keeps what it told in DIR; never: until a power cut
 ./zk race [--servers N] [--clients C] [--rounds R] [--halt S]
                               runs the service in threads, and audits the run:
                               N is 1 to 16 (3), C clients 1 to 31 (4), R nodes
                               1 to 1000 (100), S a server that is halted halfway
 ./zk serve [--listen ADDRESS:PORT] [--servers N] [--tick MS]
                               serves ZooKeeper's clients at 127.0.0.1:2181, in
-                              memory: N is 1 to 16 (3), MS 10 to 3600000 (2000);
-                              it is proved first, and then compiled by cc
+                              memory: N is 1 to 16 (3), MS 10 to 3600000 (2000)
+./zk serve --data DIR [--sync batch|never] ..
+                              keeps what it told in DIR, as a script does
 The first script or race builds its program without proof, in about a minute,
 and each says that it isn't proved. Once it is proved, the proved program runs.
 
-./zk prove [script|race]      proves the program; where that was stopped, it
-                              goes on
-./zk prove library|serve      the same for the library, as ./library does, and
-                              for the server
+./zk prove [script|race|data|serve-data|serve|library]
+                              proves the program of a command, the server in
+                              memory, the library; stopped, it goes on
 ./zk --proved script ..       runs the proved program, or nothing; race, serve too
-./zk --unproved script ..     runs the one without proof; race too
+./zk --unproved script ..     runs the one without proof; race, serve --data too
 ./zk --version                the version, and which program would run
 ./zk clean [--all]            removes what is kept and no checkout uses, or all
 ./zk help                     this
@@ -56,14 +58,18 @@ def usage():
     return USAGE.format(kept=f"Proofs and programs are kept (5 GB):\n{kept()}")
 
 
+def asked(command):
+    """The words that prove a command's program."""
+    return "prove" if command == "script" else f"prove {command}"
+
+
 def warning(command):
     """What is told of a program that isn't proved."""
     name, cores = programs.NAMES[command], len(os.sched_getaffinity(0))
     minutes = max(1, round(proof.whole_time(sources.lines_below(name), cores) / 60))
     number = NUMBERS[cores] if cores < len(NUMBERS) else cores
-    words = "prove race" if command == "race" else "prove"
     on = f"{minutes} minutes on {number} core{'s' * (cores > 1)}"
-    return f"this build is not proved; './zk {words}' proves it ({on})"
+    return f"this build is not proved; './zk {asked(command)}' proves it ({on})"
 
 
 def version_number():

@@ -6,13 +6,18 @@ The programs say `zk: bad words` themselves. Whatever they take passes here: `--
 import re
 import socket
 
-# The form of a place to listen at.
+# The forms of a place to listen at, and of a folder.
 ADDRESS = "ADDRESS:PORT"
-# The options of each command, and the numbers that each takes, or that form.
+FOLDER = "DIR"
+# When what keeps a folder waits for the disk.
+SYNC = ("batch", "never")
+# The options of each command, and what each takes: a number in a range, one of some words, a form.
 OPTIONS = {
-    "script": {"servers": (1, 16)},
+    "script": {"servers": (1, 16), "data": FOLDER, "sync": SYNC},
     "race": {"servers": (1, 16), "clients": (1, 31), "rounds": (1, 1000), "halt": (0, 16)},
-    "serve": {"servers": (1, 16), "tick": (10, 3600000), "listen": ADDRESS},
+    "serve": {
+        "servers": (1, 16), "tick": (10, 3600000), "listen": ADDRESS, "data": FOLDER, "sync": SYNC,
+    },
 }
 # The servers of a race that doesn't name them.
 RACE_SERVERS = 3
@@ -41,12 +46,44 @@ def value_in(option, text):
     """The value that a word is for an option, or None."""
     if option == ADDRESS:
         return text if is_address(text) else None
+    if option == FOLDER:
+        return text or None
+    if isinstance(option[0], str):
+        return text if text in option else None
     number, (first, last) = number_in(text), option
     return number if number is not None and first <= number <= last else None
 
 
+def form_of(option):
+    """What an option takes, in words."""
+    if isinstance(option, str):
+        return option if option == ADDRESS else "a folder"
+    if isinstance(option[0], str):
+        return " or ".join(option)
+    return f"a number from {option[0]} to {option[1]}"
+
+
 def wrong(command, words):
     """What is wrong with the words behind a command, or None."""
+    given = read(command, words)
+    if isinstance(given, str):
+        return given
+    if "sync" in given and "data" not in given:
+        return "--sync wants --data beside it"
+    return wrong_halt(given) if command == "race" else None
+
+
+def program_of(command, words):
+    """The program for good words, by its name in programs.NAMES, and the words of its call."""
+    given = read(command, words)
+    if command != "script" or "data" not in given:
+        return command, [command, *words]
+    servers = ["--servers", str(given["servers"])] if "servers" in given else []
+    return "data", [given["data"], given.get("sync", SYNC[0]), command, *servers]
+
+
+def read(command, words):
+    """The values that the words behind a command give to its options, or what is wrong there."""
     options, given, left = OPTIONS[command], {}, list(words)
     while left:
         word = left.pop(0)
@@ -61,13 +98,13 @@ def wrong(command, words):
         option = options[name]
         if not is_joined:
             if not left:
-                return f"--{name} wants {'a number' if option != ADDRESS else ADDRESS} behind it"
+                wanted = "a number" if form_of(option).startswith("a number") else form_of(option)
+                return f"--{name} wants {wanted} behind it"
             value = left.pop(0)
         given[name] = value_in(option, value)
         if given[name] is None:
-            form = ADDRESS if option == ADDRESS else f"a number from {option[0]} to {option[1]}"
-            return f"--{name} takes {form}, not '{value}'"
-    return wrong_halt(given) if command == "race" else None
+            return f"--{name} takes {form_of(option)}, not '{value}'"
+    return given
 
 
 def wrong_halt(given):

@@ -31,8 +31,10 @@ use Rattle.zturns.proofs.OneTree.{is_one_trees}
 use Rattle.zturns.proofs.Settled.{run_goes_on}
 use Rattle.zturns.proofs.TakingTurns.{NoCall}
 use Rattle.zalone.specs.declared.limits.TheConstants.{MAX_EVENTS}
-use Rattle.zalone.specs.Alone.{AloneView, Waits, heard, known_by, HeardFits}
+use Rattle.zalone.specs.Changes.{Keeps}
+use Rattle.zalone.specs.Alone.{AloneView, Waits, heard, known_by, made_behind, HeardFits}
 use Rattle.zalone.specs.Told.{HasTold}
+use Rattle.zalone.proofs.Keeping.{keeps_more}
 use Rattle.zalone.proofs.Runs.{ServiceWorld, run_append, goes_with, settled_run}
 
 -- the updates among some calls of client 0
@@ -74,8 +76,8 @@ pub told_by : (v : AloneView) (log : Log) (waiting : Option Call) (servers : ℕ
     → TakesTurns (run kept_tree (world_after servers 1 events) more) log waiting
     → Stands (run kept_tree (world_after servers 1 events) more) before v.world
     → ((call : Call) → waiting ≡ Some call → before ≡ log) → v.is_waiting ≡ is_some waiting
-    → v.known ≡ known_of (tree_after opening_tree (calls_of log)) → HasTold v log waiting
-told_by v log waiting servers events more before turns stands fresh waits known =
+    → v.known ≡ known_of (tree_after opening_tree (calls_of log)) → Keeps log v.changes → HasTold v log waiting
+told_by v log waiting servers events more before turns stands fresh waits known made =
     let joined = sym (run_append (opening_world kept_tree servers 1) events more) in
     record {
       servers = servers;
@@ -86,6 +88,7 @@ told_by v log waiting servers events more before turns stands fresh waits known 
       fresh = fresh;
       waits = waits;
       known = known;
+      made = made;
     }
 
 -- what a settling did is a run in which no call began
@@ -104,7 +107,7 @@ Came new log call told =
 -- a client whose call waits, and that settled
 module _ (servers : ℕ) (events : List Event) (log : Log) (call : Call) (old new : AloneView) (told : Option Reply)
     (turns : TakesTurns (world_after servers 1 events) log (Some call)) (stands : Stands (world_after servers 1 events) log old.world)
-    (known : old.known ≡ known_of (tree_after opening_tree (calls_of log))) (waits : Waits old new told) where
+    (known : old.known ≡ known_of (tree_after opening_tree (calls_of log))) (made : Keeps log old.changes) (waits : Waits old new told) where
   abbrev whole : ServiceWorld
   whole = world_after servers 1 events
 
@@ -128,8 +131,11 @@ module _ (servers : ℕ) (events : List Event) (log : Log) (call : Call) (old ne
     still_known : new.known ≡ known_of tree
     still_known = waits.knows has_room (subst HeardFits (sym only_begun) tt) ∙ ap (known_by old.known) only_begun ∙ known
 
+    still_made : Keeps log new.changes
+    still_made = subst (Keeps log) (sym (waits.made ∙ ap (made_behind old.changes) only_begun)) made
+
     nothing_came : Came new log call told
-    nothing_came = inl (unheard, told_by new log (Some call) servers events more log still there (λ c e. refl) (waits.waits ∙ ap is_none unheard) still_known)
+    nothing_came = inl (unheard, told_by new log (Some call) servers events more log still there (λ c e. refl) (waits.waits ∙ ap is_none unheard) still_known still_made)
 
   -- an answer came
   module _ (more : List Event) (reply : Reply) (done : TakesTurns (run kept_tree whole more) (with_reply reply) None) (there : Stands (run kept_tree whole more) log new.world) where
@@ -159,12 +165,16 @@ module _ (servers : ℕ) (events : List Event) (log : Log) (call : Call) (old ne
         ∙ served_known tree call
         ∙ ap known_of (sym (last_tree log opening_tree call reply))
 
+    now_made : Keeps (with_reply reply) new.changes
+    now_made = subst (Keeps (with_reply reply)) (sym (waits.made ∙ ap (made_behind old.changes) whole_call)) (keeps_more log old.changes call reply made)
+
     reply_came : Came new log call told
     reply_came =
         inr (
           reply,
           was_heard,
-          told_by new (with_reply reply) None servers events more log done there (nothing_fresh log (with_reply reply)) (waits.waits ∙ ap is_none was_heard) now_known,
+          told_by new (with_reply reply) None servers events more log done there (nothing_fresh log (with_reply reply)) (waits.waits ∙ ap is_none was_heard)
+              now_known now_made,
         )
 
   pub came : Came new log call told

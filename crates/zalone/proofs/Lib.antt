@@ -1,4 +1,5 @@
 mod Past
+mod Keeping
 mod Runs
 mod Coming
 mod Telling

@@ -25,10 +25,12 @@ use Rattle.zturns.proofs.Settled.{run_goes_on}
 use Rattle.zturns.proofs.TakingTurns.{begins, exhausted, opening_turns, order_keeps}
 use Rattle.zalone.specs.declared.limits.TheConstants.{MAX_EVENTS}
 use Rattle.zalone.specs.declared.order.Order.{Order}
+use Rattle.zalone.specs.Changes.{Keeps, no_changes, all_taken}
 use Rattle.zalone.specs.Alone.{AloneView, SameCall, Waits, Rests, SettlesIf, GoesOnIf, Begins, AsksIf, Asks, Settles, cleared}
 use Rattle.zalone.specs.Order.{event_of}
 use Rattle.zalone.specs.Told.{HasTold, GoesOnAsked, GoesOnSettled, TellsAsked, TellsSettled, TellsOrdered}
 use Rattle.zalone.proofs.Past.{with_past}
+use Rattle.zalone.proofs.Keeping.{keeps_taken, none_kept}
 use Rattle.zalone.proofs.Coming.{Stands, shown, told_by, SettledRun, nothing_fresh, Came, came}
 use Rattle.zalone.proofs.Runs.{ServiceWorld, run_append, goes_with, call_reads, order_reads, is_order, done_run, settled_run}
 
@@ -83,7 +85,8 @@ module _ (old new : AloneView) (call : Call) (told : Option Reply) (log : Log) (
         exhausted before call log h.turns not_enabled,
         told_by new log None h.servers h.events begin log
             (subst (λ u. TakesTurns u log None) (sym (idle_same before (event.Begin 0 call) not_enabled)) h.turns)
-            (subst (Stands (run kept_tree before begin) log) (sym goes.1) there) (nothing_fresh log log) (goes.2.waits ∙ h.waits) (goes.2.known ∙ h.known),
+            (subst (Stands (run kept_tree before begin) log) (sym goes.1) there) (nothing_fresh log log) (goes.2.waits ∙ h.waits) (goes.2.known ∙ h.known)
+            (subst (Keeps log) (sym goes.2.made) h.made),
       ))
 
   -- it began, and the world settled
@@ -94,7 +97,7 @@ module _ (old new : AloneView) (call : Call) (told : Option Reply) (log : Log) (
       let joined = sym (run_append (opening_world kept_tree h.servers 1) h.events begin) in
       asked_came new log call told
       (came h.servers (h.events ++ begin) log call (record old { world = began }) new told
-      (subst (λ u. TakesTurns u log (Some call)) joined turns) (subst (λ u. Stands u log began) joined there) h.known waits)
+      (subst (λ u. TakesTurns u log (Some call)) joined turns) (subst (λ u. Stands u log began) joined there) h.known h.made waits)
 
   began_tells : (b : Bool) → is_idle did ≡ b → GoesOnIf b old began new told → GoesOnAsked (HasTold new) log None call told
   began_tells true is goes = refused is goes
@@ -121,6 +124,7 @@ module _ (old new : AloneView) (log : Log) (h : HasTold old log None) (told : Op
           told_by new log None h.servers h.events s.0 h.before still
           (goes_with (history_of h.before None) (world_after h.servers 1 h.events) (world_in old.world) (world_in new.world) s.0 h.stands s.2)
           (nothing_fresh h.before log) (rests.same.waits ∙ h.waits) (rests.same.known ∙ h.known)
+          (subst (Keeps log) (sym rests.same.made) h.made)
       by (inr did) = let clash : None ≡ Some did.0 = did.2 in absurd (cc clash)
 
 pub settles_tell : (old new : AloneView) (told : Option Reply) → Settles old new told → TellsSettled old new told
@@ -128,7 +132,7 @@ settles_tell old new told settles log (Some call) h =
     let waits : Waits old new told = subst (λ b. SettlesIf b old new told) h.waits settles in
     let stands : Stands (world_after h.servers 1 h.events) log old.world =
     subst (λ before. Stands (world_after h.servers 1 h.events) before old.world) (h.fresh call refl) h.stands in
-    settled_came old new log call told (came h.servers h.events log call old new told h.turns stands h.known waits)
+    settled_came old new log call told (came h.servers h.events log call old new told h.turns stands h.known h.made waits)
 settles_tell old new told settles log None h =
     let rests : Rests old new told = subst (λ b. SettlesIf b old new told) h.waits settles in
     subst (GoesOnSettled (HasTold new) log None) (sym rests.none) (rested old new log h told rests)
@@ -140,12 +144,17 @@ orders_tell old new order did has same log waiting h =
     (order_keeps kept_tree whole log waiting (event_of order) (is_order order) h.turns)
     (goes_with (history_of h.before None) whole (world_in old.world) (world_in new.world) (event_of order ∷ []) h.stands
     (done_run (world_in old.world) (world_in new.world) (event_of order) did (order_reads (world_in old.world) order) has))
-    h.fresh (same.waits ∙ h.waits) (same.known ∙ h.known)
+    h.fresh (same.waits ∙ h.waits) (same.known ∙ h.known) (subst (Keeps log) (sym same.made) h.made)
+
+-- what was made is taken
+pub taken_tells : (old : AloneView) → TellsOrdered old (record old { changes = all_taken old.changes })
+taken_tells old log waiting h =
+    record { servers = h.servers; events = h.events; turns = h.turns; before = h.before; stands = h.stands; fresh = h.fresh; waits = h.waits; known = h.known; made = keeps_taken log old.changes h.made }
 
 -- a client of an initial world has called nothing
 pub opening_told : (v : AloneView) (servers : ℕ) → world_in v.world ≡ opening_world kept_tree servers 1 → v.known ≡ known_of opening_tree → v.is_waiting ≡ false
-    → HasTold v [] None
-opening_told v servers world known waits = record {
+    → (b : Bool) → v.changes ≡ no_changes b → HasTold v [] None
+opening_told v servers world known waits b made = record {
   servers = servers;
   events = [];
   turns = opening_turns kept_tree servers;
@@ -154,4 +163,5 @@ opening_told v servers world known waits = record {
   fresh = nothing_fresh [] [];
   waits = waits;
   known = known;
+  made = subst (Keeps []) (sym made) (none_kept b);
 }

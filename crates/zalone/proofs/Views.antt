@@ -31,10 +31,10 @@ marked v b = record v { is_broken = b }
 
 module _ (old new : AloneView) (b : Bool) (told : Option Reply) where
   waits_marked : Waits old new told → Waits old (marked new b) told
-  waits_marked w = record { settled = w.settled; settles = w.settles; hears = w.hears; waits = w.waits; knows = w.knows }
+  waits_marked w = record { settled = w.settled; settles = w.settles; hears = w.hears; waits = w.waits; made = w.made; knows = w.knows }
 
   rests_marked : Rests old new told → Rests old (marked new b) told
-  rests_marked r = record { settled = r.settled; settles = r.settles; none = r.none; same = record { known = r.same.known; waits = r.same.waits } }
+  rests_marked r = record { settled = r.settled; settles = r.settles; none = r.none; same = record { known = r.same.known; made = r.same.made; waits = r.same.waits } }
 
   settles_if_marked : (w : Bool) → SettlesIf w old new told → SettlesIf w old (marked new b) told
   settles_if_marked true s = waits_marked s
@@ -45,7 +45,7 @@ module _ (old new : AloneView) (b : Bool) (told : Option Reply) where
 
 goes_on_marked : (idle : Bool) (old : AloneView) (began : WorldView) (new : AloneView) (b : Bool) (told : Option Reply) → GoesOnIf idle old began new told
     → GoesOnIf idle old began (marked new b) told
-goes_on_marked true old began new b told goes = (goes.0, goes.1, record { known = goes.2.known; waits = goes.2.waits })
+goes_on_marked true old began new b told goes = (goes.0, goes.1, record { known = goes.2.known; made = goes.2.made; waits = goes.2.waits })
 goes_on_marked false old began new b told goes = waits_marked (record old { world = began }) new b told goes
 
 -- a settling of a client behind its view

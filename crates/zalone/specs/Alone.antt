@@ -14,12 +14,14 @@ use Rattle.zworld.specs.Did.{is_idle}
 use Rattle.zworld.specs.Steps.{WorldView, HasDone, IsSettled}
 use Rattle.zknown.specs.Known.{KnownView, HasRoom, Fits, known_after}
 use Rattle.zalone.specs.declared.limits.TheConstants.{MAX_EVENTS}
+use Rattle.zalone.specs.Changes.{ChangesView, made_more}
 
--- the client: its world, what it knows of the tree, whether a call waits for its reply, and whether
--- memory ever ran out
+-- the client: its world, what it knows of the tree, the updates that are left to be taken, whether a
+-- call waits for its reply, and whether memory ever ran out
 pub record AloneView : Type 0 where
   pub world : WorldView
   pub known : KnownView
+  pub changes : ChangesView
   pub is_waiting : Bool
   pub is_broken : Bool
 
@@ -33,6 +35,11 @@ abbrev pub known_by : KnownView → History → KnownView
 known_by k (Begin c n call ∷ (Answer d m reply ∷ [])) = known_after k c call reply
 known_by k history = k
 
+-- what was made behind it
+abbrev pub made_behind : ChangesView → History → ChangesView
+made_behind made (Begin c n call ∷ (Answer d m reply ∷ [])) = made_more call reply made
+made_behind made history = made
+
 -- the numbers of that reply are in their ranges
 abbrev pub HeardFits : History → Type 0
 HeardFits (Begin c n call ∷ (Answer d m reply ∷ [])) = Fits reply
@@ -45,6 +52,7 @@ cleared w = record w { history = []; has_forgotten = true }
 -- nothing is different but the world
 pub record SameCall (old new : AloneView) : Type 0 where
   pub known : new.known ≡ old.known
+  pub made : new.changes ≡ old.changes
   pub waits : new.is_waiting ≡ old.is_waiting
 
 -- the world settled, and the reply to the call that it is about was heard, if it came
@@ -53,6 +61,7 @@ pub record Waits (old new : AloneView) (told : Option Reply) : Type 0 where
   pub settles : IsSettled old.world new.world MAX_EVENTS settled
   pub hears : told ≡ heard new.world.history
   pub waits : new.is_waiting ≡ is_none told
+  pub made : new.changes ≡ made_behind old.changes new.world.history
   pub knows : HasRoom old.known → HeardFits new.world.history → new.known ≡ known_by old.known new.world.history
 
 -- the world settled, and no reply was waited for

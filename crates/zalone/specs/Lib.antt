@@ -1,3 +1,4 @@
+pub mod Changes
 pub mod Alone
 pub mod Order
 pub mod Told

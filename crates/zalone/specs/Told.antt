@@ -12,6 +12,7 @@ use Rattle.zworld.specs.Held.{world_of}
 use Rattle.zknown.specs.Known.{known_of}
 use Rattle.zturns.specs.Turns.{Log, calls_of, history_of, tree_after}
 use Rattle.zturns.specs.World.{TakesTurns}
+use Rattle.zalone.specs.Changes.{Keeps}
 use Rattle.zalone.specs.Alone.{AloneView}
 
 -- the client made the calls of this log and got their replies, and this call waits. That is: a run
@@ -27,6 +28,8 @@ pub record HasTold (v : AloneView) (log : Log) (waiting : Option Call) : Type 0 
   pub waits : v.is_waiting ≡ is_some waiting
   -- and what it knows is that of the tree that the calls of the log leave
   pub known : v.known ≡ known_of (tree_after opening_tree (calls_of log))
+  -- what is kept of its updates is what of the log isn't taken yet
+  pub made : Keeps log v.changes
 
 -- how the log goes on at a call: while another one waits, it stays. Else the call is answered, or
 -- it waits, or its client has no number left

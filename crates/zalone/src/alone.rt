@@ -1,18 +1,22 @@
 //! The client with its world.
 
-ghost use Rattle.std.specs.Prelude.{◌≡◌, [], None, false, true, IfOk, IsErr, OnErr, OnOk};
+ghost use Rattle.std.specs.Prelude.{◌≡◌, ◌≤◌, ◌+◌, ◌^◌, [], None, false, true, length};
+ghost use Rattle.std.specs.Prelude.{IfOk, IsErr, OnErr, OnOk, IfSome, IfNone};
 ghost use Rattle.ztree.specs.Tree.{opening_tree};
 ghost use Rattle.zprotocol.specs.server.Machine.{kept_tree};
 ghost use Rattle.zworld_model.specs.World.{opening_world};
 ghost use Rattle.zworld.specs.Did.{HasCause};
 ghost use Rattle.zworld.specs.Steps.{HasDone, world_in};
 ghost use Rattle.zknown.specs.Known.{known_of};
+ghost use Rattle.zalone.specs.Changes.{all_taken, no_changes};
 ghost use Rattle.zalone.specs.Alone.{Asks, AsksAll, Begins, SameCall, Settles, Waits};
 ghost use Rattle.zalone.specs.Order.{event_of};
 ghost use Rattle.zalone.specs.Told.{HasTold, TellsAsked, TellsAskedAll, TellsOrdered, TellsSettled};
 
+use crate::changes::Changes;
 use crate::hearing::{event_of, hear, only_client};
 use crate::limits::MAX_EVENTS;
+use crate::made::Made;
 use crate::order::Order;
 use std::alloc::Global;
 use std::marker::Model;
@@ -31,6 +35,7 @@ use zworld_model::Event;
 pub struct Alone {
     world: World,
     known: Known,
+    changes: Changes,
     is_waiting: bool,
     is_broken: bool,
 }
@@ -46,6 +51,7 @@ impl Model for Alone {
     ghost view = { λ a. record {
       world = a.world;
       known = a.known;
+      changes = a.changes;
       is_waiting = a.is_waiting;
       is_broken = a.is_broken;
     } };
@@ -53,17 +59,19 @@ impl Model for Alone {
 
 impl Alone {
     /// Returns the client of the initial world: the chain is the servers up to `last`, and the
-    /// others are spare.
-    pub fn new(alloc: Global, last: ServerId) -> Result<Alone, Memory>
+    /// others are spare. Its updates are kept until they are taken, or not at all.
+    pub fn new(alloc: Global, last: ServerId, keeps: bool) -> Result<Alone, Memory>
         ensures world { IfOk result
             (λ a. world_in a.world ≡ opening_world kept_tree last 1) }
         ensures known { IfOk result (λ a. a.known ≡ known_of opening_tree) }
+        ensures made { IfOk result (λ a. a.changes ≡ no_changes keeps) }
         ensures sound { IfOk result (λ a. a.is_broken ≡ false) }
         ensures told { IfOk result (λ a. HasTold a [] None) }
     {
         Ok(Alone {
             world: World::new(alloc, last, 1)?,
             known: Known::new(alloc),
+            changes: Changes::new(alloc, keeps),
             is_waiting: false,
             is_broken: false,
         })
@@ -74,6 +82,27 @@ impl Alone {
         ensures { result.now ≡ self.now.known }
     {
         &self.known
+    }
+
+    /// Returns the updates that were answered and not yet taken, in order, each with its reply.
+    pub fn made(&self) -> &[Made]
+        ensures { result.now ≡ self.now.changes.made }
+    {
+        self.changes.made()
+    }
+
+    /// Takes these updates. `None` where the count of all that were ever taken is at its end.
+    pub fn take_made(&mut self) -> Option<Vec<Made>>
+        ensures all { IfSome result (λ made. made.items ≡ self.old.changes.made) }
+        ensures taken { IfSome result (λ _. self.new
+            ≡ record self.old { changes = all_taken self.old.changes }) }
+        ensures told { IfSome result (λ _. TellsOrdered self.old self.new) }
+        ensures none { IfNone result (self.new ≡ self.old) }
+        ensures full { IfNone result
+            (2 ^ 64 ≤ self.old.changes.taken + length self.old.changes.made) }
+    {
+        let alloc = self.world.allocator();
+        self.changes.take(alloc)
     }
 
     /// Returns whether a call waits for its reply.
@@ -218,6 +247,7 @@ impl Alone {
             self.world.allocator(),
             self.world.history(),
             &mut self.known,
+            &mut self.changes,
         )?;
         self.is_waiting = told.is_none();
         Ok(told)

@@ -3,9 +3,10 @@
 ghost use Rattle.std.specs.Prelude.{◌≡◌, IfOk, OnErr, OnOk};
 ghost use Rattle.ztree.specs.declared.limits.TheConstants.{MAX_CLIENTS};
 ghost use Rattle.zknown.specs.Known.{HasRoom};
-ghost use Rattle.zalone.specs.Alone.{heard, HeardFits, known_by};
+ghost use Rattle.zalone.specs.Alone.{heard, HeardFits, known_by, made_behind};
 ghost use Rattle.zalone.specs.Order.{event_of};
 
+use crate::changes::Changes;
 use crate::order::Order;
 use std::alloc::Global;
 use zcalls::Reply;
@@ -14,15 +15,18 @@ use zpath::Memory;
 use ztree::ClientId;
 use zworld_model::{CallEvent, Event};
 
-/// Returns a copy of the reply in the history of one call, if it was answered, and counts it.
+/// Returns a copy of the reply in the history of one call, if it was answered. Notes
+/// what is known of the tree behind it, and what it changed.
 pub(crate) fn hear(
     alloc: Global,
     history: &[CallEvent],
     known: &mut Known,
+    changes: &mut Changes,
 ) -> Result<Option<Reply>, Memory>
     ensures told { IfOk result (λ told. told ≡ heard history.now) }
     ensures known { OnOk result (HasRoom known.old → HeardFits history.now
         → known.new ≡ known_by known.old history.now) }
+    ensures made { OnOk result (changes.new ≡ made_behind changes.old history.now) }
 {
     let [
         CallEvent::Begin(client, _, call),
@@ -32,6 +36,7 @@ pub(crate) fn hear(
         return Ok(None);
     };
     known.after(*client, call, reply)?;
+    changes.note(alloc, call, reply)?;
     Ok(Some(reply.copied(alloc)?))
 }
 

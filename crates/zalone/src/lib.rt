@@ -9,12 +9,15 @@
 #![tactic(auto)]
 
 mod alone;
+mod changes;
 mod hearing;
 pub mod laws;
 pub mod limits;
+mod made;
 mod order;
 mod rows;
 
 pub use alone::Alone;
+pub use made::Made;
 pub use order::Order;
 pub use zworld::Did;

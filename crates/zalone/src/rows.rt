@@ -1,12 +1,16 @@
 //! Worked examples of the definitions. The functions do nothing.
 
-ghost use Rattle.std.specs.Prelude.{◌≡◌, List, [], ◌∷◌, None, Some};
+ghost use Rattle.std.specs.Prelude.{◌≡◌, List, [], ◌∷◌, None, Some, true, false};
 ghost use Rattle.zcalls.specs.declared.call.Call.{Call};
 ghost use Rattle.zcalls.specs.declared.reply.Reply.{Reply};
 ghost use Rattle.zworld_model.specs.declared.event.Event.TheVariants as event;
 ghost use Rattle.zworld_model.specs.declared.history.CallEvent.TheVariants.{Answer, Begin};
 ghost use Rattle.zknown.specs.Known.{KnownView, known_after};
 ghost use Rattle.zalone.specs.Alone.{heard, InTurn, known_by};
+ghost use Rattle.zalone.specs.Changes.{AreLeft, KeepsIf, made_in};
+ghost use Rattle.zcalls.specs.declared.call.Call.TheVariants as call;
+ghost use Rattle.zcalls.specs.declared.call.Query.{Query};
+ghost use Rattle.zcalls.specs.declared.call.Update.{Update};
 ghost use Rattle.zalone.specs.Order.{event_of};
 ghost use Rattle.zalone.specs.Told.{GoesOnAsked, GoesOnAskedAll, GoesOnSettled};
 ghost use Rattle.zalone.specs.declared.order.Order.TheVariants.{Fail, Join, Retire};
@@ -72,4 +76,19 @@ pub fn orders_are_events()
     ensures fail { event_of (Fail 2) ≡ event.Fail 2 }
     ensures join { event_of (Join 4) ≡ event.Join 4 }
     ensures retire { event_of (Retire 1) ≡ event.Retire 1 }
+{}
+
+/// The updates of a log, and what is left of them to be taken.
+pub fn updates_are_kept()
+    ensures update { (u : Update) (r : Reply) → made_in ((call.Update u, r) ∷ [])
+        ≡ record { update = u; reply = r } ∷ [] }
+    ensures query { (q : Query) (r : Reply) → made_in ((call.Query q, r) ∷ []) ≡ [] }
+    ensures left { (u v : Update) (r s : Reply)
+        → AreLeft ((call.Update u, r) ∷ (call.Update v, s) ∷ [])
+        (record { is_kept = true; taken = 1; made = record { update = v; reply = s } ∷ [] }) }
+    ensures lost { (u : Update) (r : Reply) → AreLeft ((call.Update u, r) ∷ [])
+        (record { is_kept = true; taken = 0; made = [] }) → ⊥ }
+    ensures too_many { AreLeft [] (record { is_kept = true; taken = 1; made = [] }) → ⊥ }
+    ensures not_kept { (u : Update) (r : Reply) → KeepsIf false ((call.Update u, r) ∷ [])
+        (record { is_kept = false; taken = 0; made = [] }) }
 {}

@@ -50,3 +50,14 @@ from_four false came bytes more four is =
 pub shorter : (came bytes more : List ℕ) → next_of came ≡ Whole bytes more → length more < length came
 unfolding next_of
 shorter came bytes more is = from_four (nat_lt (length came) 4) came bytes more refl is
+
+-- the rest of frames is no longer than what came, so one that is as long is all of it
+rest_short : (came : List ℕ) (frames : List (List ℕ)) (rest : List ℕ) → Cuts came frames rest → length rest ≤ length came
+rest_short came [] rest is = omega (arith, ap length is)
+rest_short came (bytes ∷ frames) rest cut =
+    omega (arith, rest_short cut.0 frames rest cut.2, shorter came bytes cut.0 cut.1)
+
+pub nothing_read : (came : List ℕ) (frames : List (List ℕ)) (rest : List ℕ) → Cuts came frames rest → length rest ≡ length came → rest ≡ came
+nothing_read came [] rest is long = sym is
+nothing_read came (bytes ∷ frames) rest cut long =
+    absurd (omega (arith, long, rest_short cut.0 frames rest cut.2, shorter came bytes cut.0 cut.1))

@@ -6,4 +6,5 @@ pub mod Reading
 pub mod Ticking
 pub mod Orders
 pub mod Inputs
+pub mod Restoring
 pub mod support

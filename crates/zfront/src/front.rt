@@ -1,29 +1,34 @@
 //! The server.
 
-ghost use Rattle.std.specs.Prelude.{◌≡◌, true, false, IfOk, IsErr, OnErr, OnOk};
-ghost use Rattle.std.specs.Option.{option_copied};
+ghost use Rattle.std.specs.Prelude.{◌≡◌, ◌≤◌, ◌+◌, ◌^◌, true, false, length};
+ghost use Rattle.std.specs.Prelude.{IfNone, IfOk, IfSome, IsErr, OnErr, OnOk};
+ghost use Rattle.std.specs.FinMap.{get};
+ghost use Rattle.std.specs.Option.{option_copied, option_map};
 ghost use Rattle.zpieces.specs.Outbox.{first_of};
 ghost use Rattle.zfront.specs.Inputs as input;
 ghost use Rattle.zfront.specs.Orders.{Hears};
 ghost use Rattle.zfront.specs.Reading.{Comes};
+ghost use Rattle.zfront.specs.Restoring.{all_taken};
 ghost use Rattle.zfront.specs.Ticking.{Ticks};
 
 use crate::inner::Inner;
 use std::alloc::Global;
 use std::marker::Model;
+use zalone::Made;
 use zanswering::Clock;
 use zpath::Memory;
 use zpieces::Piece;
 use zprotocol::ServerId;
 use zsittings::Password;
+use ztree::SessionId;
 
 /// A server for ZooKeeper's clients.
 ///
 /// Once it ran out of memory, every later input returns `Memory`. Pieces can be taken all the same.
 #[derive(Drop)]
 pub struct Front {
-    inner: Inner,
-    is_broken: bool,
+    pub(crate) inner: Inner,
+    pub(crate) is_broken: bool,
 }
 
 impl Model for Front {
@@ -44,7 +49,7 @@ impl Front {
         ensures { IfOk result (input.IsNew last clock) }
     {
         Ok(Front {
-            inner: Inner::new(alloc, last, clock)?,
+            inner: Inner::new(alloc, last, clock, false)?,
             is_broken: false,
         })
     }
@@ -141,5 +146,32 @@ impl Front {
         ensures rest { self.new ≡ record self.old { front = input.without_first self.old.front } }
     {
         self.inner.tables.next_piece()
+    }
+
+    /// Returns the updates that were answered and not yet taken, in order, each with its reply.
+    pub fn made(&self) -> &[Made]
+        ensures { result.now ≡ self.now.front.asker.changes.made }
+    {
+        self.inner.alone.made()
+    }
+
+    /// Takes these updates. `None` where the count of all that were ever taken is at its end.
+    pub fn take_made(&mut self) -> Option<Vec<Made>>
+        ensures all { IfSome result (λ made. made.items ≡ self.old.front.asker.changes.made) }
+        ensures taken { IfSome result (λ _. self.new
+            ≡ record self.old { front = all_taken self.old.front }) }
+        ensures none { IfNone result (self.new ≡ self.old) }
+        ensures full { IfNone result (2 ^ 64
+            ≤ self.old.front.asker.changes.taken + length self.old.front.asker.changes.made) }
+    {
+        self.inner.alone.take_made()
+    }
+
+    /// Returns the password of a session, if it is there.
+    pub fn password(&self, session: SessionId) -> Option<Password>
+        ensures { result
+            ≡ option_map (λ s. s.password) (get self.now.front.tables.sittings session) }
+    {
+        self.inner.tables.password(session)
     }
 }

@@ -1,9 +1,10 @@
 //! Calls whose replies come late, sessions that ended, and watched nodes that went with them.
 
-ghost use Rattle.std.specs.Prelude.{◌≡◌, None, Some, IfOk, OnOk};
+ghost use Rattle.std.specs.Prelude.{◌≡◌, is_some, None, Some, IfOk, OnOk};
 ghost use Rattle.std.specs.List.{list_any};
 ghost use Rattle.zserving.specs.Replying.{absorbed};
-ghost use Rattle.zserving.specs.Looking.{looks_at};
+ghost use Rattle.ztables.specs.Telling.{told_all};
+ghost use Rattle.zserving.specs.Looking.{looks_at, seen};
 ghost use Rattle.zfront.specs.Front.{HearsIf, HearsOf, IsReady, Looks, LooksBy, LooksNow};
 ghost use Rattle.zfront.specs.Front.{takes_nodes, Tidies, tidied};
 
@@ -87,7 +88,7 @@ impl Inner {
     }
 
     // Sweeps the sessions that ended, and notes whether watched nodes are to be looked at.
-    fn tidy(&mut self, took: bool) -> Result<(), Memory>
+    pub(crate) fn tidy(&mut self, took: bool) -> Result<(), Memory>
         ensures { OnOk result (self.new ≡ tidied took self.old) }
     {
         let made = self.tables.sweep(self.alone.known())?;
@@ -130,10 +131,21 @@ impl Inner {
         ensures { OnOk result (LooksBy places.now calls.now self.old self.new) }
     {
         let replies = self.ask(calls)?;
-        let zxid = self.alone.known().zxid();
-        let told = look(self.alloc, &mut self.tables, zxid, places, &replies);
+        let done = self.tell_seen(places, &replies);
         drop(replies);
-        told?;
+        done
+    }
+
+    // Tells what is seen at places by these replies. Where one of them is late, the look isn't done.
+    fn tell_seen(&mut self, places: &[Place], replies: &[Reply]) -> Result<(), Memory>
+        ensures { OnOk result (self.new ≡ record self.old {
+          tables = told_all (seen self.old.asker.known.zxid places.now replies.now)
+              self.old.tables;
+          must_look = is_some self.old.late;
+        }) }
+    {
+        let zxid = self.alone.known().zxid();
+        look(self.alloc, &mut self.tables, zxid, places, replies)?;
         self.must_look = self.late.is_some();
         Ok(())
     }

@@ -1,6 +1,7 @@
 //! The state of a server that has memory.
 
 ghost use Rattle.std.specs.Prelude.{◌≡◌, IfOk, OnOk};
+ghost use Rattle.zalone.specs.Changes.{no_changes};
 ghost use Rattle.zfront.specs.Inputs as input;
 
 use std::alloc::Global;
@@ -45,13 +46,19 @@ impl Model for Inner {
 }
 
 impl Inner {
-    // Returns a server with an empty tree.
-    pub(crate) fn new(alloc: Global, last: ServerId, clock: Clock) -> Result<Inner, Memory>
-        ensures { IfOk result (λ v. input.Begins last clock v) }
+    // Returns a server with an empty tree. What it makes is kept until it is taken, or not at all.
+    pub(crate) fn new(
+        alloc: Global,
+        last: ServerId,
+        clock: Clock,
+        keeps: bool,
+    ) -> Result<Inner, Memory>
+        ensures new { IfOk result (λ v. input.Begins last clock v) }
+        ensures keeps { IfOk result (λ v. v.asker.changes ≡ no_changes keeps) }
     {
         Ok(Inner {
             alloc,
-            alone: Alone::new(alloc, last)?,
+            alone: Alone::new(alloc, last, keeps)?,
             tables: Tables::new(alloc),
             late: None,
             must_look: false,

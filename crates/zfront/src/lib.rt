@@ -4,7 +4,8 @@
 //! ticks, and lines of the chain's operator. It produces pieces of bytes to be sent. All calls of
 //! all connections are made by one client of the service, one after the other.
 //!
-//! `specs/` says exactly what each input does, for whatever the service replies.
+//! `specs/` says exactly what each input does, for whatever the service replies. A server whose
+//! updates are kept is made anew by `Restoring`.
 #![tactic(auto)]
 
 mod asking;
@@ -15,13 +16,17 @@ mod inner;
 pub mod limits;
 mod orders;
 mod reading;
+mod replaying;
 mod requests;
+mod restoring;
 mod rows;
 mod ticking;
 mod word;
 mod words;
 
 pub use front::Front;
+pub use restoring::Restoring;
+pub use zalone::Made;
 pub use zanswering::Clock;
 pub use zasking::TickLength;
 pub use zpath::Memory;

@@ -1,8 +1,10 @@
 //! The bytes that come on connections.
 
-ghost use Rattle.std.specs.Prelude.{◌≡◌, None, Some, IfOk, OnOk};
+ghost use Rattle.std.specs.Prelude.{◌≡◌, is_some, None, Some, IfOk, OnOk};
 ghost use Rattle.zjute.specs.Frames.{next_of};
-ghost use Rattle.zfront.specs.Reading.{Comes, ComesBehind, ComesBy, Handles, HandlesIn, is_too_long, Keeps, Reads};
+ghost use Rattle.zpieces.specs.Streams.{phase_of};
+ghost use Rattle.zfront.specs.Reading.{Comes, ComesBehind, ComesBy, Handles, HandlesIn, HandlesUnless};
+ghost use Rattle.zfront.specs.Reading.{is_too_long, Keeps, Reads};
 
 use crate::inner::Inner;
 use crate::limits::MAX_KEPT;
@@ -20,24 +22,29 @@ impl Inner {
         }
         let mut came = self.tables.take_bytes(connection);
         came.extend_from_slice(bytes)?;
-        self.read(connection, &came)
+        self.read(connection, came)
     }
 
     // Reads bytes from the first that wasn't read yet.
-    fn read(&mut self, connection: u32, came: &[u8]) -> Result<(), Memory>
-        ensures { OnOk result (ComesBehind came.now connection self.old self.new) }
+    fn read(&mut self, connection: u32, came: Vec<u8>) -> Result<(), Memory>
+        ensures { OnOk result (ComesBehind came.items connection self.old self.new) }
     {
-        match self.word_asked(connection, came) {
+        match self.word_asked(connection, &came) {
             Some(word) => self.say(word, connection),
             None => self.read_all(connection, came),
         }
     }
 
-    // Handles the frames in front of what came, and keeps the rest.
-    fn read_all(&mut self, connection: u32, came: &[u8]) -> Result<(), Memory>
-        ensures { OnOk result (ComesBy None came.now connection self.old self.new) }
+    // Handles the frames in front of what came, and keeps the rest. Where no frame is whole yet,
+    // nothing is copied: a long frame that comes in small pieces costs no more than one that doesn't.
+    fn read_all(&mut self, connection: u32, came: Vec<u8>) -> Result<(), Memory>
+        ensures { OnOk result (ComesBy None came.items connection self.old self.new) }
     {
-        let rest = self.read_frames(connection, came)?;
+        let rest = self.read_frames(connection, &came)?;
+        if rest.len() == came.len() {
+            return self.keep(connection, came);
+        }
+        let rest = Vec::from_slice(self.alloc, rest)?;
         self.keep(connection, rest)
     }
 
@@ -63,9 +70,25 @@ impl Inner {
         ensures { OnOk result (Handles frame.now connection self.old self.new) }
     {
         self.get_ready()?;
+        self.handle_unless_late(connection, frame)
+    }
+
+    // Handles a frame, or closes its connection while a call is late.
+    fn handle_unless_late(&mut self, connection: u32, frame: &[u8]) -> Result<(), Memory>
+        ensures { OnOk result (HandlesUnless (is_some self.old.late) frame.now connection
+            self.old self.new) }
+    {
         if self.late.is_some() {
             return self.tables.close(connection);
         }
+        self.handle_now(connection, frame)
+    }
+
+    // Handles a frame by the phase of its connection.
+    fn handle_now(&mut self, connection: u32, frame: &[u8]) -> Result<(), Memory>
+        ensures { OnOk result (HandlesIn (phase_of self.old.tables.streams connection) frame.now
+            connection self.old self.new) }
+    {
         match self.tables.phase(connection) {
             Some(phase) => self.handle_in(phase, connection, frame),
             None => Ok(()),
@@ -86,17 +109,16 @@ impl Inner {
 
     // Keeps the rest of what came, if the connection is still open. It is closed where that can't be
     // the front of a frame, and where too much is kept already.
-    fn keep(&mut self, connection: u32, rest: &[u8]) -> Result<(), Memory>
-        ensures { OnOk result (Keeps rest.now connection self.old self.new) }
+    fn keep(&mut self, connection: u32, rest: Vec<u8>) -> Result<(), Memory>
+        ensures { OnOk result (Keeps rest.items connection self.old self.new) }
     {
         if !self.tables.is_open(connection) {
             return Ok(());
         }
-        if is_too_long(rest) || self.tables.kept().saturating_add(rest.len()) > MAX_KEPT {
+        if is_too_long(&rest) || self.tables.kept().saturating_add(rest.len()) > MAX_KEPT {
             return self.tables.close(connection);
         }
-        let bytes = Vec::from_slice(self.alloc, rest)?;
-        self.tables.keep_bytes(connection, bytes);
+        self.tables.keep_bytes(connection, rest);
         Ok(())
     }
 }

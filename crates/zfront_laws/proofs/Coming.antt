@@ -16,6 +16,7 @@ use Rattle.zfront_laws.proofs.GoingOn as log
 use Rattle.zfront_laws.proofs.Held.{held-changed}
 use Rattle.zfront_laws.proofs.Kept.{Kept, unchanged, closes_kept, bytes_kept}
 use Rattle.zfront_laws.proofs.Lighter.{closes, says}
+use Rattle.zfront_laws.proofs.Taking.{SameTaking, same_asker, taking_both}
 use Rattle.zfront_laws.proofs.Steps.{Step, Seats, seats_both, seats_kept, both, same, retabled, none_late}
 use Rattle.zfront_laws.proofs.Calling.{is_ready}
 use Rattle.zfront_laws.proofs.Serving.{serves, greets}
@@ -30,21 +31,21 @@ handles_unless : (late : Bool) (bytes : List ℕ) (c : ℕ) (old new : FrontView
 handles_unless true bytes c old new free is = retabled (closed c old.tables) old new is (closes c old.tables)
 handles_unless false bytes c old new free has = handles_in (phase_of old.tables.streams c) bytes c old new (free refl) has
 
-handles : (bytes : List ℕ) (c : ℕ) (old new : FrontView) → Handles bytes c old new → Step old new
+pub handles : (bytes : List ℕ) (c : ℕ) (old new : FrontView) → Handles bytes c old new → Step old new
 handles bytes c old new has =
     both old has.0 new (is_ready old has.0 has.1) (handles_unless (is_some has.0.late) bytes c has.0 new (none_late has.0.late) has.2)
 
-handles_all : (frames : List (List ℕ)) (c : ℕ) (old new : FrontView) → HandlesAll frames c old new → Step old new
+pub handles_all : (frames : List (List ℕ)) (c : ℕ) (old new : FrontView) → HandlesAll frames c old new → Step old new
 handles_all [] c old new is = same old new is
 handles_all (bytes ∷ frames) c old new has =
     both old has.1 new (handles bytes c old has.1 has.2) (handles_all frames c has.1 new has.3)
 
 -- what is kept of a connection leaves the client, and is no more than fits
-kept_if : (on : Bool) (rest : List ℕ) (c : ℕ) (v : FrontView) → (if on then with_tables (kept rest c v.tables) v else v).asker ≡ v.asker
+pub kept_if : (on : Bool) (rest : List ℕ) (c : ℕ) (v : FrontView) → (if on then with_tables (kept rest c v.tables) v else v).asker ≡ v.asker
 kept_if true rest c v = refl
 kept_if false rest c v = refl
 
-late_if : (on : Bool) (rest : List ℕ) (c : ℕ) (v : FrontView) → (if on then with_tables (kept rest c v.tables) v else v).late ≡ v.late
+pub late_if : (on : Bool) (rest : List ℕ) (c : ℕ) (v : FrontView) → (if on then with_tables (kept rest c v.tables) v else v).late ≡ v.late
 late_if true rest c v = refl
 late_if false rest c v = refl
 
@@ -80,10 +81,10 @@ keeps_kept false rest c v = unchanged v.tables
 
 -- so the log goes on, and few bytes are kept
 abbrev pub GoesOnWithFew : FrontView → FrontView → Type 0
-GoesOnWithFew old new = GoesOn old new × KeepsFew new × Seats old new
+GoesOnWithFew old new = GoesOn old new × KeepsFew new × Seats old new × SameTaking old.asker new.asker
 
 pub with_few : (old new : FrontView) → KeepsFew old → Step old new → GoesOnWithFew old new
-with_few old new few step = (step.goes, omega (arith, few, step.few), step.seats)
+with_few old new few step = (step.goes, omega (arith, few, step.few), step.seats, step.taking)
 
 -- frames are read of what came, and the rest is kept
 reads : (came rest : List ℕ) (c : ℕ) (old middle new : FrontView) → Reads came c old rest middle → KeepsFew old → Keeps rest c middle new
@@ -95,10 +96,12 @@ reads came rest c old middle new has few after =
     let like = keeps rest c middle in
     let goes : GoesOn middle like =
     log.same middle like (kept_if (is_open middle.tables c) rest c middle) (late_if (is_open middle.tables c) rest c middle) in
+    let taking = same_asker middle.asker like.asker (kept_if (is_open middle.tables c) rest c middle) in
     let seats : Seats middle like = seats_kept middle like goes (keeps_kept (is_open middle.tables c) rest c middle) in (
       log.both old middle new done.0 (subst (GoesOn middle) (sym is) goes),
       subst KeepsFew (sym is) (keeps_few (is_open middle.tables c) rest c middle done.1),
       seats_both old middle new done.0 done.2 (subst (Seats middle) (sym is) seats),
+      taking_both old.asker middle.asker new.asker done.3 (subst (λ (v : FrontView). SameTaking middle.asker v.asker) (sym is) taking),
     )
 
 comes_behind : (came : List ℕ) (c : ℕ) (old new : FrontView) → KeepsFew old → ComesBehind came c old new → GoesOnWithFew old new
@@ -107,7 +110,7 @@ comes_behind came c old new few has = elim (word_asked (phase_of old.tables.stre
   | Some word ↦ λ is. with_few old new few (retabled (said word c old).tables old new is (says c (text_of_word word old) old.tables))
 ] has
 
-emptied_few : (c : ℕ) (v : FrontView) → KeepsFew v → KeepsFew (emptied c v)
+pub emptied_few : (c : ℕ) (v : FrontView) → KeepsFew v → KeepsFew (emptied c v)
 emptied_few c v few = omega (arith, held-changed v.tables.streams c (λ s. record s { bytes = [] }) 0 (λ s. omega arith), few)
 
 comes_if : (on : Bool) (bytes : List ℕ) (c : ℕ) (old new : FrontView) → KeepsFew old → ComesIf on bytes c old new → GoesOnWithFew old new
@@ -118,6 +121,7 @@ comes_if true bytes c old new few has =
       log.both old (emptied c old) new goes done.0,
       done.1,
       seats_both old (emptied c old) new goes (seats_kept old (emptied c old) goes (bytes_kept c [] old.tables)) done.2,
+      done.3,
     )
 
 pub comes : (bytes : List ℕ) (c : ℕ) (old new : FrontView) → KeepsFew old → Comes bytes c old new → GoesOnWithFew old new

@@ -1,14 +1,18 @@
 -- A log that goes on: at nothing, at one step behind another, and at what the one client does.
-use Rattle.std.proofs.Common.{◌≡◌, ◌∙◌, ℕ, zero, suc, List, [], ◌∷◌, ◌++◌, length, drop, Option, None, Some, inl, inr, refl, sym, ap, subst, append_assoc}
-use Rattle.std.proofs.lemmas.List.{append-nil}
+use Rattle.std.proofs.Common.{◌≡◌, ◌∙◌, ℕ, zero, suc, ◌+◌, ◌-◌, Bool, true, false, List, [], ◌∷◌, ◌++◌, length, drop, Option, None, Some, inl, inr, refl, sym, ap, subst, arith, append_assoc, length-drop}
+use Rattle.std.proofs.lemmas.List.{append-nil, drop_all}
 use Rattle.std.specs.List.{slice_get}
 use Rattle.std.specs.Prelude.{zip}
 use Rattle.zcalls.specs.declared.call.Call.{Call}
 use Rattle.zcalls.specs.declared.reply.Reply.{Reply}
 use Rattle.zturns.specs.Turns.{Log}
 use Rattle.zalone.specs.Alone.{AloneView}
+use Rattle.zalone.specs.Changes as changes
+use Rattle.zalone.specs.Changes.{AreLeft, ChangesView, KeepsIf, Keeps, made_in}
+use Rattle.zalone.specs.declared.made.Made.{Made}
 use Rattle.zalone.specs.Told.{HasTold, GoesOnSettled, StopsBefore, TellsAskedAll, TellsSettled, TellsOrdered}
 use Rattle.zfront.specs.Front.{FrontView}
+use Rattle.zfront.specs.Restoring.{all_taken}
 use Rattle.zfront_laws.specs.Runs.{IsLog, GoesOn}
 
 -- what a log goes on with, if it does
@@ -47,13 +51,18 @@ at_drop (first ∷ calls) zero call rest is =
     ap (λ c. Some c) here
 at_drop (first ∷ calls) (suc n) call rest is = at_drop calls n call rest is
 
--- calls are made while none is late
-stopped : (new : FrontView) (log more : Log) (calls : List Call) → ((call : Call) (rest : List Call) → calls ≡ call ∷ rest → new.late ≡ Some call)
-    → StopsBefore (HasTold new.asker) (log ++ more) calls → HasMore new log
-stopped new log more [] late has = (more, None, quiet new (log ++ more) has)
-stopped new log more (call ∷ calls) late (inl has) =
-    (more, Some call, record { told = has; late = λ c is. late call calls refl ∙ is })
-stopped new log more (call ∷ calls) late (inr has) = (more, None, quiet new (log ++ more) has.1)
+-- calls are made while none is late: those that were answered stand in the log with their replies
+stopped : (new : FrontView) (log : Log) (calls : List Call) → ((call : Call) (rest : List Call) → calls ≡ call ∷ rest → new.late ≡ Some call)
+    → StopsBefore (HasTold new.asker) log calls → (later : Option Call) × IsLog new log later
+stopped new log [] late has = (None, quiet new log has)
+stopped new log (call ∷ calls) late (inl has) = (Some call, record { told = has; late = λ c is. late call calls refl ∙ is })
+stopped new log (call ∷ calls) late (inr has) = (None, quiet new log has.1)
+
+pub asks_log : (old : FrontView) (calls : List Call) (new : FrontView) (told : List Reply) → new.late ≡ slice_get calls (length told)
+    → TellsAskedAll old.asker calls new.asker told → (log : Log) → HasTold old.asker log None → (later : Option Call) × IsLog new (log ++ zip calls told) later
+asks_log old calls new told is tells log has =
+    stopped new (log ++ zip calls told) (drop (length told) calls) (λ call rest from. is ∙ at_drop calls (length told) call rest from)
+    (tells log None has).1
 
 pub asks : (old : FrontView) (calls : List Call) (new : FrontView) (told : List Reply) → old.late ≡ None → new.late ≡ slice_get calls (length told)
     → TellsAskedAll old.asker calls new.asker told → GoesOn old new
@@ -61,8 +70,8 @@ asks old calls new told free is tells log (Some other) has =
     let clash : None ≡ Some other = sym free ∙ has.late other refl in
     absurd (cc clash)
 asks old calls new told free is tells log None has =
-    stopped new log (zip calls told) (drop (length told) calls) (λ call rest from. is ∙ at_drop calls (length told) call rest from)
-    (tells log None has.told).1
+    let next = asks_log old calls new told is tells log has.told in
+    (zip calls told, next.0, next.1)
 
 -- the same, with the calls that were answered
 stopped_with : (new : AloneView) (log : Log) (calls : List Call) → StopsBefore (HasTold new) log calls → (later : Option Call) × HasTold new log later
@@ -89,3 +98,32 @@ settles old new told kept tells log waiting has = settled old new log waiting to
 pub ordered : (old new : FrontView) → new.late ≡ old.late → TellsOrdered old.asker new.asker → GoesOn old new
 ordered old new kept tells log waiting has =
     stays new log waiting (record { told = tells log waiting has.told; late = λ call is. kept ∙ has.late call is })
+
+-- what was made is taken
+left_taken : (log : Log) (c : ChangesView) (b : Bool) → KeepsIf b log c → KeepsIf b log (changes.all_taken c)
+left_taken log c true left =
+    let rest : length c.made ≡ length (made_in log) - c.taken = ap (λ (l : List Made). length l) left.rest ∙ length-drop c.taken (made_in log) in
+    record {
+      few = omega (arith, left.few, rest);
+      rest = sym (drop_all (c.taken + length c.made) (made_in log) (omega (arith, left.few, rest)));
+    }
+left_taken log c false none = refl
+
+pub taken_told : (v : FrontView) (log : Log) (waiting : Option Call) → HasTold v.asker log waiting → HasTold (all_taken v).asker log waiting
+taken_told v log waiting told = record {
+  servers = told.servers;
+  events = told.events;
+  turns = told.turns;
+  before = told.before;
+  stands = told.stands;
+  fresh = told.fresh;
+  waits = told.waits;
+  known = told.known;
+  made = left_taken log v.asker.changes v.asker.changes.is_kept told.made;
+}
+
+pub taken : (v : FrontView) (log : Log) (waiting : Option Call) → IsLog v log waiting → IsLog (all_taken v) log waiting
+taken v log waiting is = record { told = taken_told v log waiting is.told; late = is.late }
+
+pub takes : (v : FrontView) → GoesOn v (all_taken v)
+takes v log waiting is = stays (all_taken v) log waiting (taken v log waiting is)

@@ -1,15 +1,10 @@
 -- The log goes on at each input, and at inputs one after the other. It is one tree's.
-use Rattle.std.proofs.Common.{◌≡◌, ◌∙◌, arith, ℕ, Bool, true, false, List, [], ◌∷◌, Option, None, Some, Result, Ok, Err, ap, refl, sym}
+use Rattle.std.proofs.Common.{◌≡◌, ℕ, Bool, true, false, List, [], ◌∷◌, ◌++◌, Option, None, Some, Result, Ok, Err, refl, sym, subst}
 use Rattle.std.specs.Prelude.{codes, is_some}
 use Rattle.std.specs.FinMap as finite
-use Rattle.std.specs.Option.{option_map}
-use Rattle.std.specs.Ordering.{nat_cmp}
-use Rattle.ztree.proofs.Maps.{none_some}
 use Rattle.zcalls.specs.declared.call.Call.{Call}
 use Rattle.zcalls.specs.declared.reply.Reply.{Reply}
-use Rattle.zanswering.specs.declared.clock.Clock.{Clock}
-use Rattle.zpieces.specs.declared.phase.Phase.TheVariants.{Speaking}
-use Rattle.zpieces.specs.Streams.{StreamView, held_of, phase_of}
+use Rattle.zpieces.specs.Streams.{held_of}
 use Rattle.zpieces.specs.Streams as streams
 use Rattle.zlines.specs.declared.line.Line.{Line}
 use Rattle.zlines.specs.declared.line.Line.TheVariants as line
@@ -22,20 +17,23 @@ use Rattle.zalone.specs.declared.order.Order.TheVariants as order
 use Rattle.ztables.specs.Tables.{TablesView}
 use Rattle.ztables.specs.Tables as tables
 use Rattle.zfront.specs.Front.{FrontView}
-use Rattle.zfront.specs.Inputs.{Begins, no_tables, without_first}
+use Rattle.zfront.specs.Inputs.{without_first}
+use Rattle.zfront.specs.Restoring.{all_taken}
 use Rattle.zfront.specs.Ticking.{tick_calls, rested, TicksIf, TicksBy, TicksUnless, Ticks}
 use Rattle.zfront.specs.Orders.{told_operator, did_text, IsGiven, SettlesIf, SettlesNow, wanted_of, Obeys, ObeysLine, Hears}
-use Rattle.zfront_laws.specs.Runs.{KeepsFew, IsLog, Does, Runs}
+use Rattle.zfront_laws.specs.Runs.{GoesOn, KeepsFew, Does, Runs}
 use Rattle.zfront_laws.specs.Seats.{EveryFrontIsSeated}
 use Rattle.zfront_laws.proofs.Kept.{ends_kept, opens_kept, rests_kept}
 use Rattle.zfront_laws.specs.Runs as run
 use Rattle.zfront_laws.specs.Laws.{EveryInputGoesOn, EveryRunGoesOn, EveryFrontKeepsFew, EveryFrontIsOneTree}
-use Rattle.zfront_laws.proofs.Held.{held-insert, held-remove, held-empty}
+use Rattle.zfront_laws.proofs.Held.{held-insert, held-remove}
 use Rattle.zfront_laws.proofs.Lighter.{as_many, none_more, unmoved}
-use Rattle.zfront_laws.proofs.Steps.{Step, Fine, seats_both, both, becomes, same, retabled, none_late}
+use Rattle.zfront_laws.proofs.Restored.{again, is_few, is_fine, is_quiet}
+use Rattle.zfront_laws.proofs.Taking.{SameTaking, ordered, settles}
+use Rattle.zfront_laws.proofs.Steps.{Step, Seats, seats_both, seats_kept, both, becomes, same, retabled, none_late}
 use Rattle.zfront_laws.proofs.GoingOn as log
 use Rattle.zfront_laws.proofs.Calling.{asks, hears_if, is_ready, tidies}
-use Rattle.zfront_laws.proofs.Coming.{GoesOnWithFew, comes, with_few}
+use Rattle.zfront_laws.proofs.Coming.{comes, with_few}
 
 -- a tick
 ticks_if : (late : Bool) (replies : List Reply) (old new : FrontView) → TicksIf late replies old new → Step old new
@@ -61,12 +59,13 @@ is_given : (given : Order) (old new : FrontView) → IsGiven given old new → S
 is_given given old new has =
     becomes old new (told_operator (did_text has.did) (record old { asker = has.asker })) has.told
     (log.ordered old (told_operator (did_text has.did) (record old { asker = has.asker })) refl has.tells)
+    (ordered old.asker has.asker has.same)
     (unmoved old.tables)
 
-settles_if : (late : Option Call) (old new : FrontView) → SettlesIf late old new → Step old new
+pub settles_if : (late : Option Call) (old new : FrontView) → SettlesIf late old new → Step old new
 settles_if None old new has =
     becomes old new (record old { asker = has.0 }) has.4
-    (log.settles old (record old { asker = has.0 }) has.1 (λ none. refl) has.3) (unmoved old.tables)
+    (log.settles old (record old { asker = has.0 }) has.1 (λ none. refl) has.3) (settles old.asker has.0 has.1 has.2) (unmoved old.tables)
 settles_if (Some call) old new has = hears_if (Some call) old new has
 
 settles_now : (old new : FrontView) → SettlesNow old new → Step old new
@@ -88,8 +87,17 @@ obeys_line (Err fault) old new is = retabled (told_operator (codes "bad line") o
 hears : (text : List ℕ) (old new : FrontView) → Hears text old new → Step old new
 hears text old new has = both old has.0 new (is_ready old has.0 has.1) (obeys_line (line_of text) has.0 new has.2)
 
+-- what an input takes: all, or nothing
+abbrev pub Taking : run.Input → FrontView → FrontView → Type 0
+Taking run.Took old new = new ≡ all_taken old
+Taking other old new = SameTaking old.asker new.asker
+
+-- the log goes on, few bytes are kept, and so are seats
+abbrev pub InputGoes : run.Input → FrontView → FrontView → Type 0
+InputGoes input old new = GoesOn old new × KeepsFew new × Seats old new × Taking input old new
+
 -- any input
-goes_with_few : (input : run.Input) (old new : FrontView) → KeepsFew old → Does input old new → GoesOnWithFew old new
+pub goes_with_few : (input : run.Input) (old new : FrontView) → KeepsFew old → Does input old new → InputGoes input old new
 goes_with_few (run.Opened c password) old new few is =
     let t = record old.tables { streams = finite.insert old.tables.streams c (streams.opened password) } in
     with_few old new few (retabled t old new is (none_more _ _ (held-insert old.tables.streams c (streams.opened password)), opens_kept c password old.tables))
@@ -100,14 +108,19 @@ goes_with_few run.Tick old new few has = with_few old new few (ticks old new has
 goes_with_few (run.Line text) old new few has = with_few old new few (hears text old new has)
 goes_with_few run.Sent old new few is =
     with_few old new few (retabled (without_first old).tables old new is (unmoved old.tables))
+goes_with_few run.Took old new few is =
+    subst (InputGoes run.Took old) (sym is)
+    (log.takes old, few, seats_kept old (all_taken old) (log.takes old) (unmoved old.tables).1, refl)
 
 pub every_input_goes_on : EveryInputGoesOn
 every_input_goes_on input old new few does =
     let done = goes_with_few input old new few does in
     (done.0, done.1)
 
-run_with_few : (inputs : List run.Input) (old new : FrontView) → KeepsFew old → Runs inputs old new → GoesOnWithFew old new
-run_with_few [] old new few is = with_few old new few (same old new is)
+run_with_few : (inputs : List run.Input) (old new : FrontView) → KeepsFew old → Runs inputs old new → GoesOn old new × KeepsFew new × Seats old new
+run_with_few [] old new few is =
+    let done = with_few old new few (same old new is) in
+    (done.0, done.1, done.2)
 run_with_few (input ∷ inputs) old new few has =
     let first = goes_with_few input old has.0 few has.1 in
     let rest = run_with_few inputs has.0 new first.1 has.2 in
@@ -118,36 +131,21 @@ every_run_goes_on inputs old new few runs =
     let done = run_with_few inputs old new few runs in
     (done.0, done.1)
 
--- a new server keeps nothing
-begins_with_few : (last : ℕ) (times : Clock) (v : FrontView) → Begins last times v → KeepsFew v
-begins_with_few last times v begins =
-    let none : held_of v.tables.streams ≡ 0 = ap (λ (t : TablesView). held_of t.streams) begins.tables ∙ held-empty in
-    omega (arith, none)
+-- ---- from a server that was restored
 
 pub every_front_keeps_few : EveryFrontKeepsFew
-every_front_keeps_few last times inputs first v begins runs = (every_run_goes_on inputs first v (begins_with_few last times first begins) runs).1
-
--- and has the empty log
-begins_quiet : (last : ℕ) (times : Clock) (v : FrontView) → Begins last times v → IsLog v [] None
-begins_quiet last times v begins = record { told = begins.told; late = λ call is. absurd (cc is) }
+every_front_keeps_few last times entries inputs first v restored runs =
+    (every_run_goes_on inputs first v (is_few entries first (again last times entries first restored)) runs).1
 
 pub every_front_is_one_tree : EveryFrontIsOneTree
-every_front_is_one_tree last times inputs first v begins runs =
-    let goes = (every_run_goes_on inputs first v (begins_with_few last times first begins) runs).0 [] None (begins_quiet last times first begins) in
+every_front_is_one_tree last times entries inputs first v restored runs =
+    let is = again last times entries first restored in
+    let goes = (every_run_goes_on inputs first v (is_few entries first is) runs).0 is.log None (is_quiet entries first is) in
     let has = goes.2 in
-    (goes.0, goes.1, has, is_one_trees has.told.servers has.told.events goes.0 goes.1 has.told.turns.told)
-
--- a new server has no connections
-no_rows : (v : FrontView) (t : TablesView) → v.tables ≡ t → ((c : ℕ) → finite.get t.streams c ≡ None) → ((id : ℕ) → finite.get t.sittings id ≡ None) → Fine v
-no_rows v t is streams sittings = record {
-  seated = λ c session speaks. absurd (none_some (Speaking session) (
-      sym (ap (option_map (λ (s : StreamView). s.phase)) (streams c)) ∙ ap (λ (u : TablesView). phase_of u.streams c) (sym is) ∙ speaks
-      ));
-  below = λ id has. absurd (none_some has.0 (sym (sittings id) ∙ ap (λ (u : TablesView). finite.get u.sittings id) (sym is) ∙ has.1));
-}
+    (is.log ++ goes.0, goes.1, has, is_one_trees has.told.servers has.told.events (is.log ++ goes.0) goes.1 has.told.turns.told)
 
 pub every_front_is_seated : EveryFrontIsSeated
-every_front_is_seated last times inputs first v begins runs =
-    let fine = no_rows first no_tables begins.tables (λ c. finite.get-empty nat_cmp c) (λ id. finite.get-empty nat_cmp id) in
-    let done = (run_with_few inputs first v (begins_with_few last times first begins) runs).2 [] None (begins_quiet last times first begins) fine in
+every_front_is_seated last times entries inputs first v restored runs =
+    let is = again last times entries first restored in
+    let done = (run_with_few inputs first v (is_few entries first is) runs).2 is.log None (is_quiet entries first is) (is_fine entries first is) in
     done.seated

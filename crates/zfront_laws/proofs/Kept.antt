@@ -123,13 +123,13 @@ opens_kept c password t = (λ seated d session speaks. seated d session (near d 
         sym (ap (option_map (λ (s : StreamView). s.phase)) (get-insert-elsewhere nat_cmp_total nat_cmp-IsAntisymmetric t.streams c (opened password) d other)) ∙ has
 
 -- sittings with the same connections
-abbrev Alike : SittingsView → SittingsView → Type 0
+abbrev pub Alike : SittingsView → SittingsView → Type 0
 Alike m n = ((id : ℕ) → connection_of n id ≡ connection_of m id) × ((id : ℕ) → Has n id → Has m id)
 
 alike_kept : (t : TablesView) (m : SittingsView) → Alike t.sittings m → Kept t (record t { sittings = m })
 alike_kept t m alike = (λ seated d session speaks. alike.0 session ∙ seated d session speaks, alike.1)
 
-changed_alike : (to : Sitting → Sitting) → ((s : Sitting) → (to s).connection ≡ s.connection) → (m : SittingsView) (key : ℕ) → Alike m (with_changed to m key)
+pub changed_alike : (to : Sitting → Sitting) → ((s : Sitting) → (to s).connection ≡ s.connection) → (m : SittingsView) (key : ℕ) → Alike m (with_changed to m key)
 changed_alike to keeps m key = (λ id. near id (same_number id key), changed_ids to m key)
   where
     there : (o : Option Sitting) → get m key ≡ o → connection_of (with_changed to m key) key ≡ connection_of m key
@@ -158,7 +158,7 @@ parts_alike (part.Create create ∷ parts) m =
     both_alike m (made_by create.kind m) (made_by_parts parts (made_by create.kind m)) (made_alike create.kind m) (parts_alike parts (made_by create.kind m))
 parts_alike (other ∷ parts) m = parts_alike parts m
 
-noted_alike : (update : Update) (told : Reply) (m : SittingsView) → Alike m (noted update told m)
+pub noted_alike : (update : Update) (told : Reply) (m : SittingsView) → Alike m (noted update told m)
 noted_alike (act.Create create) (reply.Created path) m = made_alike create.kind m
 noted_alike (act.Multi parts) (reply.Multi replies) m = parts_alike parts m
 noted_alike update told m = (λ id. refl, λ id has. has)
@@ -166,7 +166,7 @@ noted_alike update told m = (λ id. refl, λ id has. has)
 pub noted_kept : (update : Update) (told : Reply) (t : TablesView) → Kept t (record t { sittings = noted update told t.sittings })
 noted_kept update told t = alike_kept t (noted update told t.sittings) (noted_alike update told t.sittings)
 
-rests_alike : (m : SittingsView) → Alike m (all_rested m)
+pub rests_alike : (m : SittingsView) → Alike m (all_rested m)
 rests_alike m = (λ id. ap connection_in (each_rests m id) ∙ same (get m id), λ id has. there id (get m id) refl (sym (each_rests m id) ∙ has.1))
   where
     same : (o : Option Sitting) → connection_in (option_map rested o) ≡ connection_in o

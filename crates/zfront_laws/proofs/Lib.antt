@@ -1,14 +1,32 @@
-mod Held
-mod Seated
-mod Kept
-mod Lighter
-mod Wishes
-mod GoingOn
-mod Rising
-mod Steps
-mod Calling
-mod Serving
-mod Coming
-mod Inputs
-mod Late
-mod Sessions
+pub mod Held
+pub mod Seated
+pub mod Kept
+mod Changes
+pub mod Lighter
+pub mod Wishes
+pub mod GoingOn
+pub mod Rising
+pub mod Taking
+pub mod Steps
+pub mod Calling
+pub mod Serving
+pub mod Coming
+mod Working
+mod Quiet
+mod Greeted
+mod Welcomed
+mod Living
+mod Growing
+pub mod Bare
+mod Opening
+pub mod Restored
+pub mod Inputs
+pub mod Made
+pub mod Late
+pub mod Sessions
+mod Handled
+mod Given
+mod Heard
+mod Got
+mod Acting
+mod Lives

@@ -28,7 +28,8 @@ use Rattle.zserving.specs.Greeting.{session_told, welcomed, turned_away, given, 
 use Rattle.zserving.specs.Replying.{absorbed, absorbed_all, replied}
 use Rattle.zfront.specs.Greeting.{opened}
 use Rattle.zfront_laws.proofs.Held.{held-changed}
-use Rattle.zfront_laws.proofs.Kept.{Kept, unchanged, kept_both, closes_kept, noted_kept, sweeps_kept, takes_up_kept}
+use Rattle.zfront_laws.proofs.Kept.{Kept, unchanged, kept_both, closes_kept, noted_kept, rests_kept, sweeps_kept, takes_up_kept, touched_kept}
+use Rattle.zfront_laws.proofs.Changes.{Carries}
 
 -- the streams hold no more, and the seats are kept
 abbrev pub Lighter : TablesView → TablesView → Type 0
@@ -163,3 +164,17 @@ pub opens : (tick : ℕ) (greeting : ConnectRequest) (password : List ℕ) (c : 
 opens tick greeting password c [] t = closes_few c t
 opens tick greeting password c (Opened session ticks ∷ replies) t = welcomes tick greeting session ticks password c t
 opens tick greeting password c (other ∷ replies) t = closes_few c t
+
+-- so each single change
+pub carries_lighter : Carries Lighter
+carries_lighter = record {
+  none = unmoved;
+  both = lighter;
+  closes = closes;
+  piece = λ p t. unmoved t;
+  watches = λ w t. unmoved t;
+  notes = λ update told t. (as_many (held_of t.streams), noted_kept update told t);
+  touches = λ session t. (as_many (held_of t.streams), touched_kept session t);
+  rests = λ t. (as_many (held_of t.streams), rests_kept t);
+  sweeps = sweeps;
+}

@@ -15,6 +15,7 @@ use Rattle.zcalls.specs.CallRuns.{is_change}
 use Rattle.zcalls.specs.Step.{step, is_exhausted, granted_timeout}
 use Rattle.zcalls.proofs.Taking.{changes_take_one_zxid}
 use Rattle.zknown.specs.Known.{KnownView}
+use Rattle.zworld_model.specs.PlainTree.{serve}
 use Rattle.zturns.specs.Turns.{Log, calls_of, replies_of, served, tree_after}
 use Rattle.zalone.specs.Told.{HasTold}
 use Rattle.zturns.proofs.OneTree.{is_one_trees}
@@ -59,7 +60,7 @@ opens_by t u id timeout granted false false is =
     let same : t.zxid + 1 ≡ id = cc is in
     sym same
 
-step_opens : (t : Tree) (ticks id timeout : ℕ) → (step t 0 (Open ticks)).1 ≡ Opened id timeout → id ≡ t.zxid + 1
+pub step_opens : (t : Tree) (ticks id timeout : ℕ) → (step t 0 (Open ticks)).1 ≡ Opened id timeout → id ≡ t.zxid + 1
 unfolding step
 step_opens t ticks id timeout is =
     opens_by t (with_next_zxid (with_session t 0 (granted_timeout ticks))) id timeout (granted_timeout ticks) (is_exhausted t (Open ticks)) (nat_le MAX_SESSIONS (finite.len t.sessions)) is
@@ -71,11 +72,10 @@ rest_same : (a b : Reply) (more rest : List Reply) → a ∷ more ≡ b ∷ rest
 rest_same a b more rest is = cc is
 
 -- the reply in its place in the log
-placed : (t : Tree) (log more : Log) (ticks : ℕ) (reply : Reply)
-    → replies_of (log ++ (Update (Open ticks), reply) ∷ more) ≡ served t (calls_of (log ++ (Update (Open ticks), reply) ∷ more))
-    → reply ≡ (step (tree_after t (calls_of log)) 0 (Open ticks)).1
-placed t [] more ticks reply is = first_same _ _ _ _ is
-placed t (told ∷ log) more ticks reply is = placed (tree_after t (told.0 ∷ [])) log more ticks reply (rest_same _ _ _ _ is)
+pub placed : (t : Tree) (log more : Log) (call : Call) (reply : Reply)
+    → replies_of (log ++ (call, reply) ∷ more) ≡ served t (calls_of (log ++ (call, reply) ∷ more)) → reply ≡ (serve (tree_after t (calls_of log)) 0 call).1
+placed t [] more call reply is = first_same _ _ _ _ is
+placed t (told ∷ log) more call reply is = placed (tree_after t (told.0 ∷ [])) log more call reply (rest_same _ _ _ _ is)
 
 -- so its id is a new one
 pub new_id : (old new : FrontView) (ticks : ℕ) (log : Log) (id timeout : ℕ) (rest : List Reply) → HasTold old.asker log None
@@ -87,7 +87,7 @@ new_id old new ticks log id timeout rest told asks =
     let after = asks_with old.asker calls new.asker replies asks.tells log told in
     let has = after.1 in
     let one = is_one_trees has.servers has.events (log ++ zip calls replies) after.0 has.turns.told in
-    let reply : Opened id timeout ≡ (step t 0 (Open ticks)).1 = placed opening_tree log (zip [] rest) ticks (Opened id timeout) one in
+    let reply : Opened id timeout ≡ (step t 0 (Open ticks)).1 = placed opening_tree log (zip [] rest) (Update (Open ticks)) (Opened id timeout) one in
     let is : id ≡ t.zxid + 1 = step_opens t ticks id timeout (sym reply) in
     let next : (step t 0 (Open ticks)).0.zxid ≡ t.zxid + 1 =
     changes_take_one_zxid t 0 (Open ticks) ∙ ap (λ r. t.zxid + (if is_change r then 1 else 0)) (sym reply) in

@@ -91,7 +91,7 @@ closed_has c session t has = each (is_open t c)
     each true = of (session_in (phase_of t.streams c))
     each false = has
 
-moved_has : (session : ℕ) (t : TablesView) → Has t.sittings session → Has (moved session t).sittings session
+pub moved_has : (session : ℕ) (t : TablesView) → Has t.sittings session → Has (moved session t).sittings session
 moved_has session t has = each (connection_of t.sittings session)
   where
     each : (o : Option ℕ) → Has (option_map_or (λ c. closed c t) o t).sittings session

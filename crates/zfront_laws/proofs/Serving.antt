@@ -39,7 +39,7 @@ use Rattle.zfront_laws.proofs.Seated as seat
 use Rattle.zfront_laws.proofs.Kept.{closes_kept, touched_kept}
 use Rattle.zfront_laws.proofs.Rising.{new_id, zxid_rises}
 use Rattle.zfront_laws.proofs.GoingOn as log
-use Rattle.zfront_laws.proofs.Lighter.{as_many, closes, replies_to}
+use Rattle.zfront_laws.proofs.Lighter.{Lighter, as_many, carries_lighter, closes, replies_to}
 use Rattle.zfront_laws.proofs.Lighter as tables
 use Rattle.zfront_laws.proofs.Wishes.{answers}
 use Rattle.zfront_laws.proofs.Steps.{Step, Fine, both, retabled}
@@ -51,7 +51,7 @@ ends_if true c asked calls replies old new is = retabled (closed c old.tables) o
 ends_if false c asked calls replies old new has =
     let t = answered old.clock old.asker.known c asked calls replies old.tables in
     both old (with_tables t old) new
-    (retabled t old (with_tables t old) refl (answers old.clock old.asker.known c asked calls replies old.tables))
+    (retabled t old (with_tables t old) refl (answers Lighter carries_lighter old.clock old.asker.known c asked calls replies old.tables))
     (tidies replies (with_tables t old) new has)
 
 makes : (calls : List Call) (c : ℕ) (asked : Request) (old new : FrontView) → old.late ≡ None → Makes calls c asked old new → Step old new
@@ -140,6 +140,7 @@ opens greeting password c old new free has =
       goes = log.both old middle like first.goes (log.same middle like refl refl);
       few = omega (arith, first.few, tables.opens middle.clock.tick greeting password c has.1 middle.tables);
       seats = λ told waiting is fine. opened_fine greeting password c old middle has.1 told waiting free has.2 first.goes is fine;
+      taking = first.taking;
     } in
     subst (λ (v : FrontView). Step old v) (sym has.3) step
 

@@ -1,4 +1,5 @@
--- Steps of a server: the log of its calls goes on, its streams hold no more, and seats are kept.
+-- Steps of a server: the log of its calls goes on, its streams hold no more, seats are kept, and
+-- nothing is taken of what was made.
 use Rattle.std.proofs.Common.{◌≡◌, ℕ, ◌≤◌, ◌++◌, arith, Bool, true, false, Option, None, Some, refl, sym, subst}
 use Rattle.std.specs.Prelude.{◌&&◌, is_none, is_some}
 use Rattle.zcalls.specs.declared.call.Call.{Call}
@@ -13,6 +14,7 @@ use Rattle.zfront_laws.proofs.Kept.{Kept}
 use Rattle.zfront_laws.proofs.Rising.{zxid_rises}
 use Rattle.zfront_laws.proofs.GoingOn as log
 use Rattle.zfront_laws.proofs.Lighter.{Lighter, unmoved}
+use Rattle.zfront_laws.proofs.Taking.{SameTaking, same_asker, taking_both}
 
 -- each connection that speaks for a session has its seat, and no session is newer than the tree
 pub record Fine (v : FrontView) : Type 0 where
@@ -38,10 +40,11 @@ pub record Step (old new : FrontView) : Type 0 where
   pub goes : GoesOn old new
   pub few : held_of new.tables.streams ≤ held_of old.tables.streams
   pub seats : Seats old new
+  pub taking : SameTaking old.asker new.asker
 
 -- a step by what it does to the log and to the tables
-pub steps : (old new : FrontView) → GoesOn old new → Lighter old.tables new.tables → Step old new
-steps old new goes light = record { goes = goes; few = light.0; seats = seats_kept old new goes light.1 }
+pub steps : (old new : FrontView) → GoesOn old new → SameTaking old.asker new.asker → Lighter old.tables new.tables → Step old new
+steps old new goes taking light = record { goes = goes; few = light.0; seats = seats_kept old new goes light.1; taking = taking }
 
 -- one step behind another
 pub both : (old middle new : FrontView) → Step old middle → Step middle new → Step old new
@@ -49,16 +52,17 @@ both old middle new one two = record {
   goes = log.both old middle new one.goes two.goes;
   few = omega (arith, one.few, two.few);
   seats = seats_both old middle new one.goes one.seats two.seats;
+  taking = taking_both old.asker middle.asker new.asker one.taking two.taking;
 }
 
 -- what a server became
-pub becomes : (old new like : FrontView) → new ≡ like → GoesOn old like → Lighter old.tables like.tables → Step old new
-becomes old new like is goes light = subst (λ (v : FrontView). Step old v) (sym is) (steps old like goes light)
+pub becomes : (old new like : FrontView) → new ≡ like → GoesOn old like → SameTaking old.asker like.asker → Lighter old.tables like.tables → Step old new
+becomes old new like is goes taking light = subst (λ (v : FrontView). Step old v) (sym is) (steps old like goes taking light)
 
 -- nothing happens to its client
 pub same_client : (old new like : FrontView) → new ≡ like → like.asker ≡ old.asker → like.late ≡ old.late → Lighter old.tables like.tables
     → Step old new
-same_client old new like is kept late light = becomes old new like is (log.same old like kept late) light
+same_client old new like is kept late light = becomes old new like is (log.same old like kept late) (same_asker old.asker like.asker kept) light
 
 -- nothing at all
 pub same : (old new : FrontView) → new ≡ old → Step old new

@@ -1,4 +1,5 @@
--- The watches that a request asks for are granted: the streams hold no more.
+-- The watches that a request asks for are granted: what holds of each holds of all. So what single
+-- changes carry is carried where a request is answered.
 use Rattle.std.proofs.Common.{◌≡◌, ◌∙◌, ℕ, Bool, true, false, List, [], ◌∷◌, ◌++◌, length, take, drop, refl, sym, ap, subst}
 use Rattle.std.specs.Prelude.{ℤ, int_lt}
 use Rattle.ztree.specs.Tree.{Path}
@@ -17,18 +18,20 @@ use Rattle.zjute.specs.declared.request.Request.{Request}
 use Rattle.zknown.specs.Known.{KnownView}
 use Rattle.zanswering.specs.declared.clock.Clock.{Clock}
 use Rattle.zjute.specs.declared.request.SetWatches.{SetWatches}
+use Rattle.zevents.specs.declared.event.Event.{Event}
 use Rattle.zevents.specs.Events.{event}
 use Rattle.zanswering.specs.Stats.{long_of}
 use Rattle.zwatches.specs.declared.kind.Kind.{Kind}
 use Rattle.zwatches.specs.declared.kind.Kind.TheVariants.{Data, Missing, Children}
 use Rattle.zwatches.specs.Watches.{is_full, watch}
-use Rattle.ztables.specs.Tables.{TablesView}
+use Rattle.ztables.specs.Tables.{TablesView, sent}
 use Rattle.ztables.specs.Telling.{event_frame}
 use Rattle.zserving.specs.Answering.{answered, answer_unless}
 use Rattle.zserving.specs.Replying.{absorbed_all, replied}
 use Rattle.zserving.specs.Watching.{waiting, granted, granted_all, some_lacked}
 use Rattle.zserving.specs.Wishes.{query_wish, first_wish, look_wish, wish_again, call_again, wishes_again, all_again, wishes}
-use Rattle.zfront_laws.proofs.Lighter.{Lighter, unmoved, lighter, sends, absorbs_all, replies_to}
+use Rattle.zfront_laws.proofs.Changes.{Carries, absorbs_all, replies_to, sends}
+use Rattle.std.specs.FinSet.{insert}
 
 -- what is granted behind other wishes
 module _ {W : Type 0} (one : W → TablesView → TablesView) (all : List W → TablesView → TablesView) (first : (t : TablesView) → all [] t ≡ t)
@@ -37,95 +40,102 @@ module _ {W : Type 0} (one : W → TablesView → TablesView) (all : List W → 
   appended [] ys t = ap (all ys) (sym (first t))
   appended (x ∷ xs) ys t = next x (xs ++ ys) t ∙ appended xs ys (one x t) ∙ ap (all ys) (sym (next x xs t))
 
-  behind : (xs ys : List W) (t : TablesView) → Lighter t (all xs t) → ((u : TablesView) → Lighter u (all ys u)) → Lighter t (all (xs ++ ys) t)
-  behind xs ys t here there =
-      subst (λ u. Lighter t u) (sym (appended xs ys t)) (lighter t (all xs t) (all ys (all xs t)) here (there (all xs t)))
+-- what is so where nothing is done, of one thing behind another, where a watch waits and where an
+-- event is told: so it is of all wishes of a request
+module _ (Is : TablesView → TablesView → Type 0) (same : (t : TablesView) → Is t t) (both : (t u w : TablesView) → Is t u → Is u w → Is t w) (c : ℕ)
+    (waits : (kind : Kind) (path : Path) (t : TablesView) → Is t (waiting c kind path t)) (tells : (e : Event) (t : TablesView) → Is t (sent c (event_frame e) t)) where
+  behind : {W : Type 0} (one : W → TablesView → TablesView) (all : List W → TablesView → TablesView) → ((t : TablesView) → all [] t ≡ t)
+      → ((w : W) (ws : List W) (t : TablesView) → all (w ∷ ws) t ≡ all ws (one w t)) → (xs ys : List W) (t : TablesView) → Is t (all xs t)
+      → ((u : TablesView) → Is u (all ys u)) → Is t (all (xs ++ ys) t)
+  behind one all first next xs ys t here there =
+      subst (Is t) (sym (appended one all first next xs ys t)) (both t (all xs t) (all ys (all xs t)) here (there (all xs t)))
 
-waits : (c : ℕ) (kind : Kind) (path : Path) (t : TablesView) → Lighter t (waiting c kind path t)
-waits c kind path t = by (is_full t.watches (watch path kind c)) refl
-  where
-    by : (b : Bool) → is_full t.watches (watch path kind c) ≡ b → Lighter t (waiting c kind path t)
-    by true is = rw is (unmoved t)
-    by false is = rw is (unmoved t)
+  query_wished : (asks : Question) (told : Reply) (t : TablesView) → Is t (granted_all c (query_wish asks told) t)
+  query_wished (query.Exists path) (reply.Exists stat) t = waits Data path t
+  query_wished (query.Exists path) (reply.Refused NoNode) t = waits Missing path t
+  query_wished (query.GetData path) (reply.Data bytes stat) t = waits Data path t
+  query_wished (query.GetChildren path) (reply.Children names) t = waits Children path t
+  query_wished asks told t = same t
 
-query_wished : (c : ℕ) (asks : Question) (told : Reply) (t : TablesView) → Lighter t (granted_all c (query_wish asks told) t)
-query_wished c (query.Exists path) (reply.Exists stat) t = waits c Data path t
-query_wished c (query.Exists path) (reply.Refused NoNode) t = waits c Missing path t
-query_wished c (query.GetData path) (reply.Data bytes stat) t = waits c Data path t
-query_wished c (query.GetChildren path) (reply.Children names) t = waits c Children path t
-query_wished c asks told t = unmoved t
+  first_wished : (calls : List Call) (replies : List Reply) (t : TablesView) → Is t (granted_all c (first_wish calls replies) t)
+  first_wished [] replies t = same t
+  first_wished (Update update ∷ calls) replies t = same t
+  first_wished (Query asks ∷ calls) [] t = same t
+  first_wished (Query asks ∷ calls) (told ∷ replies) t = query_wished asks told t
 
-first_wished : (c : ℕ) (calls : List Call) (replies : List Reply) (t : TablesView) → Lighter t (granted_all c (first_wish calls replies) t)
-first_wished c [] replies t = unmoved t
-first_wished c (Update update ∷ calls) replies t = unmoved t
-first_wished c (Query asks ∷ calls) [] t = unmoved t
-first_wished c (Query asks ∷ calls) (told ∷ replies) t = query_wished c asks told t
+  look_wished : (look : Look) (calls : List Call) (replies : List Reply) (t : TablesView) → Is t (granted_all c (look_wish look calls replies) t)
+  look_wished look calls replies t = by look.watch refl
+    where
+      by : (b : Bool) → look.watch ≡ b → Is t (granted_all c (look_wish look calls replies) t)
+      by true is = rw is (first_wished calls replies t)
+      by false is = rw is (same t)
 
-look_wished : (c : ℕ) (look : Look) (calls : List Call) (replies : List Reply) (t : TablesView) → Lighter t (granted_all c (look_wish look calls replies) t)
-look_wished c look calls replies t = by look.watch refl
-  where
-    by : (b : Bool) → look.watch ≡ b → Lighter t (granted_all c (look_wish look calls replies) t)
-    by true is = rw is (first_wished c calls replies t)
-    by false is = rw is (unmoved t)
+  again : (kind : Kind) (seen : ℤ) (path : Path) (told : Reply) (t : TablesView) → Is t (granted_all c (wish_again kind seen path told) t)
+  again Data seen path (reply.Exists stat) t = by (int_lt seen (long_of stat.mzxid)) refl
+    where
+      by : (b : Bool) → int_lt seen (long_of stat.mzxid) ≡ b → Is t (granted_all c (wish_again Data seen path (reply.Exists stat)) t)
+      by true is = rw is (tells (event NodeDataChanged path) t)
+      by false is = rw is (waits Data path t)
+  again Data seen path (reply.Refused NoNode) t = tells (event NodeDeleted path) t
+  again Missing seen path (reply.Exists stat) t = tells (event NodeCreated path) t
+  again Missing seen path (reply.Refused NoNode) t = waits Missing path t
+  again Children seen path (reply.Exists stat) t = by (int_lt seen (long_of stat.pzxid)) refl
+    where
+      by : (b : Bool) → int_lt seen (long_of stat.pzxid) ≡ b → Is t (granted_all c (wish_again Children seen path (reply.Exists stat)) t)
+      by true is = rw is (tells (event NodeChildrenChanged path) t)
+      by false is = rw is (waits Children path t)
+  again Children seen path (reply.Refused NoNode) t = tells (event NodeDeleted path) t
+  again kind seen path told t = same t
 
-again : (c : ℕ) (kind : Kind) (seen : ℤ) (path : Path) (told : Reply) (t : TablesView) → Lighter t (granted_all c (wish_again kind seen path told) t)
-again c Data seen path (reply.Exists stat) t = by (int_lt seen (long_of stat.mzxid)) refl
-  where
-    by : (b : Bool) → int_lt seen (long_of stat.mzxid) ≡ b → Lighter t (granted_all c (wish_again Data seen path (reply.Exists stat)) t)
-    by true is = rw is (sends c (event_frame (event NodeDataChanged path)) t)
-    by false is = rw is (waits c Data path t)
-again c Data seen path (reply.Refused NoNode) t = sends c (event_frame (event NodeDeleted path)) t
-again c Missing seen path (reply.Exists stat) t = sends c (event_frame (event NodeCreated path)) t
-again c Missing seen path (reply.Refused NoNode) t = waits c Missing path t
-again c Children seen path (reply.Exists stat) t = by (int_lt seen (long_of stat.pzxid)) refl
-  where
-    by : (b : Bool) → int_lt seen (long_of stat.pzxid) ≡ b → Lighter t (granted_all c (wish_again Children seen path (reply.Exists stat)) t)
-    by true is = rw is (sends c (event_frame (event NodeChildrenChanged path)) t)
-    by false is = rw is (waits c Children path t)
-again c Children seen path (reply.Refused NoNode) t = sends c (event_frame (event NodeDeleted path)) t
-again c kind seen path told t = unmoved t
+  calls_again : (kind : Kind) (seen : ℤ) (call : Call) (told : Reply) (t : TablesView) → Is t (granted_all c (call_again kind seen call told) t)
+  calls_again kind seen (Query (query.Exists path)) told t = again kind seen path told t
+  calls_again kind seen call told t = same t
 
-calls_again : (c : ℕ) (kind : Kind) (seen : ℤ) (call : Call) (told : Reply) (t : TablesView) → Lighter t (granted_all c (call_again kind seen call told) t)
-calls_again c kind seen (Query (query.Exists path)) told t = again c kind seen path told t
-calls_again c kind seen call told t = unmoved t
+  kind_again : (kind : Kind) (seen : ℤ) (calls : List Call) (replies : List Reply) (t : TablesView)
+      → Is t (granted_all c (wishes_again kind seen calls replies) t)
+  kind_again kind seen [] replies t = same t
+  kind_again kind seen (call ∷ calls) [] t = same t
+  kind_again kind seen (call ∷ calls) (told ∷ replies) t =
+      behind (granted c) (granted_all c) (λ u. refl) (λ w ws u. refl) (call_again kind seen call told) (wishes_again kind seen calls replies) t
+      (calls_again kind seen call told t) (kind_again kind seen calls replies)
 
-kind_again : (c : ℕ) (kind : Kind) (seen : ℤ) (calls : List Call) (replies : List Reply) (t : TablesView)
-    → Lighter t (granted_all c (wishes_again kind seen calls replies) t)
-kind_again c kind seen [] replies t = unmoved t
-kind_again c kind seen (call ∷ calls) [] t = unmoved t
-kind_again c kind seen (call ∷ calls) (told ∷ replies) t =
-    behind (granted c) (granted_all c) (λ u. refl) (λ w ws u. refl) (call_again kind seen call told) (wishes_again kind seen calls replies) t
-    (calls_again c kind seen call told t) (kind_again c kind seen calls replies)
+  set_again : (set : SetWatches) (calls : List Call) (replies : List Reply) (t : TablesView) → Is t (granted_all c (all_again set calls replies) t)
+  set_again set calls replies t =
+      let data_count = length set.data_watches in
+      let missing_count = length set.exist_watches in
+      let seen = set.relative_zxid in
+      behind (granted c) (granted_all c) (λ u. refl) (λ w ws u. refl) (wishes_again Data seen (take data_count calls) (take data_count replies)) _ t
+      (kind_again Data seen (take data_count calls) (take data_count replies) t)
+      (λ u.
+      behind (granted c) (granted_all c) (λ u. refl) (λ w ws u. refl)
+      (wishes_again Missing seen (take missing_count (drop data_count calls)) (take missing_count (drop data_count replies)))
+      (wishes_again Children seen (drop missing_count (drop data_count calls)) (drop missing_count (drop data_count replies))) u
+      (kind_again Missing seen (take missing_count (drop data_count calls)) (take missing_count (drop data_count replies)) u)
+      (kind_again Children seen (drop missing_count (drop data_count calls)) (drop missing_count (drop data_count replies))))
 
-set_again : (c : ℕ) (set : SetWatches) (calls : List Call) (replies : List Reply) (t : TablesView) → Lighter t (granted_all c (all_again set calls replies) t)
-set_again c set calls replies t =
-    let data_count = length set.data_watches in
-    let missing_count = length set.exist_watches in
-    let seen = set.relative_zxid in
-    behind (granted c) (granted_all c) (λ u. refl) (λ w ws u. refl) (wishes_again Data seen (take data_count calls) (take data_count replies)) _ t
-    (kind_again c Data seen (take data_count calls) (take data_count replies) t)
-    (λ u.
-    behind (granted c) (granted_all c) (λ u. refl) (λ w ws u. refl)
-    (wishes_again Missing seen (take missing_count (drop data_count calls)) (take missing_count (drop data_count replies)))
-    (wishes_again Children seen (drop missing_count (drop data_count calls)) (drop missing_count (drop data_count replies))) u
-    (kind_again c Missing seen (take missing_count (drop data_count calls)) (take missing_count (drop data_count replies)) u)
-    (kind_again c Children seen (drop missing_count (drop data_count calls)) (drop missing_count (drop data_count replies))))
+  pub wished : (asks : Asked) (calls : List Call) (replies : List Reply) (t : TablesView) → Is t (granted_all c (wishes asks calls replies) t)
+  wished (asked.Exists look) calls replies t = look_wished look calls replies t
+  wished (asked.GetData look) calls replies t = look_wished look calls replies t
+  wished (asked.GetChildren look) calls replies t = look_wished look calls replies t
+  wished (asked.GetChildren2 look) calls replies t = look_wished look calls replies t
+  wished (asked.SetWatches set) calls replies t = set_again set calls replies t
+  wished other calls replies t = same t
 
-pub wished : (c : ℕ) (asks : Asked) (calls : List Call) (replies : List Reply) (t : TablesView) → Lighter t (granted_all c (wishes asks calls replies) t)
-wished c (asked.Exists look) calls replies t = look_wished c look calls replies t
-wished c (asked.GetData look) calls replies t = look_wished c look calls replies t
-wished c (asked.GetChildren look) calls replies t = look_wished c look calls replies t
-wished c (asked.GetChildren2 look) calls replies t = look_wished c look calls replies t
-wished c (asked.SetWatches set) calls replies t = set_again c set calls replies t
-wished c other calls replies t = unmoved t
+module _ (R : TablesView → TablesView → Type 0) (carry : Carries R) where
+  waits : (c : ℕ) (kind : Kind) (path : Path) (t : TablesView) → R t (waiting c kind path t)
+  waits c kind path t = by (is_full t.watches (watch path kind c)) refl
+    where
+      by : (b : Bool) → is_full t.watches (watch path kind c) ≡ b → R t (waiting c kind path t)
+      by true is = rw is (carry.none t)
+      by false is = rw is (carry.watches (insert t.watches (watch path kind c)) t)
 
--- a request is answered
-pub answers : (clock : Clock) (known : KnownView) (c : ℕ) (request : Request) (calls : List Call) (replies : List Reply) (t : TablesView)
-    → Lighter t (answered clock known c request calls replies t)
-answers clock known c request calls replies t =
-    let absorbing = absorbed_all calls replies t in
-    let wanted = wishes request.asked calls replies in
-    let granting = granted_all c wanted absorbing in
-    let answer = answer_unless (some_lacked c wanted absorbing) clock known request.asked calls replies in
-    lighter t absorbing (replied known c request.xid answer granting) (absorbs_all calls replies t)
-    (lighter absorbing granting (replied known c request.xid answer granting) (wished c request.asked calls replies absorbing) (replies_to known c request.xid answer granting))
+  -- a request is answered
+  pub answers : (clock : Clock) (known : KnownView) (c : ℕ) (request : Request) (calls : List Call) (replies : List Reply) (t : TablesView)
+      → R t (answered clock known c request calls replies t)
+  answers clock known c request calls replies t =
+      let absorbing = absorbed_all calls replies t in
+      let wanted = wishes request.asked calls replies in
+      let granting = granted_all c wanted absorbing in
+      let answer = answer_unless (some_lacked c wanted absorbing) clock known request.asked calls replies in
+      carry.both t absorbing (replied known c request.xid answer granting) (absorbs_all R carry calls replies t)
+      (carry.both absorbing granting (replied known c request.xid answer granting) (wished R carry.none carry.both c (waits c) (λ e u. sends R carry c (event_frame e) u) request.asked calls replies absorbing) (replies_to R carry known c request.xid answer granting))

@@ -15,7 +15,7 @@ use Rattle.zalone.specs.Alone.{AloneView}
 use Rattle.zalone.specs.Told.{HasTold}
 use Rattle.ztables.specs.Tables.{closed}
 use Rattle.zfront.specs.Front.{FrontView, with_tables, Asks, heard, HearsIf}
-use Rattle.zfront.specs.Inputs.{Begins}
+use Rattle.zfront.specs.Restoring.{Entry, IsRestored}
 use Rattle.zfront.specs.Requests.{Serves, Makes, touched_by}
 use Rattle.zfront_laws.specs.Runs.{Input, KeepsFew, Does, Runs, IsLog, GoesOn}
 
@@ -27,14 +27,17 @@ EveryInputGoesOn = (input : Input) (old new : FrontView) → KeepsFew old → Do
 abbrev pub EveryRunGoesOn : Type 0
 EveryRunGoesOn = (inputs : List Input) (old new : FrontView) → KeepsFew old → Runs inputs old new → GoesOn old new × KeepsFew new
 
--- a server that began keeps few bytes
+-- a server that was restored keeps few bytes. A new one was restored by no entries
 abbrev pub EveryFrontKeepsFew : Type 0
-EveryFrontKeepsFew = (last : ℕ) (times : Clock) (inputs : List Input) (first v : FrontView) → Begins last times first → Runs inputs first v → KeepsFew v
+EveryFrontKeepsFew =
+    (last : ℕ) (times : Clock) (entries : List Entry) (inputs : List Input) (first v : FrontView)
+    → IsRestored last times entries first → Runs inputs first v → KeepsFew v
 
 -- so all calls of all connections stand in one log, and its replies are those of one plain tree
 abbrev pub EveryFrontIsOneTree : Type 0
 EveryFrontIsOneTree =
-    (last : ℕ) (times : Clock) (inputs : List Input) (first v : FrontView) → Begins last times first → Runs inputs first v
+    (last : ℕ) (times : Clock) (entries : List Entry) (inputs : List Input) (first v : FrontView)
+    → IsRestored last times entries first → Runs inputs first v
     → (log : Log) × (waiting : Option Call) × IsLog v log waiting × IsOneTrees log
 
 -- the replies to the calls that a server makes are those of the tree that its log left, and each

@@ -1,3 +1,5 @@
 pub mod Runs
 pub mod Laws
 pub mod Seats
+pub mod Given
+pub mod Making

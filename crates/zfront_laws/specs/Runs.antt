@@ -9,11 +9,13 @@ use Rattle.zfront.specs.declared.limits.TheConstants.{MAX_KEPT}
 use Rattle.zfront.specs.Front.{FrontView}
 use Rattle.zfront.specs.Inputs.{Opens, Ends, without_first}
 use Rattle.zfront.specs.Reading.{Comes}
+use Rattle.zfront.specs.Restoring.{all_taken}
 use Rattle.zfront.specs.Ticking.{Ticks}
 use Rattle.zfront.specs.Orders.{Hears}
 
 -- a connection was opened, with a password for its session; bytes came on one; one ended; a tick
--- went by; the chain's operator gave a line; the first piece was sent
+-- went by; the chain's operator gave a line; the first piece was sent; the updates that were made were
+-- taken
 pub data Input : Type 0 where
   Opened : ℕ → List ℕ → Input
   Came : ℕ → List ℕ → Input
@@ -21,6 +23,7 @@ pub data Input : Type 0 where
   Tick : Input
   Line : List ℕ → Input
   Sent : Input
+  Took : Input
 
 -- of frames that aren't whole yet, all connections together keep no more bytes than this
 abbrev pub KeepsFew : FrontView → Type 0
@@ -34,6 +37,7 @@ Does (Ended c) old new = Ends c old new
 Does Tick old new = Ticks old new
 Does (Line text) old new = Hears text old new
 Does Sent old new = new ≡ without_first old
+Does Took old new = new ≡ all_taken old
 
 -- inputs, one after the other
 abbrev pub Runs : List Input → FrontView → FrontView → Type 0

@@ -10,7 +10,7 @@ use Rattle.ztables.specs.Tables.{TablesView, connection_of, closed, ended, sent,
 use Rattle.ztables.specs.Sweeping.{swept_all}
 use Rattle.ztables.specs.Telling.{told_all}
 use Rattle.zfront.specs.Front.{FrontView}
-use Rattle.zfront.specs.Inputs.{Begins}
+use Rattle.zfront.specs.Restoring.{Entry, IsRestored}
 use Rattle.zfront_laws.specs.Runs.{Input, Runs}
 
 -- each connection that speaks for a session has the seat of this session
@@ -40,4 +40,5 @@ pub record SeatsAreKept : Type 0 where
 -- of every server, whatever its inputs were
 abbrev pub EveryFrontIsSeated : Type 0
 EveryFrontIsSeated =
-    (last : ℕ) (times : Clock) (inputs : List Input) (first v : FrontView) → Begins last times first → Runs inputs first v → IsSeated v.tables
+    (last : ℕ) (times : Clock) (entries : List Entry) (inputs : List Input) (first v : FrontView)
+    → IsRestored last times entries first → Runs inputs first v → IsSeated v.tables

@@ -4,9 +4,43 @@ ghost use Rattle.zfront_laws.specs.Laws.{EveryFrontIsOneTree, EveryFrontKeepsFew
 ghost use Rattle.zfront_laws.specs.Laws.{CallsStandInTheLog, EveryInputGoesOn, EveryRunGoesOn};
 ghost use Rattle.zfront_laws.specs.Laws.{LateCallsStandInTheLog, NoRequestMakesNoCall};
 ghost use Rattle.zfront_laws.specs.Laws.{RequestsAreForTheirSession};
+ghost use Rattle.zfront_laws.specs.Given.{EverySessionIsGot, WhoSpeaksIsAlive};
+ghost use Rattle.zfront_laws.specs.Making.{ANewServerIsRestored, EveryChangeIsMade};
+ghost use Rattle.zfront_laws.specs.Making.{EveryEntryIsMadeAgain, EveryInputMakesMore};
+ghost use Rattle.zfront_laws.specs.Making.{EverySessionIsRestored};
 ghost use Rattle.zfront_laws.specs.Seats.{EveryFrontIsSeated, OneSpeaks, SeatsAreKept};
 
 use zalone::laws::replies_are_the_trees;
+
+/// A new server is one that was restored by no updates. So what holds of those that were restored
+/// holds of new ones.
+pub fn a_new_server_is_restored()
+    ensures { ANewServerIsRestored }
+{}
+
+/// A server that was restored made its updates again: each once, in order, and with the replies of
+/// one plain tree.
+pub fn every_entry_is_made_again()
+    ensures { EveryEntryIsMadeAgain }
+{}
+
+/// Each session of the tree of a server that was restored has its own password again, by which a
+/// client takes it up, and no connection.
+pub fn every_session_is_restored()
+    ensures { EverySessionIsRestored }
+{}
+
+/// At each input the updates that come into the log, with their replies, come behind those that are
+/// left to be taken.
+pub fn every_input_makes_more()
+    ensures { EveryInputMakesMore }
+{}
+
+/// Behind the updates that restored a server, those of its log are the ones that were taken, and
+/// the ones that are left: each once, in order, with its reply.
+pub fn every_change_is_made()
+    ensures { EveryChangeIsMade }
+{}
 
 /// At each input the log of the server's calls goes on: what stood in it stays, and more may come
 /// behind it. The inputs are connections, their bytes and ends, ticks, and the operator's lines.
@@ -25,8 +59,9 @@ pub fn every_front_keeps_few()
     ensures { EveryFrontKeepsFew }
 {}
 
-/// Whatever the inputs of a new server were, all its calls stand in one log. The replies are those
-/// of one plain tree that does these calls in their order. No connection sees another tree.
+/// Whatever the inputs of a server were, new or restored, all its calls stand in one log. The
+/// replies are those of one plain tree that does these calls in their order. No connection sees
+/// another tree.
 pub fn every_front_is_one_tree()
     ensures { EveryFrontIsOneTree }
 {}
@@ -67,8 +102,21 @@ pub fn seats_are_kept()
     ensures { SeatsAreKept }
 {}
 
-/// Whatever the inputs of a new server were, each connection that speaks for a session has this
-/// session's seat. So no two connections ever speak for one session.
+/// Whatever the inputs of a server were, new or restored, each connection that speaks for a session
+/// has this session's seat. So no two connections ever speak for one session.
 pub fn every_front_is_seated()
     ensures { EveryFrontIsSeated }
+{}
+
+/// Whatever the inputs of a server were, new or restored, a connection that speaks for a session
+/// got it by its first frame. That frame asked for a new session, which was opened, or it named one
+/// and gave all bytes of its password.
+pub fn every_session_is_got()
+    ensures { EverySessionIsGot }
+{}
+
+/// Wherever a server stands before a frame, whoever speaks for a session speaks for one that the
+/// tree has. So nobody acts for a session that ended.
+pub fn who_speaks_is_alive()
+    ensures { WhoSpeaksIsAlive }
 {}

@@ -2,10 +2,10 @@ mod Blocks
 mod Files
 mod Heads
 mod Kept
-mod Moments
+pub mod Moments
 mod Opens
-mod Puts
-mod Readings
+pub mod Puts
+pub mod Readings
 mod Runs
-mod Scan
+pub mod Scan
 mod Steps

@@ -32,6 +32,16 @@ closing_stands servers batches end file mid same k c closing = inl (closing_keep
 pub closed_stands : (servers : ℕ) (batches : List (List ℕ)) (end : ℕ) (file mid : List ℕ) → mid ≡ file → KeepsTo servers batches end file → (new : List ℕ) → new ≡ take end mid ++ 0 ∷ [] → new ≡ at_rest (holdings servers batches)
 closed_stands servers batches end file mid same k new is = closed_rests servers batches file end k new (is ∙ ap (λ (l : List ℕ). take end l ++ 0 ∷ []) same)
 
+-- a file is read
+module _ {D : Type 0} (seen : D → List ℕ) (may_leave : D → List ℕ → Type 0) (moment : D → ℕ) (left_since : D → ℕ → List ℕ → Type 0) (old mid : D) (only : Only (seen old) (may_leave old)) (crash : (c : List ℕ) → may_leave mid c → may_leave old c) where
+  pub only_read : ((c : List ℕ) → left_since old (moment old) c → may_leave old c) → Elapses (moment old) (moment mid) (left_since old) (left_since mid) (may_leave mid) → LeavesOnly moment left_since old mid (λ c. c ≡ seen old)
+  only_read now time =
+      let P : List ℕ → Type 0 = λ c. c ≡ seen old in
+      goes_on moment left_since old old mid P (may_leave mid) (started moment left_since old P (λ c left. only c (now c left))) time (λ c left. only c (crash c left))
+
+  pub only_left : seen mid ≡ seen old → Only (seen mid) (may_leave mid)
+  only_left same c left = only c (crash c left) ∙ sym same
+
 -- a file that stands for batches is read, and then changed
 module _ {D : Type 0} (seen : D → List ℕ) (may_leave : D → List ℕ → Type 0) (moment : D → ℕ) (left_since : D → ℕ → List ℕ → Type 0) (old mid : D) (only : Only (seen old) (may_leave old)) (now : (c : List ℕ) → left_since old (moment old) c → may_leave old c) (crash : (c : List ℕ) → may_leave mid c → may_leave old c) (time : Elapses (moment old) (moment mid) (left_since old) (left_since mid) (may_leave mid)) (same : seen mid ≡ seen old) (servers : ℕ) (batches : List (List ℕ)) (stands : StandsFor servers batches (seen old)) where
   read_leaves : LeavesOnly moment left_since old mid (StandsFor servers batches)

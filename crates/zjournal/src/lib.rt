@@ -31,4 +31,4 @@ pub use fault::{OpenError, PutError};
 pub use journal::Journal;
 pub use memory::MemoryFile;
 pub use moment::Moment;
-pub use opening::open;
+pub use opening::{open, read_text};

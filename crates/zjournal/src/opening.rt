@@ -68,6 +68,33 @@ pub fn open_file<D: Device>(
     }
 }
 
+/// Reads the text of all batches of a file that a crash may have left. The file stays as it is.
+pub fn read_text<D: Device>(
+    alloc: Global,
+    device: &mut D,
+    servers: u8,
+) -> Result<Vec<u8>, OpenError>
+    requires some { 0 < servers }
+    requires durable { Only (D.seen device.old) (D.may_leave device.old) }
+    ensures text { IfOk result (λ text. (batches : List (List ℕ))
+        × StandsFor servers batches (D.seen device.old) × (text.items ≡ joined batches)) }
+    ensures seen { D.seen device.new ≡ D.seen device.old }
+    ensures durable { Only (D.seen device.new) (D.may_leave device.new) }
+    ensures any_moment { LeavesOnly D.moment D.left_since device.old device.new
+        (λ c. c ≡ D.seen device.old) }
+    ensures fault { IfErr result (IsSuch servers (D.seen device.old)) }
+    ensures failed { IsErrOf result OpenError.Failed
+        → D.faults device.old < D.faults device.new }
+    ensures faults { D.faults device.old ≤ D.faults device.new }
+{
+    let bytes = device.read(alloc)?;
+    match look(alloc, &bytes, servers)? {
+        Found::Unmade => Ok(Vec::new(alloc)),
+        Found::Unopened => Ok(Vec::new(alloc)),
+        Found::Kept(text, _) => Ok(text),
+    }
+}
+
 /// Opens the journal of a file that a crash may have left, or makes one of a file that is new, and
 /// hands out the text of all batches. Opening may crash, too, and then the file stands for the same
 /// batches. The number of servers stands in the file's head, and is at least 1. An `Err` hands the

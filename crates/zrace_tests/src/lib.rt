@@ -3,3 +3,5 @@
 
 #[cfg(test)]
 mod halts;
+#[cfg(test)]
+mod nodes;

@@ -1,6 +1,6 @@
 //! Tests of the service in threads: threads that meet, a server that joins late, one that leaves,
-//! halted servers, a ring that is full, stamps that are learnt, a client that is not put back, and
-//! what the audit says of the traces of a cluster that was joined.
+//! halted servers, a ring that is full, turns that are all taken, stamps that are learnt, a client
+//! that is not put back, and what the audit says of the traces of a cluster that was joined.
 #![tactic(auto)]
 
 #[cfg(test)]
@@ -29,3 +29,5 @@ mod runs;
 mod stamps;
 #[cfg(test)]
 mod traces;
+#[cfg(test)]
+mod turns;

@@ -1,5 +1,5 @@
 -- A call, brought about on a world, is the effect of a line.
-use Rattle.std.proofs.Common.{◌≡◌, ℕ, ◌+◌, true, false, if◌then◌else◌, List, [], ◌∷◌, ◌++◌, Option, None, Some, codes, refl, sym, ap, subst, ◌∙◌}
+use Rattle.std.proofs.Common.{◌≡◌, ℕ, ◌+◌, Bool, true, false, if◌then◌else◌, List, [], ◌∷◌, ◌++◌, Option, None, Some, codes, refl, sym, ap, subst, ◌∙◌}
 use Rattle.std.specs.Option.{option_map_or}
 use Rattle.ztree.specs.Tree.{Tree}
 use Rattle.zcalls.specs.Kept.{KeptState}
@@ -24,20 +24,29 @@ use Rattle.zworld.specs.declared.did.IdleCause.{IdleCause}
 use Rattle.zworld.specs.declared.did.IdleCause.TheVariants as cause
 use Rattle.zworld.specs.Held.{Held, world_of}
 use Rattle.zworld.specs.Did.{IsCause, is_idle}
-use Rattle.zworld.specs.Steps.{WorldView, HasHappened, HasSettled, world_in}
+use Rattle.zworld.specs.Steps.{WorldView, HasHappened, world_in}
+use Rattle.zworld.specs.support.Settled.{HasSettledBy}
 use Rattle.zworld.proofs.Steps.{happens_so}
 use Rattle.zscript.specs.declared.limits.TheConstants.{MAX_EVENTS}
 use Rattle.zscript.specs.Line.{ServiceWorld, ScriptState, script_state, LineEffect, no_effect, after_try, after_settling, call_answered, call_effect, begin_effect, begin_fault_text, not_begun_text, reply_in, taken_text}
-use Rattle.zscript.specs.support.Effects.{cause_text, begun_text, called_text, own_call, LeadsTo, IsEffectDone}
+use Rattle.zscript.specs.support.Effects.{cause_text, begun_text, called_text, own_call, LeadsTo, IsEffectDoneBy}
 use Rattle.zlines.specs.Reply.{reply_text}
 use Rattle.std.specs.List.{flat_map}
 use Rattle.std.proofs.lemmas.List.{append-nil}
-use Rattle.zworld_model.specs.Reading.{read}
+use Rattle.zworld_model.specs.Reading.{read, is_fitting}
+use mathlib.Core.Bool.{true≢false}
 use Rattle.zworld_model.proofs.Settling.{settling_is_a_run}
 use Rattle.zscript.proofs.AlikeLines.{Like, settling_like, same_history}
 use Rattle.zscript.proofs.Effects.{enabled, not_enabled, idle_alike, tried_on, event_done}
 use Rattle.zscript.proofs.Past.{with_past, run_past}
 use Rattle.zworld.specs.Did.{outcome_of}
+
+-- no server takes part in the begin of a call
+begin_acted : (w : ServiceWorld) (client : ℕ) (call : Call) (did : Did) → is_fitting kept_tree w (event.Begin client call) (outcome_of did) ≡ true → outcome_of did ≡ Acted
+begin_acted w client call (became.Idle why) fits = refl
+begin_acted w client call became.Done fits = refl
+begin_acted w client call became.Unheard fits = absurd (true≢false (sym fits))
+begin_acted w client call became.Stopped fits = absurd (true≢false (sym fits))
 
 -- the begin of a call reads as itself
 begin_reads : (w : ServiceWorld) (client : ℕ) (call : Call) (outcome : Outcome) → read kept_tree w (event.Begin client call) outcome ≡ event.Begin client call
@@ -82,7 +91,7 @@ module _ (v u : ServiceWorld) (client : ℕ) (call : Call) (did : Did) (has : Ha
       same_history (happens kept_tree v begins) u begun_alike ∙ ap (λ (w : ServiceWorld). w.history) (happens_so v begins on)
       ∙ ap (λ (h : History). h ++ call_event.Begin client number call ∷ []) none
 
-  module _ (w : ServiceWorld) (settled : Settled) (done : HasSettled u MAX_EVENTS settled w) where
+  module _ (strict : Bool) (w : ServiceWorld) (settled : Settled) (done : HasSettledBy strict u MAX_EVENTS settled w) where
     abbrev own : Option (ℕ × ℕ)
     own = Some (client, number)
 
@@ -93,7 +102,7 @@ module _ (v u : ServiceWorld) (client : ℕ) (call : Call) (did : Did) (has : Ha
         let ran = settle kept_tree u MAX_EVENTS outcomes in
         let behind = told_behind u ran.events in
         ap own_call
-        (same_history ran.world w (done.1 []).2 ∙ ap (λ (x : ServiceWorld). x.history) (settling_is_a_run kept_tree u MAX_EVENTS outcomes)
+        (same_history ran.world w (done.2 []).2 ∙ ap (λ (x : ServiceWorld). x.history) (settling_is_a_run kept_tree u MAX_EVENTS outcomes)
         ∙ behind.1 ∙ ap (λ (h : History). h ++ behind.0) (begun_told none))
 
     module _ (later : List Outcome) where
@@ -115,12 +124,12 @@ module _ (v u : ServiceWorld) (client : ℕ) (call : Call) (did : Did) (has : Ha
       defined = after_settling (after_try state begins)
 
       leads_alike : IsAlike defined.world w
-      leads_alike = alike_through _ _ _ settled_like.0 (done.1 later).2
+      leads_alike = alike_through _ _ _ settled_like.0 (done.2 later).2
 
       answered_leads : LeadsTo (call_answered defined own) w own (option_map_or reply_text (reply_in own w.history) (codes "unanswered")) later
       answered_leads = record {
         alike = leads_alike;
-        left = sym (ap (λ (s : Settling (KeptState Tree)). s.outcomes) settled_like.1) ∙ (done.1 later).1;
+        left = sym (ap (λ (s : Settling (KeptState Tree)). s.outcomes) settled_like.1) ∙ (done.2 later).1;
         owned = refl;
         answered = ap (λ history. option_map_or reply_text (reply_in own history) (codes "unanswered")) (sym (same_history defined.world w leads_alike));
       }
@@ -133,16 +142,19 @@ module _ (v u : ServiceWorld) (client : ℕ) (call : Call) (did : Did) (has : Ha
           answered_leads
 
     pub call_done : v.history ≡ [] → (writes : List ℕ → Type 0) → writes (called_text w.history)
-        → IsEffectDone v w (λ s. call_effect s (record { client = client; call = call })) writes
-    call_done none writes written = record {
-      told = Acted ∷ done.0;
-      own = own;
-      result = option_map_or reply_text (reply_in own w.history) (codes "unanswered");
-      leads = λ later. call_leads later;
-      written =
-          subst (λ call. writes (flat_map (taken_text call) w.history ++ option_map_or reply_text (reply_in call w.history) (codes "unanswered")))
-          (own_is none) written;
-    }
+        → IsEffectDoneBy strict v w (λ s. call_effect s (record { client = client; call = call })) writes
+    call_done none writes written = (
+      record {
+        told = Acted ∷ done.0;
+        own = own;
+        result = option_map_or reply_text (reply_in own w.history) (codes "unanswered");
+        leads = λ later. call_leads later;
+        written =
+            subst (λ call. writes (flat_map (taken_text call) w.history ++ option_map_or reply_text (reply_in call w.history) (codes "unanswered")))
+            (own_is none) written;
+      },
+      λ strictly. (refl, done.1 strictly),
+    )
 
 -- why a call didn't begin
 not_begun : (held : Held) (history : History) (request : Request) (outcomes : List Outcome) (why : IdleCause)
@@ -157,7 +169,7 @@ nothing_told : (v w : ServiceWorld) (event : Event) (why : IdleCause) → HasHap
 nothing_told v w event why has none = same_history v w (idle_alike v w event why has) ∙ none
 
 -- a line that is a call, or its begin, which couldn't begin
-module _ (old new : WorldView) (request : Request) (why : IdleCause) (has : HasHappened (world_in old) (event.Begin request.client request.call) (became.Idle why) (world_in new))
+module _ (strict : Bool) (old new : WorldView) (request : Request) (why : IdleCause) (has : HasHappened (world_in old) (event.Begin request.client request.call) (became.Idle why) (world_in new))
     (caused : IsCause old.held (event.Begin request.client request.call) why) (none : old.history ≡ []) where
   not_begun_leads : (later : List Outcome) → LeadsTo (call_effect (script_state (world_in old) later) request) (world_in new) None (cause_text why) later
   not_begun_leads later =
@@ -175,38 +187,41 @@ module _ (old new : WorldView) (request : Request) (why : IdleCause) (has : HasH
       (not_enabled (world_in old) (world_in new) begins why has)))
       idle
 
-  pub call_not_begun : (writes : List ℕ → Type 0) → writes (cause_text why) → IsEffectDone (world_in old) (world_in new) (λ s. call_effect s request) writes
-  call_not_begun writes written = record {
-    told = [];
-    own = None;
-    result = cause_text why;
-    leads = not_begun_leads;
-    written = subst (λ (h : History). writes (flat_map (taken_text None) h ++ cause_text why)) (sym (nothing_told (world_in old) (world_in new) _ why has none)) written;
-  }
+  pub call_not_begun : (writes : List ℕ → Type 0) → writes (cause_text why) → IsEffectDoneBy strict (world_in old) (world_in new) (λ s. call_effect s request) writes
+  call_not_begun writes written = (
+    record {
+      told = [];
+      own = None;
+      result = cause_text why;
+      leads = not_begun_leads;
+      written = subst (λ (h : History). writes (flat_map (taken_text None) h ++ cause_text why)) (sym (nothing_told (world_in old) (world_in new) _ why has none)) written;
+    },
+    λ strictly. tt,
+  )
 
-  begin_idle : (writes : List ℕ → Type 0) → writes (cause_text why) → IsEffectDone (world_in old) (world_in new) (λ s. begin_effect s request) writes
+  begin_idle : (writes : List ℕ → Type 0) → writes (cause_text why) → IsEffectDoneBy strict (world_in old) (world_in new) (λ s. begin_effect s request) writes
   begin_idle writes written =
-      event_done (world_in old) (world_in new) (event.Begin request.client request.call) (became.Idle why) writes has
+      event_done (world_in old) (world_in new) (event.Begin request.client request.call) strict (became.Idle why) writes (λ strictly. refl) has
       (λ s. begin_effect s request) (codes "begun") (not_begun_text (script_state (world_in old) []) request) (cause_text why) (λ outcomes. refl)
       (not_begun old.held old.history request [] why caused)
       (subst (λ (h : History). writes (flat_map (taken_text None) h ++ cause_text why)) (sym (nothing_told (world_in old) (world_in new) _ why has none)) written)
 
 -- a line that is the begin of a call
-begin_active : (old new : WorldView) (request : Request) (did : Did) (writes : List ℕ → Type 0)
+begin_active : (strict : Bool) (old new : WorldView) (request : Request) (did : Did) (writes : List ℕ → Type 0)
     → HasHappened (world_in old) (event.Begin request.client request.call) did (world_in new) → is_idle did ≡ false → old.history ≡ [] → writes (codes "begun")
-    → IsEffectDone (world_in old) (world_in new) (λ s. begin_effect s request) writes
-begin_active old new request did writes has active none written =
-    event_done (world_in old) (world_in new) (event.Begin request.client request.call) did writes has
+    → IsEffectDoneBy strict (world_in old) (world_in new) (λ s. begin_effect s request) writes
+begin_active strict old new request did writes has active none written =
+    event_done (world_in old) (world_in new) (event.Begin request.client request.call) strict did writes (λ strictly. begin_acted (world_in old) request.client request.call did has.fits) has
     (λ s. begin_effect s request) (codes "begun") (not_begun_text (script_state (world_in old) []) request) (codes "begun") (λ outcomes. refl)
     (ap (λ b. if b then not_begun_text (script_state (world_in old) []) request else codes "begun") active)
     (subst (λ (h : History). writes (flat_map (taken_text None) h ++ codes "begun"))
     (sym (begun_told (world_in old) (world_in new) request.client request.call did has active none)) written)
 
-pub begin_done : (old new : WorldView) (request : Request) (did : Did) (writes : List ℕ → Type 0)
+pub begin_done : (strict : Bool) (old new : WorldView) (request : Request) (did : Did) (writes : List ℕ → Type 0)
     → HasHappened (world_in old) (event.Begin request.client request.call) did (world_in new)
     → ((why : IdleCause) → did ≡ became.Idle why → IsCause old.held (event.Begin request.client request.call) why) → old.history ≡ [] → writes (begun_text did)
-    → IsEffectDone (world_in old) (world_in new) (λ s. begin_effect s request) writes
-begin_done old new request (became.Idle why) writes has caused none written = begin_idle old new request why has (caused why refl) none writes written
-begin_done old new request became.Done writes has caused none written = begin_active old new request became.Done writes has refl none written
-begin_done old new request became.Unheard writes has caused none written = begin_active old new request became.Unheard writes has refl none written
-begin_done old new request became.Stopped writes has caused none written = begin_active old new request became.Stopped writes has refl none written
+    → IsEffectDoneBy strict (world_in old) (world_in new) (λ s. begin_effect s request) writes
+begin_done strict old new request (became.Idle why) writes has caused none written = begin_idle strict old new request why has (caused why refl) none writes written
+begin_done strict old new request became.Done writes has caused none written = begin_active strict old new request became.Done writes has refl none written
+begin_done strict old new request became.Unheard writes has caused none written = begin_active strict old new request became.Unheard writes has refl none written
+begin_done strict old new request became.Stopped writes has caused none written = begin_active strict old new request became.Stopped writes has refl none written

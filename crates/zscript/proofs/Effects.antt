@@ -1,6 +1,6 @@
 -- One event, or settling, brought about on a world, is the effect of a line.
 use Rattle.std.proofs.Common.{◌≡◌, ℕ, Bool, true, false, if◌then◌else◌, List, [], ◌∷◌, ◌++◌, codes, None, refl, sym, ap, subst, ◌∙◌}
-use Rattle.std.specs.Prelude.{not}
+use Rattle.std.specs.Prelude.{◌&&◌, not}
 use Rattle.std.specs.List.{flat_map}
 use Rattle.std.specs.Option.{option_map_or}
 use mathlib.Core.Bool.{true≢false}
@@ -11,6 +11,7 @@ use Rattle.zprotocol.specs.master.Table.{join_fault, retire_fault}
 use Rattle.zworld_model.specs.declared.event.Event.{Event}
 use Rattle.zworld_model.specs.declared.event.Event.TheVariants as event
 use Rattle.zworld_model.specs.declared.outcome.Outcome.{Outcome}
+use Rattle.zworld_model.specs.declared.outcome.Outcome.TheVariants.{Acted}
 use Rattle.zworld_model.specs.declared.settled.Settled.{Settled}
 use Rattle.zworld_model.specs.Alike.{IsAlike}
 use Rattle.zworld_model.specs.Events.{is_enabled, happens}
@@ -21,12 +22,14 @@ use Rattle.zworld.specs.declared.did.Did.TheVariants as became
 use Rattle.zworld.specs.declared.did.IdleCause.{IdleCause}
 use Rattle.zworld.specs.declared.did.IdleCause.TheVariants as cause
 use Rattle.zworld.specs.Held.{Held}
-use Rattle.zworld.specs.Did.{IsCause, is_idle, outcome_of}
-use Rattle.zworld.specs.Steps.{WorldView, HasHappened, HasSettled, world_in}
+use Rattle.zworld.specs.Did.{IsCause, is_idle, is_short, outcome_of}
+use Rattle.zworld.specs.Steps.{WorldView, AreActed, HasHappened, world_in}
+use Rattle.zworld.specs.support.Settled.{HasSettledBy}
 use Rattle.zworld.proofs.Steps.{read_acted, happens_not}
+use Rattle.zworld.proofs.Tries.{acted_at}
 use Rattle.zscript.specs.declared.limits.TheConstants.{MAX_EVENTS}
 use Rattle.zscript.specs.Line.{ServiceWorld, ScriptState, script_state, LineEffect, after_try, event_effect, plain_effect, join_effect, join_fault_name, retire_effect, retire_fault_name, settled_text, settle_effect, taken_text}
-use Rattle.zscript.specs.support.Effects.{cause_text, did_text, LeadsTo, IsEffectDone, IsEventDone}
+use Rattle.zscript.specs.support.Effects.{cause_text, did_text, LeadsTo, IsEffectDoneBy, IsEventDone}
 
 -- the opposite of a test
 opposite : (a b : Bool) → a ≡ not b → b ≡ not a
@@ -51,6 +54,13 @@ tried_off w outcomes event off =
 -- the outcomes that are met at an event
 abbrev pub told_of : Did → List Outcome
 told_of did = if is_idle did then [] else outcome_of did ∷ []
+
+-- no server ran out of memory at them
+told_acted : (did : Did) → outcome_of did ≡ Acted → AreActed (told_of did)
+told_acted (became.Idle why) acted = tt
+told_acted became.Done acted = (acted, tt)
+told_acted became.Unheard acted = (acted, tt)
+told_acted became.Stopped acted = (acted, tt)
 
 module _ (v w : ServiceWorld) (event : Event) where
   -- an event that happened is enabled; one that is idle isn't, and the world stays
@@ -94,20 +104,28 @@ module _ (v w : ServiceWorld) (event : Event) where
   event_leads became.Stopped done idle later has = happened became.Stopped done idle later has refl
 
   -- a line of one event
-  pub event_done : (did : Did) (writes : List ℕ → Type 0) → HasHappened v event did w
+  pub event_done : (strict : Bool) (did : Did) (writes : List ℕ → Type 0) → (strict ≡ true → outcome_of did ≡ Acted) → HasHappened v event did w
       → (effect : ScriptState → LineEffect) (done idle result : List ℕ)
       → ((outcomes : List Outcome) → effect (script_state v outcomes) ≡ event_effect (script_state v outcomes) event done idle)
-      → (if is_idle did then idle else done) ≡ result → writes (flat_map (taken_text None) w.history ++ result) → IsEffectDone v w effect writes
-  event_done did writes has effect done idle result is told written = record {
-    told = told_of did;
-    own = None;
-    result = result;
-    leads = λ later.
-        subst (λ (e : LineEffect). LeadsTo e w None result later) (sym (is (told_of did ++ later)))
-        (subst (λ text. LeadsTo (event_effect (script_state v (told_of did ++ later)) event done idle) w None text later) told
-        (event_leads did done idle later has));
-    written = written;
-  }
+      → (if is_idle did then idle else done) ≡ result → writes (flat_map (taken_text None) w.history ++ result) → IsEffectDoneBy strict v w effect writes
+  event_done strict did writes acted has effect done idle result is told written = (
+    record {
+      told = told_of did;
+      own = None;
+      result = result;
+      leads = λ later.
+          subst (λ (e : LineEffect). LeadsTo e w None result later) (sym (is (told_of did ++ later)))
+          (subst (λ text. LeadsTo (event_effect (script_state v (told_of did ++ later)) event done idle) w None text later) told
+          (event_leads did done idle later has));
+      written = written;
+    },
+    λ strictly. told_acted did (acted strictly),
+  )
+
+-- where it is strict, an event goes on only where no server ran out of memory
+pub whole_where : (strict : Bool) (did : Did) → strict ≡ true → (strict && is_short did) ≡ false → is_short did ≡ false
+whole_where true did strictly whole = whole
+whole_where false did strictly whole = absurd (true≢false (sym strictly))
 
 -- take, ignore, fail and retry
 plain_text : (did : Did) → ((why : IdleCause) → did ≡ became.Idle why → why ≡ cause.Nothing) → (if is_idle did then codes "idle" else codes "done") ≡ did_text did
@@ -116,11 +134,11 @@ plain_text became.Done caused = refl
 plain_text became.Unheard caused = refl
 plain_text became.Stopped caused = refl
 
-pub plain_done : (old new : WorldView) (event : Event) (writes : List ℕ → Type 0)
-    → ((why : IdleCause) → IsCause old.held event why → why ≡ cause.Nothing) → IsEventDone old new event writes
-    → IsEffectDone (world_in old) (world_in new) (λ s. plain_effect s event) writes
-plain_done old new event writes nothing done =
-    event_done (world_in old) (world_in new) event done.did writes done.happened (λ s. plain_effect s event) (codes "done") (codes "idle") (did_text done.did) (λ outcomes. refl)
+pub plain_done : (strict : Bool) (old new : WorldView) (event : Event) (writes : List ℕ → Type 0)
+    → ((why : IdleCause) → IsCause old.held event why → why ≡ cause.Nothing) → IsEventDone strict old new event writes
+    → IsEffectDoneBy strict (world_in old) (world_in new) (λ s. plain_effect s event) writes
+plain_done strict old new event writes nothing done =
+    event_done (world_in old) (world_in new) event strict done.did writes (λ strictly. acted_at done.did (done.acted strictly)) done.happened (λ s. plain_effect s event) (codes "done") (codes "idle") (did_text done.did) (λ outcomes. refl)
     (plain_text done.did (λ why is. nothing why (done.caused why is))) done.written
 
 -- join
@@ -138,10 +156,10 @@ join_text old server became.Done caused = refl
 join_text old server became.Unheard caused = refl
 join_text old server became.Stopped caused = refl
 
-pub join_done : (old new : WorldView) (server : ℕ) (writes : List ℕ → Type 0) → IsEventDone old new (event.Join server) writes
-    → IsEffectDone (world_in old) (world_in new) (λ s. join_effect s server) writes
-join_done old new server writes done =
-    event_done (world_in old) (world_in new) (event.Join server) done.did writes done.happened (λ s. join_effect s server) (codes "done")
+pub join_done : (strict : Bool) (old new : WorldView) (server : ℕ) (writes : List ℕ → Type 0) → IsEventDone strict old new (event.Join server) writes
+    → IsEffectDoneBy strict (world_in old) (world_in new) (λ s. join_effect s server) writes
+join_done strict old new server writes done =
+    event_done (world_in old) (world_in new) (event.Join server) strict done.did writes (λ strictly. acted_at done.did (done.acted strictly)) done.happened (λ s. join_effect s server) (codes "done")
     (option_map_or (λ fault. codes "no " ++ join_fault_name fault) (join_fault old.held.master server) (codes "idle")) (did_text done.did) (λ outcomes. refl)
     (join_text old.held server done.did done.caused) done.written
 
@@ -160,25 +178,28 @@ retire_text old server became.Done caused = refl
 retire_text old server became.Unheard caused = refl
 retire_text old server became.Stopped caused = refl
 
-pub retire_done : (old new : WorldView) (server : ℕ) (writes : List ℕ → Type 0) → IsEventDone old new (event.Retire server) writes
-    → IsEffectDone (world_in old) (world_in new) (λ s. retire_effect s server) writes
-retire_done old new server writes done =
-    event_done (world_in old) (world_in new) (event.Retire server) done.did writes done.happened (λ s. retire_effect s server) (codes "done")
+pub retire_done : (strict : Bool) (old new : WorldView) (server : ℕ) (writes : List ℕ → Type 0) → IsEventDone strict old new (event.Retire server) writes
+    → IsEffectDoneBy strict (world_in old) (world_in new) (λ s. retire_effect s server) writes
+retire_done strict old new server writes done =
+    event_done (world_in old) (world_in new) (event.Retire server) strict done.did writes (λ strictly. acted_at done.did (done.acted strictly)) done.happened (λ s. retire_effect s server) (codes "done")
     (option_map_or (λ fault. codes "no " ++ retire_fault_name fault) (retire_fault old.held.master server) (codes "idle")) (did_text done.did) (λ outcomes. refl)
     (retire_text old.held server done.did done.caused) done.written
 
 -- settle
-pub settle_done : (v w : ServiceWorld) (settled : Settled) (writes : List ℕ → Type 0) → HasSettled v MAX_EVENTS settled w
-    → writes (flat_map (taken_text None) w.history ++ settled_text settled) → IsEffectDone v w settle_effect writes
-settle_done v w settled writes (learnt, ends) written = record {
-  told = learnt;
-  own = None;
-  result = settled_text settled;
-  leads = λ later. record {
-    alike = (ends later).2;
-    left = (ends later).1;
-    owned = refl;
-    answered = ap settled_text (sym (ends later).0);
-  };
-  written = written;
-}
+pub settle_done : (strict : Bool) (v w : ServiceWorld) (settled : Settled) (writes : List ℕ → Type 0) → HasSettledBy strict v MAX_EVENTS settled w
+    → writes (flat_map (taken_text None) w.history ++ settled_text settled) → IsEffectDoneBy strict v w settle_effect writes
+settle_done strict v w settled writes (learnt, acted, ends) written = (
+  record {
+    told = learnt;
+    own = None;
+    result = settled_text settled;
+    leads = λ later. record {
+      alike = (ends later).2;
+      left = (ends later).1;
+      owned = refl;
+      answered = ap settled_text (sym (ends later).0);
+    };
+    written = written;
+  },
+  acted,
+)

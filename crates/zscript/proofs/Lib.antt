@@ -7,6 +7,7 @@ pub mod Replies
 pub mod Effects
 pub mod CallEffects
 pub mod LineDone
+pub mod Acted
 pub mod ScriptLines
 pub mod Kept
 pub mod Cuts

@@ -1,5 +1,5 @@
 -- What was brought about of the effect of a line is the line, done.
-use Rattle.std.proofs.Common.{◌≡◌, ℕ, List, [], ◌∷◌, ◌++◌, None, refl, sym, ap, subst, ◌∙◌, inl, inr, append_assoc}
+use Rattle.std.proofs.Common.{◌≡◌, ℕ, Bool, List, [], ◌∷◌, ◌++◌, None, refl, sym, ap, subst, ◌∙◌, inl, inr, append_assoc}
 use Rattle.std.specs.Prelude.{Ok, Err, String, string_bytes}
 use Rattle.std.specs.List.{flat_map}
 use Rattle.zworld_model.specs.declared.outcome.Outcome.{Outcome}
@@ -15,7 +15,7 @@ use Rattle.zworld.specs.Held.{Held, world_of}
 use Rattle.zworld.specs.Steps.{WorldView, world_in}
 use Rattle.zscript.specs.Line.{ServiceWorld, script_state, LineEffect, line_fault_text, line_effect, read_effect, effect_of, taken_text, answer, after}
 use Rattle.zscript.specs.Done.{IsLineDone, world_between}
-use Rattle.zscript.specs.support.Effects.{IsEffectDone}
+use Rattle.zscript.specs.support.Effects.{MayTell, IsEffectDone, IsEffectDoneBy}
 use Rattle.zscript.proofs.AlikeLines.{answers_alike, leaves_alike, forgotten_alike, same_history}
 use Rattle.zscript.proofs.OneRun.{forgets}
 
@@ -23,8 +23,8 @@ use Rattle.zscript.proofs.OneRun.{forgets}
 pub writes_more : {A : Type 0} (old mid new : String A) (first more : List ℕ) → Writes old mid first → Writes mid new more → Writes old new (first ++ more)
 writes_more old mid new first more before after = after ∙ ap (λ text. text ++ more) before ∙ append_assoc (string_bytes old) first more
 
--- a line, done
-line_told : (old new : Held) (history : History) (line : List ℕ) (wrote writes : List ℕ → Type 0) → ((text : List ℕ) → wrote text → writes (text ++ 10 ∷ []))
+-- a line, done; its outcomes are those of its effect
+abbrev line_told : (old new : Held) (history : History) (line : List ℕ) (wrote writes : List ℕ → Type 0) → ((text : List ℕ) → wrote text → writes (text ++ 10 ∷ []))
     → IsEffectDone (world_of old []) (world_of new history) (λ s. effect_of s line) wrote → IsLineDone (world_between old) line (world_between new) writes
 unfolding answer after
 line_told old new history line wrote writes ends done =
@@ -48,34 +48,38 @@ line_told old new history line wrote writes ends done =
     }
 
 -- a line, done on a world that had told nothing since
-pub line_done : (old new : WorldView) (line : List ℕ) (wrote writes : List ℕ → Type 0) → ((text : List ℕ) → wrote text → writes (text ++ 10 ∷ []))
-    → old.history ≡ [] → IsEffectDone (world_in old) (world_in new) (λ s. effect_of s line) wrote → IsLineDone (world_between old.held) line (world_between new.held) writes
-line_done old new line wrote writes ends none done =
-    line_told old.held new.held new.history line wrote writes ends
-    (subst (λ (before : History). IsEffectDone (world_of old.held before) (world_in new) (λ s. effect_of s line) wrote) none done)
+pub line_done : (strict : Bool) (old new : WorldView) (line : List ℕ) (wrote writes : List ℕ → Type 0) → ((text : List ℕ) → wrote text → writes (text ++ 10 ∷ []))
+    → old.history ≡ [] → IsEffectDoneBy strict (world_in old) (world_in new) (λ s. effect_of s line) wrote
+    → (done : IsLineDone (world_between old.held) line (world_between new.held) writes) × MayTell strict done.told
+unfolding line_told
+line_done strict old new line wrote writes ends none done =
+    let bare = subst (λ (before : History). IsEffectDoneBy strict (world_of old.held before) (world_in new) (λ s. effect_of s line) wrote) none done in
+    (line_told old.held new.held new.history line wrote writes ends bare.0, bare.1)
 
 -- what was read of a line
-pub read_done : (v w : ServiceWorld) (line : List ℕ) (asked : Line) (writes : List ℕ → Type 0) → line_of line ≡ Ok asked
-    → IsEffectDone v w (λ s. line_effect s asked) writes → IsEffectDone v w (λ s. effect_of s line) writes
+pub read_done : (strict : Bool) (v w : ServiceWorld) (line : List ℕ) (asked : Line) (writes : List ℕ → Type 0) → line_of line ≡ Ok asked
+    → IsEffectDoneBy strict v w (λ s. line_effect s asked) writes → IsEffectDoneBy strict v w (λ s. effect_of s line) writes
 unfolding effect_of
-read_done v w line asked writes is done =
-    subst (λ (read : Read Line). IsEffectDone v w (λ s. read_effect s read) writes) (sym is) done
+read_done strict v w line asked writes is done =
+    subst (λ (read : Read Line). IsEffectDoneBy strict v w (λ s. read_effect s read) writes) (sym is) done
 
 -- a line that asks for nothing
-unread_done : (v : ServiceWorld) (line : List ℕ) (fault : LineFault) (writes : List ℕ → Type 0) → v.history ≡ [] → line_of line ≡ Err fault
-    → writes (line_fault_text fault) → IsEffectDone v v (λ s. effect_of s line) writes
+unread_done : (strict : Bool) (v : ServiceWorld) (line : List ℕ) (fault : LineFault) (writes : List ℕ → Type 0) → v.history ≡ [] → line_of line ≡ Err fault
+    → writes (line_fault_text fault) → IsEffectDoneBy strict v v (λ s. effect_of s line) writes
 unfolding effect_of
-unread_done v line fault writes none is written =
-    subst (λ (read : Read Line). IsEffectDone v v (λ s. read_effect s read) writes) (sym is)
-    (record {
-      told = [];
-      own = None;
-      result = line_fault_text fault;
-      leads = λ later. record { alike = alike_itself v; left = refl; owned = refl; answered = refl };
-      written = subst (λ (h : History). writes (flat_map (taken_text None) h ++ line_fault_text fault)) (sym none) written;
-    })
+unread_done strict v line fault writes none is written =
+    subst (λ (read : Read Line). IsEffectDoneBy strict v v (λ s. read_effect s read) writes) (sym is) (
+      record {
+        told = [];
+        own = None;
+        result = line_fault_text fault;
+        leads = λ later. record { alike = alike_itself v; left = refl; owned = refl; answered = refl };
+        written = subst (λ (h : History). writes (flat_map (taken_text None) h ++ line_fault_text fault)) (sym none) written;
+      },
+      λ strictly. tt,
+    )
 
-pub fault_done : (v : ServiceWorld) (line : List ℕ) (fault : LineFault) (writes : List ℕ → Type 0) → v.history ≡ [] → IsUnread (line_of line) fault
-    → (fault ≡ Memory → ⊥) × writes (line_fault_text fault) → IsEffectDone v v (λ s. effect_of s line) writes
-fault_done v line fault writes none (inl memory) written = absurd (written.0 memory)
-fault_done v line fault writes none (inr is) written = unread_done v line fault writes none is written.1
+pub fault_done : (strict : Bool) (v : ServiceWorld) (line : List ℕ) (fault : LineFault) (writes : List ℕ → Type 0) → v.history ≡ [] → IsUnread (line_of line) fault
+    → (fault ≡ Memory → ⊥) × writes (line_fault_text fault) → IsEffectDoneBy strict v v (λ s. effect_of s line) writes
+fault_done strict v line fault writes none (inl memory) written = absurd (written.0 memory)
+fault_done strict v line fault writes none (inr is) written = unread_done strict v line fault writes none is written.1

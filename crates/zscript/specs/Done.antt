@@ -23,3 +23,13 @@ pub record IsLineDone (old : ServiceWorld) (line : List ℕ) (new : ServiceWorld
 abbrev pub AnswersLine : {A : Type 0} → List ℕ → WorldView → WorldView → String A → String A → Type 0
 AnswersLine line old new before after =
     IsLineDone (world_between old.held) line (world_between new.held) (Writes before after)
+
+-- a line was executed as it is where memory suffices, and its answer written
+pub record IsLineActed (old : ServiceWorld) (line : List ℕ) (new : ServiceWorld) (writes : List ℕ → Type 0) : Type 0 where
+  pub left : after (script_state old []) line ≡ script_state new []
+  pub answered : writes (answer (script_state old []) line)
+
+-- a line was executed on a world as it is where memory suffices, and its answer written
+abbrev pub AnswersLineActing : {A : Type 0} → List ℕ → WorldView → WorldView → String A → String A → Type 0
+AnswersLineActing line old new before after =
+    IsLineActed (world_between old.held) line (world_between new.held) (Writes before after)

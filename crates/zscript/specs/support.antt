@@ -6,3 +6,4 @@ pub mod Stops
 pub mod Ends
 pub mod Effects
 pub mod Rows
+pub mod Strict

@@ -25,7 +25,7 @@ mod servers;
 mod texts;
 
 pub use fault::PlayFault;
-pub use line::{answer_line, script_world};
+pub use line::{answer_line, answer_line_strictly, script_world};
 pub use script::play;
 pub use servers::Servers;
 pub use zdevices::{

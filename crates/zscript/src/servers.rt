@@ -45,7 +45,7 @@ impl Servers {
     }
 
     /// Returns the last of them: they are numbered from 1.
-    pub(crate) fn last(self) -> ServerId
+    pub fn last(self) -> ServerId
         ensures { result ≡ self }
     {
         match ServerId::new(self.count) {

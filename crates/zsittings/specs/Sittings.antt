@@ -18,6 +18,12 @@ abbrev pub new_sitting : List ℕ → ℕ → Sitting
 new_sitting password connection =
     record { password = password; connection = Some connection; is_touched = false; made_ephemeral = false }
 
+-- the sitting of a session that was opened before, and has no connection now. Whether it made an
+-- ephemeral node isn't known: it counts as one that did
+abbrev pub restored_sitting : List ℕ → Sitting
+restored_sitting password =
+    record { password = password; connection = None; is_touched = false; made_ephemeral = true }
+
 -- with a connection, which asked for it just now
 abbrev pub taken_up : ℕ → Sitting → Sitting
 taken_up connection s = record s { connection = Some connection; is_touched = true }

@@ -8,6 +8,7 @@
 pub mod laws;
 mod listing;
 mod password;
+mod restored;
 mod rows;
 mod sitting;
 mod sittings;

@@ -3,8 +3,8 @@
 ghost use Rattle.std.specs.Prelude.{◌≡◌, ℕ, true, false, [], ◌∷◌, None, Some};
 ghost use Rattle.std.specs.FinMap.{empty, get, insert};
 ghost use Rattle.zsittings.specs.Sittings.{after_take_up, all_rested, left, new_sitting, passes};
-ghost use Rattle.zsittings.specs.Sittings.{rested, taken_up, touched, touched_ids, with_changed};
-ghost use Rattle.zsittings.specs.Sittings.{with_ephemeral};
+ghost use Rattle.zsittings.specs.Sittings.{rested, restored_sitting, taken_up, touched};
+ghost use Rattle.zsittings.specs.Sittings.{touched_ids, with_changed, with_ephemeral};
 ghost use Rattle.zsittings.specs.support.Samples.{other_password, password, some_sitting};
 ghost use Rattle.zsittings.specs.support.Samples.{some_sittings};
 
@@ -15,6 +15,12 @@ pub fn one_sitting()
       connection = Some 3;
       is_touched = false;
       made_ephemeral = false;
+    } }
+    ensures restored { restored_sitting password ≡ record {
+      password = password;
+      connection = None;
+      is_touched = false;
+      made_ephemeral = true;
     } }
     ensures taken_up { taken_up 5 some_sitting ≡ record {
       password = password;

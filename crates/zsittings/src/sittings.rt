@@ -3,10 +3,12 @@
 ghost use Rattle.std.specs.Prelude.{◌≡◌, IfOk, OnErr, OnOk};
 ghost use Rattle.std.specs.FinMap as finite;
 ghost use Rattle.zsittings.specs.Sittings.{after_take_up, all_rested, left, new_sitting, passes};
+ghost use Rattle.zsittings.specs.Sittings.{restored_sitting};
 ghost use Rattle.zsittings.specs.Sittings.{taken_up, touched, touched_ids, with_changed};
 ghost use Rattle.zsittings.specs.Sittings.{with_ephemeral};
 
 use crate::password::Password;
+use crate::restored::restored;
 use crate::sitting::Sitting;
 use crate::table::SittingTable;
 use std::alloc::Global;
@@ -15,7 +17,7 @@ use zpath::Memory;
 use ztree::SessionId;
 
 /// Which session has which connection, and by which password another may take it up. Only `open`,
-/// `touched` and `ids` allocate.
+/// `restore`, `touched` and `ids` allocate.
 #[derive(Drop)]
 pub struct Sittings {
     table: SittingTable,
@@ -69,6 +71,16 @@ impl Sittings {
             made_ephemeral: false,
         };
         self.table.insert(id, sitting)
+    }
+
+    /// Adds a session that was opened before, and has no connection now. After `Memory` nothing has
+    /// changed.
+    pub fn restore(&mut self, id: SessionId, password: Password) -> Result<(), Memory>
+        ensures ok { OnOk result
+            (self.new ≡ finite.insert self.old id (restored_sitting password)) }
+        ensures err { OnErr result (self.new ≡ self.old) }
+    {
+        self.table.insert(id, restored(password))
     }
 
     /// Gives a session to a connection, if the bytes given are all those of its password. Returns

@@ -3,7 +3,8 @@
 ghost use Rattle.std.specs.Prelude.{◌≡◌, if◌then◌else◌, IfOk, OnOk};
 ghost use Rattle.std.specs.FinMap as finite;
 ghost use Rattle.std.specs.Option.{option_map};
-ghost use Rattle.zsittings.specs.Sittings.{all_rested, passes, touched, touched_ids, with_changed};
+ghost use Rattle.zsittings.specs.Sittings.{all_rested, passes, restored_sitting, touched};
+ghost use Rattle.zsittings.specs.Sittings.{touched_ids, with_changed};
 ghost use Rattle.ztables.specs.Tables.{seated, sitting, taken_up};
 
 use crate::tables::Tables;
@@ -24,6 +25,16 @@ impl Tables {
     {
         self.streams.set_phase(connection, Phase::Speaking(session));
         self.sittings.open(session, password, connection)
+    }
+
+    /// Notes a session that was opened before, and has no connection now.
+    pub fn restore(&mut self, session: SessionId, password: Password) -> Result<(), Memory>
+        ensures { OnOk result (self.new ≡ record self.old {
+          sittings =
+              finite.insert self.old.sittings session (restored_sitting password);
+        }) }
+    {
+        self.sittings.restore(session, password)
     }
 
     /// Takes a session up on a connection, if it is there and all bytes of its password are given.

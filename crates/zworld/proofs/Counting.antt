@@ -69,12 +69,12 @@ paid_link inside held from to same paid none =
     rw (empty, words) refl
 
 -- where no client waits, no call is sent once more
-pub no_retries : (n : ℕ) (p : Point) → passing waits p.held.clients ≡ 0 → Tries (retry_events n) p p
-no_retries zero p none = goes_nowhere (λ s. s) p
-no_retries (suc n) p none =
+pub no_retries : (strict : Bool) (n : ℕ) (p : Point) → passing waits p.held.clients ≡ 0 → Tries strict (retry_events n) p p
+no_retries strict zero p none = goes_nowhere strict (λ s. s) p
+no_retries strict (suc n) p none =
     let next : n + 1 ≡ suc n = omega arith in
-    subst (λ k. Tries (retry_events k) p p) next
-    (one_more_retry n n p p p refl (no_retries n p none) (idle_retry n p (fails_at waits p.held.clients n nobody refl none)))
+    subst (λ k. Tries strict (retry_events k) p p) next
+    (one_more_retry strict n n p p p refl (no_retries strict n p none) (idle_retry strict n p (fails_at waits p.held.clients n nobody refl none)))
 
 -- a client that can begin a call doesn't wait, and then it does
 pub free_to_begin : (v : ClientView) → begin_fault v ≡ None → waits v ≡ false

@@ -1,4 +1,6 @@
 -- Where a run or a settling runs out of memory.
+use Rattle.std.specs.Prelude.{◌&&◌}
+use Rattle.zworld.specs.declared.did.Did.TheVariants as became
 use Rattle.std.proofs.Common.{◌≡◌, ◌<◌, ◌-◌, ℕ, Bool, true, false, not, if◌then◌else◌, List, [], ◌∷◌, ◌++◌, inl, inr, refl, sym, ap, ◌∙◌, subst, true≢false}
 use Rattle.ztree.specs.Tree.{Tree}
 use Rattle.zcalls.specs.Kept.{KeptState}
@@ -12,7 +14,7 @@ use Rattle.zworld_model.specs.Alike.{IsAlike}
 use Rattle.zworld_model.proofs.Alike.{have_the_same_enabled}
 use Rattle.zworld.specs.declared.did.Did.{Did}
 use Rattle.zworld.specs.Held.{Held, world_of}
-use Rattle.zworld.specs.Did.{is_idle}
+use Rattle.zworld.specs.Did.{is_idle, is_short}
 use Rattle.zworld.specs.Steps.{HasRunOut, CanWantMemoryToSettle, can_want_memory, is_of_settling}
 use Rattle.zworld.specs.support.Past.{LeadRead}
 use Rattle.zworld.specs.support.Settling.{CanRunOut, StillOrCould}
@@ -78,3 +80,22 @@ tried_or_could old new event did told left more stepped some is rest = by_idle (
 -- what is said of it doesn't hang on the history
 pub can_run_out_anyway : (held : Held) (history : History) (left : ℕ) → CanRunOut held left → CanWantMemoryToSettle (world_of held history) left
 can_run_out_anyway held history left (some, event, is, can) = (some, event, is, can_anyway held history event ∙ can)
+
+-- an event at which a server ran out of memory, and none may, was enabled
+pub short_is_enabled : (old new : Held) (event : Event) (did : Did) (told : History) (strict : Bool) → HasStepped old new event did told → (strict && is_short did) ≡ true
+    → is_enabled (world_of old []) event ≡ true
+short_is_enabled old new event did told strict stepped short = not_idle (is_enabled (world_of old []) event) (sym (active did (second strict short)) ∙ stepped.idle)
+  where
+    second : (strict : Bool) → (strict && is_short did) ≡ true → is_short did ≡ true
+    second true both = both
+    second false both = absurd (true≢false (sym both))
+
+    active : (did : Did) → is_short did ≡ true → is_idle did ≡ false
+    active (became.Idle cause) short = absurd (true≢false (sym short))
+    active became.Done short = refl
+    active became.Unheard short = refl
+    active became.Stopped short = refl
+
+    not_idle : (b : Bool) → false ≡ not b → b ≡ true
+    not_idle true e = refl
+    not_idle false e = absurd (true≢false (sym e))

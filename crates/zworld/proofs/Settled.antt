@@ -17,23 +17,25 @@ use Rattle.zworld_model.proofs.Alike.{have_the_same_enabled}
 use Rattle.zworld_model.proofs.Settling.{settling_is_a_run, quiet_has_nothing_to_take}
 use Rattle.zworld_model.proofs.Visited.{after_within, links_are_visited, none_passes}
 use Rattle.zworld.specs.Held.{Held, world_of}
-use Rattle.zworld.specs.Steps.{HasSettled, IsAtRest}
+use Rattle.zworld.specs.Steps.{IsAtRest}
+use Rattle.zworld.specs.support.Settled.{HasSettledBy}
 use Rattle.zworld.specs.support.Stepped.{Settles}
 use Rattle.zworld.specs.support.Past.{HasPast}
 use Rattle.zworld.proofs.Steps.{enabled_anyway}
 use Rattle.zworld.proofs.Going.{goes_on, stands_later}
 
 -- settling goes on behind any past
-settles_behind : (past : History) (old new : Held) (limit : ℕ) (before after : History) (settled : Settled) → Settles old new limit before after settled
-    → Settles old new limit (past ++ before) (past ++ after) settled
-settles_behind past old new limit before after settled (learnt, told, is, settles) =
-    (learnt, told, ap (λ xs. past ++ xs) is ∙ sym (append_assoc past before told), settles)
+settles_behind : (strict : Bool) (past : History) (old new : Held) (limit : ℕ) (before after : History) (settled : Settled) → Settles strict old new limit before after settled
+    → Settles strict old new limit (past ++ before) (past ++ after) settled
+settles_behind strict past old new limit before after settled (learnt, told, is, settles, acted) =
+    (learnt, told, ap (λ xs. past ++ xs) is ∙ sym (append_assoc past before told), settles, acted)
 
 -- the processes settled as the world of the definition does
-pub settled_as_defined : (old new : Held) (limit : ℕ) (before after : History) (settled : Settled) → Settles old new limit before after settled
-    → HasSettled (world_of old before) limit settled (world_of new after)
-settled_as_defined old new limit before after settled (learnt, told, is, settles) = (
+pub settled_as_defined : (strict : Bool) (old new : Held) (limit : ℕ) (before after : History) (settled : Settled) → Settles strict old new limit before after settled
+    → HasSettledBy strict (world_of old before) limit settled (world_of new after)
+settled_as_defined strict old new limit before after settled (learnt, told, is, settles, acted) = (
   learnt,
+  acted,
   λ later. (
     settles.ended before later,
     settles.left before later,
@@ -42,23 +44,23 @@ settled_as_defined old new limit before after settled (learnt, told, is, settles
 )
 
 -- and the past goes on
-pub past_settles : (forgotten : Bool) (old new : Held) (limit : ℕ) (before after : History) (settled : Settled) → HasPast forgotten false old before
-    → Settles old new limit before after settled → HasPast forgotten false new after
-past_settles forgotten old new limit before after settled had settles =
+pub past_settles : (strict : Bool) (forgotten : Bool) (old new : Held) (limit : ℕ) (before after : History) (settled : Settled) → HasPast forgotten false old before
+    → Settles strict old new limit before after settled → HasPast forgotten false new after
+past_settles strict forgotten old new limit before after settled had settles =
     let v = world_of old (had.past ++ before) in
-    let (learnt, ends) =
-    settled_as_defined old new limit (had.past ++ before) (had.past ++ after) settled (settles_behind had.past old new limit before after settled settles) in
+    let (learnt, acted, ends) =
+    settled_as_defined strict old new limit (had.past ++ before) (had.past ++ after) settled (settles_behind strict had.past old new limit before after settled settles) in
     goes_on forgotten old new before after (settle kept_tree v limit (learnt ++ [])).events had
     (subst (λ w. IsAlike w (world_of new (had.past ++ after))) (settling_is_a_run kept_tree v limit (learnt ++ [])) (ends []).2)
 
 -- where settling ended quiet, no message can be taken
-pub quiet_is_rest : (forgotten : Bool) (old new : Held) (limit : ℕ) (before after : History) → HasPast forgotten false old before
-    → Settles old new limit before after Quiet → IsAtRest (world_of new after)
-quiet_is_rest forgotten old new limit before after had settles from to =
+pub quiet_is_rest : (strict : Bool) (forgotten : Bool) (old new : Held) (limit : ℕ) (before after : History) → HasPast forgotten false old before
+    → Settles strict old new limit before after Quiet → IsAtRest (world_of new after)
+quiet_is_rest strict forgotten old new limit before after had settles from to =
     let v = world_of old (had.past ++ before) in
     let w = world_of new (had.past ++ after) in
-    let (learnt, ends) =
-    settled_as_defined old new limit (had.past ++ before) (had.past ++ after) Quiet (settles_behind had.past old new limit before after Quiet settles) in
+    let (learnt, acted, ends) =
+    settled_as_defined strict old new limit (had.past ++ before) (had.past ++ after) Quiet (settles_behind strict had.past old new limit before after Quiet settles) in
     let (ended, taken, leads) = ends [] in
     let done = settle kept_tree v limit (learnt ++ []) in
     let ran = subst (λ u. IsAlike u w) (settling_is_a_run kept_tree v limit (learnt ++ [])) leads in

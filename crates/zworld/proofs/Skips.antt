@@ -1,5 +1,5 @@
 -- Places that are passed by: nothing is under way from them, or to them.
-use Rattle.std.proofs.Common.{◌≡◌, ℕ, ◌+◌, ◌-◌, ◌<◌, ◌≤◌, zero, suc, true, false, List, [], length, take, get_or, inl, inr, refl, sym, ap, subst, ◌∙◌, arith}
+use Rattle.std.proofs.Common.{Bool, ◌≡◌, ℕ, ◌+◌, ◌-◌, ◌<◌, ◌≤◌, zero, suc, true, false, List, [], length, take, get_or, inl, inr, refl, sym, ap, subst, ◌∙◌, arith}
 use Rattle.std.proofs.lemmas.List.{take_all}
 use Rattle.std.proofs.lemmas.List.FromFn.{get_or-map-range_with_len, length-map-range_with_len}
 use Rattle.std.proofs.lemmas.Bool.Decides.{nat_tests}
@@ -70,61 +70,61 @@ listed_as clients place p is inside =
 past : {X : Type 0} (xs : List X) (n : ℕ) → length xs ≤ n → take (n + 1) xs ≡ take n xs
 past xs n all = take_all (n + 1) xs (omega (arith, all)) ∙ sym (take_all n xs all)
 
-module _ (clients : ℕ) (p : Point) where
+module _ (strict : Bool) (clients : ℕ) (p : Point) where
   -- receivers to which nothing is under way
   pub skipped_receivers : (from : Process) (a : Point) (place k : ℕ) → place + k ≤ PROCESSES
       → Between place (place + k) (λ to. (world_of p.held []).links from to ≡ [])
-      → Tries (takes_from (take place (processes clients)) from) a p → Tries (takes_from (take (place + k) (processes clients)) from) a p
-  skipped_receivers from a place zero few none tries = subst (λ n. Tries (takes_from (take n (processes clients)) from) a p) (let same : place ≡ place + 0 = omega arith in same) tries
+      → Tries strict (takes_from (take place (processes clients)) from) a p → Tries strict (takes_from (take (place + k) (processes clients)) from) a p
+  skipped_receivers from a place zero few none tries = subst (λ n. Tries strict (takes_from (take n (processes clients)) from) a p) (let same : place ≡ place + 0 = omega arith in same) tries
   skipped_receivers from a place (suc k) few none tries =
       let next : (place + k) + 1 ≡ place + suc k = omega arith in
       let before = skipped_receivers from a place k (omega (arith, few)) (λ to behind here. none to behind (omega (arith, here))) tries in
       let to = process_at (place + k) in
       let at : place_of to ≡ place + k = place_of-process_at (place + k) (omega (arith, few)) in
-      subst (λ n. Tries (takes_from (take n (processes clients)) from) a p) next
+      subst (λ n. Tries strict (takes_from (take n (processes clients)) from) a p) next
       (elim (test (nat_lt (place + k) (MAX_SERVERS + 1 + clients))) [
         | inl inside ↦
             let small : place + k < MAX_SERVERS + 1 + clients = grind (arith, nat_tests, inside) in
-            one_more_receiver (processes clients) (place + k) from to a p p (omega (arith, small, length-processes clients)) (listed clients (place + k) small) before
-            (empty_try from to p (none to (omega (arith, at)) (omega (arith, at))))
+            one_more_receiver strict (processes clients) (place + k) from to a p p (omega (arith, small, length-processes clients)) (listed clients (place + k) small) before
+            (empty_try strict from to p (none to (omega (arith, at)) (omega (arith, at))))
         | inr outside ↦
             let large : MAX_SERVERS + 1 + clients ≤ place + k = grind (arith, nat_tests, outside) in
-            subst (λ ps. Tries (takes_from ps from) a p) (sym (past (processes clients) (place + k) (omega (arith, large, length-processes clients)))) before
+            subst (λ ps. Tries strict (takes_from ps from) a p) (sym (past (processes clients) (place + k) (omega (arith, large, length-processes clients)))) before
       ])
 
   pub receivers_to : (from : Process) (a : Point) (place next : ℕ) → place ≤ next → next ≤ PROCESSES
       → Between place next (λ to. (world_of p.held []).links from to ≡ [])
-      → Tries (takes_from (take place (processes clients)) from) a p → Tries (takes_from (take next (processes clients)) from) a p
+      → Tries strict (takes_from (take place (processes clients)) from) a p → Tries strict (takes_from (take next (processes clients)) from) a p
   receivers_to from a place next ahead few none tries =
       let far : place + (next - place) ≡ next = omega (arith, ahead) in
-      subst (λ n. Tries (takes_from (take n (processes clients)) from) a p) far
+      subst (λ n. Tries strict (takes_from (take n (processes clients)) from) a p) far
       (skipped_receivers from a place (next - place) (omega (arith, far, few)) (λ to behind before. none to behind (omega (arith, before, far))) tries)
 
   -- and senders of which nothing is
   pub skipped_senders : (a : Point) (place k : ℕ) → place + k ≤ PROCESSES
       → Between place (place + k) (SendsNothing (world_of p.held []))
-      → Tries (takes (processes clients) (take place (processes clients))) a p → Tries (takes (processes clients) (take (place + k) (processes clients))) a p
-  skipped_senders a place zero few none tries = subst (λ n. Tries (takes (processes clients) (take n (processes clients))) a p) (let same : place ≡ place + 0 = omega arith in same) tries
+      → Tries strict (takes (processes clients) (take place (processes clients))) a p → Tries strict (takes (processes clients) (take (place + k) (processes clients))) a p
+  skipped_senders a place zero few none tries = subst (λ n. Tries strict (takes (processes clients) (take n (processes clients))) a p) (let same : place ≡ place + 0 = omega arith in same) tries
   skipped_senders a place (suc k) few none tries =
       let next : (place + k) + 1 ≡ place + suc k = omega arith in
       let before = skipped_senders a place k (omega (arith, few)) (λ from behind here. none from behind (omega (arith, here))) tries in
       let from = process_at (place + k) in
       let at : place_of from ≡ place + k = place_of-process_at (place + k) (omega (arith, few)) in
-      subst (λ n. Tries (takes (processes clients) (take n (processes clients))) a p) next
+      subst (λ n. Tries strict (takes (processes clients) (take n (processes clients))) a p) next
       (elim (test (nat_lt (place + k) (MAX_SERVERS + 1 + clients))) [
         | inl inside ↦
             let small : place + k < MAX_SERVERS + 1 + clients = grind (arith, nat_tests, inside) in
-            one_more_sender (processes clients) (processes clients) (place + k) from a p p (omega (arith, small, length-processes clients)) (listed clients (place + k) small) before
-            (silent_tries from (processes clients) p (none from (omega (arith, at)) (omega (arith, at))))
+            one_more_sender strict (processes clients) (processes clients) (place + k) from a p p (omega (arith, small, length-processes clients)) (listed clients (place + k) small) before
+            (silent_tries strict from (processes clients) p (none from (omega (arith, at)) (omega (arith, at))))
         | inr outside ↦
             let large : MAX_SERVERS + 1 + clients ≤ place + k = grind (arith, nat_tests, outside) in
-            subst (λ ps. Tries (takes (processes clients) ps) a p) (sym (past (processes clients) (place + k) (omega (arith, large, length-processes clients)))) before
+            subst (λ ps. Tries strict (takes (processes clients) ps) a p) (sym (past (processes clients) (place + k) (omega (arith, large, length-processes clients)))) before
       ])
 
   pub senders_to : (a : Point) (place next : ℕ) → place ≤ next → next ≤ PROCESSES
       → Between place next (SendsNothing (world_of p.held []))
-      → Tries (takes (processes clients) (take place (processes clients))) a p → Tries (takes (processes clients) (take next (processes clients))) a p
+      → Tries strict (takes (processes clients) (take place (processes clients))) a p → Tries strict (takes (processes clients) (take next (processes clients))) a p
   senders_to a place next ahead few none tries =
       let far : place + (next - place) ≡ next = omega (arith, ahead) in
-      subst (λ n. Tries (takes (processes clients) (take n (processes clients))) a p) far
+      subst (λ n. Tries strict (takes (processes clients) (take n (processes clients))) a p) far
       (skipped_senders a place (next - place) (omega (arith, far, few)) (λ from behind before. none from behind (omega (arith, before, far))) tries)

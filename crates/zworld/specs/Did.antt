@@ -17,6 +17,12 @@ abbrev pub is_idle : Did → Bool
 is_idle (became.Idle cause) = true
 is_idle other = false
 
+-- a server ran out of memory at the event
+abbrev pub is_short : Did → Bool
+is_short became.Unheard = true
+is_short became.Stopped = true
+is_short other = false
+
 -- what became of an event, as an outcome
 abbrev pub outcome_of : Did → Outcome
 outcome_of became.Unheard = outcome.Unheard

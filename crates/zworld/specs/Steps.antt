@@ -10,6 +10,7 @@ use Rattle.zprotocol.specs.declared.process.Process.{Process}
 use Rattle.zworld_model.specs.declared.event.Event.{Event}
 use Rattle.zworld_model.specs.declared.event.Event.TheVariants.{Retry, Take, Ignore, Fail}
 use Rattle.zworld_model.specs.declared.outcome.Outcome.{Outcome}
+use Rattle.zworld_model.specs.declared.outcome.Outcome.TheVariants.{Acted}
 use Rattle.zworld_model.specs.declared.settled.Settled.{Settled}
 use Rattle.zworld_model.specs.History.{History}
 use Rattle.zworld_model.specs.World.{World}
@@ -106,9 +107,23 @@ abbrev pub HasSettled : World (KeptState Tree) → ℕ → Settled → World (Ke
 HasSettled v limit settled w =
     (outcomes : List Outcome) × ((later : List Outcome) → Ends (settle kept_tree v limit (outcomes ++ later)) settled later w)
 
+-- no server ran out of memory at any of these events
+abbrev pub AreActed : List Outcome → Type 0
+AreActed [] = Unit {0}
+AreActed (outcome ∷ outcomes) = (outcome ≡ Acted) × AreActed outcomes
+
+-- the same, and no server ran out of memory meanwhile
+abbrev pub HasSettledActing : World (KeptState Tree) → ℕ → Settled → World (KeptState Tree) → Type 0
+HasSettledActing v limit settled w =
+    (outcomes : List Outcome) × AreActed outcomes × ((later : List Outcome) → Ends (settle kept_tree v limit (outcomes ++ later)) settled later w)
+
 -- a world settled, with at most this many events, and ended this way
 abbrev pub IsSettled : WorldView → WorldView → ℕ → Settled → Type 0
 IsSettled old new limit settled = HasSettled (world_in old) limit settled (world_in new)
+
+-- the same, and no server ran out of memory meanwhile
+abbrev pub IsSettledActing : WorldView → WorldView → ℕ → Settled → Type 0
+IsSettledActing old new limit settled = HasSettledActing (world_in old) limit settled (world_in new)
 
 -- no message can be delivered on any channel
 abbrev pub IsAtRest : World (KeptState Tree) → Type 0

@@ -3,6 +3,7 @@ pub mod Members
 pub mod Posting
 pub mod Fronts
 pub mod Opening
+pub mod Settled
 pub mod Settling
 pub mod Stepped
 pub mod Past

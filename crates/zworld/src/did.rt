@@ -28,3 +28,18 @@ pub enum Did {
     /// A server stopped, and counts as failed: it ran out of memory at a message.
     Stopped,
 }
+
+impl Did {
+    ghost use Rattle.std.specs.Prelude.{◌≡◌};
+    ghost use Rattle.zworld.specs.Did.{is_short};
+
+    /// Returns whether a server ran out of memory at the event: it didn't hear a query, or stopped.
+    pub fn is_short(self) -> bool
+        ensures { result ≡ is_short self }
+    {
+        match self {
+            Did::Unheard | Did::Stopped => true,
+            Did::Done | Did::Idle(_) => false,
+        }
+    }
+}

@@ -1,13 +1,14 @@
 //! Settling (running until quiescent): passes over all channels, one retry of each waiting client,
 //! and passes again.
 
-ghost use Rattle.std.specs.Prelude.{◌≡◌, ◌≤◌, ◌<◌, ◌-◌, [], IfOk, OnErr, if◌then◌else◌};
+ghost use Rattle.std.specs.Prelude.{◌≡◌, ◌≤◌, ◌<◌, ◌-◌, ◌&&◌, [], IfOk, OnErr};
+ghost use Rattle.std.specs.Prelude.{if◌then◌else◌};
 ghost use Rattle.ztree.specs.declared.limits.TheConstants.{MAX_CLIENTS};
 ghost use Rattle.zprotocol.specs.declared.limits.TheConstants.{PROCESSES};
 ghost use Rattle.zlinks.specs.Places.{Between};
 ghost use Rattle.zworld_model.specs.Settle.{deliveries, retry_events};
 ghost use Rattle.zworld.specs.Held.{SendsNothing, world_of};
-ghost use Rattle.zworld.specs.Did.{is_idle};
+ghost use Rattle.zworld.specs.Did.{is_idle, is_short};
 ghost use Rattle.zworld.specs.support.Stepped.{Settles};
 ghost use Rattle.zworld.specs.support.Settling.{CanRunOut, StillOrCould};
 ghost use Rattle.zworld.specs.support.Settling.{GoOn, PassesBy, TriesBy, TriesUnseen};
@@ -21,23 +22,24 @@ use zworld_model::{CallEvent, Settled};
 
 impl Processes {
     /// Settles, with at most `limit` events: passes, a retry of each waiting client, and passes
-    /// again.
+    /// again. Where it is strict, it is out of memory as soon as a server is.
     pub(crate) fn settle(
         &mut self,
         limit: usize,
+        strict: bool,
         seen: &mut Vec<CallEvent>,
     ) -> Result<Settled, Memory>
         ensures settled { IfOk result
-            (Settles self.old self.new limit seen.old.items seen.new.items) }
+            (Settles strict self.old self.new limit seen.old.items seen.new.items) }
         ensures partly { OnErr result (GoOn seen.new.items seen.old.items) }
         ensures needed { OnErr result (CanRunOut self.old limit) }
     {
         let clients = self.master.clients();
-        let mut left = self.passes(clients, limit, limit, seen)?;
+        let mut left = self.passes(clients, limit, limit, strict, seen)?;
         if self.waiting > 0 {
             left = self.retry_all(clients, left)?;
         }
-        left = self.passes(clients, limit, left, seen)?;
+        left = self.passes(clients, limit, left, strict, seen)?;
         if left == 0 {
             return Ok(Settled::Limit);
         }
@@ -50,18 +52,19 @@ impl Processes {
         clients: u8,
         limit: usize,
         mut left: usize,
+        strict: bool,
         seen: &mut Vec<CallEvent>,
     ) -> Result<usize, Memory>
         requires { clients ≤ MAX_CLIENTS }
         ensures done { IfOk result
-            (PassesBy clients limit self.old self.new seen.old seen.new left) }
+            (PassesBy strict clients limit self.old self.new seen.old seen.new left) }
         ensures moved { IfOk result (StillOrCould self.old self.new left) }
         ensures partly { OnErr result (GoOn seen.new.items seen.old.items) }
         ensures needed { OnErr result (CanRunOut self.old left) }
     {
         for pass in 0..limit {
             let before = left;
-            left = self.pass(clients, before, seen)?;
+            left = self.pass(clients, before, strict, seen)?;
             if left == before {
                 return Ok(left);
             }
@@ -77,11 +80,12 @@ impl Processes {
         &mut self,
         clients: u8,
         mut left: usize,
+        strict: bool,
         seen: &mut Vec<CallEvent>,
     ) -> Result<usize, Memory>
         requires { clients ≤ MAX_CLIENTS }
         ensures done { IfOk result
-            (TriesBy (deliveries clients) self.old self.new seen.old seen.new left) }
+            (TriesBy strict (deliveries clients) self.old self.new seen.old seen.new left) }
         ensures moved { IfOk result (StillOrCould self.old self.new left) }
         ensures partly { OnErr result (GoOn seen.new.items seen.old.items) }
         ensures needed { OnErr result (CanRunOut self.old left) }
@@ -104,6 +108,9 @@ impl Processes {
                     return Ok(left);
                 }
                 let did = self.take(from, to, seen)?;
+                if must_stop(strict, did) {
+                    return Err(Memory);
+                }
                 left = left_after(left, did);
                 receiver = self.links.next_receiver(&from, receiver + 1);
             }
@@ -162,4 +169,12 @@ fn left_after(left: usize, did: Did) -> usize
         Did::Idle(_) => left,
         Did::Done | Did::Unheard | Did::Stopped => left - 1,
     }
+}
+
+// Returns whether settling stops at what became of an event: a server ran out of memory, and none
+// may.
+fn must_stop(strict: bool, did: Did) -> bool
+    ensures { result ≡ (strict && is_short did) }
+{
+    strict && did.is_short()
 }

@@ -9,7 +9,8 @@ ghost use Rattle.zworld_model.specs.declared.settled.Settled.TheVariants.{Quiet}
 ghost use Rattle.zworld.specs.Did.{HasCause, is_idle};
 ghost use Rattle.zworld.specs.Steps.{CanWantMemory, CanWantMemoryToSettle, HasRunOut};
 ghost use Rattle.zworld.specs.Steps.{HasBegunToRun, HasDone, HasRun, IsAtRest, IsExplainedWithPast};
-ghost use Rattle.zworld.specs.Steps.{IsSettled, IsSound, world_in};
+ghost use Rattle.zworld.specs.Steps.{IsSettled, IsSettledActing, IsSound, world_in};
+ghost use Rattle.zworld.specs.support.Settled.{IsSettledBy};
 
 use crate::did::Did;
 use crate::processes::Processes;
@@ -170,11 +171,44 @@ impl World {
         ensures needed { IsSound self.old → OnErr result
             (CanWantMemoryToSettle (world_in self.old) limit) }
     {
+        self.settle_by(limit, false)
+    }
+
+    /// Does the same, but is out of memory as soon as a server is. So what it does is what a world
+    /// does that has enough memory.
+    pub fn settle_strictly(&mut self, limit: usize) -> Result<Settled, Memory>
+        ensures settled { IfOk result (IsSettledActing self.old self.new limit) }
+        ensures quiet { IfOk result (λ settled. settled ≡ Quiet → IsAtRest (world_in self.new)) }
+        ensures explained { IsExplainedWithPast self.new }
+        ensures past { self.new.has_forgotten ≡ self.old.has_forgotten }
+        ensures history { OnErr result (self.new.history ≡ self.old.history) }
+        ensures sound { OnOk result (IsSound self.old × IsSound self.new) }
+        ensures broken { OnErr result (self.new.is_broken ≡ true) }
+        ensures stays { self.old.is_broken ≡ true → IsErr result }
+        ensures needed { IsSound self.old → OnErr result
+            (CanWantMemoryToSettle (world_in self.old) limit) }
+    {
+        self.settle_by(limit, true)
+    }
+
+    // Settles, strictly or not.
+    fn settle_by(&mut self, limit: usize, strict: bool) -> Result<Settled, Memory>
+        ensures settled { IfOk result (IsSettledBy strict self.old self.new limit) }
+        ensures quiet { IfOk result (λ settled. settled ≡ Quiet → IsAtRest (world_in self.new)) }
+        ensures explained { IsExplainedWithPast self.new }
+        ensures past { self.new.has_forgotten ≡ self.old.has_forgotten }
+        ensures history { OnErr result (self.new.history ≡ self.old.history) }
+        ensures sound { OnOk result (IsSound self.old × IsSound self.new) }
+        ensures broken { OnErr result (self.new.is_broken ≡ true) }
+        ensures stays { self.old.is_broken ≡ true → IsErr result }
+        ensures needed { IsSound self.old → OnErr result
+            (CanWantMemoryToSettle (world_in self.old) limit) }
+    {
         if self.is_broken {
             return Err(Memory);
         }
         let told = self.history.len();
-        match self.processes.settle(limit, &mut self.history) {
+        match self.processes.settle(limit, strict, &mut self.history) {
             Ok(settled) => Ok(settled),
             Err(memory) => {
                 self.history.truncate(told);

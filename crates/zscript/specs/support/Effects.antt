@@ -1,5 +1,5 @@
 -- What a world brings about of a line's effect, and the text that is written for it.
-use Rattle.std.specs.Prelude.{◌≡◌, ℕ, List, [], ◌∷◌, ◌++◌, codes, Option, None, Some, String}
+use Rattle.std.specs.Prelude.{◌≡◌, ℕ, Bool, true, false, List, [], ◌∷◌, ◌++◌, codes, Option, None, Some, String}
 use Rattle.std.specs.List.{flat_map}
 use Rattle.zworld_model.specs.declared.event.Event.{Event}
 use Rattle.zworld_model.specs.declared.history.CallEvent.TheVariants as call_event
@@ -13,8 +13,8 @@ use Rattle.zworld.specs.declared.did.Did.{Did}
 use Rattle.zworld.specs.declared.did.Did.TheVariants as became
 use Rattle.zworld.specs.declared.did.IdleCause.{IdleCause}
 use Rattle.zworld.specs.declared.did.IdleCause.TheVariants as cause
-use Rattle.zworld.specs.Did.{IsCause}
-use Rattle.zworld.specs.Steps.{WorldView, HasHappened, world_in}
+use Rattle.zworld.specs.Did.{IsCause, is_short}
+use Rattle.zworld.specs.Steps.{WorldView, AreActed, HasHappened, world_in}
 use Rattle.zscript.specs.Line.{ServiceWorld, ScriptState, script_state, LineEffect, begin_fault_text, join_fault_name, retire_fault_name, line_fault_text, taken_text, own_reply_text}
 
 -- the reason why a line asked for nothing was written, and it isn't out of memory
@@ -70,13 +70,22 @@ pub record IsEffectDone (old new : ServiceWorld) (effect : ScriptState → LineE
   pub leads : (later : List Outcome) → LeadsTo (effect (script_state old (told ++ later))) new own result later
   pub written : writes (flat_map (taken_text own) new.history ++ result)
 
+-- where it is strict, no server may run out of memory
+abbrev pub MayTell : Bool → List Outcome → Type 0
+MayTell strict told = strict ≡ true → AreActed told
+
+-- the same, strictly or not
+abbrev pub IsEffectDoneBy : Bool → (old new : ServiceWorld) → (ScriptState → LineEffect) → (List ℕ → Type 0) → Type 0
+IsEffectDoneBy strict old new effect writes = (done : IsEffectDone old new effect writes) × MayTell strict done.told
+
 -- the effect was brought about on a world, and its answer written, except for the LF
-abbrev pub Plays : {A : Type 0} → (ScriptState → LineEffect) → WorldView → WorldView → String A → String A → Type 0
-Plays effect old new before after = IsEffectDone (world_in old) (world_in new) effect (Writes before after)
+abbrev pub Plays : {A : Type 0} → Bool → (ScriptState → LineEffect) → WorldView → WorldView → String A → String A → Type 0
+Plays strict effect old new before after = IsEffectDoneBy strict (world_in old) (world_in new) effect (Writes before after)
 
 -- an event was done, and this was written
-pub record IsEventDone (old new : WorldView) (event : Event) (writes : List ℕ → Type 0) : Type 0 where
+pub record IsEventDone (strict : Bool) (old new : WorldView) (event : Event) (writes : List ℕ → Type 0) : Type 0 where
   pub did : Did
   pub happened : HasHappened (world_in old) event did (world_in new)
   pub caused : (why : IdleCause) → did ≡ became.Idle why → IsCause old.held event why
   pub written : writes (taken_lines new.history ++ did_text did)
+  pub acted : strict ≡ true → is_short did ≡ false

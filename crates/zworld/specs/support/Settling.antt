@@ -1,7 +1,7 @@
 -- A settling that goes on from where the processes are. What a call does of it is a function of
 -- settlings. The outcomes are learnt as events are done, so each fact holds whatever follows those
 -- learnt so far.
-use Rattle.std.specs.Prelude.{◌≡◌, ◌⊎◌, ℕ, List, [], ◌++◌, map, flat_map}
+use Rattle.std.specs.Prelude.{◌≡◌, ◌⊎◌, ℕ, Bool, true, List, [], ◌++◌, map, flat_map}
 use Rattle.ztree.specs.Tree.{Tree}
 use Rattle.zcalls.specs.Kept.{KeptState}
 use Rattle.zprotocol.specs.server.Machine.{kept_tree}
@@ -13,7 +13,7 @@ use Rattle.zworld_model.specs.History.{History}
 use Rattle.zworld_model.specs.Settle.{Settling, with_tries, passes, deliveries}
 use Rattle.zworld_model.specs.Alike.{IsAlike}
 use Rattle.zworld.specs.Held.{Held, world_of}
-use Rattle.zworld.specs.Steps.{CanWantMemoryToSettle}
+use Rattle.zworld.specs.Steps.{AreActed, CanWantMemoryToSettle}
 use Rattle.zworld.specs.support.Stepped.{Seen}
 
 -- a settling of the world of kept trees
@@ -33,36 +33,41 @@ pub record Point : Type 0 where
   pub left : ℕ
   pub seen : History
 
+-- where it is strict, no server may run out of memory
+abbrev pub MayLearn : Bool → List Outcome → Type 0
+MayLearn strict told = strict ≡ true → AreActed told
+
 -- from one point to another, outcomes were learnt and the history grew: one function, of a settling
 -- at the first point, equals the other, of one at the second
-abbrev pub GoesOn : (TreeSettling → TreeSettling) → (TreeSettling → TreeSettling) → Point → Point → Type 0
-GoesOn whole rest before after =
+abbrev pub GoesOn : Bool → (TreeSettling → TreeSettling) → (TreeSettling → TreeSettling) → Point → Point → Type 0
+GoesOn strict whole rest before after =
     (told : List Outcome) × (given : History) × (after.seen ≡ before.seen ++ given)
     × ((history : History) (outcomes : List Outcome) (s : TreeSettling) → StandsAt before.held history before.left (told ++ outcomes) s
     → (t : TreeSettling) × StandsAt after.held (history ++ given) after.left outcomes t × (whole s ≡ rest t))
+    × MayLearn strict told
 
 -- from one point to another, a function of settlings was done
-abbrev pub Does : (TreeSettling → TreeSettling) → Point → Point → Type 0
-Does done before after = GoesOn done (λ s. s) before after
+abbrev pub Does : Bool → (TreeSettling → TreeSettling) → Point → Point → Type 0
+Does strict done before after = GoesOn strict done (λ s. s) before after
 
 -- the same, of events that were tried
-abbrev pub Tries : List Event → Point → Point → Type 0
-Tries events before after = Does (λ s. with_tries kept_tree s events) before after
+abbrev pub Tries : Bool → List Event → Point → Point → Type 0
+Tries strict events before after = Does strict (λ s. with_tries kept_tree s events) before after
 
 -- the same, from what was held and seen to what is, with this many events left before and after
-abbrev pub TriesBy : List Event → Held → Held → (before after : Seen) → (left more : ℕ) → Type 0
-TriesBy events old new before after left more =
-    Tries events (record { held = old; left = left; seen = before.items }) (record { held = new; left = more; seen = after.items })
+abbrev pub TriesBy : Bool → List Event → Held → Held → (before after : Seen) → (left more : ℕ) → Type 0
+TriesBy strict events old new before after left more =
+    Tries strict events (record { held = old; left = left; seen = before.items }) (record { held = new; left = more; seen = after.items })
 
--- and where callers see nothing, whatever they saw before
+-- and where callers see nothing, whatever they saw before, and no server takes part
 abbrev pub TriesUnseen : List Event → Held → Held → (left more : ℕ) → Type 0
 TriesUnseen events old new left more =
-    (seen : History) → Tries events (record { held = old; left = left; seen = seen }) (record { held = new; left = more; seen = seen })
+    (seen : History) → Tries true events (record { held = old; left = left; seen = seen }) (record { held = new; left = more; seen = seen })
 
 -- the same, of passes over the channels of this many clients
-abbrev pub PassesBy : (clients limit : ℕ) → Held → Held → (before after : Seen) → (left more : ℕ) → Type 0
-PassesBy clients limit old new before after left more =
-    Does (passes kept_tree (deliveries clients) limit)
+abbrev pub PassesBy : Bool → (clients limit : ℕ) → Held → Held → (before after : Seen) → (left more : ℕ) → Type 0
+PassesBy strict clients limit old new before after left more =
+    Does strict (passes kept_tree (deliveries clients) limit)
     (record { held = old; left = left; seen = before.items }) (record { held = new; left = more; seen = after.items })
 
 -- a delivery on each channel from one process

@@ -1,7 +1,7 @@
 -- What the processes do, by what they held before and hold after. An event is that of the
 -- definition, resolved by what became of it, up to failed servers (Alike.antt of the world's
 -- model).
-use Rattle.std.specs.Prelude.{◌≡◌, ℕ, true, not, List, [], ◌++◌}
+use Rattle.std.specs.Prelude.{◌≡◌, ℕ, Bool, true, not, List, [], ◌++◌}
 use Rattle.std.specs.declared.alloc.Global.{Global}
 use Rattle.std.specs.declared.vec.Vec.{Vec}
 use Rattle.zprotocol.specs.server.Machine.{kept_tree}
@@ -19,6 +19,7 @@ use Rattle.zworld.specs.declared.did.Did.TheVariants as became
 use Rattle.zworld.specs.declared.did.IdleCause.{IdleCause}
 use Rattle.zworld.specs.Held.{Held, world_of}
 use Rattle.zworld.specs.Did.{is_idle, outcome_of, HasCause}
+use Rattle.zworld.specs.Steps.{AreActed}
 
 -- what callers saw, as it is passed on from one event to the next
 abbrev pub Seen : Type 0
@@ -68,7 +69,9 @@ pub record SettlesBy (old new : Held) (limit : ℕ) (settled : Settled) (learnt 
   pub leads : (history : History) (rest : List Outcome)
       → IsAlike (settle kept_tree (world_of old history) limit (learnt ++ rest)).world (world_of new (history ++ told))
 
--- settling came to this, and the history goes on with the responses that clients received
-abbrev pub Settles : Held → Held → ℕ → (before after : History) → Settled → Type 0
-Settles old new limit before after settled =
+-- settling came to this, and the history goes on with the responses that clients received; where it
+-- was strict, no server ran out of memory
+abbrev pub Settles : Bool → Held → Held → ℕ → (before after : History) → Settled → Type 0
+Settles strict old new limit before after settled =
     (learnt : List Outcome) × (told : History) × (after ≡ before ++ told) × SettlesBy old new limit settled learnt told
+    × (strict ≡ true → AreActed learnt)

@@ -1,18 +1,5 @@
-use Rattle.std.proofs.Common.{◌∷◌, [], ap, subst}
-use lib.Utf8.{encode}
-use Rattle.zlines.specs.Texts.{Writes}
-use Rattle.zworld.specs.Steps.{WorldView}
-use Rattle.zscript.specs.Done.{IsLineDone, world_between}
-use Rattle.zscript.proofs.LineDone.{writes_more, line_done}
+use Rattle.std.proofs.lemmas.Result.{on_ok_weaker}
 use Rattle.zscript.proofs.line.answer_line.Goals as goal
 
 pub returns : goal.returns
-unfolding encode
-returns c =
-    let new = c.play_line.new.world in
-    record {
-      done = subst (λ (w : WorldView). IsLineDone (world_between w.held) c.args.line.now (world_between new.held) (Writes c.args.out.now c.push.new.self)) c.forget.ensures
-          (line_done c.forget.new.self new c.args.line.now _ _
-          (λ text wrote. writes_more c.args.out.now c.play_line.new.out c.push.new.self text (10 ∷ []) wrote c.in_ok-push.ensures.bytes)
-          (ap (λ (w : WorldView). w.history) c.forget.ensures) c.in_ok-play_line.ensures);
-    }
+returns c = record { done = on_ok_weaker c.answer.result (λ done. done.0) c.answer.ensures.done }

@@ -10,10 +10,10 @@ use Rattle.zalone.proofs.alone.Alone.chain.Goals as goal
 pub returns-clause-told : goal.returns-clause-told
 returns-clause-told c =
     let old = c.self.inside in
-    let new : AloneView = record { world = c.step-did.new.self; known = old.known; is_waiting = old.is_waiting; is_broken = c.is_err-self-inside.result } in
+    let new : AloneView = record { world = c.step-did.new.self; known = old.known; changes = old.changes; is_waiting = old.is_waiting; is_broken = c.is_err-self-inside.result } in
     IfOk-weaker c.step-did.result _ (λ did. TellsOrdered c.args.self.now new)
     (λ did has.
     subst (λ v. TellsOrdered v new) c.self.view_is
     (orders_tell (the_view old) new c.args.order did (subst (λ e. HasDone old.world c.step-did.new.self e did) c.event_of.ensures has)
-    (record { known = refl; waits = refl })))
+    (record { known = refl; made = refl; waits = refl })))
     c.step-did.ensures.happened

@@ -8,7 +8,7 @@ use Rattle.zworld.proofs.processes.Processes.passes.Goals as goal
 
 pub loop-pass-init : goal.loop-pass-init
 loop-pass-init c = (
-  first_pass (deliveries c.args.clients) c.args.limit (record { held = c.args.self.now; left = c.args.left; seen = c.args.seen.now.items }),
+  first_pass c.args.strict (deliveries c.args.clients) c.args.limit (record { held = c.args.self.now; left = c.args.left; seen = c.args.seen.now.items }),
   inl (refl, refl),
 )
 
@@ -20,7 +20,7 @@ returns-in_err-left-clause-partly c =
 
 pub returns-then-left-before-clause-done : goal.returns-then-left-before-clause-done
 returns-then-left-before-clause-done c =
-    last_pass (deliveries c.args.clients) c.args.limit c.loop-pass.pass
+    last_pass c.args.strict (deliveries c.args.clients) c.args.limit c.loop-pass.pass
     (record { held = c.args.self.now; left = c.args.left; seen = c.args.seen.now.items })
     (record { held = c.loop-pass.self; left = c.loop-pass.left; seen = c.loop-pass.seen.items })
     (record { held = c.pass.new.self; left = c.in_ok-left.left; seen = c.pass.new.seen.items })
@@ -28,7 +28,7 @@ returns-then-left-before-clause-done c =
 
 pub loop-pass-preserved : goal.loop-pass-preserved
 loop-pass-preserved c = (
-  next_pass (deliveries c.args.clients) c.args.limit c.loop-pass.pass
+  next_pass c.args.strict (deliveries c.args.clients) c.args.limit c.loop-pass.pass
       (record { held = c.args.self.now; left = c.args.left; seen = c.args.seen.now.items })
       (record { held = c.loop-pass.self; left = c.loop-pass.left; seen = c.loop-pass.seen.items })
       (record { held = c.pass.new.self; left = c.in_ok-left.left; seen = c.pass.new.seen.items })
@@ -38,7 +38,7 @@ loop-pass-preserved c = (
 
 pub returns-clause-done : goal.returns-clause-done
 returns-clause-done c =
-    all_passes (deliveries c.args.clients) c.args.limit c.loop-pass.pass
+    all_passes c.args.strict (deliveries c.args.clients) c.args.limit c.loop-pass.pass
     (record { held = c.args.self.now; left = c.args.left; seen = c.args.seen.now.items })
     (record { held = c.loop-pass.self; left = c.loop-pass.left; seen = c.loop-pass.seen.items })
     c.loop-pass-test.false c.loop-pass.invariant.0

@@ -1,3 +1,4 @@
+use Rattle.std.proofs.Common.{true}
 use Rattle.zworld_model.specs.History.{History}
 use Rattle.zworld_model.specs.Settle.{retry_events}
 use Rattle.zworld.specs.support.Settling.{StillOrCould, Tries}
@@ -5,7 +6,7 @@ use Rattle.zworld.proofs.processes.Processes.retry_all.Given as goal
 
 abbrev pub invariant-loop-number : goal.invariant-loop-number
 invariant-loop-number l =
-    ((seen : History) → Tries (retry_events l.number)
+    ((seen : History) → Tries true (retry_events l.number)
     (record { held = l.fn.self; left = l.fn.left; seen = seen })
     (record { held = l.self; left = l.left; seen = seen }))
     × StillOrCould l.fn.self l.self l.fn.left l.left

@@ -8,12 +8,13 @@ use Rattle.zworld.specs.support.Settling.{Point, StillOrCould, Tries}
 use Rattle.zworld.proofs.Counting.{no_retries}
 use Rattle.zworld.proofs.Needs.{could_at_first, still_or_could}
 use Rattle.zworld.proofs.Passes.{settles, ended_at_limit, ended_quiet}
+use Rattle.zworld.proofs.Tries.{strict_tries}
 use Rattle.zlinks.proofs.Results.{on_err}
 use Rattle.zworld.proofs.processes.Processes.settle.Goals as goal
 use Rattle.zworld.proofs.processes.Processes.settle.Goals.{Joined-self-gt0, then-self-gt0+in_ok-left-2, else-self-gt0}
 
 -- where nobody waits, nothing is sent once more
-asked : (c : Joined-self-gt0) → Tries (retry_events c.clients-clients.result)
+asked : (c : Joined-self-gt0) → Tries c.args.strict (retry_events c.clients-clients.result)
     (record { held = c.passes.new.self; left = c.in_ok-left.left; seen = c.passes.new.seen.items })
     (record { held = c.if-self-gt0.self; left = c.if-self-gt0.left; seen = c.passes.new.seen.items })
 asked c =
@@ -21,13 +22,13 @@ asked c =
     let passed : Point = record { held = c.passes.new.self; left = c.in_ok-left.left; seen = c.passes.new.seen.items } in
     elim c.if-self-gt0.branch [
       | then-self-gt0+in_ok-left-2 w ↦
-          subst (λ (h : Held). Tries events passed (record { held = h; left = c.if-self-gt0.left; seen = passed.seen })) (sym w.self-is)
-          (subst (λ n. Tries events passed (record { held = w.retry_all.new.self; left = n; seen = passed.seen })) (sym w.left-is) (w.in_ok-left-2.ensures.done passed.seen))
+          subst (λ (h : Held). Tries c.args.strict events passed (record { held = h; left = c.if-self-gt0.left; seen = passed.seen })) (sym w.self-is)
+          (subst (λ n. Tries c.args.strict events passed (record { held = w.retry_all.new.self; left = n; seen = passed.seen })) (sym w.left-is) (strict_tries c.args.strict events passed (record { held = w.retry_all.new.self; left = w.in_ok-left-2.left; seen = passed.seen }) (w.in_ok-left-2.ensures.done passed.seen)))
       | else-self-gt0 w ↦
           let none : c.self-2.inside.waiting ≡ 0 = omega (arith, w.if-self-gt0.false) in
-          subst (λ (h : Held). Tries events passed (record { held = h; left = c.if-self-gt0.left; seen = passed.seen })) (sym w.self-is)
-          (subst (λ n. Tries events passed (record { held = passed.held; left = n; seen = passed.seen })) (sym w.left-is)
-          (no_retries c.clients-clients.result passed (ap (λ (h : Held). passing waits h.clients) (sym c.self-2.view_is) ∙ sym c.self-2.invariant.4 ∙ none)))
+          subst (λ (h : Held). Tries c.args.strict events passed (record { held = h; left = c.if-self-gt0.left; seen = passed.seen })) (sym w.self-is)
+          (subst (λ n. Tries c.args.strict events passed (record { held = passed.held; left = n; seen = passed.seen })) (sym w.left-is)
+          (no_retries c.args.strict c.clients-clients.result passed (ap (λ (h : Held). passing waits h.clients) (sym c.self-2.view_is) ∙ sym c.self-2.invariant.4 ∙ none)))
     ]
 
 -- nor is anything changed
@@ -47,7 +48,7 @@ moved c =
 
 pub returns-then-left-eq0-clause-settled : goal.returns-then-left-eq0-clause-settled
 returns-then-left-eq0-clause-settled c =
-    settles c.args.self.now c.passes-2.new.self c.args.limit c.in_ok-left-3.left c.args.seen.now.items c.passes-2.new.seen.items c.clients-clients.result
+    settles c.args.strict c.args.self.now c.passes-2.new.self c.args.limit c.in_ok-left-3.left c.args.seen.now.items c.passes-2.new.seen.items c.clients-clients.result
     c.in_ok-left.left c.if-self-gt0.left c.passes.new.self c.if-self-gt0.self c.passes.new.seen.items Limit
     (c.clients-clients.ensures.same ∙ ap (λ (h : Held). h.master.clients) c.self.view_is)
     (ended_at_limit c.in_ok-left-3.left c.if-left-eq0.true)
@@ -56,7 +57,7 @@ returns-then-left-eq0-clause-settled c =
 pub returns-clause-settled : goal.returns-clause-settled
 returns-clause-settled c =
     let more : 0 < c.in_ok-left-3.left = omega (arith, c.if-left-eq0.false) in
-    settles c.args.self.now c.passes-2.new.self c.args.limit c.in_ok-left-3.left c.args.seen.now.items c.passes-2.new.seen.items c.clients-clients.result
+    settles c.args.strict c.args.self.now c.passes-2.new.self c.args.limit c.in_ok-left-3.left c.args.seen.now.items c.passes-2.new.seen.items c.clients-clients.result
     c.in_ok-left.left c.if-self-gt0.left c.passes.new.self c.if-self-gt0.self c.passes.new.seen.items Quiet
     (c.clients-clients.ensures.same ∙ ap (λ (h : Held). h.master.clients) c.self.view_is)
     (ended_quiet c.in_ok-left-3.left more)

@@ -1,0 +1,27 @@
+-- What is kept of a batch of lines.
+use Rattle.std.specs.Prelude.{ℕ, ◌==◌, List, [], ◌∷◌, ◌++◌, Bool, true, if◌then◌else◌}
+use Rattle.std.specs.List.{list_any}
+use Rattle.zscript.specs.Script.{lines_of}
+
+-- a line, or an empty line in place of one with a byte 0. Both are bad lines: they are answered
+-- alike, and change nothing
+abbrev pub kept_line : List ℕ → List ℕ
+kept_line line = if list_any (λ byte. byte == 0) line then [] else line
+
+-- lines, each with its LF
+abbrev pub kept_lines : List (List ℕ) → List ℕ
+kept_lines [] = []
+kept_lines (line ∷ lines) = kept_line line ++ 10 ∷ kept_lines lines
+
+-- what is kept of a batch
+abbrev pub kept : List ℕ → List ℕ
+kept batch = kept_lines (lines_of batch)
+
+-- the last byte is an LF; where there is none, this
+abbrev pub whole_from : Bool → List ℕ → Bool
+whole_from whole [] = whole
+whole_from whole (b ∷ text) = whole_from (b == 10) text
+
+-- the text is whole lines: it is empty, or its last byte is an LF
+abbrev pub is_whole : List ℕ → Bool
+is_whole text = whole_from true text

@@ -1,0 +1,7 @@
+pub mod Batches
+pub mod Durable
+pub mod Faults
+pub mod Laws
+pub mod Lives
+pub mod Played
+pub mod Playing

@@ -1,0 +1,14 @@
+//! Tests of a service whose lines are kept, over a file in memory: power cuts at every moment of
+//! many lives, and disks that fail.
+#![tactic(auto)]
+
+#[cfg(test)]
+mod batches;
+#[cfg(test)]
+mod chains;
+#[cfg(test)]
+mod cuts;
+#[cfg(test)]
+mod failures;
+#[cfg(test)]
+mod opened;

@@ -1,0 +1,10 @@
+use Rattle.std.proofs.Common.{rules, ◌≡◌, ◌∷◌, true, false}
+use Rattle.zfile.specs.Events.{replay, synced}
+use Rattle.zfile.proofs.Seen.{sync_leaves}
+use Rattle.zfile.proofs.device.FileDeviceDevice.sync.Goals as goal
+
+pub returns-then-sync-clause-crash : goal.returns-then-sync-clause-crash
+returns-then-sync-clause-crash c =
+    let is : c.note.new.self.events ≡ synced true ∷ c.args.self.now.log.events = search rules in
+    let sound : (replay c.args.self.now.log.events).has_failed ≡ false = search rules in
+    sync_leaves c.args.self.now.log.events c.note.new.self.events is sound

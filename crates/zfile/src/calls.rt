@@ -1,0 +1,29 @@
+//! The calls of the system that read and change a file. Each tells whether all of it was done.
+
+use crate::FileFault;
+use std::alloc::Global;
+use std::fs::File;
+use std::io::Read;
+use std::os::unix::fs::FileExt;
+
+/// Writes all the bytes at this offset.
+pub(crate) fn write_all(file: &File, at: usize, bytes: &[u8]) -> bool {
+    file.write_all_at(bytes, at as u64).is_ok()
+}
+
+/// Cuts the file to this length.
+pub(crate) fn cut(file: &File, len: usize) -> bool {
+    file.set_len(len as u64).is_ok()
+}
+
+/// Waits until the disk has what was written.
+pub(crate) fn sync(file: &File) -> bool {
+    file.sync_data().is_ok()
+}
+
+/// Reads all bytes of a file that was just opened.
+pub(crate) fn read_all(alloc: Global, mut file: &File) -> Result<Vec<u8>, FileFault> {
+    let mut bytes = Vec::new(alloc);
+    file.read_to_end(&mut bytes)?;
+    Ok(bytes)
+}

@@ -1,0 +1,103 @@
+//! Why a folder isn't opened.
+
+ghost use Rattle.std.specs.Prelude.{◌≡◌};
+
+use std::alloc::{AllocError, AllocFailed};
+use std::fs::TryLockError;
+use std::io::ErrorKind;
+use std::{fmt, io};
+use thiserror::Error;
+
+/// Why a folder isn't opened. What was there is untouched.
+#[derive(Clone, Copy, Debug, PartialEq, Eq, Error)]
+pub enum FileFault {
+    /// Out of memory.
+    Memory,
+    /// Another process has it open.
+    InUse,
+    /// A name stands for something that isn't a folder, or no regular file.
+    NotFile,
+    /// This process lacks the rights, or the file system takes no changes.
+    Denied,
+    /// The folder above isn't there.
+    NoParent,
+    /// A call of the system failed for another reason.
+    Io,
+}
+
+impl FileFault {
+    ghost use Rattle.zfile.specs.Faults.{fault_text};
+
+    /// Returns what a program says of it.
+    pub fn text(self) -> &'static str
+        ensures { result.now ≡ fault_text self }
+    {
+        match self {
+            FileFault::Memory => "memory",
+            FileFault::InUse => "the folder is in use",
+            FileFault::NotFile => "not a folder with a regular file",
+            FileFault::Denied => "the rights are missing",
+            FileFault::NoParent => "the folder above is missing",
+            FileFault::Io => "the disk failed",
+        }
+    }
+}
+
+// By hand: the `Display` that `thiserror` derives has no `output`, so that no clause could cite
+// what it writes.
+impl fmt::Display for FileFault {
+    ghost use Rattle.std.specs.Prelude.{Some};
+    ghost use Rattle.zfile.specs.Faults.{fault_text};
+
+    ghost output = { λ fault. Some (fault_text fault) };
+
+    fn fmt<W: fmt::Write>(&self, f: &mut fmt::Formatter<W>) -> fmt::Result {
+        f.write_str(self.text())
+    }
+}
+
+impl From<AllocError> for FileFault {
+    ghost use Rattle.zfile.specs.declared.fault.FileFault.TheVariants.{Memory};
+
+    ghost from_gives = { λ _ e. e ≡ Memory };
+
+    fn from(_: AllocError) -> Self {
+        FileFault::Memory
+    }
+}
+
+impl<T: Drop> From<AllocFailed<T>> for FileFault {
+    ghost use Rattle.zfile.specs.declared.fault.FileFault.TheVariants.{Memory};
+
+    ghost from_gives = { λ _ e. e ≡ Memory };
+
+    fn from(_: AllocFailed<T>) -> Self {
+        FileFault::Memory
+    }
+}
+
+// What the system answers for a socket at the name of a file.
+const ENXIO: i32 = 6;
+
+impl From<io::Error> for FileFault {
+    fn from(error: io::Error) -> Self {
+        match error.kind() {
+            ErrorKind::OutOfMemory => FileFault::Memory,
+            ErrorKind::PermissionDenied | ErrorKind::ReadOnlyFilesystem => FileFault::Denied,
+            ErrorKind::IsADirectory | ErrorKind::NotADirectory => FileFault::NotFile,
+            ErrorKind::FilesystemLoop => FileFault::NotFile,
+            ErrorKind::NotFound => FileFault::NoParent,
+            _ if error.raw_os_error() == Some(ENXIO) => FileFault::NotFile,
+            _ => FileFault::Io,
+        }
+    }
+}
+
+impl From<TryLockError> for FileFault {
+    fn from(error: TryLockError) -> Self {
+        match error {
+            TryLockError::WouldBlock => FileFault::InUse,
+            TryLockError::Error(error) => FileFault::from(error),
+        }
+    }
+}

@@ -1,0 +1,15 @@
+mod Views
+mod Free
+mod Calm
+mod Fronts
+mod Others
+mod Talking
+mod Cutting
+mod Doing
+mod Own
+mod Greeting
+mod Reading
+mod Coming
+mod Behind
+mod Before
+mod Inputs

@@ -1,0 +1,161 @@
+-- What happens at the inputs of a server for ZooKeeper's clients, one thing after the other, and
+-- what of it may happen while watches wait. The source is the ZooKeeper Programmer's Guide,
+-- "ZooKeeper Watches" and "Semantics of Watches".
+use Rattle.std.specs.Prelude.{◌≡◌, ◌⊎◌, ℕ, ℤ, Bool, true, false, not, ◌&&◌, List, [], ◌∷◌, ◌++◌, Some, None, if◌then◌else◌}
+use Rattle.std.specs.FinMap.{get}
+use Rattle.std.specs.FinSet.{contains}
+use Rattle.std.specs.Ordering.{eq_by_cmp}
+use Rattle.ztree.specs.Tree.{Tree, Nodes, Path, opening_tree, has_node}
+use Rattle.zcalls.specs.Lists.{Among}
+use Rattle.zcalls.specs.declared.call.Call.{Call}
+use Rattle.zcalls.specs.declared.call.Call.TheVariants.{Update}
+use Rattle.zcalls.specs.declared.call.Part.{Part}
+use Rattle.zcalls.specs.declared.call.Update.{Update as Act}
+use Rattle.zcalls.specs.declared.call.Update.TheVariants.{Close, Multi}
+use Rattle.zcalls.specs.declared.reply.Reply.{Reply}
+use Rattle.zcalls.specs.declared.reply.Reply.TheVariants as reply
+use Rattle.zjute.specs.declared.connecting.ConnectRequest.{ConnectRequest}
+use Rattle.zjute.specs.declared.event.EventKind.{EventKind}
+use Rattle.zjute.specs.declared.event.EventKind.TheVariants.{NodeDeleted, NodeChildrenChanged}
+use Rattle.zevents.specs.declared.event.Event.{Event}
+use Rattle.zevents.specs.Events.{events_of}
+use Rattle.zevents.specs.Laws.{data_at, children_at}
+use Rattle.zknown.specs.Known.{known_of}
+use Rattle.zanswering.specs.declared.answer.Answer.{Answer}
+use Rattle.zworld_model.specs.PlainTree.{serve}
+use Rattle.zturns.specs.Turns.{Log, calls_of, tree_after}
+use Rattle.zwatches.specs.declared.kind.Kind.{Kind}
+use Rattle.zwatches.specs.declared.kind.Kind.TheVariants.{Data, Missing, Children}
+use Rattle.zwatches.specs.declared.watch.Watch.{Watch}
+use Rattle.zwatches.specs.Watches.{watch, watch_cmp}
+use Rattle.zwatches.specs.Places.{is_of_node}
+use Rattle.zwatches.specs.Events.{fires}
+use Rattle.ztables.specs.Tables.{TablesView, closed, is_open, operator_sent, sent}
+use Rattle.ztables.specs.Telling.{event_frame, told}
+use Rattle.zserving.specs.Frames.{answer_frame, response_frame}
+use Rattle.zserving.specs.Watching.{waiting}
+
+-- the calls that were answered, the tables, and the nodes that were there when each watch was set
+pub record Scene : Type 0 where
+  pub log : Log
+  pub set_at : Watch → Nodes
+  pub tables : TablesView
+
+-- the tree that the log leaves
+abbrev pub tree_of : Scene → Tree
+tree_of s = tree_after opening_tree (calls_of s.log)
+
+-- a call is answered; an event is told to the watches that it fires; a watch is set; a watch that is
+-- set again is told what it missed; a request is answered; a greeting is answered; a word is answered,
+-- and its connection closed; a connection is closed; the operator is answered; connections and
+-- sessions change otherwise
+pub data Happening : Type 0 where
+  Served : Call → Reply → Happening
+  Fired : Event → Happening
+  Set : ℕ → Kind → Path → Happening
+  Missed : ℕ → Event → Happening
+  Answered : ℕ → ℤ → Answer → Happening
+  Greeted : ℕ → ConnectRequest → ℤ → ℤ → List ℕ → Happening
+  Said : ℕ → List ℕ → Happening
+  Closed : ℕ → Happening
+  Reported : List ℕ → Happening
+  Moved : TablesView → Happening
+
+-- a watch is set with the nodes that are there now; one that stands was set before
+abbrev pub set_now : Watch → Scene → Watch → Nodes
+set_now w s other =
+    if eq_by_cmp watch_cmp other w && not (contains s.tables.watches w) then (tree_of s).nodes else s.set_at other
+
+-- what happens to a scene
+abbrev pub after : Happening → Scene → Scene
+after (Served call reply) s = record s { log = s.log ++ (call, reply) ∷ [] }
+after (Fired e) s = record s { tables = told e s.tables }
+after (Set c kind path) s = record s { set_at = set_now (watch path kind c) s; tables = waiting c kind path s.tables }
+after (Missed c e) s = record s { tables = sent c (event_frame e) s.tables }
+after (Answered c xid answer) s = record s { tables = sent c (answer_frame (known_of (tree_of s)) xid answer) s.tables }
+after (Greeted c greeting timeout session password) s =
+    record s { tables = sent c (response_frame greeting timeout session password) s.tables }
+after (Said c bytes) s = record s { tables = closed c (sent c bytes s.tables) }
+after (Closed c) s = record s { tables = closed c s.tables }
+after (Reported bytes) s = record s { tables = operator_sent bytes s.tables }
+after (Moved t) s = record s { tables = t }
+
+-- the watch stands
+abbrev pub Stands : Scene → Watch → Type 0
+Stands s w = contains s.tables.watches w ≡ true
+
+-- what a watch of this kind waits for is the same at the path: the node but for its children, or
+-- when its children changed last
+abbrev pub IsSameAt : Kind → Path → Nodes → Nodes → Type 0
+IsSameAt Data path before now = data_at now path ≡ data_at before path
+IsSameAt Missing path before now = data_at now path ≡ data_at before path
+IsSameAt Children path before now = children_at now path ≡ children_at before path
+
+-- nothing has changed for the watch since it was set
+abbrev pub IsUnchanged : Scene → Watch → Type 0
+IsUnchanged s w = IsSameAt w.kind w.path (s.set_at w) (tree_of s).nodes
+
+-- no watch of the connection waits in vain: none has a change that wasn't told
+abbrev pub HasToldAll : Scene → ℕ → Type 0
+HasToldAll s c = (w : Watch) → Stands s w → w.connection ≡ c → IsUnchanged s w
+
+-- the event is one of the update that was answered last
+abbrev pub IsOfTheLast : Scene → Event → Type 0
+IsOfTheLast s e =
+    (log : Log) × (update : Act) × (reply : Reply) × (s.log ≡ log ++ (Update update, reply) ∷ []) × Among e (events_of update reply)
+
+-- it is a multi: one part may make a node that another part removes
+abbrev pub IsMulti : Scene → Type 0
+IsMulti s = (log : Log) × (parts : List Part) × (reply : Reply) × (s.log ≡ log ++ (Update (Multi parts), reply) ∷ [])
+
+-- something has changed for the watch since it was set
+abbrev pub HasChanged : Scene → Watch → Type 0
+HasChanged s w = (IsUnchanged s w → ⊥) ⊎ ((w.kind ≡ Missing) × IsMulti s)
+
+-- so it is for each watch that the event fires
+abbrev pub FiresChanged : Scene → Event → Type 0
+FiresChanged s e = (w : Watch) → Stands s w → fires e.kind e.path w ≡ true → HasChanged s w
+
+-- no node is at the event's path
+abbrev pub IsGone : Scene → Event → Type 0
+IsGone s e = (e.kind ≡ NodeDeleted) × (get (tree_of s).nodes e.path ≡ None)
+
+-- the children of the node there changed with the last change of the tree
+abbrev pub LostChild : Scene → Event → Type 0
+LostChild s e = (e.kind ≡ NodeChildrenChanged) × (children_at (tree_of s).nodes e.path ≡ Some (tree_of s).zxid)
+
+-- watches and what is to be sent stay, and no open connection shuts
+pub record IsMoved (old new : TablesView) : Type 0 where
+  pub watches : new.watches ≡ old.watches
+  pub unsent : new.unsent ≡ old.unsent
+  pub opens : (c : ℕ) → is_open old c ≡ true → is_open new c ≡ true
+
+-- a session was closed just now: the answer to that shows no node, and its connection is closed
+-- behind it
+abbrev pub IsClose : Scene → Type 0
+IsClose s = (log : Log) × (session : ℕ) × (s.log ≡ log ++ (Update (Close session), reply.Closed) ∷ [])
+
+-- of an event that a watch missed: the node is there, or it is gone
+abbrev pub tells_node : EventKind → Bool
+tells_node NodeDeleted = false
+tells_node other = true
+
+-- when each may happen: a reply is the tree's; an event has its cause, and fires watches that have a
+-- change; a watch is set where its node is, or where it isn't; and a connection is answered only
+-- where all its watches were told what changed
+abbrev pub May : Happening → Scene → Type 0
+May (Served call reply) s = reply ≡ (serve (tree_of s) 0 call).1
+May (Fired e) s = ((IsOfTheLast s e ⊎ IsGone s e) × FiresChanged s e) ⊎ LostChild s e
+May (Set c kind path) s = has_node (tree_of s).nodes path ≡ is_of_node kind
+May (Missed c e) s = has_node (tree_of s).nodes e.path ≡ tells_node e.kind
+May (Answered c xid answer) s = HasToldAll s c ⊎ IsClose s
+May (Greeted c greeting timeout session password) s = Unit {0}
+May (Said c bytes) s = Unit {0}
+May (Closed c) s = Unit {0}
+May (Reported bytes) s = Unit {0}
+May (Moved t) s = IsMoved s.tables t
+
+-- things happen, one after the other
+abbrev pub Happens : List Happening → Scene → Scene → Type 0
+Happens [] s t = t ≡ s
+Happens (h ∷ hs) s t = May h s × Happens hs (after h s) t

@@ -1,0 +1,64 @@
+//! Worked examples of the definitions, as clauses. The functions do nothing.
+
+ghost use Rattle.std.specs.Prelude.{◌≡◌, ◌⊎◌, ℕ, ℤ, true, false, List, [], ◌∷◌, Some};
+ghost use Rattle.ztree.specs.Tree.{Nodes, has_node};
+ghost use Rattle.zanswering.specs.declared.answer.Answer.{Answer};
+ghost use Rattle.zevents.specs.Events.{event};
+ghost use Rattle.zevents.specs.declared.event.Event.{Event};
+ghost use Rattle.zjute.specs.declared.event.EventKind.TheVariants.{NodeDeleted, NodeDataChanged};
+ghost use Rattle.zevents.specs.Laws.{data_at, children_at};
+ghost use Rattle.zwatches.specs.declared.kind.Kind.TheVariants.{Data, Missing, Children};
+ghost use Rattle.zwatches.specs.declared.watch.Watch.{Watch};
+ghost use Rattle.zwatches.specs.Events.{fires};
+ghost use Rattle.ztables.specs.Tables.{TablesView, is_open};
+ghost use Rattle.zturns.specs.Turns.{Log};
+ghost use Rattle.zfront_laws.specs.Runs.{Took};
+ghost use Rattle.zfront_watches.specs.Laws.{Brings, opening_scene};
+ghost use Rattle.zfront_watches.specs.Watching.{Answered, Fired, Missed, Moved, Set};
+ghost use Rattle.zfront_watches.specs.Watching.{IsClose, IsGone, IsOfTheLast, IsSameAt, IsUnchanged, LostChild};
+ghost use Rattle.zfront_watches.specs.Watching.{May, Scene, Stands, tree_of};
+
+/// What a watch waits for, by its kind. One of children doesn't look at the data, and one of data
+/// doesn't look at the children.
+pub fn what_is_waited_for()
+    ensures data { (before now : Nodes) → data_at now [] ≡ data_at before []
+        → IsSameAt Data [] before now }
+    ensures missing { (before now : Nodes) → data_at now [] ≡ data_at before []
+        → IsSameAt Missing [] before now }
+    ensures children { (before now : Nodes) → children_at before [] ≡ Some 4
+        → children_at now [] ≡ Some 5 → IsSameAt Children [] before now → ⊥ }
+{}
+
+/// `exists` sets a watch that waits for a node only where none is. Of a watch that is set again,
+/// only what is gone is told as deleted.
+pub fn where_watches_are_set()
+    ensures missing { (s : Scene) → has_node (tree_of s).nodes [] ≡ true
+        → May (Set 1 Missing []) s → ⊥ }
+    ensures data { (s : Scene) → has_node (tree_of s).nodes [] ≡ false
+        → May (Set 1 Data []) s → ⊥ }
+    ensures deleted { (s : Scene) → has_node (tree_of s).nodes [] ≡ true
+        → May (Missed 1 (event NodeDeleted [])) s → ⊥ }
+{}
+
+/// A connection isn't answered while a watch of it has a change that wasn't told, unless that is
+/// the answer to the end of a session. No event is told without a cause, or to a watch without a
+/// change. No connection shuts unseen.
+pub fn what_may_not_happen()
+    ensures answered { (s : Scene) (w : Watch) (xid : ℤ) (answer : Answer) → Stands s w
+        → w.connection ≡ 1 → (IsUnchanged s w → ⊥) → (IsClose s → ⊥)
+        → May (Answered 1 xid answer) s → ⊥ }
+    ensures fired { (s : Scene) (e : Event) → (IsOfTheLast s e → ⊥) → (IsGone s e → ⊥)
+        → (LostChild s e → ⊥) → May (Fired e) s → ⊥ }
+    ensures changed { (s : Scene) (w : Watch) → Stands s w → IsUnchanged s w
+        → fires NodeDataChanged [] w ≡ true → (w.kind ≡ Missing → ⊥)
+        → May (Fired (event NodeDataChanged [])) s → ⊥ }
+    ensures moved { (s : Scene) (t : TablesView) → is_open s.tables 1 ≡ true
+        → is_open t 1 ≡ false → May (Moved t) s → ⊥ }
+{}
+
+/// A scene opens with the log and the tables that are there. Where updates are taken, it stays.
+pub fn what_opens()
+    ensures log { (log : Log) (t : TablesView) → (opening_scene log t).log ≡ log }
+    ensures tables { (log : Log) (t : TablesView) → (opening_scene log t).tables ≡ t }
+    ensures taken { (s t : Scene) → Brings Took s t → t ≡ s }
+{}

@@ -1,0 +1,26 @@
+-- What the words of a server that keeps a folder ask for: this project's own profile.
+use Rattle.std.specs.Prelude.{◌≡◌, ◌≤◌, ◌<◌, ◌^◌, ℕ, if◌then◌else◌, List, [], ◌∷◌, codes, Option, Some, None}
+use Rattle.std.specs.Str.{bytes_eq}
+use Rattle.std.specs.Str.Parse.{IsNumeral, digits_value, without_leading_plus}
+use Rattle.zfile.specs.declared.mode.SyncMode.{SyncMode}
+use Rattle.zfile.specs.declared.mode.SyncMode.TheVariants.{Batch, Never}
+use Rattle.zhosted.specs.declared.words.HostedSettings.{HostedSettings}
+
+-- whether to wait for the disk
+abbrev pub mode_of : List ℕ → Option SyncMode
+mode_of word =
+    if bytes_eq word (codes "batch") then Some Batch else
+    if bytes_eq word (codes "never") then Some Never else None
+
+-- the word is this number in decimal, of at most so many bits; a plus may stand first
+pub record Spells (bits : ℕ) (word : List ℕ) (n : ℕ) : Type 0 where
+  pub numeral : IsNumeral 10 (without_leading_plus word)
+  pub value : n ≡ digits_value 10 (without_leading_plus word)
+  pub fits : n < 2 ^ bits
+
+-- behind the program's name a folder and a mode; how many servers, 1 to 16; the milliseconds of a
+-- tick, at least 1; the time in milliseconds
+abbrev pub IsAsked : List (List ℕ) → HostedSettings → Type 0
+IsAsked (name ∷ folder ∷ mode ∷ servers ∷ tick ∷ now ∷ []) asked =
+    (mode_of mode ≡ Some asked.mode) × Spells 8 servers asked.last × Spells 32 tick asked.tick × Spells 64 now asked.now
+IsAsked words asked = ⊥

@@ -1,0 +1,49 @@
+-- What a front whose changes are kept does between two of its states, in the words of its host.
+use Rattle.std.specs.Prelude.{◌≡◌, ◌++◌, ℕ, List, [], length, None, Some}
+use Rattle.zfront.specs.Front.{FrontView}
+use Rattle.zfront.specs.Inputs.{Opens, Ends}
+use Rattle.zfront.specs.Orders.{Hears}
+use Rattle.zfront.specs.Reading.{Comes}
+use Rattle.zfront.specs.Restoring.{all_taken}
+use Rattle.zfront.specs.Ticking.{Ticks}
+use Rattle.zkept.specs.declared.kept.Kept.{Kept}
+use Rattle.zkept.specs.Kept.{front_in, IsOpen, IsSameFile, IsServing, IsSound, piece_in, without_piece, with_made}
+use Rattle.zpieces.specs.Outbox.{PieceView}
+use Rattle.zpipe.specs.Inputs.{InputView, Opened, Came, Ended, Tick, Line, Keep}
+
+-- what its front does at an input
+abbrev pub FrontDoes : InputView → FrontView → FrontView → Type 0
+FrontDoes (Opened c password) old new = Opens c password old new
+FrontDoes (Came c bytes) old new = Comes bytes c old new
+FrontDoes (Ended c) old new = Ends c old new
+FrontDoes Tick old new = Ticks old new
+FrontDoes (Line text) old new = Hears text old new
+FrontDoes Keep old new = ⊥
+
+module _ {D : Type 0} (seen : D → List ℕ) (may_leave : D → List ℕ → Type 0) where
+  -- it is open, and what it told is on the disk
+  abbrev pub IsGood : Kept D → Type 0
+  IsGood kept = IsOpen kept × IsSound seen may_leave kept
+
+  -- its front does this, and the file is not touched
+  pub record Takes (input : InputView) (old new : Kept D) : Type 0 where
+    pub does : FrontDoes input (front_in old) (front_in new)
+    pub same : IsSameFile old new
+    pub keeps : (servers : ℕ) (batches : List (List ℕ)) → IsServing seen may_leave servers batches old → IsServing seen may_leave servers batches new
+
+  -- what it made is one block more of the file, and nothing is left of it
+  pub record Keeps (old new : Kept D) : Type 0 where
+    pub taken : front_in new ≡ all_taken (front_in old)
+    pub keeps : (servers : ℕ) (batches : List (List ℕ)) → IsServing seen may_leave servers batches old → IsServing seen may_leave servers (with_made (front_in old) batches) new
+
+-- its next piece is told, which it has only while all that it made is kept
+abbrev pub IsTold : {D : Type 0} → PieceView → Kept D → Kept D → Type 0
+IsTold piece old new = (piece_in old ≡ Some piece) × (new ≡ without_piece old)
+
+-- it has no piece
+abbrev pub HasTold : {D : Type 0} → Kept D → Type 0
+HasTold kept = piece_in kept ≡ None
+
+-- how many pieces its front has
+abbrev pub pieces_left : {D : Type 0} → Kept D → ℕ
+pieces_left kept = length (front_in kept).tables.unsent

@@ -1,0 +1,101 @@
+//! What ends a server that keeps a folder before its host does.
+
+ghost use Rattle.std.specs.Prelude.{◌≡◌};
+
+use std::fmt;
+use thiserror::Error;
+use zcommand::WordsFault;
+use zfile::FileFault;
+use zjournal::OpenError;
+use zkept::OpenFault;
+use zpipe::ServeFault;
+
+/// What ended a server before its host did.
+#[derive(Clone, Copy, Debug, PartialEq, Eq, Error)]
+pub enum HostedFault {
+    /// Its words aren't understood, or there is no memory for them.
+    Words(WordsFault),
+    /// The folder isn't opened.
+    Folder(FileFault),
+    /// The service isn't opened.
+    Service(OpenFault),
+    /// It ended while it served.
+    Serve(ServeFault),
+}
+
+impl HostedFault {
+    ghost use Rattle.zhosted.specs.Faults.{hosted_fault_status};
+
+    /// Returns the exit status that a program ends with: 1 where memory ran out, or the input or
+    /// the output failed; 2 for its words; 3 for a folder that isn't opened; 4 for a disk that failed
+    /// or a journal that is full.
+    pub fn status(self) -> u8
+        ensures { result ≡ hosted_fault_status self }
+    {
+        match self {
+            HostedFault::Words(fault) => fault.status(),
+            HostedFault::Folder(FileFault::Memory) => 1,
+            HostedFault::Folder(FileFault::Io) => 4,
+            HostedFault::Folder(_) => 3,
+            HostedFault::Service(OpenFault::Memory | OpenFault::Stopped) => 1,
+            HostedFault::Service(OpenFault::Journal(OpenError::Memory)) => 1,
+            HostedFault::Service(OpenFault::Journal(OpenError::Failed)) => 4,
+            HostedFault::Service(_) => 3,
+            HostedFault::Serve(ServeFault::Disk | ServeFault::Full | ServeFault::Ended) => 4,
+            HostedFault::Serve(_) => 1,
+        }
+    }
+
+    fn is_memory(self) -> bool {
+        match self {
+            HostedFault::Folder(FileFault::Memory)
+            | HostedFault::Service(OpenFault::Memory)
+            | HostedFault::Service(OpenFault::Journal(OpenError::Memory)) => true,
+            _ => false,
+        }
+    }
+}
+
+impl fmt::Display for HostedFault {
+    fn fmt<W: fmt::Write>(&self, f: &mut fmt::Formatter<W>) -> fmt::Result {
+        if self.is_memory() {
+            return f.write_str("zk: memory");
+        }
+        match self {
+            HostedFault::Words(fault) => f.write_str(fault.text()),
+            HostedFault::Folder(fault) => write!(f, "zk: data: {fault}"),
+            HostedFault::Service(fault) => write!(f, "zk: data: {fault}"),
+            HostedFault::Serve(fault) => write!(f, "zk: {fault}"),
+        }
+    }
+}
+
+impl From<WordsFault> for HostedFault {
+    ghost use Rattle.zhosted.specs.declared.fault.HostedFault.TheVariants as fault;
+
+    ghost from_gives = { λ cause e. e ≡ fault.Words cause };
+
+    fn from(fault: WordsFault) -> HostedFault {
+        HostedFault::Words(fault)
+    }
+}
+
+impl From<FileFault> for HostedFault {
+    ghost use Rattle.zhosted.specs.declared.fault.HostedFault.TheVariants as fault;
+
+    ghost from_gives = { λ cause e. e ≡ fault.Folder cause };
+
+    fn from(fault: FileFault) -> HostedFault {
+        HostedFault::Folder(fault)
+    }
+}
+
+impl From<ServeFault> for HostedFault {
+    ghost use Rattle.zhosted.specs.declared.fault.HostedFault.TheVariants as fault;
+
+    ghost from_gives = { λ cause e. e ≡ fault.Serve cause };
+
+    fn from(fault: ServeFault) -> HostedFault {
+        HostedFault::Serve(fault)
+    }
+}

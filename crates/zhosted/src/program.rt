@@ -1,0 +1,101 @@
+//! A run of the program, without its devices.
+
+ghost use Rattle.std.specs.Prelude.{◌≤◌, IfOk};
+ghost use Rattle.zfile.specs.File.{seen_of, MayLeaveOf};
+ghost use Rattle.zhosted.specs.Hosted.{IsGood};
+ghost use Rattle.zjournal.specs.Device.{Only};
+
+use crate::fault::HostedFault;
+use crate::hosted::Hosted;
+use crate::words::{HostedSettings, hosted_settings};
+use std::alloc::Global;
+use std::fs::{File, Files};
+use zcommand::{WordsFault, tell};
+use zdevices::{Sink, Source};
+use zfile::{FileDevice, SyncMode};
+use zkept::Kept;
+use zpipe::serve_all;
+
+// From so many bytes on it is told that a file is opened: that may take a second.
+const LONG: usize = 1_048_576;
+
+/// Does what the words ask for, reports a fault on `faults`, and returns the exit status: 0 where
+/// the source has ended, or that of the fault (`HostedFault::status`).
+pub fn hosted_command<R: Files<File = File>, S: Source, K: Sink, F: Sink>(
+    alloc: Global,
+    files: &R,
+    words: &[&str],
+    source: &mut S,
+    sink: &mut K,
+    faults: &mut F,
+) -> u8
+    ensures status { result ≤ 4 }
+{
+    match run(alloc, files, words, source, sink, faults) {
+        Ok(()) => 0,
+        Err(fault) => {
+            report(alloc, fault, faults);
+            fault.status()
+        }
+    }
+}
+
+// Opens the folder that the words ask for, and takes all inputs (`zpipe::serve_all`).
+fn run<R: Files<File = File>, S: Source, K: Sink, F: Sink>(
+    alloc: Global,
+    files: &R,
+    words: &[&str],
+    source: &mut S,
+    sink: &mut K,
+    faults: &mut F,
+) -> Result<(), HostedFault> {
+    let [_, folder, ..] = words else {
+        return Err(HostedFault::Words(WordsFault::BadWords));
+    };
+    let asked = hosted_settings(words)?;
+    let device = FileDevice::open(alloc, files, folder, asked.mode)?;
+    tell_opening(alloc, asked.mode, device.waiting(), faults);
+    let mut service = opened(alloc, device, asked)?;
+    serve_all(alloc, &mut service, source, sink)?;
+    Ok(())
+}
+
+// Opens the service of a file.
+fn opened(
+    alloc: Global,
+    device: FileDevice,
+    asked: HostedSettings,
+) -> Result<Hosted<FileDevice>, HostedFault>
+    requires durable { Only (seen_of device) (MayLeaveOf device) }
+    ensures good { IfOk result (λ service. IsGood seen_of MayLeaveOf service.kept) }
+{
+    match Kept::open(alloc, device, asked.last, asked.tick, asked.now) {
+        Ok(kept) => Ok(Hosted::new(kept)),
+        Err((fault, _)) => Err(HostedFault::Service(fault)),
+    }
+}
+
+// Tells that nothing waits for the disk, and that a long file is opened.
+fn tell_opening<F: Sink>(alloc: Global, mode: SyncMode, size: usize, faults: &mut F) {
+    if mode == SyncMode::Never {
+        tell(
+            faults,
+            "zk: --sync never: a power cut may lose or damage what was told",
+        );
+    }
+    if size >= LONG {
+        let mut text = String::new(alloc);
+        if write!(text, "zk: data: opening a journal of {size} bytes").is_ok() {
+            tell(faults, text.as_str());
+        }
+    }
+}
+
+// Tells a fault.
+fn report<F: Sink>(alloc: Global, fault: HostedFault, faults: &mut F) {
+    let mut text = String::new(alloc);
+    match write!(text, "{fault}") {
+        Ok(()) => tell(faults, text.as_str()),
+        Err(_) => tell(faults, "zk: memory"),
+    }
+}

@@ -1,0 +1,74 @@
+-- A front whose changes are kept in a journal.
+use Rattle.std.specs.Prelude.{◌≡◌, ◌==◌, ◌&&◌, ℕ, Bool, true, false, List, [], ◌∷◌, ◌++◌, length, Option, None, if◌then◌else◌}
+use Rattle.zalone.specs.declared.made.Made.{Made}
+use Rattle.zjournal.specs.Journal.{IsAtRest, device_of}
+use Rattle.zjournal.specs.Journal as journal
+use Rattle.zjournal.specs.Scan.{joined}
+use Rattle.zpieces.specs.Outbox.{PieceView, first_of}
+use Rattle.zfront.specs.Front.{FrontView}
+use Rattle.zfront.specs.Inputs.{without_first}
+use Rattle.zfront.specs.Restoring.{Entry}
+use Rattle.zkept.specs.declared.kept.Kept.{Kept}
+use Rattle.zkept.specs.Entries.{entries_text, IsTextOf}
+use Rattle.zkept.specs.Making.{made_by, entries_made, HasKept}
+
+-- the device that holds its file, its front, and whether it takes inputs
+abbrev pub disk_of : {D : Type 0} → Kept D → D
+disk_of kept = device_of kept.journal
+
+abbrev pub front_in : {D : Type 0} → Kept D → FrontView
+front_in kept = kept.front.front
+
+abbrev pub IsOpen : {D : Type 0} → Kept D → Type 0
+IsOpen kept = kept.is_open ≡ true
+
+-- ---- what is on the disk
+
+-- the file keeps these batches, all of it on the disk; they are the text of entries, and these are
+-- what the front has kept
+pub record IsServing {D : Type 0} (seen : D → List ℕ) (may_leave : D → List ℕ → Type 0) (servers : ℕ) (batches : List (List ℕ)) (kept : Kept D) : Type 0 where
+  pub rest : IsAtRest seen may_leave servers batches kept.journal
+  pub takes : journal.IsOpen kept.journal
+  pub sound : kept.front.is_broken ≡ false
+  pub entries : List Entry
+  pub text : IsTextOf entries (joined batches)
+  pub has : HasKept servers entries (front_in kept)
+
+-- a service that takes inputs serves some batches
+abbrev pub IsSound : {D : Type 0} → (D → List ℕ) → (D → List ℕ → Type 0) → Kept D → Type 0
+IsSound seen may_leave kept = IsOpen kept → (servers : ℕ) × (batches : List (List ℕ)) × IsServing seen may_leave servers batches kept
+
+-- the text of what is left to be kept, and the batches with it. Where nothing is left, no block is
+-- written
+abbrev pub batch_of : FrontView → List ℕ
+batch_of v = entries_text (entries_made v)
+
+abbrev pub more_if : List Made → List ℕ → List (List ℕ) → List (List ℕ)
+more_if [] batch batches = batches
+more_if (m ∷ made) batch batches = batches ++ batch ∷ []
+
+abbrev pub with_made : FrontView → List (List ℕ) → List (List ℕ)
+with_made v batches = more_if (made_by v) (batch_of v) batches
+
+-- ---- inputs
+
+-- at most the front is another, and whether the service is open: the file is not touched
+abbrev pub IsSameFile : {D : Type 0} → Kept D → Kept D → Type 0
+IsSameFile old new = new ≡ record old { front = new.front; is_open = new.is_open }
+
+-- ---- pieces
+
+-- pieces are handed out: the service is open, and nothing is left to be kept
+abbrev pub tells : {D : Type 0} → Kept D → Bool
+tells kept = kept.is_open && (length (made_by (front_in kept)) == 0)
+
+-- the piece to be sent first
+abbrev pub piece_in : {D : Type 0} → Kept D → Option PieceView
+piece_in kept = if tells kept then first_of (front_in kept).tables.unsent else None
+
+-- and what is left once it was taken
+abbrev pub with_front : {D : Type 0} → FrontView → Kept D → Kept D
+with_front v kept = record kept { front = record kept.front { front = v } }
+
+abbrev pub without_piece : {D : Type 0} → Kept D → Kept D
+without_piece kept = if tells kept then with_front (without_first (front_in kept)) kept else kept

@@ -1,0 +1,162 @@
+//! A front over a journal: it is opened, and keeps what it made.
+
+ghost use Rattle.std.specs.Prelude.{◌≡◌, ◌<◌, ◌≤◌, ◌^◌, ◌++◌, [], ◌∷◌, List, ℕ};
+ghost use Rattle.std.specs.Prelude.{IfErr, IfOk, IsErrOf, IsOk, OnOk};
+ghost use Rattle.zjournal.specs.Blocks.{IsText};
+ghost use Rattle.zjournal.specs.Device.{LeavesOnly, Only};
+ghost use Rattle.zjournal.specs.Journal.{IsAtRest, IsWithOrWithout, StandsFor, device_of, size_of};
+ghost use Rattle.zjournal.specs.Journal as state;
+ghost use Rattle.zjournal.specs.Puts as puts;
+ghost use Rattle.zjournal.specs.Scan.{joined};
+ghost use Rattle.zfront.specs.Restoring.{all_taken};
+ghost use Rattle.zkept.specs.Faults.{disk_failed, IsFull, IsLeftBy, IsOfMaking, IsSuchFile};
+ghost use Rattle.zkept.specs.Kept.{batch_of, disk_of, front_in, IsOpen, IsServing, IsSound};
+ghost use Rattle.zkept.specs.Kept.{with_made};
+ghost use Rattle.zkept.specs.Making.{made_by};
+ghost use Rattle.zkept.specs.Restored.{IsRestoredBy};
+
+use crate::fault::{CommitFault, OpenFault};
+use crate::making::text_of;
+use crate::restored::restored;
+use std::alloc::Global;
+use zfront::{Front, ServerId, TickLength};
+use zjournal::{Device, Journal, PutError, read_text};
+
+/// A server for ZooKeeper's clients whose changes are kept.
+///
+/// It hands out pieces only while all that it made is on the disk. After any fault it has ended, and
+/// its file is to be opened again.
+#[derive(Drop)]
+pub struct Kept<D: Device> {
+    pub(crate) alloc: Global,
+    pub(crate) front: Front,
+    pub(crate) journal: Journal<D>,
+    pub(crate) is_open: bool,
+}
+
+impl<D: Device> Kept<D> {
+    /// Opens the service of a file that a crash may have left, or of a new one: it makes the file's
+    /// changes again. Where that fails, the file stays untouched. Opening may crash, too, and then
+    /// the file stands for the same changes. The chain is the servers up to `servers`. The tree's
+    /// time is `now_ms` now, in milliseconds since 1970. An `Err` hands the device back.
+    pub fn open(
+        alloc: Global,
+        device: D,
+        servers: ServerId,
+        tick: TickLength,
+        now_ms: u64,
+    ) -> Result<Kept<D>, (OpenFault, D)>
+        // After a restart, what is read is what is on the disk.
+        requires durable { Only (D.seen device) (D.may_leave device) }
+        ensures serving { IfOk result (λ kept. (batches : List (List ℕ))
+            × StandsFor servers batches (D.seen device)
+            × IsServing D.seen D.may_leave servers batches kept
+            × IsRestoredBy servers tick now_ms (joined batches) kept.front) }
+        ensures open { IfOk result IsOpen }
+        ensures sound { IfOk result (IsSound D.seen D.may_leave) }
+        ensures any_moment { (batches : List (List ℕ)) → StandsFor servers batches (D.seen device)
+            → IfOk result (λ kept. LeavesOnly D.moment D.left_since device (disk_of kept)
+            (StandsFor servers batches)) }
+        ensures any_moment_err { (batches : List (List ℕ))
+            → StandsFor servers batches (D.seen device)
+            → IfErr result (λ e. LeavesOnly D.moment D.left_since device e.1
+            (StandsFor servers batches)) }
+        ensures untouched { IfErr result (λ e. IsOfMaking e.0
+            → (D.seen e.1 ≡ D.seen device)
+            × LeavesOnly D.moment D.left_since device e.1 (λ c. c ≡ D.seen device)) }
+        ensures fault { IfErr result (λ e. IsSuchFile servers (D.seen device) e.0) }
+        ensures failed { IfErr result (λ e. e.0 ≡ disk_failed → D.faults device < D.faults e.1) }
+    {
+        let mut device = device;
+        let text = match read_text(alloc, &mut device, servers.number()) {
+            Ok(text) => text,
+            Err(e) => return Err((OpenFault::Journal(e), device)),
+        };
+        let front = match restored(alloc, servers, tick, now_ms, &text) {
+            Ok(front) => front,
+            Err(fault) => return Err((fault, device)),
+        };
+        drop(text);
+        match zjournal::open(alloc, device, servers.number()) {
+            Ok((journal, _)) => Ok(Kept {
+                alloc,
+                front,
+                journal,
+                is_open: true,
+            }),
+            Err((e, device)) => {
+                drop(front);
+                Err((OpenFault::Journal(e), device))
+            }
+        }
+    }
+
+    /// The device that holds the file.
+    pub fn device(&self) -> &D
+        ensures { result.now ≡ disk_of self.now }
+    {
+        self.journal.device()
+    }
+
+    /// Keeps what was made since it was kept last, as one block. At `Ok` the block is on the disk,
+    /// and pieces are handed out. Where nothing was made nothing is written. After any fault the
+    /// service has ended; a file that is opened again then has these changes, or hasn't.
+    pub fn commit(&mut self) -> Result<(), CommitFault>
+        requires { IsSound D.seen D.may_leave self.old }
+        ensures kept { (servers : ℕ) (batches : List (List ℕ)) → IsOpen self.old
+            → IsServing D.seen D.may_leave servers batches self.old
+            → OnOk result (IsServing D.seen D.may_leave servers
+            (with_made (front_in self.old) batches) self.new) }
+        ensures taken { OnOk result (front_in self.new ≡ all_taken (front_in self.old)) }
+        ensures nothing { made_by (front_in self.old) ≡ [] → IsOpen self.old
+            → IsOk result × (self.new ≡ self.old) }
+        ensures any_moment { (servers : ℕ) (batches : List (List ℕ))
+            → IsServing D.seen D.may_leave servers batches self.old
+            → LeavesOnly D.moment D.left_since (disk_of self.old) (disk_of self.new)
+            (IsWithOrWithout servers batches (batch_of (front_in self.old))) }
+        ensures sound { IsSound D.seen D.may_leave self.new }
+        ensures open { OnOk result (IsOpen self.old × IsOpen self.new) }
+        ensures left { IfErr result (λ e. IsLeftBy e self.old self.new) }
+        ensures ended { (IsOpen self.old → ⊥)
+            → IsErrOf result CommitFault.Ended × (self.new ≡ self.old) }
+        ensures full { IsErrOf result CommitFault.Full → IsFull self.old }
+        ensures failed { IsErrOf result CommitFault.Failed
+            → D.faults (disk_of self.old) < D.faults (disk_of self.new) }
+    {
+        if !self.is_open {
+            return Err(CommitFault::Ended);
+        }
+        if self.front.made().is_empty() {
+            return Ok(());
+        }
+        self.is_open = false;
+        let Some(made) = self.front.take_made() else {
+            return Err(CommitFault::Full);
+        };
+        let text = text_of(self.alloc, &self.front, made)?;
+        put(&mut self.journal, &text)?; // now they are on the disk
+        self.is_open = true;
+        Ok(())
+    }
+}
+
+// Puts a block into the journal, once.
+fn put<D: Device>(journal: &mut Journal<D>, text: &[u8]) -> Result<(), PutError>
+    requires { state.IsSound D.seen D.may_leave journal.old }
+    ensures kept { (servers : ℕ) (batches : List (List ℕ)) → state.IsOpen journal.old
+        → IsAtRest D.seen D.may_leave servers batches journal.old
+        → OnOk result (IsAtRest D.seen D.may_leave servers
+        (batches ++ text.now ∷ []) journal.new) }
+    ensures any_moment { (servers : ℕ) (batches : List (List ℕ))
+        → IsAtRest D.seen D.may_leave servers batches journal.old
+        → LeavesOnly D.moment D.left_since (device_of journal.old) (device_of journal.new)
+        (IsWithOrWithout servers batches text.now) }
+    ensures open { OnOk result (state.IsOpen journal.old × state.IsOpen journal.new) }
+    ensures failed { IsErrOf result PutError.Failed
+        → D.faults (device_of journal.old) < D.faults (device_of journal.new) }
+    ensures left { IfErr result (λ e. puts.IsLeftBy e journal.old journal.new) }
+    ensures not_text { IsErrOf result PutError.NotText → IsText text.now → ⊥ }
+    ensures full { IsErrOf result PutError.Full → 2 ^ 60 ≤ size_of journal.old }
+{
+    journal.put(text)
+}

@@ -1,0 +1,29 @@
+//! A server for ZooKeeper's clients whose changes are kept. What a front makes is kept as one block
+//! of a file, and only then told. A service that is opened again makes the file's changes again.
+//!
+//! ```text
+//! let mut kept = Kept::open(alloc, device, ServerId::first(), tick, now_ms)?;
+//! kept.came(connection, bytes)?;
+//! kept.commit()?;    // what it made is on the disk
+//! while let Some(piece) = kept.next_piece() { .. }    // and is told
+//! ```
+//!
+//! It is over any `Device` (zjournal), whose written meaning says what a crash may leave. At each
+//! moment a crash leaves the changes that were told, and those under way as a whole or not at all
+//! (`commit`). So the calls that all lives of a service told stand in one log, whose replies are
+//! those of one plain tree (`laws`).
+#![tactic(auto)]
+
+mod entries;
+mod fault;
+mod inputs;
+mod kept;
+pub mod laws;
+mod making;
+mod pieces;
+mod restored;
+mod rows;
+
+pub use fault::{CommitFault, InputFault, OpenFault};
+pub use kept::Kept;
+pub use zfront::{Password, Piece, ServerId, TickLength};

@@ -1,0 +1,72 @@
+//! Worked rows: each function's contract has some, and its body does nothing.
+
+ghost use Rattle.std.specs.Prelude.{◌≡◌, [], ◌∷◌, List, ℕ, None, Some};
+ghost use Rattle.std.specs.FinMap.{insert};
+ghost use Rattle.zcalls.specs.declared.call.Call.{Call};
+ghost use Rattle.zcalls.specs.declared.call.Call.TheVariants as call;
+ghost use Rattle.zcalls.specs.declared.call.Update.TheVariants.{Open, Tick};
+ghost use Rattle.zcalls.specs.declared.reply.Reply.{Reply};
+ghost use Rattle.zcalls.specs.declared.reply.Reply.TheVariants.{Opened, Pinged};
+ghost use Rattle.zrecords.specs.declared.record.Record.TheVariants.{Fail, Password, Update};
+ghost use Rattle.zsittings.specs.Sittings.{new_sitting, SittingsView};
+ghost use Rattle.zkept.specs.Entries.{entries_of, entry_records, no_password};
+ghost use Rattle.zkept.specs.Kept.{more_if};
+ghost use Rattle.zkept.specs.Lives.{IsWoven};
+ghost use Rattle.zkept.specs.Making.{password_of};
+ghost use Rattle.zkept.specs.Restored.{clock_at};
+
+/// The records of an open, with its password in front, and of a tick.
+pub fn entries_are_records()
+    ensures open { (p : List ℕ) → entry_records (Open 10, p)
+        ≡ Password p ∷ Update (Open 10) ∷ [] }
+    ensures tick { (p : List ℕ) → entry_records (Tick, p) ≡ Update Tick ∷ [] }
+{}
+
+/// The entries of records, and records that are none.
+pub fn records_are_entries()
+    ensures none { entries_of [] ≡ Some [] }
+    ensures both { (p : List ℕ) → entries_of (Password p ∷ Update (Open 10) ∷ Update Tick ∷ [])
+        ≡ Some ((Open 10, p) ∷ ((Tick, no_password) ∷ [])) }
+    ensures open_alone { entries_of (Update (Open 10) ∷ []) ≡ None }
+    ensures password_alone { (p : List ℕ) → entries_of (Password p ∷ []) ≡ None }
+    ensures other_password { (p : List ℕ) → entries_of (Password p ∷ Update Tick ∷ []) ≡ None }
+    ensures order { entries_of (Fail 1 ∷ []) ≡ None }
+    ensures behind { entries_of (Update Tick ∷ Fail 1 ∷ []) ≡ None }
+{}
+
+/// The password that is kept of an open, by the reply to it.
+pub fn passwords_are_kept()
+    ensures opened { (m : SittingsView) (p : List ℕ)
+        → password_of (insert m 7 (new_sitting p 3)) (Opened 7 10) ≡ p }
+    ensures other { (m : SittingsView) → password_of m Pinged ≡ no_password }
+{}
+
+/// Where a tick has 500 ms, the service began eight seconds ago at tick 16, whenever it was opened.
+pub fn times_go_on()
+    ensures now { clock_at 500 10000 16 ≡ record { tick = 500; started = 2000 } }
+    ensures new { clock_at 500 10000 0 ≡ record { tick = 500; started = 10000 } }
+    ensures early { clock_at 500 1000 16 ≡ record { tick = 500; started = 0 } }
+{}
+
+/// Where nothing was made, no block is written.
+pub fn nothing_is_no_block()
+    ensures { (batch : List ℕ) (batches : List (List ℕ)) → more_if [] batch batches ≡ batches }
+{}
+
+/// What may stand in a log after some lives: a call that was told stands once. A change that was
+/// under way stands once or not at all.
+pub fn what_was_told_stands()
+    ensures under_way { (r : Reply)
+        → IsWoven (record { told = []; blocks = []; under_way = (Tick, no_password) ∷ [] } ∷ [])
+        ((call.Update Tick, r) ∷ []) ((Tick, no_password) ∷ []) }
+    ensures not_at_all { IsWoven (record {
+      told = [];
+      blocks = [];
+      under_way = (Tick, no_password) ∷ [];
+    } ∷ []) [] [] }
+    ensures undone { (c : Call) (r : Reply)
+        → IsWoven (record { told = (c, r) ∷ []; blocks = []; under_way = [] } ∷ []) [] [] → ⊥ }
+    ensures twice { (c : Call) (r : Reply)
+        → IsWoven (record { told = (c, r) ∷ []; blocks = []; under_way = [] } ∷ [])
+        ((c, r) ∷ ((c, r) ∷ [])) [] → ⊥ }
+{}

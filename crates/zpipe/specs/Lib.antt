@@ -1,0 +1,5 @@
+pub mod Inputs
+pub mod Outputs
+pub mod Laws
+pub mod Serving
+pub mod support

@@ -1,0 +1,118 @@
+-- What a service was said and has told, between two of its states.
+use Rattle.std.specs.Prelude.{◌≡◌, ◌⊎◌, ℕ, List, [], ◌∷◌, ◌++◌}
+use Rattle.std.specs.List.{flat_map, AllByRecursion}
+use Rattle.zdevices.specs.Device.{IsBeginning}
+use Rattle.zpieces.specs.Outbox.{PieceView}
+use Rattle.zpipe.specs.Inputs.{InputView, Keep, input}
+use Rattle.zpipe.specs.Outputs.{OutputView, Piece, End, output}
+
+-- the bytes of inputs, and of what is told
+abbrev pub inputs_text : List InputView → List ℕ
+inputs_text inputs = flat_map input.spell inputs
+
+abbrev pub outputs_text : List OutputView → List ℕ
+outputs_text outputs = flat_map output.spell outputs
+
+-- the answer to a demand: pieces, and an end
+abbrev pub answer_of : List PieceView → List OutputView
+answer_of [] = End ∷ []
+answer_of (piece ∷ pieces) = Piece piece ∷ answer_of pieces
+
+-- the bytes of pieces
+abbrev pub pieces_text : List PieceView → List ℕ
+pieces_text pieces = flat_map (λ p. output.spell (Piece p)) pieces
+
+-- pieces are told, one after the other
+abbrev pub Tells : {V : Type 0} → (V → PieceView → V → Type 0) → List PieceView → V → V → Type 0
+Tells told [] old new = new ≡ old
+Tells {V} told (piece ∷ pieces) old new = (middle : V) × told old piece middle × Tells told pieces middle new
+
+-- pieces were told. Of their bytes the sink took a beginning, and the rest waits
+pub record IsTelling {V : Type 0} (told : V → PieceView → V → Type 0) (takes : List ℕ → Type 0) (old new : V) (waits : List ℕ) : Type 0 where
+  pub pieces : List PieceView
+  pub tells : Tells told pieces old new
+  pub front : List ℕ
+  pub took_it : takes front
+  pub text : front ++ waits ≡ pieces_text pieces
+
+-- and where the rest is lost
+pub record TellsSome {V : Type 0} (told : V → PieceView → V → Type 0) (takes : List ℕ → Type 0) (old : V) : Type 0 where
+  pub pieces : List PieceView
+  pub last : V
+  pub tells : Tells told pieces old last
+  pub front : List ℕ
+  pub took_it : takes front
+  pub is_front : IsBeginning front (pieces_text pieces)
+
+module _ {V : Type 0} (kept : V → V → Type 0) (told : V → PieceView → V → Type 0) where
+  -- nothing is told of a demand yet; or all is kept, and some pieces are told
+  abbrev pub BeginsToAnswer : List OutputView → V → Type 0
+  BeginsToAnswer outputs old =
+      (outputs ≡ [])
+      ⊎ ((pieces : List PieceView) × (middle last : V) × kept old middle × Tells told pieces middle last
+      × (outputs ≡ answer_of pieces))
+
+  -- and of that the sink took a beginning
+  pub record SendsSome (takes : List ℕ → Type 0) (old : V) : Type 0 where
+    pub outputs : List OutputView
+    pub begins : BeginsToAnswer outputs old
+    pub front : List ℕ
+    pub is_front : IsBeginning front (outputs_text outputs)
+    pub took_it : takes front
+
+module _ {V : Type 0} (kept : V → V → Type 0) (told : V → PieceView → V → Type 0) (has_told : V → Type 0) where
+  -- all is kept; then pieces are told, and none is left
+  abbrev pub Answers : List PieceView → V → V → Type 0
+  Answers pieces old new = (middle : V) × kept old middle × Tells told pieces middle new × has_told new
+
+module _ {V : Type 0} (took : V → InputView → V → Type 0) (kept : V → V → Type 0) (told : V → PieceView → V → Type 0) (has_told : V → Type 0) where
+  -- an input is taken, and this is told of it
+  abbrev pub Does : InputView → List OutputView → V → V → Type 0
+  Does Keep outputs old new = (pieces : List PieceView) × Answers kept told has_told pieces old new × (outputs ≡ answer_of pieces)
+  Does input outputs old new = took old input new × (outputs ≡ [])
+
+  -- and that goes to the sink
+  pub record Sends (input : InputView) (takes : List ℕ → Type 0) (old new : V) : Type 0 where
+    pub outputs : List OutputView
+    pub does : Does input outputs old new
+    pub took_them : takes (outputs_text outputs)
+
+  -- inputs are taken, one after the other
+  abbrev pub Serves : List InputView → List OutputView → V → V → Type 0
+  Serves [] outputs old new = (new ≡ old) × (outputs ≡ [])
+  Serves (input ∷ inputs) outputs old new =
+      (first : List OutputView) × (middle : V) × (more : List OutputView)
+      × Does input first old middle × Serves inputs more middle new × (outputs ≡ first ++ more)
+
+  -- the bytes are those of inputs, with a rest that is no whole input. They were taken, and what was
+  -- told of them went to the sink
+  pub record ServesFront (takes : List ℕ → Type 0) (bytes rest : List ℕ) (old new : V) : Type 0 where
+    pub inputs : List InputView
+    pub outputs : List OutputView
+    pub serves : Serves inputs outputs old new
+    pub fit : AllByRecursion input.Fits inputs
+    pub split : bytes ≡ inputs_text inputs ++ rest
+    pub took_them : takes (outputs_text outputs)
+
+  -- The same of all bytes that a source gave, behind some inputs of its own.
+  pub record ServesAll (first : List InputView) (gave takes : List ℕ → Type 0) (old new : V) : Type 0 where
+    pub inputs : List InputView
+    pub outputs : List OutputView
+    pub serves : Serves (first ++ inputs) outputs old new
+    pub fit : AllByRecursion input.Fits inputs
+    pub rest : List ℕ
+    pub gave_them : gave (inputs_text inputs ++ rest)
+    pub took_them : takes (outputs_text outputs)
+
+  -- It ended earlier. Some inputs were taken, and of what was told of them, and of an answer that was
+  -- begun behind them, the sink took a beginning.
+  pub record ServesSome (takes : List ℕ → Type 0) (old : V) : Type 0 where
+    pub inputs : List InputView
+    pub outputs : List OutputView
+    pub last : V
+    pub serves : Serves inputs outputs old last
+    pub more : List OutputView
+    pub begins : BeginsToAnswer kept told more last
+    pub front : List ℕ
+    pub is_front : IsBeginning front (outputs_text (outputs ++ more))
+    pub took_it : takes front

@@ -1,0 +1,75 @@
+//! What takes inputs, keeps what they changed, and tells pieces.
+
+ghost use Rattle.std.specs.Prelude.{◌≡◌, ◌<◌, ℕ, List, IfNone, IfSome, OnOk};
+ghost use Rattle.zpieces.specs.Outbox.{PieceView};
+ghost use Rattle.zpipe.specs.Inputs.{InputView};
+ghost use Rattle.zpipe.specs.Inputs.InputView.{Opened, Came, Ended, Tick, Line};
+
+use crate::fault::ServeFault;
+use zpieces::Piece;
+use zsittings::Password;
+
+/// A service that keeps what it tells. Once it failed nothing is promised of it.
+pub trait Service {
+    /// Between two states it took this input.
+    ghost took: { Self → InputView → Self → Type 0 };
+
+    /// Between two states it kept all that its inputs changed.
+    ghost kept: { Self → Self → Type 0 };
+
+    /// Between two states it told this piece.
+    ghost told: { Self → PieceView → Self → Type 0 };
+
+    /// Nothing is left to be told.
+    ghost has_told: { Self → Type 0 };
+
+    /// How many pieces are left to be told.
+    ghost pieces_left: { Self → ℕ };
+
+    /// It has not failed.
+    ghost is_sound: { Self → Type 0 };
+
+    /// A connection was opened, with the password of a session that is opened on it.
+    fn opened(&mut self, connection: u32, password: Password) -> Result<(), ServeFault>
+        requires { is_sound self.old }
+        ensures took { OnOk result (took self.old (Opened connection password) self.new) }
+        ensures sound { OnOk result (is_sound self.new) };
+
+    /// Bytes came on a connection.
+    fn came(&mut self, connection: u32, bytes: &[u8]) -> Result<(), ServeFault>
+        requires { is_sound self.old }
+        ensures took { OnOk result (took self.old (Came connection bytes.now) self.new) }
+        ensures sound { OnOk result (is_sound self.new) };
+
+    /// A connection ended.
+    fn ended(&mut self, connection: u32) -> Result<(), ServeFault>
+        requires { is_sound self.old }
+        ensures took { OnOk result (took self.old (Ended connection) self.new) }
+        ensures sound { OnOk result (is_sound self.new) };
+
+    /// A tick went by.
+    fn tick(&mut self) -> Result<(), ServeFault>
+        requires { is_sound self.old }
+        ensures took { OnOk result (took self.old Tick self.new) }
+        ensures sound { OnOk result (is_sound self.new) };
+
+    /// The chain's operator gave a line.
+    fn line(&mut self, line: &[u8]) -> Result<(), ServeFault>
+        requires { is_sound self.old }
+        ensures took { OnOk result (took self.old (Line line.now) self.new) }
+        ensures sound { OnOk result (is_sound self.new) };
+
+    /// Keeps all that the inputs changed.
+    fn keep(&mut self) -> Result<(), ServeFault>
+        requires { is_sound self.old }
+        ensures kept { OnOk result (kept self.old self.new) }
+        ensures sound { OnOk result (is_sound self.new) };
+
+    /// Takes the next piece that is to be told, if there is one.
+    fn next_piece(&mut self) -> Option<Piece>
+        requires { is_sound self.old }
+        ensures told { IfSome result (λ piece. told self.old piece self.new) }
+        ensures fewer { IfSome result (λ _. pieces_left self.new < pieces_left self.old) }
+        ensures none { IfNone result (has_told self.old × (self.new ≡ self.old)) }
+        ensures sound { is_sound self.new };
+}

@@ -1,0 +1,197 @@
+//! Inputs are taken, kept and answered, demand by demand.
+
+ghost use Rattle.std.specs.Prelude.{◌≡◌, ◌<◌, ◌++◌, [], ◌∷◌, List, ℕ, length};
+ghost use Rattle.std.specs.Prelude.{IfOk, OnErr, OnOk};
+ghost use Rattle.zdevices.specs.Device.{Between, TookBeginning};
+ghost use Rattle.zpipe.specs.Inputs.{input_of};
+ghost use Rattle.zpipe.specs.Inputs.InputView.{Keep};
+ghost use Rattle.zpipe.specs.Serving.{IsTelling, Sends, SendsSome, ServesAll, ServesFront};
+ghost use Rattle.zpipe.specs.Serving.{ServesSome, TellsSome};
+
+use crate::fault::ServeFault;
+use crate::input::Input;
+use crate::limits::BLOCK;
+use crate::reading::next_input;
+use crate::service::Service;
+use crate::writing::{put_end, put_piece};
+use std::alloc::Global;
+use zdevices::{Sink, Source, write_all};
+use zforms::Fault;
+
+/// Tells that the service is open, and then takes all inputs of a source, until it ends. Behind
+/// each demand all that was said before it is kept. Its pieces and an end go to the sink then, and
+/// not before. What is no whole input where the source ends is dropped.
+pub fn serve_all<V: Service, S: Source, K: Sink>(
+    alloc: Global,
+    service: &mut V,
+    source: &mut S,
+    sink: &mut K,
+) -> Result<(), ServeFault>
+    requires { V.is_sound service.old }
+    ensures all { OnOk result (ServesAll V.took V.kept V.told V.has_told (Keep ∷ [])
+        (Between S.gave source.old source.new) (Between K.took sink.old sink.new)
+        service.old service.new) }
+    ensures ended { OnOk result (S.has_ended source.new) }
+    ensures some { OnErr result (ServesSome V.took V.kept V.told V.has_told
+        (Between K.took sink.old sink.new) service.old) }
+{
+    let mut block = vec![in alloc; 0; BLOCK]?;
+    answer(alloc, service, sink)?;
+    serve_blocks(alloc, service, source, sink, &mut block)?;
+    Ok(())
+}
+
+// Reads block by block, and takes the inputs that are whole.
+fn serve_blocks<V: Service, S: Source, K: Sink>(
+    alloc: Global,
+    service: &mut V,
+    source: &mut S,
+    sink: &mut K,
+    block: &mut [u8],
+) -> Result<(), ServeFault>
+    requires sound { V.is_sound service.old }
+    requires room { 0 < length block.old }
+    ensures all { OnOk result (ServesAll V.took V.kept V.told V.has_told []
+        (Between S.gave source.old source.new) (Between K.took sink.old sink.new)
+        service.old service.new) }
+    ensures ended { OnOk result (S.has_ended source.new) }
+    ensures some { OnErr result (ServesSome V.took V.kept V.told V.has_told
+        (Between K.took sink.old sink.new) service.old) }
+{
+    let mut begun = Vec::new(alloc);
+    loop {
+        let Ok(count) = source.read(block) else {
+            return Err(ServeFault::Read);
+        };
+        if count == 0 {
+            return Ok(());
+        }
+        begun.extend_from_slice(&block[..count])?;
+        begun = take_all(alloc, service, &begun, sink)?;
+    }
+}
+
+// Takes the whole inputs in front of the bytes, and returns what follows them.
+fn take_all<V: Service, K: Sink>(
+    alloc: Global,
+    service: &mut V,
+    bytes: &[u8],
+    sink: &mut K,
+) -> Result<Vec<u8>, ServeFault>
+    requires { V.is_sound service.old }
+    ensures front { IfOk result (λ rest. ServesFront V.took V.kept V.told V.has_told
+        (Between K.took sink.old sink.new) bytes.now rest.items service.old service.new) }
+    ensures sound { OnOk result (V.is_sound service.new) }
+    ensures some { OnErr result (ServesSome V.took V.kept V.told V.has_told
+        (Between K.took sink.old sink.new) service.old) }
+{
+    let rest = take_whole(alloc, service, bytes, sink)?;
+    Ok(Vec::from_slice(alloc, rest)?)
+}
+
+// The same, where the rest stays in its place.
+fn take_whole<'a, V: Service, K: Sink>(
+    alloc: Global,
+    service: &mut V,
+    bytes: &'a [u8],
+    sink: &mut K,
+) -> Result<&'a [u8], ServeFault>
+    requires { V.is_sound service.old }
+    ensures front { IfOk result (λ rest. ServesFront V.took V.kept V.told V.has_told
+        (Between K.took sink.old sink.new) bytes.now rest.now service.old service.new) }
+    ensures sound { OnOk result (V.is_sound service.new) }
+    ensures some { OnErr result (ServesSome V.took V.kept V.told V.has_told
+        (Between K.took sink.old sink.new) service.old) }
+{
+    let mut rest = bytes;
+    loop {
+        match next_input(rest) {
+            Ok((input, more)) => {
+                take(alloc, service, input, sink)?;
+                rest = more;
+            }
+            Err(Fault::Short) => return Ok(rest),
+            Err(_) => return Err(ServeFault::NoInput),
+        }
+    }
+}
+
+// Takes one input.
+fn take<V: Service, K: Sink>(
+    alloc: Global,
+    service: &mut V,
+    input: Input<'_>,
+    sink: &mut K,
+) -> Result<(), ServeFault>
+    requires { V.is_sound service.old }
+    ensures done { OnOk result (Sends V.took V.kept V.told V.has_told (input_of input.entry)
+        (Between K.took sink.old sink.new) service.old service.new) }
+    ensures sound { OnOk result (V.is_sound service.new) }
+    ensures some { OnErr result (SendsSome V.kept V.told (Between K.took sink.old sink.new)
+        service.old) }
+{
+    match input {
+        Input::Opened(connection, password) => service.opened(connection, password),
+        Input::Came(connection, bytes) => service.came(connection, bytes),
+        Input::Ended(connection) => service.ended(connection),
+        Input::Tick => service.tick(),
+        Input::Line(line) => service.line(line),
+        Input::Keep => answer(alloc, service, sink),
+    }
+}
+
+// Keeps all that was said, and tells what is to be sent.
+fn answer<V: Service, K: Sink>(
+    alloc: Global,
+    service: &mut V,
+    sink: &mut K,
+) -> Result<(), ServeFault>
+    requires { V.is_sound service.old }
+    ensures done { OnOk result (Sends V.took V.kept V.told V.has_told Keep
+        (Between K.took sink.old sink.new) service.old service.new) }
+    ensures sound { OnOk result (V.is_sound service.new) }
+    ensures some { OnErr result (SendsSome V.kept V.told (Between K.took sink.old sink.new)
+        service.old) }
+{
+    service.keep()?;
+    let mut out = Vec::new(alloc);
+    tell_pieces(service, &mut out, sink)?;
+    put_end(&mut out)?;
+    tell(&mut out, sink)
+}
+
+// Tells all pieces that are to be sent. What isn't written yet is left in `out`.
+fn tell_pieces<V: Service, K: Sink>(
+    service: &mut V,
+    out: &mut Vec<u8>,
+    sink: &mut K,
+) -> Result<(), ServeFault>
+    requires sound { V.is_sound service.old }
+    requires empty { out.old.items ≡ [] }
+    ensures done { OnOk result (IsTelling V.told (Between K.took sink.old sink.new)
+        service.old service.new out.new.items × V.has_told service.new) }
+    ensures sound { OnOk result (V.is_sound service.new) }
+    ensures some { OnErr result (TellsSome V.told (Between K.took sink.old sink.new)
+        service.old) }
+{
+    while let Some(piece) = service.next_piece() {
+        put_piece(out, &piece)?;
+        if out.len() >= BLOCK {
+            tell(out, sink)?;
+        }
+    }
+    Ok(())
+}
+
+// Writes bytes, and leaves none.
+fn tell<K: Sink>(out: &mut Vec<u8>, sink: &mut K) -> Result<(), ServeFault>
+    ensures done { OnOk result (K.took sink.old out.old.items sink.new) }
+    ensures none { OnOk result (out.new.items ≡ []) }
+    ensures some { TookBeginning (Between K.took sink.old sink.new) out.old.items }
+{
+    if write_all(sink, out).is_err() {
+        return Err(ServeFault::Write);
+    }
+    out.clear();
+    Ok(())
+}

@@ -1,0 +1,36 @@
+//! Answers, written at the end of bytes. Each function says too that what it writes fits.
+
+ghost use Rattle.std.specs.Prelude.{◌≡◌, ◌++◌, OnOk};
+ghost use Rattle.zpipe.specs.Outputs.{OutputView, output};
+ghost use Rattle.zpipe.specs.Outputs.OutputView.{Piece as OfPiece, End};
+
+use crate::limits::MAX_PIECE;
+use zforms::{put_flag, put_sized, put_u8, put_u32};
+use zpath::Memory;
+use zpieces::Piece;
+
+/// Writes a piece. No memory is wanted for one of more than `MAX_PIECE` bytes.
+#[tactic(auto, unfolding(crate::specs::Outputs::output, crate::specs::Outputs::piece))]
+pub fn put_piece(out: &mut Vec<u8>, piece: &Piece) -> Result<(), Memory>
+    ensures text { OnOk result (out.new.items ≡ out.old.items ++ output.spell (OfPiece piece.now)) }
+    ensures fits { OnOk result (output.Fits (OfPiece piece.now)) }
+{
+    if piece.bytes.len() > MAX_PIECE as usize {
+        return Err(Memory);
+    }
+    put_u8(out, 0)?;
+    put_u32(out, piece.connection)?;
+    put_flag(out, piece.is_last)?;
+    put_sized(out, &piece.bytes)?;
+    Ok(())
+}
+
+/// Writes the end of an answer.
+#[tactic(auto, unfolding(crate::specs::Outputs::output))]
+pub fn put_end(out: &mut Vec<u8>) -> Result<(), Memory>
+    ensures text { OnOk result (out.new.items ≡ out.old.items ++ output.spell End) }
+    ensures fits { OnOk result (output.Fits End) }
+{
+    put_u8(out, 1)?;
+    Ok(())
+}

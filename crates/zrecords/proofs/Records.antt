@@ -1,0 +1,43 @@
+-- Records are forms.
+use Rattle.std.proofs.Common.{◌≡◌, ℕ, List, ◌++◌, Ok, refl, arith}
+use Rattle.std.specs.Int.{w8}
+use Rattle.zforms.specs.Forms.{number}
+use Rattle.zforms.specs.Laws.{IsForm}
+use Rattle.zforms.proofs.Numbers.{is_u8, is_exactly}
+use Rattle.zjute.proofs.Before.{Anything, before, is_form}
+use Rattle.zjute.proofs.Tags.{again_as, is_by_tag}
+use Rattle.zprotocol.specs.declared.limits.TheConstants.{MAX_SERVERS}
+use Rattle.zrecords.specs.declared.record.Record.{Record}
+use Rattle.zrecords.specs.declared.record.Record.TheVariants.{Password, Update, Fail, Join, Retire}
+use Rattle.zrecords.specs.Calls.{update}
+use Rattle.zrecords.specs.Records.{password, server, logged_at, logged_spelled, logged}
+use Rattle.zrecords.proofs.Sums.{none_take, one_takes}
+use Rattle.zrecords.proofs.Fields.{is_up_to}
+use Rattle.zrecords.proofs.Calls.{is_update}
+
+pub is_password : IsForm password
+unfolding password
+is_password = is_exactly 16
+
+pub is_server : IsForm server
+unfolding server
+is_server = is_up_to w8 MAX_SERVERS is_u8 (omega arith)
+
+logged_again : (r : Record) (rest : List ℕ) → Anything rest → (logged_spelled r).fits → logged_at (logged_spelled r).tag ((logged_spelled r).text ++ rest) ≡ Ok (r, rest)
+unfolding logged_at
+logged_again (Password bytes) rest any fits = again_as Anything password (λ bytes. Password bytes) (before Anything password is_password) bytes rest any fits
+logged_again (Update change) rest any fits = again_as Anything update (λ change. Update change) (before Anything update is_update) change rest any fits
+logged_again (Fail id) rest any fits = again_as Anything server (λ id. Fail id) (before Anything server is_server) id rest any fits
+logged_again (Join id) rest any fits = again_as Anything server (λ id. Join id) (before Anything server is_server) id rest any fits
+logged_again (Retire id) rest any fits = again_as Anything server (λ id. Retire id) (before Anything server is_server) id rest any fits
+
+pub is_logged : IsForm logged
+unfolding logged logged_at
+is_logged = is_form logged (is_by_tag Anything (number w8) logged_at logged_spelled is_u8
+    (one_takes logged_spelled 0 password (λ bytes. Password bytes) _ is_password (λ x. refl) (λ x. refl) (λ x fits. fits)
+    (one_takes logged_spelled 1 update (λ change. Update change) _ is_update (λ x. refl) (λ x. refl) (λ x fits. fits)
+    (one_takes logged_spelled 2 server (λ id. Fail id) _ is_server (λ x. refl) (λ x. refl) (λ x fits. fits)
+    (one_takes logged_spelled 3 server (λ id. Join id) _ is_server (λ x. refl) (λ x. refl) (λ x fits. fits)
+    (one_takes logged_spelled 4 server (λ id. Retire id) _ is_server (λ x. refl) (λ x. refl) (λ x fits. fits)
+    (none_take logged_spelled))))))
+    logged_again)

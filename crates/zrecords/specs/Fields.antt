@@ -1,0 +1,86 @@
+-- Forms of what calls are made of: paths, data, versions and kinds of nodes. Numbers have the
+-- highest byte first. A tag keeps its meaning in every later version.
+use Rattle.std.specs.Prelude.{ℕ, ◌<◌, ◌≤◌, ◌&&◌, List, Result, Ok, Err, is_some, nat_lt, nat_le, if◌then◌else◌}
+use Rattle.std.specs.Int.{Width, w8, w64}
+use Rattle.zforms.specs.declared.fault.Fault.{Fault}
+use Rattle.zforms.specs.declared.fault.Fault.TheVariants.{Invalid}
+use Rattle.zforms.specs.Forms.{Form, number, made, empty}
+use Rattle.zforms.specs.Choices.{sized}
+use Rattle.zjute.specs.Shapes.{Spelled, behind, read_as, by_tag}
+use Rattle.zpath.specs.declared.limits.TheConstants.{MAX_TEXT_LEN}
+use Rattle.zpath.specs.Grammar.{IsPath, text_of}
+use Rattle.zpath.specs.Faults.{fault_of, names_of}
+use Rattle.ztree.specs.declared.limits.TheConstants.{MAX_DATA, MAX_TTL}
+use Rattle.ztree.specs.Tree.{Path}
+use Rattle.zcalls.specs.declared.call.Expected.{Expected}
+use Rattle.zcalls.specs.declared.call.Expected.TheVariants.{Any, Exactly}
+use Rattle.zcalls.specs.declared.call.Kind.{Kind}
+use Rattle.zcalls.specs.declared.call.Kind.TheVariants.{Persistent, PersistentSequential, PersistentWithTtl, PersistentSequentialWithTtl, Ephemeral, EphemeralSequential}
+use Rattle.zrecords.specs.Sums.{at_tag, no_tag}
+
+-- ---- numbers
+
+-- a number from 1 up to the greatest
+abbrev pub up_to_from : ℕ → ℕ → Result ℕ Fault
+up_to_from most n = if nat_lt 0 n && nat_le n most then Ok n else Err Invalid
+
+abbrev pub up_to : Width → ℕ → Form ℕ
+up_to w most = made (number w) (λ n. n) (up_to_from most) (λ n. (0 < n) × (n ≤ most))
+
+-- a TTL, in ticks
+unfoldable pub ttl : Form ℕ
+ttl = up_to w64 MAX_TTL
+
+-- a session's id, a version, or a timeout
+abbrev pub long : Form ℕ
+long = number w64
+
+-- ---- bytes
+
+-- data
+unfoldable pub content : Form (List ℕ)
+content = sized MAX_DATA
+
+-- the path with this text
+unfoldable pub path_from : List ℕ → Result Path Fault
+path_from text = if is_some (fault_of text) then Err Invalid else Ok (names_of text)
+
+-- a path, as its text
+unfoldable pub path : Form Path
+path = made (sized MAX_TEXT_LEN) text_of path_from IsPath
+
+-- ---- tagged
+
+-- the version that a node must have
+unfoldable pub version_at : ℕ → List ℕ → Result (Expected × List ℕ) Fault
+version_at =
+    at_tag 0 (read_as empty (λ _. Any))
+    (at_tag 1 (read_as long (λ n. Exactly n)) no_tag)
+
+abbrev pub version_spelled : Expected → Spelled ℕ
+version_spelled Any = behind 0 empty tt
+version_spelled (Exactly n) = behind 1 long n
+
+unfoldable pub version : Form Expected
+version = by_tag (number w8) version_at version_spelled
+
+-- the kind of a node
+unfoldable pub kind_at : ℕ → List ℕ → Result (Kind × List ℕ) Fault
+kind_at =
+    at_tag 0 (read_as empty (λ _. Persistent))
+    (at_tag 1 (read_as empty (λ _. PersistentSequential))
+    (at_tag 2 (read_as ttl (λ ticks. PersistentWithTtl ticks))
+    (at_tag 3 (read_as ttl (λ ticks. PersistentSequentialWithTtl ticks))
+    (at_tag 4 (read_as long (λ session. Ephemeral session))
+    (at_tag 5 (read_as long (λ session. EphemeralSequential session)) no_tag)))))
+
+abbrev pub kind_spelled : Kind → Spelled ℕ
+kind_spelled Persistent = behind 0 empty tt
+kind_spelled PersistentSequential = behind 1 empty tt
+kind_spelled (PersistentWithTtl ticks) = behind 2 ttl ticks
+kind_spelled (PersistentSequentialWithTtl ticks) = behind 3 ttl ticks
+kind_spelled (Ephemeral session) = behind 4 long session
+kind_spelled (EphemeralSequential session) = behind 5 long session
+
+unfoldable pub node_kind : Form Kind
+node_kind = by_tag (number w8) kind_at kind_spelled

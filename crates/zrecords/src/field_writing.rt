@@ -1,0 +1,74 @@
+//! Fields of calls, written at the end of bytes. Each function says too that what it writes fits.
+
+ghost use Rattle.std.specs.Prelude.{◌≡◌, ◌++◌, OnOk};
+ghost use Rattle.zrecords.specs.Fields.{content as content_form, path as path_form};
+ghost use Rattle.zrecords.specs.Fields.{version as version_form, node_kind};
+
+use std::alloc::{AllocError, Global};
+use zcalls::{Data, Expected, Kind};
+use zforms::{put_sized, put_u8, put_u64};
+use zpath::Path;
+
+/// Writes a node's data.
+#[tactic(auto, unfolding(crate::specs::Fields::content))]
+pub(crate) fn put_content(out: &mut Vec<u8>, content: &Data) -> Result<(), AllocError>
+    ensures text { OnOk result (out.new.items ≡ out.old.items ++ content_form.spell content.now) }
+    ensures fits { OnOk result (content_form.Fits content.now) }
+{
+    put_sized(out, content.as_slice())
+}
+
+/// Writes a path.
+#[tactic(auto, unfolding(crate::specs::Fields::path))]
+pub(crate) fn put_path(alloc: Global, out: &mut Vec<u8>, path: &Path) -> Result<(), AllocError>
+    ensures text { OnOk result (out.new.items ≡ out.old.items ++ path_form.spell path.now) }
+    ensures fits { OnOk result (path_form.Fits path.now) }
+{
+    // A path's text is short, and the clause of `names` says so.
+    let _ = path.names();
+    let text = path.to_string(alloc)?;
+    put_sized(out, text.as_bytes())
+}
+
+/// Writes the version that a node must have.
+#[tactic(auto, unfolding(crate::specs::Fields::version))]
+pub(crate) fn put_version(out: &mut Vec<u8>, version: Expected) -> Result<(), AllocError>
+    ensures text { OnOk result (out.new.items ≡ out.old.items ++ version_form.spell version) }
+    ensures fits { OnOk result (version_form.Fits version) }
+{
+    match version {
+        Expected::Any => put_u8(out, 0),
+        Expected::Exactly(number) => {
+            put_u8(out, 1)?;
+            put_u64(out, number)
+        }
+    }
+}
+
+/// Writes the kind of a node.
+#[tactic(auto, unfolding(crate::specs::Fields::node_kind, crate::specs::Fields::ttl))]
+pub(crate) fn put_kind(out: &mut Vec<u8>, kind: Kind) -> Result<(), AllocError>
+    ensures text { OnOk result (out.new.items ≡ out.old.items ++ node_kind.spell kind) }
+    ensures fits { OnOk result (node_kind.Fits kind) }
+{
+    match kind {
+        Kind::Persistent => put_u8(out, 0),
+        Kind::PersistentSequential => put_u8(out, 1),
+        Kind::PersistentWithTtl(ttl) => {
+            put_u8(out, 2)?;
+            put_u64(out, ttl.ticks())
+        }
+        Kind::PersistentSequentialWithTtl(ttl) => {
+            put_u8(out, 3)?;
+            put_u64(out, ttl.ticks())
+        }
+        Kind::Ephemeral(session) => {
+            put_u8(out, 4)?;
+            put_u64(out, session.number())
+        }
+        Kind::EphemeralSequential(session) => {
+            put_u8(out, 5)?;
+            put_u64(out, session.number())
+        }
+    }
+}

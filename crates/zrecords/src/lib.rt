@@ -1,0 +1,28 @@
+//! What a server logs, as lines of text: the changes of its tree, the passwords of sessions, and
+//! the orders of the chain's operator.
+//!
+//! `write_records` appends records to a log's text, and `next_record` and `read_records` read them
+//! from it. A line is a record's bytes in base64, and an LF. So a log has no byte 0, and a log
+//! behind another is a log.
+//!
+//! The definitions: `specs/Records.antt` (lines, and the bytes of records), `specs/Calls.antt` and
+//! `specs/Fields.antt` (the bytes of what records are made of), `specs/Laws.antt`.
+#![tactic(auto)]
+
+mod call_reading;
+mod call_writing;
+mod fault;
+mod field_reading;
+mod field_writing;
+pub mod laws;
+mod reading;
+mod record;
+mod record_reading;
+mod record_writing;
+mod rows;
+mod writing;
+
+pub use fault::RecordFault;
+pub use reading::{next_record, read_records};
+pub use record::Record;
+pub use writing::write_records;

@@ -1,0 +1,20 @@
+//! What is logged.
+
+use zcalls::Update;
+use zprotocol::ServerId;
+use zsittings::Password;
+
+/// What a server logs.
+#[derive(Drop)]
+pub enum Record {
+    /// The password of the session that the next open makes.
+    Password(Password),
+    /// A change of the tree.
+    Update(Update),
+    /// A server fails for good.
+    Fail(ServerId),
+    /// A server is asked to join behind the tail.
+    Join(ServerId),
+    /// A server, a member of the chain, is ordered to leave.
+    Retire(ServerId),
+}

@@ -1,0 +1,60 @@
+//! Records, written at the end of bytes. Each function says too that what it writes fits.
+
+ghost use Rattle.std.specs.Prelude.{◌≡◌, ◌++◌, OnOk};
+ghost use Rattle.zrecords.specs.Records.{password as password_form, server as server_form, logged};
+
+use crate::call_writing::put_update;
+use crate::record::Record;
+use std::alloc::{AllocError, Global};
+use zforms::put_u8;
+use zprotocol::ServerId;
+use zsittings::Password;
+
+/// Writes a record.
+#[tactic(auto, unfolding(crate::specs::Records::logged))]
+pub(crate) fn put_record(alloc: Global, out: &mut Vec<u8>, it: &Record) -> Result<(), AllocError>
+    ensures text { OnOk result (out.new.items ≡ out.old.items ++ logged.spell it.now) }
+    ensures fits { OnOk result (logged.Fits it.now) }
+{
+    match it {
+        Record::Password(password) => {
+            put_u8(out, 0)?;
+            put_password(out, password)
+        }
+        Record::Update(update) => {
+            put_u8(out, 1)?;
+            put_update(alloc, out, update)
+        }
+        Record::Fail(server) => {
+            put_u8(out, 2)?;
+            put_server(out, *server)
+        }
+        Record::Join(server) => {
+            put_u8(out, 3)?;
+            put_server(out, *server)
+        }
+        Record::Retire(server) => {
+            put_u8(out, 4)?;
+            put_server(out, *server)
+        }
+    }
+}
+
+// Writes a password.
+#[tactic(auto, unfolding(crate::specs::Records::password))]
+fn put_password(out: &mut Vec<u8>, password: &Password) -> Result<(), AllocError>
+    ensures text { OnOk result
+        (out.new.items ≡ out.old.items ++ password_form.spell password.now) }
+    ensures fits { OnOk result (password_form.Fits password.now) }
+{
+    out.extend_from_slice(password.as_bytes())
+}
+
+// Writes the id of a server.
+#[tactic(auto, unfolding(crate::specs::Records::server))]
+fn put_server(out: &mut Vec<u8>, server: ServerId) -> Result<(), AllocError>
+    ensures text { OnOk result (out.new.items ≡ out.old.items ++ server_form.spell server) }
+    ensures fits { OnOk result (server_form.Fits server) }
+{
+    put_u8(out, server.number())
+}

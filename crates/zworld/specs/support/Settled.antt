@@ -1,0 +1,21 @@
+-- A world that settled, strictly or not.
+use Rattle.std.specs.Prelude.{ℕ, Bool, List, ◌++◌}
+use Rattle.ztree.specs.Tree.{Tree}
+use Rattle.zcalls.specs.Kept.{KeptState}
+use Rattle.zprotocol.specs.server.Machine.{kept_tree}
+use Rattle.zworld_model.specs.declared.outcome.Outcome.{Outcome}
+use Rattle.zworld_model.specs.declared.settled.Settled.{Settled}
+use Rattle.zworld_model.specs.Settle.{settle}
+use Rattle.zworld_model.specs.World.{World}
+use Rattle.zworld.specs.Steps.{WorldView, Ends, world_in}
+use Rattle.zworld.specs.support.Settling.{MayLearn}
+
+-- settling led from one world to another, and ended this way; where it was strict, no server ran
+-- out of memory
+abbrev pub HasSettledBy : Bool → World (KeptState Tree) → ℕ → Settled → World (KeptState Tree) → Type 0
+HasSettledBy strict v limit settled w =
+    (outcomes : List Outcome) × MayLearn strict outcomes × ((later : List Outcome) → Ends (settle kept_tree v limit (outcomes ++ later)) settled later w)
+
+-- the same, of the program's worlds
+abbrev pub IsSettledBy : Bool → WorldView → WorldView → ℕ → Settled → Type 0
+IsSettledBy strict old new limit settled = HasSettledBy strict (world_in old) limit settled (world_in new)
