@@ -21,7 +21,7 @@ ends (x ∷ bytes) (suc k) below here = ap (λ (l : List ℕ). x ∷ l) (ends by
 pub begun_whole : (begun bytes lines : List ℕ) (k : ℕ) → k < length bytes → (slice_index bytes k == 10) ≡ true → lines ≡ begun ++ take (k + 1) bytes → is_whole lines ≡ true
 begun_whole begun bytes lines k below here is =
     let last : lines ≡ (begun ++ take k bytes) ++ 10 ∷ [] =
-        is ∙ ap (λ (n : ℕ). begun ++ take n bytes) (add-one k) ∙ ap (λ (l : List ℕ). begun ++ l) (ends bytes k below here) ∙ sym (append_assoc begun (take k bytes) (10 ∷ [])) in
+    is ∙ ap (λ (n : ℕ). begun ++ take n bytes) (add-one k) ∙ ap (λ (l : List ℕ). begun ++ l) (ends bytes k below here) ∙ sym (append_assoc begun (take k bytes) (10 ∷ [])) in
     subst (λ (l : List ℕ). is_whole l ≡ true) (sym last) (whole_end (begun ++ take k bytes))
 
 -- and what follows it is left

@@ -57,7 +57,7 @@ module _ {D : Type 0} (seen : D → List ℕ) (may_leave : D → List ℕ → Ty
     asked = ⊎_elim
         (λ all. inl (asked_both so_far.told more ∙ ap (λ (l : List ℕ). asked_in so_far.told ++ l) all ∙ sym so_far.asked ∙ sym (append-nil so_far.bytes)))
         (λ ended. inr (asked_both so_far.told more ∙ ap (λ (l : List ℕ). asked_in so_far.told ++ l) ended ∙ sym (append_assoc (asked_in so_far.told) begun (10 ∷ []))
-            ∙ ap (λ (l : List ℕ). l ++ 10 ∷ []) (sym so_far.asked ∙ sym (append-nil so_far.bytes))))
+        ∙ ap (λ (l : List ℕ). l ++ 10 ∷ []) (sym so_far.asked ∙ sym (append-nil so_far.bytes))))
         by;
     took_them = subst took' (sym (answers_both so_far.told more)) (took_both (answers_in so_far.told) (answers_in more) so_far.took_them told);
   }

@@ -45,7 +45,7 @@ module _ {D : Type 0} (seen : D → List ℕ) (may_leave : D → List ℕ → Ty
     worlds = told_both (world_in old) (world_in mid) (world_in new) told more first.worlds then.worlds;
     keeps = λ servers batches serving.
         let same : batches ++ kept_in (told ++ more) ≡ (batches ++ kept_in told) ++ kept_in more =
-            ap (λ (l : List (List ℕ)). batches ++ l) (kept_both told more) ∙ sym (append_assoc batches (kept_in told) (kept_in more)) in
+        ap (λ (l : List (List ℕ)). batches ++ l) (kept_both told more) ∙ sym (append_assoc batches (kept_in told) (kept_in more)) in
         subst (λ (l : List (List ℕ)). IsServing seen may_leave servers l new) (sym same) (then.keeps servers (batches ++ kept_in told) (first.keeps servers batches serving));
   }
 

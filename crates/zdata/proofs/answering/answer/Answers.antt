@@ -19,7 +19,7 @@ pub returns-then-is_err-clause-some : goal.returns-then-is_err-clause-some
 returns-then-is_err-clause-some g c =
     let took = Between g.K.Sink.took c.args.sink.now c.write_all.new.sink in
     let tells : Tells g.D.Device.seen g.D.Device.may_leave ((c.args.lines.now, string_bytes c.in_ok-answers.answers) ∷ []) c.args.service.now c.commit.new.self =
-        tells_one g.D.Device.seen g.D.Device.may_leave c.args.lines.now (string_bytes c.in_ok-answers.answers) c.args.service.now c.commit.new.self
-        c.requires.whole c.in_ok-answers.ensures.told (λ servers batches serving. c.in_ok-answers.ensures.kept servers batches c.requires.open serving) in
+    tells_one g.D.Device.seen g.D.Device.may_leave c.args.lines.now (string_bytes c.in_ok-answers.answers) c.args.service.now c.commit.new.self
+    c.requires.whole c.in_ok-answers.ensures.told (λ servers batches serving. c.in_ok-answers.ensures.kept servers batches c.requires.open serving) in
     some_one g.D.Device.seen g.D.Device.may_leave c.args.lines.now (string_bytes c.in_ok-answers.answers) c.args.service.now c.commit.new.self took tells
     (subst (TookBeginning took) c.as_bytes.ensures.value c.write_all.ensures.beginning)

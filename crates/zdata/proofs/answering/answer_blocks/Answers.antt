@@ -31,7 +31,7 @@ pub returns-then-count-eq0-clause-all : goal.returns-then-count-eq0-clause-all
 returns-then-count-eq0-clause-all g c =
     let told = c.in_ok-answer_rest.ensures.done in
     let nothing : g.S.Source.gave c.loop-count.source [] c.read.new.self =
-        subst (λ (n : ℕ). g.S.Source.gave c.loop-count.source (take n c.read.new.buffer) c.read.new.self) c.if-count-eq0.true c.in-Ok.ensures.gave in
+    subst (λ (n : ℕ). g.S.Source.gave c.loop-count.source (take n c.read.new.buffer) c.read.new.self) c.if-count-eq0.true c.in-Ok.ensures.gave in
     going_ends g.D.Device.seen g.D.Device.may_leave
     (Between g.S.Source.gave c.args.source.now c.loop-count.source) (Between g.S.Source.gave c.loop-count.source c.read.new.self) (Between g.S.Source.gave c.args.source.now c.read.new.self)
     (Between g.K.Sink.took c.args.sink.now c.loop-count.sink) (Between g.K.Sink.took c.loop-count.sink c.answer_rest.new.sink) (Between g.K.Sink.took c.args.sink.now c.answer_rest.new.sink)
