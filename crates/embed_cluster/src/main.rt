@@ -13,10 +13,10 @@ use std::sync::Wait;
 use std::thread;
 use std::thread::Threads;
 use zaudit::audit;
-use zcalls::{Call, ClientId, Create, Data, Kind, Query, Reply, Update};
-use zpath::Path;
-use zprotocol::ServerId;
-use zrun::{Client, Clients, Cluster, HandsBack, Patience, open_gates};
+use zrun::{
+    Call, Client, ClientId, Clients, Cluster, Data, Fault, HandsBack, Path, Patience, Reply,
+    ServerId, open_gates,
+};
 
 // How long to wait for a response.
 const PATIENCE: Patience = Patience {
@@ -78,43 +78,42 @@ fn write_and_read<R: Threads>(rt: &R, alloc: Global, clients: &mut Clients) -> O
     clients.put(writer);
     let mut reader = clients.take(ClientId::new(1)?)?;
     reader.learn(stamp);
-    let is_found = read(&mut reader, alloc);
+    let found = is_there(&mut reader, alloc);
     clients.put(reader);
-    Some(is_written && is_found)
+    Some(is_written && found == Ok(true))
 }
 
 // Creates the node, and halts the first server.
 fn write(mut client: Client, alloc: Global) -> (Client, bool)
     ensures { SameClient client result.0 }
 {
-    let is_written = match create(alloc) {
-        Some(call) => client.ask(call, PATIENCE).is_ok(),
-        None => false,
-    };
+    let is_written = create(&mut client, alloc).is_ok();
     if let Some(server) = ServerId::new(1) {
         client.halt(server);
     }
     (client, is_written)
 }
 
-// Returns whether the node exists.
-fn read(client: &mut Client, alloc: Global) -> bool
+// Creates the node.
+fn create(client: &mut Client, alloc: Global) -> Result<(), Fault>
     ensures { SameClient client.old client.new }
 {
-    match exists(alloc) {
-        Some(call) => matches!(&client.ask(call, PATIENCE), Ok(Reply::Exists(_))),
-        None => false,
+    let path = Path::parse(alloc, "/config")?;
+    let reply = client.ask(Call::create(path, Data::empty(alloc)), PATIENCE)?;
+    match reply {
+        Reply::Created(path) => {
+            drop(path);
+            Ok(())
+        }
+        other => Err(Fault::from(other)),
     }
 }
 
-fn create(alloc: Global) -> Option<Call> {
-    Some(Call::Update(Update::Create(Create {
-        path: Path::parse(alloc, "/config").ok()?,
-        kind: Kind::Persistent,
-        bytes: Data::empty(alloc),
-    })))
-}
-
-fn exists(alloc: Global) -> Option<Call> {
-    Some(Call::Query(Query::Exists(Path::parse(alloc, "/config").ok()?)))
+// Returns whether the node exists.
+fn is_there(client: &mut Client, alloc: Global) -> Result<bool, Fault>
+    ensures { SameClient client.old client.new }
+{
+    let path = Path::parse(alloc, "/config")?;
+    let reply = client.ask(Call::exists(path), PATIENCE)?;
+    Ok(matches!(&reply, Reply::Exists(_)))
 }

@@ -9,6 +9,7 @@
 mod call;
 mod call_number;
 mod change;
+mod constructors;
 mod copies;
 pub mod laws;
 pub mod limits;

@@ -4,6 +4,7 @@ use Rattle.zcalls.specs.declared.call.Call.{Call}
 use Rattle.zcalls.specs.declared.reply.Reply.{Reply}
 use Rattle.zcaller.specs.declared.caller.Caller.{Caller}
 use Rattle.zcaller.specs.Callers.{Retried, SameCaller}
+use Rattle.zrun.specs.declared.asking.TheConstants.{TURNS}
 use Rattle.zrun.specs.declared.client.Client.{Client}
 use Rattle.zrun.specs.declared.faults.Unanswered.{Unanswered}
 use Rattle.zrun.specs.declared.faults.Unanswered.TheVariants.{NoAnswer}
@@ -51,3 +52,23 @@ CalledPatientlyInVain patience call a b fault =
 abbrev pub GaveUp : Patience → Client → Client → Unanswered → Type 0
 GaveUp patience a b fault =
     (fault ≡ NoAnswer) × InsistedInVain patience.turns patience.retries (caller_of a) (caller_of b)
+
+-- the same by a clock: it sent the call again some number of times, with `TURNS` turns for each
+abbrev pub so_often : ℕ → Patience
+so_often n = record { turns = TURNS; retries = n }
+
+-- one of these turns returned this reply
+abbrev pub InsistedWithinUntil : Caller → Caller → Reply → Type 0
+InsistedWithinUntil a b reply = (n : ℕ) × InsistedUntil (so_often n) a b reply
+
+-- there is no reply: it did so in vain
+abbrev pub InsistedWithinInVain : Client → Client → Unanswered → Type 0
+InsistedWithinInVain a b fault = (fault ≡ NoAnswer) × ((n : ℕ) × InsistedInVain TURNS n (caller_of a) (caller_of b))
+
+-- it invoked the call before
+abbrev pub AskedWithinUntil : Call → Client → Client → Reply → Type 0
+AskedWithinUntil call a b reply = (n : ℕ) × CalledPatientlyUntil (so_often n) call a b reply
+
+abbrev pub AskedWithinInVain : Call → Client → Client → Unanswered → Type 0
+AskedWithinInVain call a b fault =
+    fault ≡ NoAnswer → (n : ℕ) × BeganThen (caller_of a) call (λ begun. AskedInVain (so_often n) begun (caller_of b))

@@ -152,7 +152,7 @@ impl Client {
 
     // Sends the call again, if there is memory for it. The turns that follow may bring its reply
     // even so.
-    fn send_again(&mut self)
+    pub(crate) fn send_again(&mut self)
         ensures sent { SentAgain (caller_of self.old) (caller_of self.new) }
         ensures learnt { SameLearnt (caller_of self.old) (caller_of self.new) }
         ensures same { SameClient self.old self.new }

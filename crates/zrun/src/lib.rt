@@ -2,11 +2,15 @@
 //!
 //! A cluster has a thread for each server and one for the master. Its clients are owned by their
 //! callers' threads. When it is joined it returns the traces of all processes, for the audit.
+//!
+//! What its callers name stands here: calls and replies, paths and data, numbers, and one `Fault`.
 #![tactic(auto)]
 
+mod asking;
 mod client;
 mod clients;
 mod cluster;
+mod fault;
 mod faults;
 mod gates;
 mod joining;
@@ -17,12 +21,22 @@ mod promises;
 mod starting;
 mod supply;
 
+pub use asking::TURNS;
 pub use client::Client;
 pub use clients::Clients;
 pub use cluster::Cluster;
+pub use fault::Fault;
 pub use faults::{StartFault, Unanswered};
 pub use gates::open_gates;
 pub use patience::Patience;
 pub use promises::HandsBack;
+pub use zcalls::{
+    Call, Check, ClientId, Create, Data, DataFault, Delete, Expected, Kind, Multi, Part, PartReply,
+    Query, Refusal, Reply, SessionId, SetData, Stat, Ttl, Update,
+};
+pub use zclient::BeginFault;
 pub use zconsole::ends::{Closed, Console};
+pub use zpath::{Memory, Path, PathFault};
+pub use zprotocol::ServerId;
 pub use zthreads::{Gate, Open};
+pub use ztraces::Stamp;

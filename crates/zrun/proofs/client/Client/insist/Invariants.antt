@@ -1,4 +1,3 @@
-use Rattle.std.proofs.Common.{◌≡◌}
 use Rattle.zcaller.specs.Callers.{SameLearnt}
 use Rattle.zrun.specs.Clients.{SameClient}
 use Rattle.zrun.specs.Asked.{InsistedInVain}
