@@ -1,6 +1,6 @@
 //! The report of a race on the program's devices.
 
-ghost use Rattle.std.specs.Prelude.{◌≡◌, ◌≤◌, []};
+ghost use Rattle.std.specs.Prelude.{◌≡◌, ◌≤◌, [], All, IsErr, IsOk, IsSome};
 ghost use Rattle.zdevices.specs.Device.{sink_run};
 ghost use Rattle.zcommand.specs.Command.{IsTold};
 ghost use Rattle.zracing.specs.Run.{IsGoodReport, IsNotGoodReport, start_fault_text};
@@ -35,6 +35,15 @@ pub(crate) fn report<K: Sink, F: Sink>(
         tell(faults, "zk: write failed");
         return 1;
     }
+    status_of(outcome)
+}
+
+// Returns the exit status of a race whose lines are written.
+fn status_of(outcome: &Outcome) -> u8
+    ensures status { result ≤ 1 }
+    ensures good { result ≡ 0 → All IsSome outcome.now.versions.items × IsOk outcome.now.audit }
+    ensures bad { result ≡ 1 → All IsSome outcome.now.versions.items → IsErr outcome.now.audit }
+{
     if outcome.is_good() { 0 } else { 1 }
 }
 

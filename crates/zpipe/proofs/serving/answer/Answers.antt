@@ -28,5 +28,5 @@ returns-clause-some g c =
 pub returns-clause-done : goal.returns-clause-done
 returns-clause-done g c =
     on_ok c.tell.result _ _ (λ wrote. sends_all g.V.Service.took g.V.Service.kept g.V.Service.told g.V.Service.has_told (Between g.K.Sink.took c.args.sink.now c.tell_pieces.new.sink) (Between g.K.Sink.took c.tell_pieces.new.sink c.tell.new.sink) (Between g.K.Sink.took c.args.sink.now c.tell.new.sink)
-    c.args.service.now c.keep.new.self c.tell_pieces.new.service c.tell_pieces.new.out.items c.put_end.new.out.items (λ a b. g.met.K.Sink.took_both _ _ _ a b) c.in_ok-keep.ensures.kept c.in_ok-tell_pieces.ensures.done.0 c.in_ok-tell_pieces.ensures.done.1
-    c.in_ok-put_end.ensures.text wrote) c.tell.ensures.done
+    c.args.service.now c.keep.new.self c.tell_pieces.new.service c.tell_pieces.new.out.items c.put_end.new.out.items (λ a b. g.met.K.Sink.took_both _ _ _ a b) (search (c.in_ok-keep.ensures.kept)) (search (c.in_ok-tell_pieces.ensures.done.0)) (search (c.in_ok-tell_pieces.ensures.done.1))
+    (search (c.in_ok-put_end.ensures.text)) wrote) c.tell.ensures.done

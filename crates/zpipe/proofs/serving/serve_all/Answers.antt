@@ -22,4 +22,4 @@ returns-in_err-serve_blocks-clause-some g c =
 pub returns-clause-all : goal.returns-clause-all
 returns-clause-all g c =
     all_behind g.V.Service.took g.V.Service.kept g.V.Service.told g.V.Service.has_told (Between g.S.Source.gave c.args.source.now c.serve_blocks.new.source) (Between g.K.Sink.took c.args.sink.now c.answer.new.sink) (Between g.K.Sink.took c.answer.new.sink c.serve_blocks.new.sink) (Between g.K.Sink.took c.args.sink.now c.serve_blocks.new.sink)
-    c.args.service.now c.answer.new.service c.serve_blocks.new.service (λ a b. g.met.K.Sink.took_both _ _ _ a b) c.in_ok-answer.ensures.done c.in_ok-serve_blocks.ensures.all
+    c.args.service.now c.answer.new.service c.serve_blocks.new.service (λ a b. g.met.K.Sink.took_both _ _ _ a b) (search (c.in_ok-answer.ensures.done)) (search (c.in_ok-serve_blocks.ensures.all))

@@ -39,7 +39,7 @@ pub loop-count-preserved : goal.loop-count-preserved
 loop-count-preserved g c = (
   going_on g.V.Service.took g.V.Service.kept g.V.Service.told g.V.Service.has_told (Between g.S.Source.gave c.args.source.now c.loop-count.source) (Between g.S.Source.gave c.loop-count.source c.read.new.self) (Between g.S.Source.gave c.args.source.now c.read.new.self)
       (Between g.K.Sink.took c.args.sink.now c.loop-count.sink) (Between g.K.Sink.took c.loop-count.sink c.take_all.new.sink) (Between g.K.Sink.took c.args.sink.now c.take_all.new.sink)
-      c.loop-count.begun.items (take c.in-Ok.count c.read.new.buffer) c.deref.result.now c.in_ok-begun.begun.items c.args.service.now c.loop-count.service c.take_all.new.service (λ a b. g.met.S.Source.gave_both _ _ _ a b) (λ a b. g.met.K.Sink.took_both _ _ _ a b)
-      c.loop-count.invariant.0 c.in-Ok.ensures.gave (c.deref.ensures.value ∙ c.in_ok-extend_from_slice.ensures.items) c.in_ok-begun.ensures.front,
+      c.loop-count.begun.items (take c.in-Ok.count c.read.new.buffer) c.deref.result.now _ c.args.service.now c.loop-count.service c.take_all.new.service (λ a b. g.met.S.Source.gave_both _ _ _ a b) (λ a b. g.met.K.Sink.took_both _ _ _ a b)
+      c.loop-count.invariant.0 c.in-Ok.ensures.gave (c.deref.ensures.value ∙ c.in_ok-extend_from_slice.ensures.items) (search (c.in_ok-begun.ensures.front)),
   c.in_ok-begun.ensures.sound,
 )

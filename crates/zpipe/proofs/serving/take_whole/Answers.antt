@@ -1,3 +1,4 @@
+use Rattle.std.proofs.Common.{rules}
 use Rattle.std.proofs.lemmas.Result.{err_from_is_err_and}
 use Rattle.zdevices.specs.Device.{Between}
 use Rattle.zpipe.specs.Inputs.{input_of}
@@ -30,7 +31,7 @@ loop-input-preserved g c = (
 )
 
 pub returns-in-Err-Short-clause-front : goal.returns-in-Err-Short-clause-front
-returns-in-Err-Short-clause-front g c = c.loop-input.invariant.0
+returns-in-Err-Short-clause-front g c = search rules
 
 pub returns-in-Err-Short-clause-sound : goal.returns-in-Err-Short-clause-sound
 returns-in-Err-Short-clause-sound g c = c.loop-input.invariant.1

@@ -18,14 +18,14 @@ pub returns-in-Ok-race-clause-good : goal.returns-in-Ok-race-clause-good
 returns-in-Ok-race-clause-good g c = λ zero. (
   c.in-Ok-race.outcome,
   (c.in-Ok.race, c.in-Ok.ensures.asked, c.in-Ok-race.ensures.nodes, c.in-Ok-race.ensures.run),
-  c.report.ensures.good zero,
+  search (c.report.ensures.good, zero),
 )
 
 pub returns-in-Ok-race-clause-not_good : goal.returns-in-Ok-race-clause-not_good
 returns-in-Ok-race-clause-not_good g c = λ one. inr (
   c.in-Ok-race.outcome,
   (c.in-Ok.race, c.in-Ok.ensures.asked, c.in-Ok-race.ensures.nodes, c.in-Ok-race.ensures.run),
-  c.report.ensures.not_good one,
+  search (c.report.ensures.not_good, one),
 )
 
 pub returns-in-Err-race-clause-not_good : goal.returns-in-Err-race-clause-not_good
