@@ -58,13 +58,16 @@ fn holds(alloc: Global, bytes: &[u8], kept: &str) -> bool {
         return false;
     };
     match read_text(alloc, &mut file, 2) {
-        Ok(text) => text.as_slice() == kept.as_bytes() && is_opened(alloc, file),
+        Ok(text) => text.as_slice() == kept.as_bytes() && is_opened(alloc, bytes),
         Err(_) => false,
     }
 }
 
-// Whether the service of a file is opened.
-fn is_opened(alloc: Global, file: MemoryFile) -> bool {
+// Whether the service of a file with these bytes is opened.
+fn is_opened(alloc: Global, bytes: &[u8]) -> bool {
+    let Ok(file) = MemoryFile::new(alloc, bytes, 0, u64::MAX) else {
+        return false;
+    };
     let opened = Durable::open(alloc, file, Servers::new(2));
     let is_ok = opened.is_ok();
     drop(opened);
