@@ -4,6 +4,7 @@ ghost use Rattle.std.specs.Prelude.{◌≡◌, [], true, false, length};
 ghost use Rattle.zdesks.specs.Waiting.{NothingWaits};
 
 use std::alloc::Global;
+use zbells::Bells;
 use zprotocol::{Message, Out, Process, ServerId};
 use zrings::ends::{Rx, Tx};
 use zserver::Snapshot;
@@ -33,6 +34,8 @@ pub struct Desk {
     pub(crate) trace: Vec<TraceEvent>,
     pub(crate) seen: Vec<CallEvent>,
     pub(crate) is_cut: bool,
+    // rung where a message goes onto a channel
+    pub(crate) bells: Bells,
     ghost sides: { length ins.items ≡ length outs.items },
     ghost noticed: { waits ≡ false → NothingWaits outs.items },
 }
@@ -63,6 +66,7 @@ impl Desk {
         clients: u8,
         ins: Vec<Rx<Stamped>>,
         outs: Vec<Tx<Stamped>>,
+        bells: Bells,
     ) -> Desk
         requires sides { length ins.items ≡ length outs.items }
         requires ins { AreFreshIns ins.items }
@@ -88,6 +92,7 @@ impl Desk {
             trace: Vec::new(alloc),
             seen: Vec::new(alloc),
             is_cut: false,
+            bells,
         }
     }
 
@@ -126,10 +131,12 @@ impl Desk {
             trace,
             seen,
             is_cut,
+            bells,
             ..
         } = self;
         drop(out);
         drop(held);
+        drop(bells);
         let trace = Trace {
             events: trace,
             is_cut: is_cut | waits,

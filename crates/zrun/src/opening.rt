@@ -9,6 +9,7 @@ ghost use Rattle.zthreads.specs.Owned.{master_desk, server_desk};
 ghost use Rattle.zcaller.specs.Callers.{caller_desk};
 
 use std::alloc::Global;
+use zbells::Bells;
 use zcaller::Caller;
 use zcalls::ClientId;
 use zclient::ClientCore;
@@ -35,6 +36,7 @@ pub(crate) struct Opening {
 pub(crate) struct Ends {
     pub(crate) ins: Vec<Rx<Stamped>>,
     pub(crate) outs: Vec<Tx<Stamped>>,
+    pub(crate) bells: Bells,
 }
 
 impl Opening {
@@ -46,8 +48,16 @@ impl Opening {
         ensures desk { IsDeskAt self.now process.Master (master_desk result) }
         ensures ends { HasEnds ends (master_desk result) }
     {
-        let Ends { ins, outs } = ends;
-        let desk = Desk::new(alloc, Process::Master, self.last, self.clients, ins, outs);
+        let Ends { ins, outs, bells } = ends;
+        let desk = Desk::new(
+            alloc,
+            Process::Master,
+            self.last,
+            self.clients,
+            ins,
+            outs,
+            bells,
+        );
         MasterThread::new(desk, Master::new(self.last, self.clients))
     }
 
@@ -66,7 +76,7 @@ impl Opening {
         // This call hands its clause to the prover: the number is one of a chain.
         let _ = id.number();
         let server = server_at(alloc, id, self.last)?;
-        let Ends { ins, outs } = ends;
+        let Ends { ins, outs, bells } = ends;
         let desk = Desk::new(
             alloc,
             Process::Server(id),
@@ -74,6 +84,7 @@ impl Opening {
             self.clients,
             ins,
             outs,
+            bells,
         );
         Ok(ServerThread::new(id, desk, server))
     }
@@ -85,7 +96,7 @@ impl Opening {
         ensures desk { IsDeskAt self.now (process.Client id) (caller_desk result) }
         ensures ends { HasEnds ends (caller_desk result) }
     {
-        let Ends { ins, outs } = ends;
+        let Ends { ins, outs, bells } = ends;
         let desk = Desk::new(
             alloc,
             Process::Client(id),
@@ -93,6 +104,7 @@ impl Opening {
             self.clients,
             ins,
             outs,
+            bells,
         );
         Caller::new(alloc, id, desk, ClientCore::new(alloc, self.last))
     }

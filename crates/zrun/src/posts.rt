@@ -13,6 +13,8 @@ use crate::opening::Opening;
 use crate::supply::{HaltPost, Supply};
 use std::alloc::Global;
 use std::snapshot::Snapshot;
+use std::time::Duration;
+use zbells::Bells;
 use zcaller::Caller;
 use zcalls::ClientId;
 use zconsole::ends::{Console, Inbox};
@@ -57,7 +59,11 @@ pub(crate) struct Posts {
 }
 
 /// Returns all that a run needs. The only error is out of memory.
-pub(crate) fn prepare(alloc: Global, opening: &Opening) -> Result<Posts, Memory>
+pub(crate) fn prepare(
+    alloc: Global,
+    opening: &Opening,
+    longest: Duration,
+) -> Result<Posts, Memory>
     ensures servers { IfOk result (λ posts. length posts.servers.items ≡ MAX_SERVERS) }
     ensures count { IfOk result (λ posts. length (run_in posts) ≡ opening.now.clients) }
     ensures own { IfOk result (λ posts. clients_run posts.clients ≡ run_in posts) }
@@ -65,7 +71,8 @@ pub(crate) fn prepare(alloc: Global, opening: &Opening) -> Result<Posts, Memory>
     ensures run { IfOk result (λ posts. IsRunFrom opening.now (desks_in posts)) }
 {
     let count = 1 + MAX_SERVERS as usize + opening.clients as usize;
-    let mut supply = Supply::new(alloc, count)?;
+    let bells = Bells::new(alloc, 1 + MAX_SERVERS as usize, longest)?;
+    let mut supply = Supply::new(alloc, count, bells)?;
     let Ok(callers) = prepare_clients(alloc, opening, &mut supply) else {
         drop(supply);
         return Err(Memory);
@@ -78,7 +85,7 @@ pub(crate) fn prepare(alloc: Global, opening: &Opening) -> Result<Posts, Memory>
         drop((supply, callers, servers));
         return Err(Memory);
     };
-    let Ok((console, inbox)) = Console::open(alloc) else {
+    let Ok((console, inbox)) = supply.console(alloc) else {
         drop((supply, callers, servers, ends, halt));
         return Err(Memory);
     };

@@ -26,6 +26,8 @@ use std::snapshot::Snapshot;
 use std::sync::Wait;
 use std::thread;
 use std::thread::{PromisedHandle, Threads};
+use std::time::Duration;
+use zbells::SLEEP_MILLIS;
 use zconsole::ends::{Console, Inbox};
 use zprotocol::{MAX_SERVERS, ServerId};
 use zthreads::{Gate, MasterThread, ServerThread, preside, serve};
@@ -52,8 +54,29 @@ impl Cluster {
         ensures numbers { IfOk result (λ run.
             (last_server run.0 ≡ last) × (client_count run.0 ≡ clients)) }
     {
+        let longest = Duration::from_millis(SLEEP_MILLIS);
+        Cluster::start_sleeping(rt, alloc, last, clients, gates, longest)
+    }
+
+    /// The same, but a thread that found nothing to do for a while, and isn't woken, sleeps so long
+    /// at a time. `start` says 20 milliseconds. With a longer time a test sees who isn't woken.
+    pub fn start_sleeping<G: Gate + Send + 'static, R: Threads + Wait + Copy + Send + 'static>(
+        rt: R,
+        alloc: Global,
+        last: ServerId,
+        clients: u8,
+        gates: Vec<G>,
+        longest: Duration,
+    ) -> Result<(Cluster, Console, Clients), StartFault>
+        requires clients { clients ≤ MAX_CLIENTS }
+        requires gates { length gates.items ≡ MAX_SERVERS }
+        ensures all { IfOk result (λ run. HasAll clients run.2) }
+        ensures own { IfOk result (λ run. clients_run run.2 ≡ cluster_run run.0) }
+        ensures numbers { IfOk result (λ run.
+            (last_server run.0 ≡ last) × (client_count run.0 ≡ clients)) }
+    {
         let opening = Opening { last, clients };
-        let posts = prepare(alloc, &opening)?;
+        let posts = prepare(alloc, &opening, longest)?;
         let Ok(threads) = Vec::with_capacity(alloc, MAX_SERVERS as usize) else {
             drop((posts, gates));
             return Err(StartFault::Memory);
@@ -131,7 +154,7 @@ fn start_master<R: Threads + Wait + Copy + Send + 'static>(
     let MasterPost {
         chief,
         inbox,
-        halt: HaltPost { halt, seat },
+        halt: HaltPost { halt, seat, .. },
     } = post;
     let promise = SameMaster(Snapshot::of(&chief));
     match thread::spawn_with(
@@ -161,7 +184,7 @@ fn start_server<G: Gate + Send + 'static, R: Threads + Wait + Copy + Send + 'sta
 {
     let ServerPost {
         member,
-        halt: HaltPost { halt, seat },
+        halt: HaltPost { halt, seat, .. },
     } = post;
     let promise = SameServer(Snapshot::of(&member));
     match thread::spawn_with(
