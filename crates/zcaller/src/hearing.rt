@@ -72,6 +72,9 @@ fn take_at(desk: &mut Desk, link: usize) -> Option<(Process, Stamped)>
     if link >= desk.links() {
         return None;
     }
+    if desk.is_empty(link) {
+        return None;
+    }
     desk.take(link)
 }
 

@@ -129,6 +129,22 @@ module _ (who : Self) (b : Books) (s : TreeStanding) (deeds : List TreeDeed) whe
             ∙ a.put i y at;
       }
 
+  -- one end looked, and took nothing
+  pub in_looked : (t : TreeTaken) (w : List TreePost) (k : ℕ) (r r' : Rx TreeStamped) → Accounts who b s t w deeds
+      → get_elem? b.ins k ≡ some r → taken_of r' ≡ taken_of r → Accounts who (record b { ins = set b.ins k r' }) s t w deeds
+  in_looked t w k r r' a at e =
+      let P : ℕ → Rx TreeStamped → Type 0 = λ i y. taken_of y ≡ takes (process_at i) deeds ++ took_from (process_at i) t in
+      record {
+        goes = a.goes;
+        left = a.left;
+        last = a.last;
+        traced = a.traced;
+        told = a.told;
+        taken = each_set P P b.ins k r' a.taken (e ∙ a.taken k r at) (λ j y ne h. h);
+        others = λ p out. a.others p (λ i lt. out i (let n = length-set b.ins k r' in omega arith));
+        put = a.put;
+      }
+
   -- nothing was taken
   pub in_none : (w : List TreePost) (k : ℕ) (r r' : Rx TreeStamped) → Accounts who b s None w deeds
       → get_elem? b.ins k ≡ some r → taken_of r' ≡ taken_of r ++ [] → Accounts who (record b { ins = set b.ins k r' }) s None w deeds

@@ -7,7 +7,8 @@ ghost use Rattle.zworld_model.specs.declared.outcome.Outcome.TheVariants.{Acted}
 ghost use Rattle.ztraces.specs.Deeds.{AtMaster};
 ghost use Rattle.ztraces.specs.declared.trace.Act.TheVariants.{Joined, Retired, Took};
 ghost use Rattle.zdesks.specs.Desks.{is_cut_of, IsAt, IsSettled, link_count, process_of, room_of};
-ghost use Rattle.zdesks.specs.Desks.{SameBooks, SameDesk, self_of, Stands, trace_of};
+ghost use Rattle.zdesks.specs.Desks.{SameBooks, SameDesk, self_of, Stands, trace_of, wires_of};
+ghost use Rattle.zdesks.specs.Waiting.{SeesNothing, SeesSome};
 ghost use Rattle.zdesks.specs.Endings.{HasEnded, IsCutAsBefore, SameWires};
 ghost use Rattle.zthreads.specs.Threads.{MasterMoves};
 ghost use Rattle.zthreads.specs.Acts.{act_of, DidNext, MasterReceived};
@@ -59,6 +60,17 @@ impl MasterThread {
         // What finds no memory now is kept for the next time.
         let _ = self.desk.settle();
         self.desk.flush();
+    }
+
+    /// Whether it finds no message of a link that it could receive.
+    pub fn is_empty(&mut self, link: usize) -> bool
+        requires { link < link_count (master_desk self.old) }
+        ensures none { IsTrue result → SeesNothing link (wires_of (master_desk self.new)).0 }
+        ensures some { IsFalse result → SeesSome link (wires_of (master_desk self.new)).0 }
+        ensures idle { SameBooks (master_desk self.old) (master_desk self.new) }
+        ensures same { SameDesk (master_desk self.old) (master_desk self.new) }
+    {
+        self.desk.is_empty(link)
     }
 
     /// Receives one message of a link and acts on it, once all is sent that the last event sent.
