@@ -24,7 +24,7 @@ ROUNDS, SHAPES = 5, [(1, 1), (4, 1), (1, 200), (4, 200)]
 # The nodes of a round, below the limit of 4,096, and how often they are got.
 NODES, GETS = 4_000, 5
 JARS = ["/usr/share/java/zookeeper.jar", "/usr/share/java/slf4j-nop.jar"]
-JAVA = "-Xmx512m -Dzookeeper.forceSync=no -cp {jars} org.apache.zookeeper.server.quorum.QuorumPeerMain {folder}/zoo.cfg"
+JAVA = "-Xmx512m -Dzookeeper.forceSync={sync} -cp {jars} org.apache.zookeeper.server.quorum.QuorumPeerMain {folder}/zoo.cfg"
 CONFIG = """tickTime=2000
 dataDir={folder}/data
 clientPort={port}
@@ -193,6 +193,25 @@ class Server:
         self.ran.wait()
 
 
+def load(room):
+    """The program that makes the calls, compiled."""
+    with open(f"{room}/load.c", "w", encoding="utf-8") as file:
+        file.write(C)
+    subprocess.run(["cc", "-O2", "-Wall", "-Wextra", "-Wno-sign-compare", "-o", f"{room}/load", f"{room}/load.c"], check=True)
+    return f"{room}/load"
+
+
+def zookeeper(folder, sync):
+    """Debian's ZooKeeper in a folder, its log written with fsync or without; or None."""
+    if not shutil.which("java") or not all(map(os.path.exists, JARS)):
+        print("(Debian's zookeeper isn't installed)")
+        return None
+    port = free_port()
+    with open(f"{folder}/zoo.cfg", "w", encoding="ascii") as file:
+        file.write(CONFIG.format(folder=folder, port=port))
+    return Server("ZooKeeper", ["java", *JAVA.format(jars=":".join(JARS), folder=folder, sync=sync).split()], port)
+
+
 def servers(programs, folder):
     found = []
     for number, program in enumerate(programs, 1):
@@ -201,33 +220,24 @@ def servers(programs, folder):
             words = [program, "--listen", f"127.0.0.1:{port}", "--servers", str(count)]
             name = "zk serve" if len(programs) == 1 else f"host {number}"
             found.append(Server(f"{name}, {count} server{'s' * (count > 1)}", words, port))
-    if shutil.which("java") and all(map(os.path.exists, JARS)):
-        port = free_port()
-        with open(f"{folder}/zoo.cfg", "w", encoding="ascii") as file:
-            file.write(CONFIG.format(folder=folder, port=port))
-        words = ["java", *JAVA.format(jars=":".join(JARS), folder=folder).split()]
-        found.append(Server("ZooKeeper", words, port))
-    else:
-        print("(Debian's zookeeper isn't installed)")
-    return found
+    other = zookeeper(folder, "no")
+    return found + [other] * bool(other)
 
 
 def main():
     prove = [f"{HERE}/../zk", "prove", "serve"]
     programs = sys.argv[1:] or [subprocess.run(prove, stdout=subprocess.PIPE, text=True, check=True).stdout.strip()]
     with tempfile.TemporaryDirectory(prefix="serve-") as room:
-        with open(f"{room}/load.c", "w", encoding="utf-8") as file:
-            file.write(C)
-        subprocess.run(["cc", "-O2", "-Wall", "-Wextra", "-Wno-sign-compare", "-o", f"{room}/load", f"{room}/load.c"], check=True)
+        calls = load(room)
         running = servers(programs, room)
         try:
             # (the first round is for who compiles while it runs)
             for number in range(ROUNDS + 1):
                 for shape in SHAPES:
                     for it in running:
-                        it.measure(f"{room}/load", shape, NODES, "create", number)
-                        it.measure(f"{room}/load", shape, NODES * GETS, "get", number)
-                        it.measure(f"{room}/load", shape, NODES, "delete", number)
+                        it.measure(calls, shape, NODES, "create", number)
+                        it.measure(calls, shape, NODES * GETS, "get", number)
+                        it.measure(calls, shape, NODES, "delete", number)
         finally:
             for it in running:
                 it.stop()

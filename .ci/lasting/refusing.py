@@ -1,4 +1,4 @@
-"""Folders that aren't opened, and stay as they are."""
+"""Folders that aren't opened, and stay as they are; and lines that are refused."""
 import contextlib
 import os
 import resource
@@ -131,6 +131,25 @@ def test_never(program, room):
     want_same((out, status), (b"ok 1 c\n", 0), "a life behind one without syncs")
 
 
+def test_last(program, room):
+    """Lines that would take away the last server are refused. An empty line is kept of each."""
+    folder = new_folder(room)
+    asked = b"1 create /a p -\nfail s1\nretire s1\n1 ls /\n"
+    told = b"ok /a\nno Last\nno Last\nok 1 a\n"
+    want_same(run(program, folder, asked), (told, b"", 0), "one server")
+    kept = b"".join(batch for _, batch in blocks(content(folder)))
+    want_same(kept, b"1 create /a p -\n\n\n1 ls /\n", "what is kept of it")
+    want_same(run(program, folder, b"1 ls /\n"), (b"ok 1 a\n", b"", 0), "the life behind it")
+    for asked, told in (
+        (b"fail s1\nfail s2\n1 ls /\n", b"done\nno Last\nok 0\n"),
+        (b"retire s2\nfail s1\nsettle\nfail s1\n", b"done\nno Last\nquiet\nno Last\n"),
+        (b"fail s1\njoin s3\nfail s2\nsettle\nfail s2\n1 ls /\n",
+         b"done\ndone\nno Last\nquiet\ndone\nok 0\n"),
+    ):
+        found = run(program, new_folder(room), asked, servers=2)
+        want_same(found, (told, b"", 0), f"two servers: {asked}")
+
+
 def test_words(program, room):
     for more in ([], ["d"], ["d", "often", "script"], ["d", "batch"], ["d", "batch", "race"]):
         ran = subprocess.run([program, *more], input=b"", capture_output=True, timeout=60, cwd=room)
@@ -151,5 +170,5 @@ def test_words(program, room):
 
 TESTS = (
     test_files, test_names, test_rights, test_two_processes, test_little_memory,
-    test_closed_streams, test_never, test_words,
+    test_closed_streams, test_never, test_last, test_words,
 )

@@ -116,6 +116,25 @@ def test_restart(place):
     other.drop()
 
 
+def test_last(place):
+    """The last server that has the tree is neither failed nor retired."""
+    folder = place.folder()
+    # (no tick lets the chain settle between two lines)
+    with place.start(folder, tick=60000) as server, server.client() as it:
+        it.create("/a", b"x")
+        for line, answer in (
+            ("fail s1", "done"), ("retire s2", "done"), ("fail s3", "no Last"),
+            ("retire s3", "no Last"), ("settle", "quiet"), ("fail s3", "no Last"),
+            ("join s4", "done"), ("fail s3", "no Last"), ("settle", "quiet"), ("fail s3", "done"),
+            ("fail s4", "no Last"), ("fail s3", "idle"), ("retire s4", "no Last"),
+        ):
+            want_same(server.play(line), answer, line)
+        want_same(it.get("/a")[0], b"x", "one server has the tree")
+        it.set("/a", b"y")
+    with place.start(folder) as server, server.client() as it:
+        want_same(it.get("/a")[0], b"y", "behind a restart")
+
+
 def test_expiry(place):
     """A session that nobody takes up again ends once its timeout has gone by."""
     folder = place.folder()
@@ -287,6 +306,6 @@ def test_full_disk(place):
 
 
 KEPT = (
-    test_restart, test_expiry, test_refused, test_stop, test_limited_file, test_full_disk,
-    test_kills,
+    test_restart, test_last, test_expiry, test_refused, test_stop, test_limited_file,
+    test_full_disk, test_kills,
 )

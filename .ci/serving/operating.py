@@ -126,11 +126,19 @@ def test_busy(program):
         it = clients[0]
         want_same(it.get("/count")[0], b"%d" % (4 * rounds), "each count counts")
         want_same(len(it.ls("/")), 4 * rounds + 1, "each name is there once")
-        # all of them but one; and then the last
         for number in chain[:-1]:
             want_same(server.play(f"fail s{number}"), "done", "a server fails")
         want_same(it.get("/count")[0], b"%d" % (4 * rounds), "one server has it all")
-        server.play(f"fail s{chain[-1]}")
+        say(f"busy: {events} lines of the operator beneath {8 * rounds} changes")
+
+
+def test_no_server(program):
+    """In memory the last server fails like any other."""
+    with Server(program) as server:
+        clients = [server.client() for _ in range(4)]
+        clients[0].create("/count", b"0")
+        for number in (1, 2, 3):
+            want_same(server.play(f"fail s{number}"), "done", "a server fails")
         for it in clients:
             try:
                 it.post(GET, look_body("/count"))
@@ -143,7 +151,6 @@ def test_busy(program):
             except Ended:
                 pass
             want(wire.is_ended(), "and new ones are refused")
-        say(f"busy: {events} lines of the operator beneath {8 * rounds} changes")
 
 
 def wait_for_tick(client):
@@ -177,4 +184,6 @@ def test_stall(program):
             one.drop()
 
 
-HOST = (test_operator, test_operator_files, test_terminal, test_busy, test_stall)
+HOST = (
+    test_operator, test_operator_files, test_terminal, test_busy, test_no_server, test_stall,
+)

@@ -5,16 +5,15 @@ ghost use Rattle.std.specs.Prelude.{IfOk, IsErr, OnErr, OnOk, IfSome, IfNone};
 ghost use Rattle.ztree.specs.Tree.{opening_tree};
 ghost use Rattle.zprotocol.specs.server.Machine.{kept_tree};
 ghost use Rattle.zworld_model.specs.World.{opening_world};
-ghost use Rattle.zworld.specs.Did.{HasCause};
-ghost use Rattle.zworld.specs.Steps.{HasDone, world_in};
+ghost use Rattle.zworld.specs.Steps.{world_in};
 ghost use Rattle.zknown.specs.Known.{known_of};
 ghost use Rattle.zalone.specs.Changes.{all_taken, no_changes};
-ghost use Rattle.zalone.specs.Alone.{Asks, AsksAll, Begins, SameCall, Settles, Waits};
-ghost use Rattle.zalone.specs.Order.{event_of};
+ghost use Rattle.zalone.specs.Alone.{Asks, AsksAll, Begins, Gives, is_refused};
+ghost use Rattle.zalone.specs.Alone.{SameCall, Settles, Waits};
 ghost use Rattle.zalone.specs.Told.{HasTold, TellsAsked, TellsAskedAll, TellsOrdered, TellsSettled};
 
 use crate::changes::Changes;
-use crate::hearing::{event_of, hear, only_client};
+use crate::hearing::{event_of, hear, only_client, takes_last};
 use crate::limits::MAX_EVENTS;
 use crate::made::Made;
 use crate::order::Order;
@@ -23,8 +22,8 @@ use std::marker::Model;
 use zcalls::{Call, Reply};
 use zknown::Known;
 use zpath::Memory;
-use zprotocol::ServerId;
-use zworld::{Did, World};
+use zprotocol::{RetireFault, ServerId};
+use zworld::{Did, IdleCause, World};
 use zworld_model::Event;
 
 /// The one client of a world, with what it knows of the tree.
@@ -179,10 +178,10 @@ impl Alone {
         came
     }
 
-    /// Does what the chain's operator orders, and returns what became of it.
+    /// Does what the chain's operator orders, and returns what became of it. Where updates are kept,
+    /// an order that would fail or retire the last server with the state is refused.
     pub fn chain(&mut self, order: Order) -> Result<Did, Memory>
-        ensures happened { IfOk result (HasDone self.old.world self.new.world (event_of order)) }
-        ensures cause { IfOk result (HasCause self.old.world.held (event_of order)) }
+        ensures given { IfOk result (Gives self.old order self.new) }
         ensures same { OnOk result (SameCall self.old self.new) }
         ensures told { OnOk result (TellsOrdered self.old self.new) }
         ensures sound { OnOk result
@@ -193,9 +192,21 @@ impl Alone {
         if self.is_broken {
             return Err(Memory);
         }
+        if self.refuses(order) {
+            return Ok(Did::Idle(IdleCause::Retire(RetireFault::Last)));
+        }
         let did = self.world.step(event_of(order));
         self.is_broken = did.is_err();
         did
+    }
+
+    // Whether an order is refused.
+    fn refuses(&self, order: Order) -> bool
+        ensures { result ≡ is_refused self.now order }
+    {
+        let is_kept = self.changes.is_kept();
+        let takes_last = takes_last(&self.world, order);
+        is_kept && takes_last
     }
 
     // Makes a call where none waits.

@@ -1,13 +1,13 @@
 -- Batches that were told, one after the other.
 use Rattle.std.proofs.Common.{◌≡◌, refl, sym, ap, subst, ◌∙◌, ℕ, List, [], ◌∷◌, ◌++◌, map, true, append_assoc}
 use Rattle.std.proofs.lemmas.List.{append-nil}
-use Rattle.zscript.specs.Line.{ServiceWorld}
+use Rattle.zscript.specs.Line.{ServiceWorld, script_state}
 use Rattle.zdevices.specs.Device.{IsBeginning, TookBeginning}
 use Rattle.zscript.specs.Script.{lines_of}
 use Rattle.zdurable.specs.declared.durable.Durable.{Durable}
 use Rattle.zdurable.specs.Batches.{is_whole, kept}
-use Rattle.zdurable.specs.Durable.{IsServing, world_in}
-use Rattle.zdurable.specs.Played.{ArePlayed}
+use Rattle.zdurable.specs.Durable.{IsServing, state_in, world_in}
+use Rattle.zdurable.specs.Played.{AreAnswered}
 use Rattle.zdurable.specs.Lives.{Told, AreTold}
 use Rattle.zdata.specs.Answering.{asked_in, answers_in, kept_in, AreWhole, AnswersSome, Tells}
 
@@ -19,9 +19,15 @@ pub answers_both : (told more : List Told) → answers_in (told ++ more) ≡ ans
 answers_both [] more = refl
 answers_both (batch ∷ told) more = ap (λ (l : List ℕ). batch.1 ++ l) (answers_both told more) ∙ sym (append_assoc batch.1 (answers_in told) (answers_in more))
 
-kept_both : (told more : List Told) → kept_in (told ++ more) ≡ kept_in told ++ kept_in more
-kept_both [] more = refl
-kept_both (batch ∷ told) more = ap (λ (l : List (List ℕ)). kept_in (batch ∷ []) ++ l) (kept_both told more)
+kept_both : (told more : List Told) (old mid : ServiceWorld) → AreTold old told mid
+    → kept_in (script_state old []) (told ++ more) ≡ kept_in (script_state old []) told ++ kept_in (script_state mid []) more
+kept_both [] more old mid are = ap (λ (w : ServiceWorld). kept_in (script_state w []) more) (sym are)
+kept_both (batch ∷ told) more old mid are =
+    let s = script_state old [] in
+    ap (λ (l : List (List ℕ)). kept s batch.0 ∷ l)
+    (ap (λ r. kept_in r (told ++ more)) are.1.left
+    ∙ kept_both told more are.0 mid are.2
+    ∙ ap (λ r. kept_in r told ++ kept_in (script_state mid []) more) (sym are.1.left))
 
 whole_both : (told more : List Told) → AreWhole told → AreWhole more → AreWhole (told ++ more)
 whole_both [] more are rest = rest
@@ -44,14 +50,16 @@ module _ {D : Type 0} (seen : D → List ℕ) (may_leave : D → List ℕ → Ty
     whole = whole_both told more first.whole then.whole;
     worlds = told_both (world_in old) (world_in mid) (world_in new) told more first.worlds then.worlds;
     keeps = λ servers batches serving.
-        let same : batches ++ kept_in (told ++ more) ≡ (batches ++ kept_in told) ++ kept_in more =
-        ap (λ (l : List (List ℕ)). batches ++ l) (kept_both told more) ∙ sym (append_assoc batches (kept_in told) (kept_in more)) in
-        subst (λ (l : List (List ℕ)). IsServing seen may_leave servers l new) (sym same) (then.keeps servers (batches ++ kept_in told) (first.keeps servers batches serving));
+        let here = kept_in (state_in old) told in
+        let there = kept_in (state_in mid) more in
+        let same : batches ++ kept_in (state_in old) (told ++ more) ≡ (batches ++ here) ++ there =
+        ap (λ (l : List (List ℕ)). batches ++ l) (kept_both told more (world_in old) (world_in mid) first.worlds) ∙ sym (append_assoc batches here there) in
+        subst (λ (l : List (List ℕ)). IsServing seen may_leave servers l new) (sym same) (then.keeps servers (batches ++ here) (first.keeps servers batches serving));
   }
 
   -- one batch
-  pub tells_one : (lines answers : List ℕ) (old new : Durable D) → is_whole lines ≡ true → ArePlayed (world_in old) (lines_of lines) (world_in new) answers
-      → ((servers : ℕ) (batches : List (List ℕ)) → IsServing seen may_leave servers batches old → IsServing seen may_leave servers (batches ++ kept lines ∷ []) new)
+  pub tells_one : (lines answers : List ℕ) (old new : Durable D) → is_whole lines ≡ true → AreAnswered (world_in old) (lines_of lines) (world_in new) answers
+      → ((servers : ℕ) (batches : List (List ℕ)) → IsServing seen may_leave servers batches old → IsServing seen may_leave servers (batches ++ kept (state_in old) lines ∷ []) new)
       → Tells seen may_leave ((lines, answers) ∷ []) old new
   tells_one lines answers old new whole played keeps = record { whole = (whole, tt); worlds = (world_in new, played, refl); keeps = keeps }
 

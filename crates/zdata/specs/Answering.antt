@@ -2,9 +2,10 @@
 use Rattle.std.specs.Prelude.{◌≡◌, ◌⊎◌, ℕ, List, [], ◌∷◌, ◌++◌, map, true}
 use Rattle.zdevices.specs.Device.{IsBeginning}
 use Rattle.zdurable.specs.declared.durable.Durable.{Durable}
-use Rattle.zdurable.specs.Batches.{is_whole, kept}
-use Rattle.zdurable.specs.Durable.{IsServing, world_in}
-use Rattle.zdurable.specs.Lives.{Told, AreTold}
+use Rattle.zscript.specs.Line.{ScriptState}
+use Rattle.zdurable.specs.Batches.{is_whole}
+use Rattle.zdurable.specs.Durable.{IsServing, state_in, world_in}
+use Rattle.zdurable.specs.Lives.{Told, AreTold, batches_of, kept_from}
 use Rattle.zjournal.specs.Scan.{joined}
 
 -- the bytes of these batches, and their answers
@@ -14,9 +15,9 @@ asked_in told = joined (map (λ batch. batch.0) told)
 abbrev pub answers_in : List Told → List ℕ
 answers_in told = joined (map (λ batch. batch.1) told)
 
--- what is kept of them
-abbrev pub kept_in : List Told → List (List ℕ)
-kept_in told = map (λ batch. kept batch.0) told
+-- what is kept of them, from a state on
+abbrev pub kept_in : ScriptState → List Told → List (List ℕ)
+kept_in s told = kept_from s (batches_of told)
 
 -- each of them is whole lines
 abbrev pub AreWhole : List Told → Type 0
@@ -27,7 +28,7 @@ AreWhole (batch ∷ more) = (is_whole batch.0 ≡ true) × AreWhole more
 pub record Tells {D : Type 0} (seen : D → List ℕ) (may_leave : D → List ℕ → Type 0) (told : List Told) (old new : Durable D) : Type 0 where
   pub whole : AreWhole told
   pub worlds : AreTold (world_in old) told (world_in new)
-  pub keeps : (servers : ℕ) (batches : List (List ℕ)) → IsServing seen may_leave servers batches old → IsServing seen may_leave servers (batches ++ kept_in told) new
+  pub keeps : (servers : ℕ) (batches : List (List ℕ)) → IsServing seen may_leave servers batches old → IsServing seen may_leave servers (batches ++ kept_in (state_in old) told) new
 
 -- the bytes that were asked are these, where a last line may have got its LF
 abbrev pub IsAskedBy : List ℕ → List Told → Type 0

@@ -13,7 +13,9 @@ use Rattle.zscript.specs.Script.{lines_of}
 use Rattle.zscript.specs.support.Lines.{IsPart}
 use Rattle.zdurable.specs.Batches.{kept_line, kept_lines, kept, is_whole}
 use Rattle.zdurable.specs.Played.{after_lines}
+use Rattle.zdurable.specs.Refused.{played_lines}
 use Rattle.zdurable.proofs.Lines.{ArePart, lines-line, lines-part, whole-line}
+use Rattle.zdurable.proofs.Refused.{played-part}
 
 or_true : (a b : Bool) → b ≡ true → (a || b) ≡ true
 or_true true b is = refl
@@ -52,11 +54,11 @@ kept-effect s line = by (list_any (λ (byte : ℕ). byte == 0) line) refl
     by true is = same_effect s line (malformed line is)
     by false is = refl
 
-kept-answer : (s : ScriptState) (line : List ℕ) → answer s (kept_line line) ≡ answer s line
+pub kept-answer : (s : ScriptState) (line : List ℕ) → answer s (kept_line line) ≡ answer s line
 unfolding answer
 kept-answer s line = ap effect_text (kept-effect s line)
 
-kept-after : (s : ScriptState) (line : List ℕ) → after s (kept_line line) ≡ after s line
+pub kept-after : (s : ScriptState) (line : List ℕ) → after s (kept_line line) ≡ after s line
 unfolding after
 kept-after s line = ap (λ effect. script_state (forgotten effect.did.world) effect.did.outcomes) (kept-effect s line)
 
@@ -78,21 +80,25 @@ part-kept line part = by (list_any (λ (byte : ℕ). byte == 0) line)
     by true = tt
     by false = part
 
-kept-lines : (lines : List (List ℕ)) → ArePart lines → lines_of (kept_lines lines) ≡ map kept_line lines
+pub kept-lines : (lines : List (List ℕ)) → ArePart lines → lines_of (kept_lines lines) ≡ map kept_line lines
 kept-lines [] parts = refl
 kept-lines (line ∷ lines) parts =
     lines-line (kept_line line) (kept_lines lines) (part-kept line parts.0) ∙ ap (λ more. kept_line line ∷ more) (kept-lines lines parts.1)
 
-pub lines-kept : (batch : List ℕ) → lines_of (kept batch) ≡ map kept_line (lines_of batch)
-lines-kept batch = kept-lines (lines_of batch) (lines-part batch)
+pub lines-kept : (s : ScriptState) (batch : List ℕ) → lines_of (kept s batch) ≡ map kept_line (played_lines s (lines_of batch))
+lines-kept s batch = kept-lines (played_lines s (lines_of batch)) (played-part (lines_of batch) s (lines-part batch))
+
+-- they lead where the batch does
+pub kept-leads : (s : ScriptState) (batch : List ℕ) → after_lines s (lines_of (kept s batch)) ≡ after_lines s (played_lines s (lines_of batch))
+kept-leads s batch = ap (after_lines s) (lines-kept s batch) ∙ kept-after_lines (played_lines s (lines_of batch)) s
 
 -- they are whole
 whole-lines : (lines : List (List ℕ)) → is_whole (kept_lines lines) ≡ true
 whole-lines [] = refl
 whole-lines (line ∷ lines) = whole-line (kept_line line) (kept_lines lines) (whole-lines lines)
 
-pub whole-kept : (batch : List ℕ) → is_whole (kept batch) ≡ true
-whole-kept batch = whole-lines (lines_of batch)
+pub whole-kept : (s : ScriptState) (batch : List ℕ) → is_whole (kept s batch) ≡ true
+whole-kept s batch = whole-lines (played_lines s (lines_of batch))
 
 -- and have no byte 0
 text-line : (line more : List ℕ) → list_any (λ (byte : ℕ). byte == 0) line ≡ false → IsText more → IsText (line ++ 10 ∷ more)
@@ -115,8 +121,8 @@ text-lines : (lines : List (List ℕ)) → IsText (kept_lines lines)
 text-lines [] = tt
 text-lines (line ∷ lines) = text-kept_line line (kept_lines lines) (text-lines lines)
 
-pub text-kept : (batch : List ℕ) → IsText (kept batch)
-text-kept batch = text-lines (lines_of batch)
+pub text-kept : (s : ScriptState) (batch : List ℕ) → IsText (kept s batch)
+text-kept s batch = text-lines (played_lines s (lines_of batch))
 
 -- one more line
 pub kept_lines-more : (lines : List (List ℕ)) (line : List ℕ) → kept_lines (lines ++ line ∷ []) ≡ kept_lines lines ++ (kept_line line ++ 10 ∷ [])

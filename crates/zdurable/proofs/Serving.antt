@@ -7,6 +7,7 @@ use Rattle.zjournal.specs.Scan.{joined}
 use Rattle.zjournal.proofs.Moments.{joined_runs, weaker}
 use Rattle.zjournal.proofs.Readings.{files_have_one_reading}
 use Rattle.zjournal.proofs.Scan.{joined_more}
+use Rattle.zscript.specs.Line as script
 use Rattle.zscript.specs.Script.{opening_of, lines_of}
 use Rattle.zdurable.specs.declared.durable.Durable.{Durable}
 use Rattle.zdurable.specs.Batches.{kept, is_whole}
@@ -14,27 +15,29 @@ use Rattle.zjournal.specs.declared.fault.PutError.{PutError}
 use Rattle.zjournal.specs.declared.fault.PutError.TheVariants as put
 use Rattle.zdurable.specs.declared.fault.CommitFault.TheVariants as commit
 use Rattle.zdurable.specs.Faults.{commit_fault}
-use Rattle.zdurable.specs.Durable.{IsServing, world_in}
-use Rattle.zdurable.specs.Played.{ArePlayed}
+use Rattle.zdurable.specs.Durable.{IsServing, state_in, world_in}
+use Rattle.zdurable.specs.Played.{ArePlayed, AreAnswered}
 use Rattle.zdurable.proofs.Lines.{lines-append, whole-append}
 use Rattle.zdurable.proofs.Kept.{whole-kept}
 use Rattle.zdurable.proofs.Played.{played-append, played-kept}
 
 -- one batch more
 pub serves_more : {D : Type 0} (seen : D → List ℕ) (may_leave : D → List ℕ → Type 0) (servers : ℕ) (batches : List (List ℕ)) (old new : Durable D) (batch answers : List ℕ)
-    → IsServing seen may_leave servers batches old → IsAtRest seen may_leave servers (batches ++ kept batch ∷ []) new.journal → journal.IsOpen new.journal
-    → ArePlayed (world_in old) (lines_of batch) (world_in new) answers → IsServing seen may_leave servers (batches ++ kept batch ∷ []) new
-serves_more seen may_leave servers batches old new batch answers serving rest takes played =
-    let all = joined_more batches (kept batch) in
+    → IsServing seen may_leave servers batches old → IsAtRest seen may_leave servers (batches ++ kept (state_in old) batch ∷ []) new.journal → journal.IsOpen new.journal
+    → AreAnswered (world_in old) (lines_of batch) (world_in new) answers → IsServing seen may_leave servers (batches ++ kept (state_in old) batch ∷ []) new
+serves_more seen may_leave servers batches old new batch answers serving rest takes answered =
+    let keeps = kept (state_in old) batch in
+    let told = script.answers (state_in old) (lines_of keeps) in
+    let all = joined_more batches keeps in
     record {
       rest = rest;
       takes = takes;
-      whole = subst (λ t. is_whole t ≡ true) (sym all) (whole-append (joined batches) (kept batch) serving.whole (whole-kept batch));
-      told = serving.told ++ answers;
+      whole = subst (λ t. is_whole t ≡ true) (sym all) (whole-append (joined batches) keeps serving.whole (whole-kept (state_in old) batch));
+      told = serving.told ++ told;
       played =
-          subst (λ lines. ArePlayed (opening_of servers) lines (world_in new) (serving.told ++ answers)) (sym (ap lines_of all ∙ lines-append (joined batches) (kept batch) serving.whole))
-          (played-append (opening_of servers) (world_in old) (world_in new) (lines_of (joined batches)) (lines_of (kept batch)) serving.told answers serving.played
-          (played-kept (world_in old) (world_in new) batch answers played));
+          subst (λ lines. ArePlayed (opening_of servers) lines (world_in new) (serving.told ++ told)) (sym (ap lines_of all ∙ lines-append (joined batches) keeps serving.whole))
+          (played-append (opening_of servers) (world_in old) (world_in new) (lines_of (joined batches)) (lines_of keeps) serving.told told serving.played
+          (played-kept (world_in old) (world_in new) batch answers answered));
     }
 
 -- a file that was read is opened

@@ -1,7 +1,9 @@
 -- What is kept of a batch of lines.
 use Rattle.std.specs.Prelude.{ℕ, ◌==◌, List, [], ◌∷◌, ◌++◌, Bool, true, if◌then◌else◌}
 use Rattle.std.specs.List.{list_any}
+use Rattle.zscript.specs.Line.{ScriptState}
 use Rattle.zscript.specs.Script.{lines_of}
+use Rattle.zdurable.specs.Refused.{played_lines}
 
 -- a line, or an empty line in place of one with a byte 0. Both are bad lines: they are answered
 -- alike, and change nothing
@@ -13,9 +15,9 @@ abbrev pub kept_lines : List (List ℕ) → List ℕ
 kept_lines [] = []
 kept_lines (line ∷ lines) = kept_line line ++ 10 ∷ kept_lines lines
 
--- what is kept of a batch
-abbrev pub kept : List ℕ → List ℕ
-kept batch = kept_lines (lines_of batch)
+-- what is kept of a batch that comes in this state: the lines that are played of it
+abbrev pub kept : ScriptState → List ℕ → List ℕ
+kept s batch = kept_lines (played_lines s (lines_of batch))
 
 -- the last byte is an LF; where there is none, this
 abbrev pub whole_from : Bool → List ℕ → Bool

@@ -1,21 +1,25 @@
 -- A service that is open.
-use Rattle.std.specs.Prelude.{◌≡◌, ℕ, List, true}
+use Rattle.std.specs.Prelude.{◌≡◌, ℕ, List, [], true}
 use Rattle.zjournal.specs.Journal.{IsAtRest, device_of}
 use Rattle.zjournal.specs.Journal as journal
 use Rattle.zjournal.specs.Scan.{joined}
-use Rattle.zscript.specs.Line.{ServiceWorld}
+use Rattle.zscript.specs.Line.{ServiceWorld, ScriptState, script_state}
 use Rattle.zscript.specs.Done.{world_between}
 use Rattle.zscript.specs.Script.{opening_of, lines_of}
 use Rattle.zdurable.specs.declared.durable.Durable.{Durable}
 use Rattle.zdurable.specs.Batches.{is_whole}
 use Rattle.zdurable.specs.Played.{ArePlayed}
 
--- the device that holds its file, the world between two lines, and whether it takes batches
+-- the device that holds its file, the world between two lines, the state of its script, and whether
+-- it takes batches
 abbrev pub disk_of : {D : Type 0} → Durable D → D
 disk_of service = device_of service.journal
 
 abbrev pub world_in : {D : Type 0} → Durable D → ServiceWorld
 world_in service = world_between service.world.held
+
+abbrev pub state_in : {D : Type 0} → Durable D → ScriptState
+state_in service = script_state (world_in service) []
 
 abbrev pub IsOpen : {D : Type 0} → Durable D → Type 0
 IsOpen service = service.is_open ≡ true

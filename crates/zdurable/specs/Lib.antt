@@ -5,3 +5,4 @@ pub mod Laws
 pub mod Lives
 pub mod Played
 pub mod Playing
+pub mod Refused

@@ -9,9 +9,9 @@ ghost use Rattle.zjournal.specs.Journal as state;
 ghost use Rattle.zjournal.specs.Puts as puts;
 ghost use Rattle.zscript.specs.Script.{lines_of};
 ghost use Rattle.zdurable.specs.Batches.{kept};
-ghost use Rattle.zdurable.specs.Durable.{IsOpen, IsServing, IsSound, disk_of, world_in};
+ghost use Rattle.zdurable.specs.Durable.{IsOpen, IsServing, IsSound, disk_of, state_in, world_in};
 ghost use Rattle.zdurable.specs.Faults.{IsLeftBy, IsOfPlaying, IsSuchFile, disk_failed};
-ghost use Rattle.zdurable.specs.Played.{ArePlayed};
+ghost use Rattle.zdurable.specs.Played.{AreAnswered};
 ghost use Rattle.zdurable.specs.declared.limits.TheConstants.{MAX_BATCH};
 
 use crate::fault::{CommitFault, OpenFault};
@@ -90,21 +90,22 @@ impl<D: Device> Durable<D> {
     }
 
     /// Plays the lines of a batch, keeps them as one block, and returns their answers. At `Ok` the
-    /// block is on the disk: nothing is told before. What follows the last LF is a line too. After
-    /// any fault but `TooLong` the service has ended; a file that is opened again then has the
-    /// batch, or hasn't.
+    /// block is on the disk: nothing is told before. What follows the last LF is a line too. A line
+    /// that would fail or retire the last server with the state is refused (`specs/Refused.antt`).
+    /// After any fault but `TooLong` the service has ended; a file that is opened again then has
+    /// the batch, or hasn't.
     pub fn commit(&mut self, batch: &[u8]) -> Result<String, CommitFault>
         requires { IsSound D.seen D.may_leave self.old }
         ensures kept { (servers : ℕ) (batches : List (List ℕ)) → IsOpen self.old
             → IsServing D.seen D.may_leave servers batches self.old
             → OnOk result (IsServing D.seen D.may_leave servers
-            (batches ++ kept batch.now ∷ []) self.new) }
-        ensures told { IfOk result (λ answers. ArePlayed (world_in self.old) (lines_of batch.now)
+            (batches ++ kept (state_in self.old) batch.now ∷ []) self.new) }
+        ensures told { IfOk result (λ answers. AreAnswered (world_in self.old) (lines_of batch.now)
             (world_in self.new) (string_bytes answers)) }
         ensures any_moment { (servers : ℕ) (batches : List (List ℕ))
             → IsServing D.seen D.may_leave servers batches self.old
             → LeavesOnly D.moment D.left_since (disk_of self.old) (disk_of self.new)
-            (IsWithOrWithout servers batches (kept batch.now)) }
+            (IsWithOrWithout servers batches (kept (state_in self.old) batch.now)) }
         ensures sound { IsSound D.seen D.may_leave self.new }
         ensures open { OnOk result (IsOpen self.old × IsOpen self.new) }
         ensures left { IfErr result (λ e. IsLeftBy e self.old self.new) }

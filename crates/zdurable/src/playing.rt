@@ -1,14 +1,16 @@
 //! Lines that are played: those of a batch, and those of a file.
 
-ghost use Rattle.std.specs.Prelude.{◌≡◌, ◌<◌, [], ◌∷◌, ◌++◌, List, ℕ, length, IfOk, OnOk};
+ghost use Rattle.std.specs.Prelude.{◌≡◌, ◌<◌, [], ◌∷◌, ◌++◌, List, ℕ, length, IfOk, OnOk, Ok};
 ghost use Rattle.zscript.specs.Done.{world_between};
 ghost use Rattle.zscript.specs.Script.{lines_of, opening_of};
 ghost use Rattle.zdurable.specs.Played.{ArePlayed};
 ghost use Rattle.zdurable.specs.Batches.{is_whole, kept_line};
-ghost use Rattle.zdurable.specs.Playing.{PlaysLine, PlaysLines};
+ghost use Rattle.zdurable.specs.Playing.{PlaysLine, PlaysLines, state_of};
+ghost use Rattle.zdurable.specs.Refused.{is_refused, takes_last};
 
 use memchr::memchr;
 use std::alloc::{AllocError, Global};
+use zlines::{Line, LineFault, read_line};
 use zpath::Memory;
 use zscript::{Servers, answer_line_strictly, script_world};
 use zworld::World;
@@ -33,7 +35,7 @@ pub(crate) fn play(
     Ok(())
 }
 
-// Plays one line, and keeps it.
+// Plays one line, and keeps it. Where it is refused, an empty line is kept: that one is a bad line.
 fn play_line(
     world: &mut World,
     line: &[u8],
@@ -43,9 +45,36 @@ fn play_line(
     ensures { OnOk result (PlaysLine line.now world.old world.new
         answers.old answers.new kept.old.items kept.new.items) }
 {
+    if refuses(world, line)? {
+        answers.push_str("no Last\n")?;
+        keep(&[], kept)?;
+        return Ok(());
+    }
     answer_line_strictly(world, line, answers)?;
     keep(line, kept)?;
     Ok(())
+}
+
+// Returns whether a line is refused: it would fail or retire the last server that has the state and
+// stays.
+fn refuses(world: &World, line: &[u8]) -> Result<bool, Memory>
+    ensures { IfOk result (λ refused. refused ≡ is_refused (state_of world.now) line.now) }
+{
+    match read_line(world.allocator(), line) {
+        Ok(asked) => Ok(takes_last(world, &asked)),
+        Err(LineFault::Memory) => Err(Memory),
+        Err(_) => Ok(false),
+    }
+}
+
+// The same, by what the line asks for.
+fn takes_last(world: &World, asked: &Line) -> bool
+    ensures { result ≡ takes_last (world_between world.now.held) (Ok asked.now) }
+{
+    match asked {
+        Line::Fail(server) | Line::Retire(server) => world.is_last(*server),
+        _ => false,
+    }
 }
 
 // Keeps a line, or an empty one in place of one with a byte 0: both are bad lines.

@@ -1,5 +1,5 @@
 //! Tests of a service whose lines are kept, over a file in memory: power cuts at every moment of
-//! many lives, and disks that fail.
+//! many lives, disks that fail, and lines that are refused.
 #![tactic(auto)]
 
 #[cfg(test)]
@@ -10,5 +10,7 @@ mod chains;
 mod cuts;
 #[cfg(test)]
 mod failures;
+#[cfg(test)]
+mod last;
 #[cfg(test)]
 mod opened;

@@ -1,3 +1,4 @@
 pub mod Marks
 pub mod Mending
 pub mod Rows
+pub mod Staying

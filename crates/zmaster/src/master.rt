@@ -6,6 +6,7 @@ ghost use Rattle.zprotocol.specs.master.Table.{join_fault, join_step, retire_fau
 ghost use Rattle.zprotocol.specs.master.Table.{master_step};
 ghost use Rattle.zprotocol.specs.Posts.{PutsInRoom};
 ghost use Rattle.ztree.specs.declared.limits.TheConstants.{MAX_CLIENTS};
+ghost use Rattle.zmaster.specs.Staying.{is_staying};
 ghost use Rattle.zmaster.specs.declared.limits.TheConstants.{MAX_POSTS};
 
 use crate::knowledge::Knowledge;
@@ -97,6 +98,13 @@ impl Master {
         ensures { result ≡ retire_fault self.now server }
     {
         self.known.retire_fault(server)
+    }
+
+    /// Returns whether the server is a member that has the state and wasn't ordered to leave.
+    pub fn is_staying(&self, server: ServerId) -> bool
+        ensures { result ≡ is_staying self.now server }
+    {
+        self.known.is_staying(server)
     }
 
     /// Orders a member to leave, or returns why it can't. It allocates nothing.

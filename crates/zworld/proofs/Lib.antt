@@ -3,6 +3,7 @@ pub mod Posting
 pub mod Steps
 pub mod CallSteps
 pub mod FailureSteps
+pub mod WhoLasts
 pub mod DeliverySteps
 pub mod GivenSteps
 pub mod FrontSteps

@@ -1,4 +1,5 @@
 pub mod Held
 pub mod Did
+pub mod Last
 pub mod Steps
 pub mod support

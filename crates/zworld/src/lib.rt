@@ -11,12 +11,14 @@ mod calls;
 mod deliveries;
 mod did;
 mod failures;
+mod lasting;
 mod life;
 mod member;
 mod opening;
 mod post;
 mod processes;
 mod retirements;
+mod rows;
 mod settling;
 mod world;
 
