@@ -12,6 +12,7 @@ ONE_JOB = {
     "zgather": 137, "zrun": 700, "zrace": 250, "zracing": 100, "zforms": 45, "zjute": 240,
     "zasking": 140, "zevents": 45, "zanswering": 150, "zwatches": 100, "zknown": 70, "zturns": 60,
     "zalone": 220, "zsittings": 60, "zpieces": 70, "ztables": 130, "zserving": 150, "zfront": 230,
+    "zwire": 200,
 }
 # Of them, the seconds in which more jobs don't help: reading, loading, writing.
 ONE_THREAD = {

@@ -143,7 +143,7 @@ fn multi_with(parts: Vec<Part>) -> Result<Multi, Fault>
 
 /// Reads a change.
 #[tactic(auto, unfolding(crate::specs::Calls::update))]
-pub(crate) fn update_of(alloc: Global, bytes: &[u8]) -> Result<(Update, &[u8]), ReadError>
+pub fn update_of(alloc: Global, bytes: &[u8]) -> Result<(Update, &[u8]), ReadError>
     ensures { Gives (λ x. (x.0, x.1.now)) result (update.read bytes.now) }
 {
     let (tag, rest) = u8_at(bytes)?;

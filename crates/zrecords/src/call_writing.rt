@@ -105,11 +105,7 @@ fn put_each_part(alloc: Global, out: &mut Vec<u8>, parts: &[Part]) -> Result<(),
 
 /// Writes a change.
 #[tactic(auto, unfolding(crate::specs::Calls::update))]
-pub(crate) fn put_update(
-    alloc: Global,
-    out: &mut Vec<u8>,
-    update: &Update,
-) -> Result<(), AllocError>
+pub fn put_update(alloc: Global, out: &mut Vec<u8>, update: &Update) -> Result<(), AllocError>
     ensures text { OnOk result (out.new.items ≡ out.old.items ++ update_form.spell update.now) }
     ensures fits { OnOk result (update_form.Fits update.now) }
 {

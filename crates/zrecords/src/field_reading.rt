@@ -29,7 +29,7 @@ fn ttl_at(bytes: &[u8]) -> Result<(Ttl, &[u8]), Fault>
 
 /// Reads a node's data.
 #[tactic(auto, unfolding(crate::specs::Fields::content))]
-pub(crate) fn content_of(alloc: Global, bytes: &[u8]) -> Result<(Data, &[u8]), ReadError>
+pub fn content_of(alloc: Global, bytes: &[u8]) -> Result<(Data, &[u8]), ReadError>
     ensures { Gives (λ x. (x.0, x.1.now)) result (content.read bytes.now) }
 {
     let (bytes, rest) = sized_at(MAX_DATA as u32, bytes)?;
@@ -42,7 +42,7 @@ pub(crate) fn content_of(alloc: Global, bytes: &[u8]) -> Result<(Data, &[u8]), R
 
 /// Reads a path.
 #[tactic(auto, unfolding(crate::specs::Fields::path))]
-pub(crate) fn path_of(alloc: Global, bytes: &[u8]) -> Result<(Path, &[u8]), ReadError>
+pub fn path_of(alloc: Global, bytes: &[u8]) -> Result<(Path, &[u8]), ReadError>
     ensures { Gives (λ x. (x.0, x.1.now)) result (path.read bytes.now) }
 {
     let (text, rest) = sized_at(MAX_TEXT_LEN as u32, bytes)?;
@@ -50,8 +50,8 @@ pub(crate) fn path_of(alloc: Global, bytes: &[u8]) -> Result<(Path, &[u8]), Read
     Ok((path, rest))
 }
 
-// Returns the path with this text.
-fn path_with(alloc: Global, text: &[u8]) -> Result<Path, ReadError>
+/// Returns the path with this text.
+pub fn path_with(alloc: Global, text: &[u8]) -> Result<Path, ReadError>
     ensures { Gives (λ it. it) result (path_from text.now) }
 {
     let Ok(text) = str::from_utf8(text) else {

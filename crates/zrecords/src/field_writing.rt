@@ -11,7 +11,7 @@ use zpath::Path;
 
 /// Writes a node's data.
 #[tactic(auto, unfolding(crate::specs::Fields::content))]
-pub(crate) fn put_content(out: &mut Vec<u8>, content: &Data) -> Result<(), AllocError>
+pub fn put_content(out: &mut Vec<u8>, content: &Data) -> Result<(), AllocError>
     ensures text { OnOk result (out.new.items ≡ out.old.items ++ content_form.spell content.now) }
     ensures fits { OnOk result (content_form.Fits content.now) }
 {
@@ -20,7 +20,7 @@ pub(crate) fn put_content(out: &mut Vec<u8>, content: &Data) -> Result<(), Alloc
 
 /// Writes a path.
 #[tactic(auto, unfolding(crate::specs::Fields::path))]
-pub(crate) fn put_path(alloc: Global, out: &mut Vec<u8>, path: &Path) -> Result<(), AllocError>
+pub fn put_path(alloc: Global, out: &mut Vec<u8>, path: &Path) -> Result<(), AllocError>
     ensures text { OnOk result (out.new.items ≡ out.old.items ++ path_form.spell path.now) }
     ensures fits { OnOk result (path_form.Fits path.now) }
 {

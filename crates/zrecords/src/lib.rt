@@ -5,6 +5,9 @@
 //! from it. A line is a record's bytes in base64, and an LF. So a log has no byte 0, and a log
 //! behind another is a log.
 //!
+//! What records are made of can be read and written by itself: `update_of`, `put_update` and the
+//! like. Messages between processes have it too.
+//!
 //! The definitions: `specs/Records.antt` (lines, and the bytes of records), `specs/Calls.antt` and
 //! `specs/Fields.antt` (the bytes of what records are made of), `specs/Laws.antt`.
 #![tactic(auto)]
@@ -22,7 +25,13 @@ mod record_writing;
 mod rows;
 mod writing;
 
+pub use call_reading::update_of;
+pub use call_writing::put_update;
 pub use fault::RecordFault;
+pub use field_reading::{content_of, path_of, path_with};
+pub use field_writing::{put_content, put_path};
 pub use reading::{next_record, read_records};
 pub use record::Record;
+pub use record_reading::server_at;
+pub use record_writing::put_server;
 pub use writing::write_records;

@@ -70,9 +70,9 @@ fn password_at(bytes: &[u8]) -> Result<(Password, &[u8]), Fault>
     }
 }
 
-// Reads the id of a server.
+/// Reads the id of a server.
 #[tactic(auto, unfolding(crate::specs::Records::server))]
-fn server_at(bytes: &[u8]) -> Result<(ServerId, &[u8]), Fault>
+pub fn server_at(bytes: &[u8]) -> Result<(ServerId, &[u8]), Fault>
     ensures { Reads (λ x. (x.0, x.1.now)) result (server.read bytes.now) }
 {
     let (number, rest) = u8_at(bytes)?;

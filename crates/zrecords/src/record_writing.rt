@@ -50,9 +50,9 @@ fn put_password(out: &mut Vec<u8>, password: &Password) -> Result<(), AllocError
     out.extend_from_slice(password.as_bytes())
 }
 
-// Writes the id of a server.
+/// Writes the id of a server.
 #[tactic(auto, unfolding(crate::specs::Records::server))]
-fn put_server(out: &mut Vec<u8>, server: ServerId) -> Result<(), AllocError>
+pub fn put_server(out: &mut Vec<u8>, server: ServerId) -> Result<(), AllocError>
     ensures text { OnOk result (out.new.items ≡ out.old.items ++ server_form.spell server) }
     ensures fits { OnOk result (server_form.Fits server) }
 {

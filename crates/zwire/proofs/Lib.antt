@@ -1,0 +1,6 @@
+pub mod Fields
+pub mod Names
+pub mod Replies
+pub mod Messages
+pub mod Steady
+pub mod Frames

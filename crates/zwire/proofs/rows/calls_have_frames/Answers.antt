@@ -1,0 +1,13 @@
+use Rattle.std.proofs.Common.{refl}
+use Rattle.zrecords.specs.Calls.{update}
+use Rattle.zrecords.specs.Fields.{path}
+use Rattle.zrecords.specs.Records.{server}
+use Rattle.zwire.specs.Fields.{call_number, client, process, refusal}
+use Rattle.zwire.specs.Replies.{query, reply}
+use Rattle.zwire.specs.Messages.{any_message}
+use Rattle.zwire.specs.Frames.{contents, frame}
+use Rattle.zwire.proofs.rows.calls_have_frames.Goals as goal
+
+pub returns : goal.returns
+unfolding frame contents any_message query reply refusal process client server call_number update path
+returns c = record { submit = refl; query = refl; answer = refl }

@@ -1,0 +1,6 @@
+pub mod Fields
+pub mod Replies
+pub mod Messages
+pub mod Frames
+pub mod Laws
+pub mod support

@@ -1,0 +1,23 @@
+//! Laws of the definitions. Each function's contract is a law; its body does nothing.
+
+ghost use Rattle.zwire.specs.Laws.{IsReadAgain, WasSpelled, AreToldApart, BeginningsAreCut};
+ghost use Rattle.zwire.specs.Laws.{FaultsStay};
+
+/// A message that fits is read again from its frame, whatever follows. What is read from bytes was
+/// spelled so, and fits.
+pub fn every_message_is_read_again()
+    ensures again { IsReadAgain }
+    ensures spelled { WasSpelled }
+{}
+
+/// No two frames stand in front of one stream.
+pub fn frames_tell_apart()
+    ensures { AreToldApart }
+{}
+
+/// A frame without its end is cut: more bytes are wanted. Of what isn't cut and is no frame, more
+/// bytes make none.
+pub fn only_cut_frames_want_more()
+    ensures cut { BeginningsAreCut }
+    ensures others { FaultsStay }
+{}
