@@ -1,11 +1,9 @@
 """The gate: the toolchain's own over all but the edits, and then the edits.
 
-First comes a look at texts and layout, which fails in seconds (looks.py). Then `rt ci` runs,
-untouched, over a copy of the crates without their must-fail edits. So proofs, tests, programs and
-all that the toolchain refuses are its own verdict. Then each crate's edits are tried over what it
-built (rounds.py says how). What was built is copied back for the tests behind.
+`rt ci` runs, untouched, over a copy of the crates without their must-fail edits. So proofs, tests,
+programs and all that the toolchain refuses are its own verdict. Then each crate's edits are tried
+over what it built (rounds.py says how). What was built is copied back for the tests behind.
 """
-import collections
 import os
 import re
 import shutil
@@ -19,7 +17,6 @@ from dataclasses import dataclass, field
 
 import edits
 import edits_test
-import looks
 import rounds
 import sources
 from kit import crates_of, identity, path_of_rt, toolchain
@@ -28,8 +25,6 @@ from times import Watch
 
 LAST = re.compile(r"(\d+) passed, (\d+) failed\s*$")
 LITTLE = "tools/says-little.txt"
-# The lines in front of a crate that isn't proved that are told again at the end.
-BEFORE = 8
 PROGRAMS = ("zk", "zk_race", "zk_data", "zk_serve")
 
 
@@ -39,7 +34,6 @@ class Outcome:
 
     passed: int = 0
     wrong: list = field(default_factory=list)
-    why: list = field(default_factory=list)
     times: dict = field(default_factory=dict)
     busy: dict = field(default_factory=dict)
 
@@ -78,12 +72,10 @@ def prove(room, outcome):
     how = {"cwd": room, "stdout": subprocess.PIPE, "text": True, "errors": "replace"}
     ran = subprocess.Popen([path_of_rt(), "ci"], **how)
     was = signal.signal(signal.SIGTERM, lambda *_: ran.terminate())
-    watch, last, told = Watch(ran.pid), None, collections.deque(maxlen=BEFORE)
+    watch, last = Watch(ran.pid), None
     for line in ran.stdout:
         last = LAST.match(line) or last
         say(line.rstrip("\n"))
-        told.append(line.strip())
-        outcome.why += why(told)
     status = ran.wait()
     watch.end()
     signal.signal(signal.SIGTERM, was)
@@ -95,13 +87,6 @@ def prove(room, outcome):
     if status:
         outcome.wrong.append(f"rt ci ended with status {status}")
     return status == 0
-
-
-def why(told):
-    """What the last line says of a failure, and where a crate isn't proved the lines before it."""
-    if told[-1].startswith("rt: FAILED:"):
-        return [told[-1]]
-    return list(told) if told[-1].endswith("NOT PROVED") else []
 
 
 def chosen(found, third, number):
@@ -213,26 +198,17 @@ def build_archive(root, crates, outcome):
 
 
 def end(outcome, began):
-    """Tells the times, all that is wrong and why, and last how much passed."""
+    """Tells the times, all that is wrong, and last how much passed."""
     for part, seconds in outcome.times.items():
         say(f"{part}: {seconds:.0f} s")
     busy = ", ".join(f"{kind} {minutes:.0f}" for kind, minutes in outcome.busy.items())
     seconds = time.monotonic() - began
     cores = toolchain().processors()
     say(f"the whole: {seconds:.0f} s on {cores} processors; processor minutes: {busy}")
-    for it in outcome.why:
-        say(f"  {it[:400]}")
     for it in outcome.wrong:
         say(f"FAILED: {it}")
     say(f"{outcome.passed} passed, {len(outcome.wrong)} failed")
     return 1 if outcome.wrong else 0
-
-
-def test_edits(outcome):
-    """Tests how edits are tried."""
-    began = time.monotonic()
-    outcome.wrong += edits_test.run()
-    outcome.times["tests of how edits are tried"] = time.monotonic() - began
 
 
 def gate(root, third=None, seconds=None):
@@ -240,14 +216,11 @@ def gate(root, third=None, seconds=None):
     began, outcome, now = time.monotonic(), Outcome(), time.time_ns()
     until = None if seconds is None else began + seconds
     toolchain().rtlib.guarded()
+    outcome.wrong += edits_test.run()
+    outcome.times["tests of how edits are tried"] = time.monotonic() - began
     with tempfile.TemporaryDirectory(prefix=f"rt-copy-{os.getpid()}-") as room:
         copy(root, room)
-        outcome.wrong += looks.faults(room)
-        is_well = not outcome.wrong
-        outcome.times["looks at texts"] = time.monotonic() - began
-        if is_well:
-            test_edits(outcome)
-        if is_well and prove(room, outcome):
+        if prove(room, outcome):
             copy_edits(root, room)
             crates = crates_of(room)
             little = listed(root)

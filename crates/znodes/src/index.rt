@@ -1,7 +1,10 @@
 //! The index from paths to Ids.
 
-ghost use Rattle.std.specs.Prelude.{◌≡◌, ◌+◌, ◌<◌, ◌≤◌, is_some, IfOk, IfSome, OnOk, IsOk};
+ghost use Rattle.std.specs.Prelude.{◌≡◌, ◌+◌, ◌<◌, ◌≤◌, nat_eq, is_some, IfOk, IfSome, OnOk, IsOk};
+ghost use Rattle.std.specs.Cmp.Lexicographic.{pointwise};
 ghost use Rattle.std.specs.FinMap as finite;
+ghost use Rattle.std.specs.List.{IsDistinct};
+ghost use Rattle.std.specs.Map.{keys_of};
 
 use std::alloc::Global;
 use std::collections::HashMap;
@@ -87,6 +90,15 @@ impl Index {
         Some(key)
     }
 
+    /// Returns the paths in their order, or `Memory`.
+    pub fn paths(&self, alloc: Global) -> Result<Vec<Path>, Memory>
+        ensures { IfOk result (λ paths. paths.items ≡ finite.keys self.now.ids) }
+    {
+        let mut paths = keys_of_all(alloc, &self.ids)?;
+        paths.sort_unstable();
+        Ok(paths)
+    }
+
     /// Returns a copy of the index, or `Memory`.
     pub fn copy(&self) -> Result<Index, Memory>
         ensures { IfOk result (λ copy. copy.ids ≡ self.now.ids) }
@@ -94,4 +106,16 @@ impl Index {
         let ids = self.ids.clone()?;
         Ok(Index { ids })
     }
+}
+
+// Returns the paths in the order of the map, each once; or `Memory`.
+fn keys_of_all(alloc: Global, ids: &HashMap<Path, Id>) -> Result<Vec<Path>, Memory>
+    ensures all { IfOk result (λ paths. paths.items ≡ keys_of ids.now.entries) }
+    ensures apart { IfOk result (λ paths. IsDistinct (pointwise (pointwise nat_eq)) paths.items) }
+{
+    let mut paths = Vec::with_capacity(alloc, ids.len())?;
+    for (path, _) in ids {
+        paths.push(path.copied(alloc)?)?;
+    }
+    Ok(paths)
 }

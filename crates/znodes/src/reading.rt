@@ -1,13 +1,14 @@
 //! Reading the nodes.
 
-ghost use Rattle.std.specs.Prelude.{◌≡◌, ◌≢◌, ◌<◌, [], Some, is_some, IfSome, IfNone, OnSome, IsSome};
+ghost use Rattle.std.specs.Prelude.{◌≡◌, ◌≢◌, ◌<◌, [], Some, is_some, IfOk, IfSome, IfNone, OnSome, IsSome};
+ghost use Rattle.std.specs.FinMap.{keys};
 ghost use Rattle.std.specs.Option.{option_copied};
 ghost use Rattle.ztree.specs.Tree.{has_node, ephemerals};
 ghost use Rattle.znodes.specs.NodesView.{path_of, node_of, AtPath, AtNode, IsUnder, child_count_of};
 
 use crate::nodes::Nodes;
 use crate::row::Row;
-use zpath::Path;
+use zpath::{Memory, Path};
 use zslots::Id;
 use ztree::Node;
 
@@ -39,6 +40,14 @@ impl Nodes {
         ensures none { IfNone result (AtPath self.now id (λ path. path ≡ [])) }
     {
         Row::live(&self.slots, id)?.parent
+    }
+
+    /// Returns the paths of all nodes in their order, or `Memory`. A parent comes before its
+    /// children.
+    pub fn paths(&self) -> Result<Vec<Path>, Memory>
+        ensures { IfOk result (λ paths. paths.items ≡ keys self.now.nodes) }
+    {
+        self.index.paths(self.alloc)
     }
 
     /// Returns the number of children of the node with this Id, or `None` if there is no such node.

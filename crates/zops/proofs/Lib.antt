@@ -3,3 +3,5 @@ pub mod Creating
 pub mod KeptMaps
 pub mod Marks
 pub mod Ticking
+pub mod Restored
+pub mod RestoredLaws

@@ -1,2 +1,4 @@
 pub mod Machine
+pub mod Restored
+pub mod RestoredLaws
 pub mod support

@@ -1,6 +1,6 @@
 //! The cached replies: the last one to each client, with its call number.
 
-ghost use Rattle.std.specs.Prelude.{◌≡◌, IfOk};
+ghost use Rattle.std.specs.Prelude.{◌≡◌, None, Some, IfNone, IfOk, IfSome};
 ghost use Rattle.std.specs.FinMap.{empty, get, insert};
 ghost use Rattle.zcalls.specs.Kept.{last_of, kept_reply};
 
@@ -104,6 +104,18 @@ impl KeptReplies {
             return Ok(None);
         }
         Ok(Some(kept.reply.copied(alloc)?))
+    }
+
+    /// Returns the client's cached reply with the number of its call, if there is one.
+    pub(crate) fn get(&self, client: ClientId) -> Option<(CallNumber, &Reply)>
+        ensures kept { IfSome result (λ kept. get self.now client
+            ≡ Some (record { number = kept.0; reply = kept.1.now })) }
+        ensures none { IfNone result (get self.now client ≡ None) }
+    {
+        match &self.places[client.number() as usize] {
+            Some(kept) => Some((kept.number, &kept.reply)),
+            None => None,
+        }
     }
 
     /// Caches the reply to this call of the client, and drops the one before it.

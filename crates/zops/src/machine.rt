@@ -20,11 +20,11 @@ use zstore::Store;
 /// seen again.
 #[derive(Drop)]
 pub struct Machine {
-    alloc: Global,
-    store: Store,
-    kept: KeptReplies,
-    applied: u64,
-    is_broken: bool,
+    pub(crate) alloc: Global,
+    pub(crate) store: Store,
+    pub(crate) kept: KeptReplies,
+    pub(crate) applied: u64,
+    pub(crate) is_broken: bool,
 }
 
 impl Model for Machine {

@@ -1,9 +1,39 @@
 //! Worked examples. Each clause is one; the body does nothing.
 
-ghost use Rattle.std.specs.Prelude.{◌≡◌};
+ghost use Rattle.std.specs.Prelude.{◌≡◌, ◌*◌, Some};
+ghost use Rattle.std.specs.FinMap.{get};
+ghost use Rattle.ztree.specs.support.Samples.{some_node, two_nodes};
+ghost use Rattle.zcalls.specs.declared.reply.Reply.TheVariants.{Deleted, Pinged};
 ghost use Rattle.zops.specs.declared.limits.TheConstants.{MAX_APPLIED};
+ghost use Rattle.zops.specs.Machine.{opening_machine};
+ghost use Rattle.zops.specs.Restored.{rooted_machine, with_plain, with_reply, IsDated};
 
 /// The limit as a number.
 pub fn limit_is_a_number()
     ensures { MAX_APPLIED ≡ 4611686018427387903 }
+{}
+
+/// Whether a node is of a later change or tick than its tree. The greatest zxid of `some_node` is
+/// 3, and its last tick is 5.
+pub fn dates()
+    ensures yes { IsDated 3 5 some_node }
+    ensures czxid { IsDated 3 5 (record some_node { czxid = 4 }) → ⊥ }
+    ensures mzxid { IsDated 3 5 (record some_node { mzxid = 4 }) → ⊥ }
+    ensures pzxid { IsDated 2 5 some_node → ⊥ }
+    ensures ctime { IsDated 3 5 (record some_node { ctime = 6 }) → ⊥ }
+    ensures mtime { IsDated 3 4 some_node → ⊥ }
+{}
+
+/// What rows make of a machine: a reply is cached for its own client, and the tree stays.
+pub fn rows_make_a_machine()
+    ensures applied { (rooted_machine some_node 8 40 7).applied ≡ 7 }
+    ensures time { (rooted_machine some_node 8 40 7).service.plain.time ≡ 8 }
+    ensures zxid { (rooted_machine some_node 8 40 7).service.plain.zxid ≡ 40 }
+    ensures tree { (with_plain opening_machine two_nodes).service.plain ≡ two_nodes }
+    ensures reply { get (with_reply opening_machine 3 5 Deleted).service.kept 3
+        ≡ Some (record { number = 5; reply = Deleted }) }
+    ensures other { get (with_reply (with_reply opening_machine 3 5 Deleted) 4 1 Pinged).service.kept 3
+        ≡ Some (record { number = 5; reply = Deleted }) }
+    ensures stays { (with_reply opening_machine 3 5 Deleted).service.plain
+        ≡ opening_machine.service.plain }
 {}

@@ -44,6 +44,25 @@ impl Snapshot {
         })
     }
 
+    /// Makes a snapshot of a machine, as one restored from rows; or returns `Memory`.
+    pub fn restored(alloc: Global, machine: Machine) -> Result<Snapshot, Memory>
+        requires whole { machine.is_broken ≡ false }
+        ensures { IfOk result (λ snapshot. snapshot ≡ transfer_of machine) }
+    {
+        Ok(Snapshot {
+            machine: Box::new(alloc, machine)?,
+        })
+    }
+
+    /// Returns its machine, to be read row by row.
+    pub fn machine(&self) -> &Machine
+        ensures last { result.now.state.applied ≡ self.now.last }
+        ensures machine { result.now.state.service ≡ self.now.machine }
+        ensures whole { result.now.is_broken ≡ false }
+    {
+        self.machine.as_ref()
+    }
+
     /// Returns the number of its last entry.
     pub(crate) fn last(&self) -> LogNumber
         ensures { result ≡ self.now.last }

@@ -6,6 +6,7 @@ mod limits;
 mod multis;
 mod play;
 mod refusals;
+mod restored;
 mod retries;
 mod sessions;
 mod timed;

@@ -8,3 +8,4 @@ pub mod Length
 pub mod Rising
 pub mod Due
 pub mod Reopened
+pub mod Listed

@@ -54,6 +54,13 @@ impl Sessions {
         self.table.get(id)
     }
 
+    /// Returns the ids of all sessions, in order; or `Memory`.
+    pub fn ids(&self) -> Result<Vec<SessionId>, Memory>
+        ensures { IfOk result (λ ids. ids.items ≡ finite.keys self.now) }
+    {
+        self.table.ids()
+    }
+
     /// Returns the ids of the sessions that expire at the tick, in order; or `Memory`. No deadline
     /// may be before the tick. Looks only at sessions whose deadline equals the tick modulo 32.
     pub fn due(&self, tick: u64) -> Result<Vec<SessionId>, Memory>

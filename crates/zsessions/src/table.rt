@@ -1,7 +1,9 @@
 //! The rows of sessions, by id and by bucket.
 
-ghost use Rattle.std.specs.Prelude.{◌≡◌, ◌+◌, ◌<◌, ◌≤◌, None, IfOk, OnOk, OnErr, IsSome};
+ghost use Rattle.std.specs.Prelude.{◌≡◌, ◌+◌, ◌<◌, ◌≤◌, nat_eq, None, IfOk, OnOk, OnErr, IsSome};
 ghost use Rattle.std.specs.FinMap as finite;
+ghost use Rattle.std.specs.List.{IsDistinct};
+ghost use Rattle.std.specs.Map.{keys_of};
 ghost use Rattle.std.specs.FinMap.{get};
 ghost use Rattle.ztree.specs.Sessions.{due_sessions};
 ghost use Rattle.ztree.specs.declared.session.Session.{Session};
@@ -81,6 +83,15 @@ impl Table {
             Some((_, session)) => Some(session),
             None => None,
         }
+    }
+
+    /// Returns the ids of all sessions, in order; or `Memory`.
+    pub(crate) fn ids(&self) -> Result<Vec<SessionId>, Memory>
+        ensures { IfOk result (λ ids. ids.items ≡ finite.keys self.now.sessions) }
+    {
+        let mut ids = ids_of_all(self.alloc, &self.ids)?;
+        ids.sort_unstable();
+        Ok(ids)
     }
 
     /// Returns the ids of the sessions that expire at the tick, in order; or `Memory`.
@@ -196,4 +207,16 @@ fn found(ids: &HashMap<u64, Id>, rows: &Slots<SessionRow>, id: SessionId) -> Opt
         Some(session) => Some((at, session)),
         None => None,
     }
+}
+
+// Returns the ids of sessions in the order of the map, each once; or `Memory`.
+fn ids_of_all(alloc: Global, ids: &HashMap<u64, Id>) -> Result<Vec<SessionId>, Memory>
+    ensures all { IfOk result (λ found. found.items ≡ keys_of ids.now.entries) }
+    ensures apart { IfOk result (λ found. IsDistinct nat_eq found.items) }
+{
+    let mut found = Vec::with_capacity(alloc, ids.len())?;
+    for (number, _) in ids {
+        found.push(SessionId::new(*number))?;
+    }
+    Ok(found)
 }

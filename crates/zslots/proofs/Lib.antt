@@ -8,3 +8,4 @@ pub mod Members
 pub mod Families
 pub mod Walks
 pub mod MapValues
+pub mod Listing

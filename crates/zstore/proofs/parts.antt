@@ -6,4 +6,4 @@ pub mod Noted
 pub mod Steps
 pub mod Noting
 pub mod Alive
-pub mod Opening
+pub mod Restored

@@ -1,2 +1,4 @@
 pub mod StoreView
+pub mod Restored
+pub mod RestoredLaws
 pub mod support

@@ -2,3 +2,4 @@
 pub mod Undoing
 pub mod Stored
 pub mod Parts
+pub mod Samples

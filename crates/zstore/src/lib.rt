@@ -8,10 +8,14 @@
 //! of the tree.
 #![tactic(auto)]
 
+pub mod laws;
 pub mod limits;
 mod log;
 mod marking;
 mod reading;
+mod restore_fault;
+mod restoring;
+mod rows;
 mod sessions;
 mod store;
 mod taking;
@@ -19,6 +23,7 @@ mod undo;
 mod undoing;
 mod writing;
 
+pub use restore_fault::RestoreFault;
 pub use store::Store;
 pub use znodes::Id;
 pub use ztree::limits::{MAX_DATA, MAX_NODES, MAX_SESSIONS};

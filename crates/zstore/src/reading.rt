@@ -1,6 +1,7 @@
 //! Reading a store.
 
 ghost use Rattle.std.specs.Prelude.{◌≡◌, ◌+◌, Some, None, IfOk, IfSome, IfNone, OnSome, is_some, IsSome};
+ghost use Rattle.std.specs.FinMap.{keys};
 ghost use Rattle.ztree.specs.Tree.{has_node};
 ghost use Rattle.zstore.specs.StoreView.{path_of, node_of, data_of, seq_of, ttl_of, AreStale, IsStatOf, AreChildrenOf, without_mark};
 
@@ -9,7 +10,7 @@ use crate::store::Store;
 use crate::undoing::free_all;
 use znodes::Id;
 use zpath::{Memory, Name, Path};
-use ztree::{Node, Stat};
+use ztree::{Node, SessionId, Stat};
 
 impl Store {
     /// Returns the Id of the node at a path, or `None` if there is no such node. One lookup.
@@ -81,6 +82,21 @@ impl Store {
         ensures { IfOk result (λ names. AreChildrenOf self.now id names.items) }
     {
         self.nodes.children(id)
+    }
+
+    /// Returns the paths of all nodes in their order, or `Memory`. A parent comes before its
+    /// children.
+    pub fn paths(&self) -> Result<Vec<Path>, Memory>
+        ensures { IfOk result (λ paths. paths.items ≡ keys self.now.tree.nodes) }
+    {
+        self.nodes.paths()
+    }
+
+    /// Returns the ids of all sessions in their order, or `Memory`.
+    pub fn session_ids(&self) -> Result<Vec<SessionId>, Memory>
+        ensures { IfOk result (λ ids. ids.items ≡ keys self.now.tree.sessions) }
+    {
+        self.sessions.ids()
     }
 
     /// Returns a copy with the same tree and the same Ids, but without a savepoint; or `Memory`.

@@ -9,6 +9,7 @@ ghost use Rattle.ztree.specs.Lawful.{IsLawful};
 ghost use Rattle.ztree.specs.declared.limits.TheConstants.{MAX_SESSIONS, ZXID_BOUND, TICK_BOUND, DEADLINE_BOUND};
 ghost use Rattle.ztree.specs.Room.{HasRoomForEnd, HasRoomForDeadline};
 ghost use Rattle.zsessions.specs.Deadlines.{is_held_by};
+ghost use Rattle.zstore.specs.Restored.{with_session_row, CanPutSession};
 ghost use Rattle.zstore.specs.StoreView.{AtSession, KeepsIds, ForgetsGone};
 ghost use Rattle.zstore.specs.support.Parts.{tree_without_session, IsOwned};
 
@@ -52,6 +53,17 @@ impl Store {
             timeout,
             deadline: self.time + timeout,
         };
+        self.add_session(id, session)
+    }
+
+    /// Adds a session that can be put. After `Memory` nothing has changed.
+    pub(crate) fn add_session(&mut self, id: SessionId, session: Session) -> Result<(), Memory>
+        requires can { CanPutSession self.old.tree id session }
+        ensures tree { OnOk result (self.new.tree ≡ with_session_row self.old.tree id session) }
+        ensures same { OnOk result (KeepsIds self.old self.new) }
+        ensures unmarked { OnOk result (self.new.marked ≡ None) }
+        ensures err { OnErr result (self.new ≡ self.old) }
+    {
         self.nodes.open_owner(id.number())?;
         if let Err(memory) = self.sessions.open(id, session) {
             self.nodes.close_owner(id.number());

@@ -40,6 +40,7 @@ impl Model for Store {
 impl Store {
     ghost use Rattle.ztree.specs.Tree.{opening_tree};
     ghost use Rattle.ztree.specs.Lawful.{IsLawful, HasPaths};
+    ghost use Rattle.zstore.specs.Restored.{rooted_tree, CanBeRoot};
 
     /// Makes a store in the initial state: the root alone.
     pub fn new(alloc: Global) -> Result<Store, Memory>
@@ -49,10 +50,20 @@ impl Store {
     {
         let zxid = Zxid::new(0);
         let root = Node::new(Data::empty(alloc), 0, 0, zxid, 0);
+        Store::rooted(alloc, root, 0, zxid)
+    }
+
+    /// Makes a store of the root alone, at this tick and after this change.
+    pub(crate) fn rooted(alloc: Global, root: Node, time: u64, zxid: Zxid) -> Result<Store, Memory>
+        requires { CanBeRoot root }
+        ensures tree { IfOk result (λ s. s.tree ≡ rooted_tree root time zxid) }
+        ensures given { IfOk result (λ s. s.given ≤ 1) }
+        ensures unmarked { IfOk result (λ s. s.marked ≡ None) }
+    {
         Ok(Store {
             nodes: Nodes::new(alloc, root)?,
             sessions: Sessions::new(alloc),
-            time: 0,
+            time,
             zxid,
             log: Log::new(alloc),
             alloc,

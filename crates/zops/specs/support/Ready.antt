@@ -2,9 +2,10 @@
 use Rattle.std.specs.Prelude.{◌≡◌, ◌≢◌, true, List, [], ℕ, ◌+◌, ◌*◌, ◌<◌, ◌≤◌, Some}
 use Rattle.ztree.specs.Room.{HasRoom}
 use Rattle.ztree.specs.Lawful.{AllNodes}
-use Rattle.ztree.specs.declared.limits.TheConstants.{ZXID_BOUND}
+use Rattle.ztree.specs.declared.limits.TheConstants.{MAX_NODES, ZXID_BOUND}
 use Rattle.zstore.specs.declared.limits.TheConstants.{ID_BOUND}
 use Rattle.zstore.specs.StoreView.{StoreView, Mark, Id, Ids, AreAt, path_of}
+use Rattle.std.specs.FinMap as finite
 use Rattle.zpath.specs.Grammar.{path_cmp}
 use Rattle.ztree.specs.Tree.{Path, has_node, children}
 use Rattle.ztree.specs.Sessions.{without_nodes}
@@ -70,8 +71,14 @@ pub record IsRun (old new : StoreView) : Type 0 where
   pub alone : ChangesNodesAlone old.tree new.tree
   pub within : AllNodes (IsWithin (MAX_RAISES * old.tree.zxid + MAX_PARTS)) new.tree.nodes
 
--- what a machine keeps: bounded numbers, few entries, and few Ids for each entry
+-- what a machine keeps: bounded numbers, few entries, and few Ids for each entry beside those of its first nodes
 pub record IsSound (store : StoreView) (applied : ℕ) : Type 0 where
   pub bounded : IsBounded store.tree
   pub applied_few : applied ≤ MAX_APPLIED
-  pub given_few : store.given ≤ MAX_PARTS * applied + 1
+  pub given_few : store.given ≤ MAX_PARTS * applied + MAX_NODES
+
+-- what a machine keeps while it is restored: bounded numbers, few entries, and one Id for each node
+pub record IsRestoring (store : StoreView) (applied : ℕ) : Type 0 where
+  pub bounded : IsBounded store.tree
+  pub applied_few : applied ≤ MAX_APPLIED
+  pub given_few : store.given ≤ finite.len store.tree.nodes

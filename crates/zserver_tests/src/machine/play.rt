@@ -1,5 +1,7 @@
 //! What the tests share: lines are played on a machine, and each answer is compared.
 
+ghost use Rattle.std.specs.Prelude.{◌≡◌, false};
+
 use std::alloc::Global;
 use std::process::Abort;
 use zlines::{Line, Request, read_line, write_reply};
@@ -34,7 +36,9 @@ pub(crate) fn plays_more(rt: &impl Abort, alloc: Global, machine: &mut Machine, 
 }
 
 /// Plays a line, as the next entry of the machine where it is an update, and compares the answer.
-pub(crate) fn plays(rt: &impl Abort, alloc: Global, machine: &mut Machine, line: &str, want: &str) {
+pub(crate) fn plays(rt: &impl Abort, alloc: Global, machine: &mut Machine, line: &str, want: &str)
+    ensures whole { machine.old.is_broken ≡ false → machine.new.is_broken ≡ false }
+{
     let next = machine.applied() + 1;
     enters(rt, alloc, machine, next, line, want);
 }
@@ -59,7 +63,9 @@ fn enters(
     number: u64,
     line: &str,
     want: &str,
-) {
+)
+    ensures whole { machine.old.is_broken ≡ false → machine.new.is_broken ≡ false }
+{
     let text = answer(rt, alloc, machine, number, request(rt, alloc, line));
     same(rt, line, &text, want);
     drop(text);
@@ -85,7 +91,9 @@ fn answer(
     machine: &mut Machine,
     number: u64,
     request: Request,
-) -> String {
+) -> String
+    ensures whole { machine.old.is_broken ≡ false → machine.new.is_broken ≡ false }
+{
     let Request { client, call } = request;
     match call {
         Call::Update(update) => apply(rt, alloc, machine, client, number, update),
@@ -100,7 +108,9 @@ fn apply(
     client: ClientId,
     number: u64,
     update: Update,
-) -> String {
+) -> String
+    ensures whole { machine.new.is_broken ≡ false }
+{
     assert!(rt; machine.applied() < MAX_APPLIED);
     let entry = Entry {
         client,

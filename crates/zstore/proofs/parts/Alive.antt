@@ -1,5 +1,5 @@
 -- What a store keeps while sessions are opened, kept alive and ended, and the nodes that a session owns.
-use Rattle.std.proofs.Common.{◌≡◌, ◌≢◌, ◌⊎◌, inl, inr, ℕ, ◌<◌, ◌+◌, Bool, true, false, cond, [], Option, Some, None, refl, sym, ap, ◌∙◌, arith}
+use Rattle.std.proofs.Common.{◌≡◌, ◌≢◌, ◌⊎◌, inl, inr, ℕ, ◌<◌, Bool, true, false, cond, [], Option, Some, None, refl, sym, ap, ◌∙◌, arith}
 use Rattle.std.specs.Prelude.{is_some, IsSome, IfSome, ◌==◌}
 use Rattle.std.specs.Option.{option_and_then, option_map_or}
 use Rattle.std.specs.Ordering.{nat_cmp, eq_by_cmp}
@@ -7,17 +7,16 @@ use Rattle.std.specs.Cmp.{nat_cmp_total, unsigned_Decides}
 use Rattle.std.specs.FinMap as finite
 use Rattle.std.specs.FinMap.{nat_cmp-IsAntisymmetric, get-insert, get-remove}
 use Rattle.zslots.specs.declared.id.Id.{Id}
-use Rattle.ztree.specs.declared.limits.TheConstants.{MAX_SESSIONS}
 use Rattle.ztree.specs.declared.node.Node.{Node}
 use Rattle.ztree.specs.declared.session.Session.{Session}
 use Rattle.ztree.specs.Tree.{Path, Nodes, Sessions, ephemerals, with_change_at}
-use Rattle.ztree.specs.Sessions.{new_session, renewed_session, with_renewed_session}
+use Rattle.ztree.specs.Sessions.{renewed_session, with_renewed_session}
 use Rattle.ztree.specs.Lawful.{IsOwner}
 use Rattle.ztree.proofs.Sorted.{paths_total, same_path}
 use Rattle.ztree.proofs.Maps.{not_none, has_some, same_or_other, get-insert-here, get-insert-elsewhere, none_of_map}
 use Rattle.ztree.proofs.Nodes.{changed_at-some}
 use Rattle.ztree.proofs.Ephemerals.{path_if_owned}
-use Rattle.ztree.proofs.Lawful.{lawful_opened, lawful_touched}
+use Rattle.ztree.proofs.Lawful.{lawful_touched}
 use Rattle.ztree.proofs.LawfulEnd.{lawful_forgotten}
 use Rattle.znodes.specs.NodesView.{NodesView, path_of, AtNode}
 use Rattle.zstore.specs.support.Undoing.{Owners, Places, Notes}
@@ -83,17 +82,6 @@ module _ (owners : Owners) (sessions : Sessions) (id : ℕ) (same : AreOwners ow
 
 module _ (nodes : Nodes) (places : Places) (sessions : Sessions) (time zxid : ℕ)
     (kept : IsKept nodes places sessions time zxid) where
-  pub kept_opened : (client timeout : ℕ) → 0 < timeout → finite.len sessions < MAX_SESSIONS →
-      IsKept nodes places (finite.insert sessions (zxid + 1) (new_session client timeout time)) time
-      zxid
-  kept_opened client timeout some few =
-      record {
-        lawful =
-            lawful_opened (tree_of nodes sessions time zxid) client timeout kept.lawful some few;
-        paths = kept.paths;
-        named = kept.named;
-      }
-
   pub kept_touched : (id : ℕ) → ((s : Session) → finite.get sessions id ≡ Some s → 0 < s.timeout) →
       IsKept nodes places (with_renewed_session (tree_of nodes sessions time zxid) id).sessions time
       zxid

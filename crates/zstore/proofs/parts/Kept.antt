@@ -39,7 +39,7 @@ pub names_none : (nodes : Nodes) (places : Places) → NamesNodes nodes places �
 names_none nodes places named id path free is = not_both nodes path (named.there id path is) free
 
 module _ (nodes : Nodes) (path : Path) (n : Node) where
-  has-inserted : (q : Path) → has_node nodes q ≡ true →
+  pub has-inserted : (q : Path) → has_node nodes q ≡ true →
       has_node (finite.insert nodes path n) q ≡ true
   has-inserted q there = by (same_or_other paths_total same_path q path)
     where

@@ -1,0 +1,76 @@
+//! Reading a machine's state, row by row.
+
+ghost use Rattle.std.specs.Prelude.{◌≡◌, false, is_some, None, Some, IfNone, IfOk, IfSome};
+ghost use Rattle.std.specs.FinMap.{get, keys};
+ghost use Rattle.ztree.specs.Tree.{has_node};
+
+use crate::machine::Machine;
+use zcalls::{CallNumber, Reply};
+use zpath::{Memory, Path};
+use zstore::{ClientId, Node, Session, SessionId, Zxid};
+
+impl Machine {
+    /// Returns the current tick.
+    pub fn time(&self) -> u64
+        requires whole { self.now.is_broken ≡ false }
+        ensures { result ≡ self.now.state.service.plain.time }
+    {
+        self.store.now()
+    }
+
+    /// Returns the zxid of the last change.
+    pub fn zxid(&self) -> Zxid
+        requires whole { self.now.is_broken ≡ false }
+        ensures { result ≡ self.now.state.service.plain.zxid }
+    {
+        self.store.zxid()
+    }
+
+    /// Returns the paths of all nodes in their order, or `Memory`. A parent comes before its
+    /// children.
+    pub fn paths(&self) -> Result<Vec<Path>, Memory>
+        requires whole { self.now.is_broken ≡ false }
+        ensures { IfOk result (λ paths.
+            paths.items ≡ keys self.now.state.service.plain.nodes) }
+    {
+        self.store.paths()
+    }
+
+    /// Returns the node at a path, or `None` if there is no such node.
+    pub fn node(&self, path: &Path) -> Option<&Node>
+        requires whole { self.now.is_broken ≡ false }
+        ensures node { IfSome result (λ n.
+            get self.now.state.service.plain.nodes path.now ≡ Some n.now) }
+        ensures there { is_some result ≡ has_node self.now.state.service.plain.nodes path.now }
+    {
+        let id = self.store.find(path)?;
+        self.store.node(id)
+    }
+
+    /// Returns the ids of all sessions in their order, or `Memory`.
+    pub fn session_ids(&self) -> Result<Vec<SessionId>, Memory>
+        requires whole { self.now.is_broken ≡ false }
+        ensures { IfOk result (λ ids.
+            ids.items ≡ keys self.now.state.service.plain.sessions) }
+    {
+        self.store.session_ids()
+    }
+
+    /// Returns the session with this id, if it exists.
+    pub fn session(&self, id: SessionId) -> Option<Session>
+        requires whole { self.now.is_broken ≡ false }
+        ensures { result ≡ get self.now.state.service.plain.sessions id }
+    {
+        self.store.session(id)
+    }
+
+    /// Returns the client's cached reply with the number of its call, if there is one.
+    pub fn kept(&self, client: ClientId) -> Option<(CallNumber, &Reply)>
+        requires whole { self.now.is_broken ≡ false }
+        ensures kept { IfSome result (λ kept. get self.now.state.service.kept client
+            ≡ Some (record { number = kept.0; reply = kept.1.now })) }
+        ensures none { IfNone result (get self.now.state.service.kept client ≡ None) }
+    {
+        self.kept.get(client)
+    }
+}

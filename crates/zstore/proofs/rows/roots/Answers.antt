@@ -1,0 +1,11 @@
+use Rattle.std.proofs.Common.{refl, arith}
+use Rattle.zstore.proofs.rows.roots.Goals as goal
+
+pub returns-clause-yes : goal.returns-clause-yes
+returns-clause-yes c = record { nobodys = refl; stays = refl }
+
+pub returns-clause-owned : goal.returns-clause-owned
+returns-clause-owned c = λ can. absurd (omega (arith, can.nobodys))
+
+pub returns-clause-timed : goal.returns-clause-timed
+returns-clause-timed c = λ can. absurd (omega (arith, can.stays))

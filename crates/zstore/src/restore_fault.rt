@@ -1,0 +1,26 @@
+//! Why a row is refused.
+
+ghost use Rattle.std.specs.Prelude.{◌≡◌};
+ghost use Rattle.zstore.specs.declared.restore_fault.RestoreFault.TheVariants.{Memory as OfMemory};
+
+use thiserror::Error;
+use zpath::Memory;
+
+/// Why a row isn't put.
+#[derive(Clone, Copy, Debug, PartialEq, Eq, Error)]
+pub enum RestoreFault {
+    /// The row is at its place in no lawful tree.
+    #[error("not a row of a lawful tree")]
+    Unlawful,
+    /// Out of memory. It says nothing about the row.
+    #[error("memory")]
+    Memory,
+}
+
+impl From<Memory> for RestoreFault {
+    ghost from_gives = { λ _ fault. fault ≡ OfMemory };
+
+    fn from(_error: Memory) -> RestoreFault {
+        RestoreFault::Memory
+    }
+}
