@@ -1,7 +1,8 @@
 //! Lines that are played: those of a batch, and those of a file.
 
-ghost use Rattle.std.specs.Prelude.{◌≡◌, ◌<◌, [], ◌∷◌, ◌++◌, List, ℕ, length, IfOk, OnOk, Ok};
-ghost use Rattle.zscript.specs.Done.{world_between};
+ghost use Rattle.std.specs.Prelude.{◌≡◌, ◌<◌, [], ◌∷◌, ◌++◌, List, ℕ, codes, length, IfOk, OnOk, Ok};
+ghost use Rattle.zlines.specs.Texts.{Writes};
+ghost use Rattle.zscript.specs.Done.{AnswersLineActing, world_between};
 ghost use Rattle.zscript.specs.Script.{lines_of, opening_of};
 ghost use Rattle.zdurable.specs.Played.{ArePlayed};
 ghost use Rattle.zdurable.specs.Batches.{is_whole, kept_line};
@@ -46,10 +47,34 @@ fn play_line(
         answers.old answers.new kept.old.items kept.new.items) }
 {
     if refuses(world, line)? {
-        answers.push_str("no Last\n")?;
-        keep(&[], kept)?;
+        refuse(answers, kept)?;
         return Ok(());
     }
+    play_and_keep(world, line, answers, kept)?;
+    Ok(())
+}
+
+// Answers a line that is refused, and keeps an empty one.
+fn refuse(answers: &mut String, kept: &mut Vec<u8>) -> Result<(), AllocError>
+    ensures told { OnOk result (Writes answers.old answers.new (codes "no Last" ++ 10 ∷ [])) }
+    ensures keeps { OnOk result (kept.new.items ≡ kept.old.items ++ 10 ∷ []) }
+{
+    answers.push_str("no Last\n")?;
+    keep(&[], kept)
+}
+
+// Plays a line that isn't refused, and keeps it.
+fn play_and_keep(
+    world: &mut World,
+    line: &[u8],
+    answers: &mut String,
+    kept: &mut Vec<u8>,
+) -> Result<(), Memory>
+    ensures played { OnOk result
+        (AnswersLineActing line.now world.old world.new answers.old answers.new) }
+    ensures keeps { OnOk result
+        (kept.new.items ≡ kept.old.items ++ (kept_line line.now ++ 10 ∷ [])) }
+{
     answer_line_strictly(world, line, answers)?;
     keep(line, kept)?;
     Ok(())
