@@ -3,9 +3,9 @@
 
     bench/durable.py [PROGRAM [KEEPER]]
 
-PROGRAM is `zk_data`, KEEPER `zk_serve`; the proved ones without words. Of PROGRAM the lines are sets of 16 bytes on one of 1,000 nodes, over one server. So many
-lines are written at once, and more only when all of them are answered: each batch is as long as that. Each figure is the best of
-five rounds and, behind the stroke, their median. Syncs are counted by strace, where that is installed. The folder stands below
+PROGRAM is `zk_data`, KEEPER `zk_serve`; the proved ones without words. Of PROGRAM the lines are sets of 16 bytes on one of 1,000
+nodes, over one server. So many lines are written at once, and more only when all of them are answered: each batch is as long as
+that. Each figure is the best of five rounds and, behind the stroke, their median. Syncs are counted by strace, where that is installed. The folder stands below
 TMPDIR, so its disk is the one that is measured. Then a folder of a million changes is opened.
 
 Of KEEPER, below the host of `./zk serve --data`, creates and gets a second are counted as bench/serve.py does, over one server.
