@@ -32,7 +32,8 @@ pub fn rows_make_a_machine()
     ensures tree { (with_plain opening_machine two_nodes).service.plain ≡ two_nodes }
     ensures reply { get (with_reply opening_machine 3 5 Deleted).service.kept 3
         ≡ Some (record { number = 5; reply = Deleted }) }
-    ensures other { get (with_reply (with_reply opening_machine 3 5 Deleted) 4 1 Pinged).service.kept 3
+    ensures other { get
+        (with_reply (with_reply opening_machine 3 5 Deleted) 4 1 Pinged).service.kept 3
         ≡ Some (record { number = 5; reply = Deleted }) }
     ensures stays { (with_reply opening_machine 3 5 Deleted).service.plain
         ≡ opening_machine.service.plain }
