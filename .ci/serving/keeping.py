@@ -135,6 +135,32 @@ def test_expiry(place):
         want_same(greeted(server, it.session, it.password), REFUSED, "and isn't taken up")
 
 
+def test_last(place):
+    """The last server that has the tree can't be failed or retired, in each life."""
+    folder, calm = place.folder(), {"servers": 2, "tick": 60000}
+    with place.start(folder, **calm) as server, server.client() as it:
+        it.create("/a", b"x")
+        for lines in (
+            (("fail s1", "done"), ("fail s2", "no Last"), ("retire s2", "no Last")),
+            (("settle", "quiet"), ("fail s2", "no Last"), ("retire s2", "no Last")),
+            # who joins doesn't count before it has the state
+            (("join s3", "done"), ("fail s2", "no Last"), ("settle", "quiet")),
+            (("fail s2", "done"), ("fail s3", "no Last"), ("settle", "quiet")),
+            (("join s4", "done"), ("settle", "quiet"), ("retire s4", "done")),
+            # nor who was ordered to leave
+            (("fail s3", "no Last"), ("retire s3", "no Last"), ("settle", "quiet")),
+        ):
+            for line, answer in lines:
+                want_same(server.play(line), answer, line)
+            want_same(it.get("/a")[0], b"x", f"behind {lines}")
+            it.set("/a", b"x")
+    with place.start(folder, **calm) as server, server.client() as it:
+        want_same(it.exists("/a").version, 6, "all is there")
+        for line, answer in (("retire s1", "done"), ("settle", "quiet"), ("fail s2", "no Last")):
+            want_same(server.play(line), answer, f"{line} behind a restart")
+        want_same(it.get("/a")[0], b"x", "and the tree is served")
+
+
 class Writer(threading.Thread):
     """Sets a node of its own to 1, 2, 3, .., many at once, until the server ends."""
 
@@ -287,6 +313,6 @@ def test_full_disk(place):
 
 
 KEPT = (
-    test_restart, test_expiry, test_refused, test_stop, test_limited_file, test_full_disk,
-    test_kills,
+    test_restart, test_last, test_expiry, test_refused, test_stop, test_limited_file,
+    test_full_disk, test_kills,
 )

@@ -89,6 +89,22 @@ def test_terminal(program):
     os.close(top)
 
 
+def closes_all(server, clients):
+    """No server of the chain is left."""
+    for it in clients:
+        try:
+            it.post(GET, look_body("/count"))
+        except Ended:
+            pass
+        want(it.is_ended(), "where no server is left connections are closed")
+    with Wire(server.address) as wire:
+        try:
+            wire.send(greeting())
+        except Ended:
+            pass
+        want(wire.is_ended(), "and new ones are refused")
+
+
 def test_busy(program):
     """Servers fail, join and leave beneath four busy connections: no error, nothing lost."""
     with Server(program) as server:
@@ -130,19 +146,12 @@ def test_busy(program):
         for number in chain[:-1]:
             want_same(server.play(f"fail s{number}"), "done", "a server fails")
         want_same(it.get("/count")[0], b"%d" % (4 * rounds), "one server has it all")
-        server.play(f"fail s{chain[-1]}")
-        for it in clients:
-            try:
-                it.post(GET, look_body("/count"))
-            except Ended:
-                pass
-            want(it.is_ended(), "where no server is left connections are closed")
-        with Wire(server.address) as wire:
-            try:
-                wire.send(greeting())
-            except Ended:
-                pass
-            want(wire.is_ended(), "and new ones are refused")
+        told = server.play(f"fail s{chain[-1]}")
+        if server.keeps:
+            want_same(told, "no Last", "the last server of a folder stays")
+            want_same(it.get("/count")[0], b"%d" % (4 * rounds), "and has it all")
+        else:
+            closes_all(server, clients)
         say(f"busy: {events} lines of the operator beneath {8 * rounds} changes")
 
 

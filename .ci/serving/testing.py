@@ -54,6 +54,8 @@ class Server:
     """A host that was started, with the operator's lines on its standard input."""
 
     is_real = False
+    # whether the servers that are tested keep a folder
+    keeps = False
 
     def __init__(self, program, tick=TICK, servers=3, listen="127.0.0.1:0", words=(), **given):
         given = {"stdin": subprocess.PIPE, "stdout": subprocess.PIPE, **given}

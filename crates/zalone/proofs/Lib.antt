@@ -5,4 +5,7 @@ mod Coming
 mod Telling
 mod Views
 mod InTurn
+mod FromInitial
+mod Sessions
+mod Lists
 mod Served

@@ -1,17 +1,19 @@
 -- The replies to calls that are made one after the other are those of the tree that the log left.
-use Rattle.std.proofs.Common.{◌≡◌, ℕ, ◌≤◌, suc, List, [], ◌∷◌, ◌++◌, length, take, drop, None, Some, refl, sym, ap, ◌∙◌, inl, inr, arith}
+use Rattle.std.proofs.Common.{◌≡◌, ℕ, ◌≤◌, suc, List, [], ◌∷◌, ◌++◌, length, take, drop, Option, None, Some, refl, sym, ap, ◌∙◌, inl, inr, arith}
 use Rattle.std.proofs.Math.Seq.{take-nil}
 use Rattle.std.specs.Prelude.{zip}
 use Rattle.ztree.specs.Tree.{Tree, opening_tree}
 use Rattle.zcalls.specs.declared.call.Call.{Call}
 use Rattle.zcalls.specs.declared.reply.Reply.{Reply}
 use Rattle.zworld_model.specs.PlainTree.{serve}
-use Rattle.zturns.specs.Turns.{Log, calls_of, replies_of, served, tree_after, IsOneTrees}
-use Rattle.zturns.proofs.OneTree.{is_one_trees}
+use Rattle.zturns.specs.Turns.{Log, calls_of, replies_of, served, tree_after}
+use Rattle.zturns.specs.FromTree.{IsOneTreesFrom}
+use Rattle.zturns.proofs.Lives.{is_one_trees_from}
 use Rattle.zalone.specs.Alone.{AloneView}
-use Rattle.zalone.specs.Laws.{RepliesAreTheTrees}
-use Rattle.zalone.specs.Told.{HasTold, StopsBefore}
+use Rattle.zalone.specs.Laws.{RepliesAreTheTrees, RepliesAreTheTreesFrom}
+use Rattle.zalone.specs.Told.{HasToldFrom, StopsBefore}
 use Rattle.zalone.proofs.InTurn.{all_asked_tell}
+use Rattle.zalone.proofs.FromInitial.{from_initial}
 
 one_less : (n m : ℕ) → suc n ≤ suc m → n ≤ m
 one_less n m few = omega arith
@@ -31,6 +33,10 @@ calls_zip (call ∷ calls) (reply ∷ told) = ap (λ cs. call ∷ cs) (calls_zip
 rest_of : (r s : Reply) (rs ss : List Reply) → r ∷ rs ≡ s ∷ ss → rs ≡ ss
 rest_of r s rs ss e = cc e
 
+-- the log of a client is one tree's
+pub its_log : (t : Tree) (v : AloneView) (log : Log) (waiting : Option Call) → HasToldFrom t v log waiting → IsOneTreesFrom t log
+its_log t v log waiting h = is_one_trees_from t (record { lawful = h.lawful; granted = h.bounded.sessions }) h.servers h.events log waiting h.turns.told
+
 -- what a log goes on with is served by the tree that it left
 served_behind : (log : Log) (t : Tree) (calls : List Call) (told : List Reply) → length told ≤ length calls
     → replies_of (log ++ zip calls told) ≡ served t (calls_of (log ++ zip calls told)) → told ≡ served (tree_after t (calls_of log)) (take (length told) calls)
@@ -40,12 +46,16 @@ served_behind (last ∷ log) t calls told few is =
     (rest_of last.1 (serve t 0 last.0).1 (replies_of (log ++ zip calls told)) (served (serve t 0 last.0).0 (calls_of (log ++ zip calls told))) is)
 
 -- a client that stops before these calls has the log of the answered ones
-stopped_log : (v : AloneView) (log : Log) (calls : List Call) → StopsBefore (HasTold v) log calls → IsOneTrees log
-stopped_log v log [] h = is_one_trees h.servers h.events log None h.turns.told
-stopped_log v log (call ∷ calls) (inl h) = is_one_trees h.servers h.events log (Some call) h.turns.told
-stopped_log v log (call ∷ calls) (inr h) = is_one_trees h.1.servers h.1.events log None h.1.turns.told
+stopped_log : (t : Tree) (v : AloneView) (log : Log) (calls : List Call) → StopsBefore (HasToldFrom t v) log calls → IsOneTreesFrom t log
+stopped_log t v log [] h = its_log t v log None h
+stopped_log t v log (call ∷ calls) (inl h) = its_log t v log (Some call) h
+stopped_log t v log (call ∷ calls) (inr h) = its_log t v log None h.1
 
+pub replies_are_the_trees_from : RepliesAreTheTreesFrom
+replies_are_the_trees_from t old new log calls told has asked =
+    let goes = all_asked_tell t old calls new told asked log None has in
+    served_behind log t calls told goes.0 (stopped_log t new (log ++ zip calls told) (drop (length told) calls) goes.1)
+
+-- from the initial tree
 pub replies_are_the_trees : RepliesAreTheTrees
-replies_are_the_trees old new log calls told has asked =
-    let goes = all_asked_tell old calls new told asked log None has in
-    served_behind log opening_tree calls told goes.0 (stopped_log new (log ++ zip calls told) (drop (length told) calls) goes.1)
+replies_are_the_trees old new log calls told has asked = replies_are_the_trees_from opening_tree old new log calls told (from_initial old log None has) asked

@@ -1,12 +1,15 @@
 -- The log of the one client: its calls with their replies, and the call that waits. A log stands
 -- for the client where it is that of one run of the world.
 use Rattle.std.specs.Prelude.{◌≡◌, ◌⊎◌, ℕ, ◌≤◌, is_some, List, [], ◌∷◌, ◌++◌, length, drop, zip, Option, None, Some}
-use Rattle.ztree.specs.Tree.{opening_tree}
+use Rattle.ztree.specs.Tree.{Tree, opening_tree}
+use Rattle.ztree.specs.Lawful.{IsLawful}
+use Rattle.zcalls.specs.Bounds.{IsBounded}
 use Rattle.zcalls.specs.declared.limits.TheConstants.{MAX_CALL_NUMBER}
 use Rattle.zcalls.specs.declared.call.Call.{Call}
 use Rattle.zcalls.specs.declared.reply.Reply.{Reply}
 use Rattle.zworld_model.specs.declared.event.Event.{Event}
 use Rattle.zworld_model.specs.Alike.{IsAlike}
+use Rattle.zworld_model.specs.FromTree.{world_after_from}
 use Rattle.zworld_model.specs.Laws.{world_after}
 use Rattle.zworld.specs.Held.{world_of}
 use Rattle.zknown.specs.Known.{known_of}
@@ -29,6 +32,20 @@ pub record HasTold (v : AloneView) (log : Log) (waiting : Option Call) : Type 0 
   -- and what it knows is that of the tree that the calls of the log leave
   pub known : v.known ≡ known_of (tree_after opening_tree (calls_of log))
   -- what is kept of its updates is what of the log isn't taken yet
+  pub made : Keeps log v.changes
+
+-- the same of a client whose chain began with this tree
+pub record HasToldFrom (t : Tree) (v : AloneView) (log : Log) (waiting : Option Call) : Type 0 where
+  pub lawful : IsLawful t
+  pub bounded : IsBounded t
+  pub servers : ℕ
+  pub events : List Event
+  pub turns : TakesTurns (world_after_from t servers 1 events) log waiting
+  pub before : Log
+  pub stands : IsAlike (world_after_from t servers 1 events) (world_of v.world.held (history_of before None ++ v.world.history))
+  pub fresh : (call : Call) → waiting ≡ Some call → before ≡ log
+  pub waits : v.is_waiting ≡ is_some waiting
+  pub known : v.known ≡ known_of (tree_after t (calls_of log))
   pub made : Keeps log v.changes
 
 -- how the log goes on at a call: while another one waits, it stays. Else the call is answered, or
@@ -70,3 +87,19 @@ TellsSettled old new told = (log : Log) (waiting : Option Call) → HasTold old 
 -- and an order leaves it
 abbrev pub TellsOrdered : AloneView → AloneView → Type 0
 TellsOrdered old new = (log : Log) (waiting : Option Call) → HasTold old log waiting → HasTold new log waiting
+
+-- the same of a chain that began with a tree, whatever tree it was
+abbrev pub TellsAskedFrom : AloneView → Call → AloneView → Option Reply → Type 0
+TellsAskedFrom old call new told =
+    (t : Tree) (log : Log) (waiting : Option Call) → HasToldFrom t old log waiting → GoesOnAsked (HasToldFrom t new) log waiting call told
+
+abbrev pub TellsAskedAllFrom : AloneView → List Call → AloneView → List Reply → Type 0
+TellsAskedAllFrom old calls new told =
+    (t : Tree) (log : Log) (waiting : Option Call) → HasToldFrom t old log waiting → GoesOnAskedAll (HasToldFrom t new) log waiting calls told
+
+abbrev pub TellsSettledFrom : AloneView → AloneView → Option Reply → Type 0
+TellsSettledFrom old new told =
+    (t : Tree) (log : Log) (waiting : Option Call) → HasToldFrom t old log waiting → GoesOnSettled (HasToldFrom t new) log waiting told
+
+abbrev pub TellsOrderedFrom : AloneView → AloneView → Type 0
+TellsOrderedFrom old new = (t : Tree) (log : Log) (waiting : Option Call) → HasToldFrom t old log waiting → HasToldFrom t new log waiting

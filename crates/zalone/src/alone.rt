@@ -5,16 +5,20 @@ ghost use Rattle.std.specs.Prelude.{IfOk, IsErr, OnErr, OnOk, IfSome, IfNone};
 ghost use Rattle.ztree.specs.Tree.{opening_tree};
 ghost use Rattle.zprotocol.specs.server.Machine.{kept_tree};
 ghost use Rattle.zworld_model.specs.World.{opening_world};
-ghost use Rattle.zworld.specs.Did.{HasCause};
-ghost use Rattle.zworld.specs.Steps.{HasDone, world_in};
+ghost use Rattle.zworld_model.specs.FromTree.{opening_world_from};
+ghost use Rattle.zserver.specs.Server.{IsFresh};
+ghost use Rattle.zworld.specs.Steps.{world_in};
 ghost use Rattle.zknown.specs.Known.{known_of};
 ghost use Rattle.zalone.specs.Changes.{all_taken, no_changes};
-ghost use Rattle.zalone.specs.Alone.{Asks, AsksAll, Begins, SameCall, Settles, Waits};
-ghost use Rattle.zalone.specs.Order.{event_of};
+ghost use Rattle.zalone.specs.Alone.{Asks, AsksAll, Begins, Gives, is_refused};
+ghost use Rattle.zalone.specs.Alone.{SameCall, Settles, Waits};
 ghost use Rattle.zalone.specs.Told.{HasTold, TellsAsked, TellsAskedAll, TellsOrdered, TellsSettled};
+ghost use Rattle.zalone.specs.Told.{HasToldFrom, TellsAskedFrom, TellsAskedAllFrom};
+ghost use Rattle.zalone.specs.Told.{TellsOrderedFrom, TellsSettledFrom};
 
 use crate::changes::Changes;
-use crate::hearing::{event_of, hear, only_client};
+use crate::hearing::{event_of, hear, only_client, takes_last};
+use crate::knowing::known_from;
 use crate::limits::MAX_EVENTS;
 use crate::made::Made;
 use crate::order::Order;
@@ -23,8 +27,9 @@ use std::marker::Model;
 use zcalls::{Call, Reply};
 use zknown::Known;
 use zpath::Memory;
-use zprotocol::ServerId;
-use zworld::{Did, World};
+use zprotocol::{RetireFault, ServerId};
+use zserver::Snapshot;
+use zworld::{Did, IdleCause, World};
 use zworld_model::Event;
 
 /// The one client of a world, with what it knows of the tree.
@@ -77,6 +82,33 @@ impl Alone {
         })
     }
 
+    /// Returns the client of the initial world of a chain that begins with the snapshot's tree.
+    pub fn restored(
+        alloc: Global,
+        last: ServerId,
+        snapshot: &Snapshot,
+        keeps: bool,
+    ) -> Result<Alone, Memory>
+        requires { IsFresh snapshot.now }
+        ensures world { IfOk result (λ a. world_in a.world
+            ≡ opening_world_from snapshot.now.machine.plain last 1) }
+        ensures known { IfOk result (λ a. a.known ≡ known_of snapshot.now.machine.plain) }
+        ensures made { IfOk result (λ a. a.changes ≡ no_changes keeps) }
+        ensures sound { IfOk result (λ a. a.is_broken ≡ false) }
+        ensures told { IfOk result (λ a. HasToldFrom snapshot.now.machine.plain a [] None) }
+    {
+        snapshot.keeps_lawful();
+        let known = known_from(alloc, snapshot.machine())?;
+        let changes = Changes::new(alloc, keeps);
+        Ok(Alone {
+            world: World::restored(alloc, last, 1, snapshot)?,
+            known,
+            changes,
+            is_waiting: false,
+            is_broken: false,
+        })
+    }
+
     /// Returns what it knows of the tree.
     pub fn known(&self) -> &Known
         ensures { result.now ≡ self.now.known }
@@ -97,6 +129,7 @@ impl Alone {
         ensures taken { IfSome result (λ _. self.new
             ≡ record self.old { changes = all_taken self.old.changes }) }
         ensures told { IfSome result (λ _. TellsOrdered self.old self.new) }
+        ensures told_from { IfSome result (λ _. TellsOrderedFrom self.old self.new) }
         ensures none { IfNone result (self.new ≡ self.old) }
         ensures full { IfNone result
             (2 ^ 64 ≤ self.old.changes.taken + length self.old.changes.made) }
@@ -119,6 +152,7 @@ impl Alone {
     pub fn ask(&mut self, call: Call) -> Result<Option<Reply>, Memory>
         ensures asked { IfOk result (Asks self.old call self.new) }
         ensures told { IfOk result (TellsAsked self.old call self.new) }
+        ensures told_from { IfOk result (TellsAskedFrom self.old call self.new) }
         ensures sound { OnOk result
             ((self.old.is_broken ≡ false) × (self.new.is_broken ≡ false)) }
         ensures broken { OnErr result (self.new.is_broken ≡ true) }
@@ -144,6 +178,8 @@ impl Alone {
         ensures asked { IfOk result (λ told. AsksAll self.old calls.now self.new told.items) }
         ensures told { IfOk result
             (λ told. TellsAskedAll self.old calls.now self.new told.items) }
+        ensures told_from { IfOk result
+            (λ told. TellsAskedAllFrom self.old calls.now self.new told.items) }
         ensures sound { OnOk result
             ((self.old.is_broken ≡ false) × (self.new.is_broken ≡ false)) }
         ensures broken { OnErr result (self.new.is_broken ≡ true) }
@@ -166,6 +202,7 @@ impl Alone {
     pub fn settle(&mut self) -> Result<Option<Reply>, Memory>
         ensures settled { IfOk result (Settles self.old self.new) }
         ensures told { IfOk result (TellsSettled self.old self.new) }
+        ensures told_from { IfOk result (TellsSettledFrom self.old self.new) }
         ensures sound { OnOk result
             ((self.old.is_broken ≡ false) × (self.new.is_broken ≡ false)) }
         ensures broken { OnErr result (self.new.is_broken ≡ true) }
@@ -179,12 +216,13 @@ impl Alone {
         came
     }
 
-    /// Does what the chain's operator orders, and returns what became of it.
+    /// Does what the chain's operator orders, and returns what became of it. Where updates are kept,
+    /// an order that would fail or retire the last server with the state is refused.
     pub fn chain(&mut self, order: Order) -> Result<Did, Memory>
-        ensures happened { IfOk result (HasDone self.old.world self.new.world (event_of order)) }
-        ensures cause { IfOk result (HasCause self.old.world.held (event_of order)) }
+        ensures given { IfOk result (Gives self.old order self.new) }
         ensures same { OnOk result (SameCall self.old self.new) }
         ensures told { OnOk result (TellsOrdered self.old self.new) }
+        ensures told_from { OnOk result (TellsOrderedFrom self.old self.new) }
         ensures sound { OnOk result
             ((self.old.is_broken ≡ false) × (self.new.is_broken ≡ false)) }
         ensures broken { OnErr result (self.new.is_broken ≡ true) }
@@ -193,9 +231,21 @@ impl Alone {
         if self.is_broken {
             return Err(Memory);
         }
+        if self.refuses(&order) {
+            return Ok(Did::Idle(IdleCause::Retire(RetireFault::Last)));
+        }
         let did = self.world.step(event_of(order));
         self.is_broken = did.is_err();
         did
+    }
+
+    // Whether an order is refused.
+    fn refuses(&self, order: &Order) -> bool
+        ensures { result ≡ is_refused self.now order.now }
+    {
+        let is_kept = self.changes.is_kept();
+        let takes_last = takes_last(&self.world, order);
+        is_kept && takes_last
     }
 
     // Makes a call where none waits.

@@ -41,6 +41,14 @@ impl Changes {
         }
     }
 
+    // Whether updates are kept.
+    pub(crate) fn is_kept(&self) -> bool
+        ensures { result ≡ self.now.is_kept }
+    {
+        let Changes { is_kept, .. } = self;
+        *is_kept
+    }
+
     // What is left to be taken.
     pub(crate) fn made(&self) -> &[Made]
         ensures { result.now ≡ self.now.made }

@@ -1,10 +1,11 @@
-//! Reading the history of a call.
+//! Reading the history of a call, and the operator's orders.
 
 ghost use Rattle.std.specs.Prelude.{◌≡◌, IfOk, OnErr, OnOk};
 ghost use Rattle.ztree.specs.declared.limits.TheConstants.{MAX_CLIENTS};
 ghost use Rattle.zknown.specs.Known.{HasRoom};
 ghost use Rattle.zalone.specs.Alone.{heard, HeardFits, known_by, made_behind};
-ghost use Rattle.zalone.specs.Order.{event_of};
+ghost use Rattle.zalone.specs.Order.{event_of, takes_last};
+ghost use Rattle.zworld.specs.Steps.{world_in};
 
 use crate::changes::Changes;
 use crate::order::Order;
@@ -13,6 +14,7 @@ use zcalls::Reply;
 use zknown::Known;
 use zpath::Memory;
 use ztree::ClientId;
+use zworld::World;
 use zworld_model::{CallEvent, Event};
 
 /// Returns a copy of the reply in the history of one call, if it was answered. Notes
@@ -59,5 +61,15 @@ pub(crate) fn event_of(order: Order) -> Event
         Order::Fail(server) => Event::Fail(server),
         Order::Join(server) => Event::Join(server),
         Order::Retire(server) => Event::Retire(server),
+    }
+}
+
+/// Returns whether an order would take away the last server that has the state and stays.
+pub(crate) fn takes_last(world: &World, order: &Order) -> bool
+    ensures { result ≡ takes_last (world_in world.now) order.now }
+{
+    match order {
+        Order::Fail(server) | Order::Retire(server) => world.is_last(*server),
+        Order::Join(_) => false,
     }
 }

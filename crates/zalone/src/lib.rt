@@ -11,6 +11,7 @@
 mod alone;
 mod changes;
 mod hearing;
+mod knowing;
 pub mod laws;
 pub mod limits;
 mod made;

@@ -6,12 +6,19 @@ ghost use Rattle.zcalls.specs.declared.reply.Reply.{Reply};
 ghost use Rattle.zworld_model.specs.declared.event.Event.TheVariants as event;
 ghost use Rattle.zworld_model.specs.declared.history.CallEvent.TheVariants.{Answer, Begin};
 ghost use Rattle.zknown.specs.Known.{KnownView, known_after};
-ghost use Rattle.zalone.specs.Alone.{heard, InTurn, known_by};
+ghost use Rattle.zprotocol.specs.server.Machine.{kept_tree};
+ghost use Rattle.zworld_model.specs.World.{opening_world};
+ghost use Rattle.zworld.specs.Did.{HasCause};
+ghost use Rattle.zworld.specs.Steps.{HasDone, world_in};
+ghost use Rattle.zworld.specs.declared.did.Did.{Did};
+ghost use Rattle.zworld.specs.declared.did.Did.TheVariants.{Done};
+ghost use Rattle.zalone.specs.Alone.{AloneView, Gives, GivesIf, heard, InTurn, is_refused, known_by};
 ghost use Rattle.zalone.specs.Changes.{AreLeft, KeepsIf, made_in};
 ghost use Rattle.zcalls.specs.declared.call.Call.TheVariants as call;
 ghost use Rattle.zcalls.specs.declared.call.Query.{Query};
 ghost use Rattle.zcalls.specs.declared.call.Update.{Update};
-ghost use Rattle.zalone.specs.Order.{event_of};
+ghost use Rattle.zalone.specs.Order.{event_of, takes_last};
+ghost use Rattle.zalone.specs.declared.order.Order.{Order};
 ghost use Rattle.zalone.specs.Told.{GoesOnAsked, GoesOnAskedAll, GoesOnSettled};
 ghost use Rattle.zalone.specs.declared.order.Order.TheVariants.{Fail, Join, Retire};
 ghost use Rattle.zalone.specs.support.Samples.{AnswersTwo, IsNow};
@@ -76,6 +83,28 @@ pub fn orders_are_events()
     ensures fail { event_of (Fail 2) ≡ event.Fail 2 }
     ensures join { event_of (Join 4) ≡ event.Join 4 }
     ensures retire { event_of (Retire 1) ≡ event.Retire 1 }
+{}
+
+/// Orders that would take away the last server. In memory none is refused.
+pub fn orders_of_the_last()
+    ensures fail { takes_last (opening_world kept_tree 1 1) (Fail 1) ≡ true }
+    ensures retire { takes_last (opening_world kept_tree 1 1) (Retire 1) ≡ true }
+    ensures join { takes_last (opening_world kept_tree 1 1) (Join 2) ≡ false }
+    ensures one_of_two { takes_last (opening_world kept_tree 2 1) (Fail 1) ≡ false }
+    ensures kept { (v : AloneView) → v.changes.is_kept ≡ true
+        → world_in v.world ≡ opening_world kept_tree 1 1 → is_refused v (Fail 1) ≡ true }
+    ensures in_memory { (v : AloneView) (order : Order) → v.changes.is_kept ≡ false
+        → is_refused v order ≡ false }
+{}
+
+/// An order that is refused isn't done, and changes nothing. In memory each one is done.
+pub fn orders_are_refused()
+    ensures not_done { (u v : AloneView) (order : Order) → GivesIf true u order v Done → ⊥ }
+    ensures same { (u v : AloneView) (order : Order) (did : Did) → GivesIf true u order v did
+        → v ≡ u }
+    ensures in_memory { (u v : AloneView) (order : Order) (did : Did)
+        → u.changes.is_kept ≡ false → Gives u order v did
+        → HasDone u.world v.world (event_of order) did × HasCause u.world.held (event_of order) did }
 {}
 
 /// The updates of a log, and what is left of them to be taken.

@@ -12,7 +12,7 @@ use Rattle.ztraces.specs.declared.trace.TraceEvent.{TraceEvent}
 use Rattle.ztraces.specs.Stamps.{next_stamp}
 use Rattle.zdesks.specs.declared.desk.Desk.{Desk}
 use Rattle.zdesks.specs.declared.limits.TheConstants.{MAX_EVENTS}
-use Rattle.zdesks.specs.Desks.{HasEntered, IsCutForNeed, IsEntered, SameBooks, SameRest, TreeStamped}
+use Rattle.zdesks.specs.Desks.{HasEntered, IsCutForNeed, IsEntered, IsLostForNeed, SameBooks, SameRest, TreeStamped}
 use Rattle.zdesks.proofs.Entered.{entered_too}
 use Rattle.zdesks.proofs.Pending.{is_next}
 use Rattle.zdesks.proofs.Wires.{same_books, same_desk}
@@ -44,6 +44,9 @@ module _ (a z b : Desk) (same : SameBooks a z) where
 
   pub need_before : IsCutForNeed z b b.stamp → IsCutForNeed a b b.stamp
   need_before need few early = need (subst (λ (l : List TraceEvent). length l < MAX_EVENTS) (sym same.trace) few) early ∙ same.is_cut
+
+  pub lost_before : IsLostForNeed z b b.stamp → IsLostForNeed a b b.stamp
+  lost_before need early = need early ∙ same.lost
 
 -- a stamp behind all that was known is later than each of that
 pub behind : (next known : ℕ) → next ≡ next_stamp known → next < MAX_STAMP → known < next

@@ -9,7 +9,7 @@ use Rattle.zprotocol.specs.client.View.{ClientView}
 use Rattle.zprotocol.specs.declared.process.Process.{Process}
 use Rattle.ztraces.specs.Stamps.{next_stamp}
 use Rattle.zdesks.specs.declared.desk.Desk.{Desk}
-use Rattle.zdesks.specs.Desks.{IsCutForNeed, SameBooks, TreeStamped, is_cut_of, stamp_of_desk}
+use Rattle.zdesks.specs.Desks.{IsCutForNeed, IsLostForNeed, SameBooks, TreeStamped, is_cut_of, stamp_of_desk}
 use Rattle.zcaller.specs.Steps.{Begins, Heard, HeardNothing, SendsAgain}
 use Rattle.zcaller.specs.declared.caller.Caller.{Caller}
 
@@ -70,3 +70,7 @@ Turned a b reply =
 -- its trace isn't cut without need
 abbrev pub IsUncut : Caller → Caller → Type 0
 IsUncut a b = IsCutForNeed a.desk b.desk (stamp_of_desk b.desk)
+
+-- what it does isn't lost before the last timestamp
+abbrev pub IsUnlost : Caller → Caller → Type 0
+IsUnlost a b = IsLostForNeed a.desk b.desk (stamp_of_desk b.desk)

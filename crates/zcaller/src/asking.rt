@@ -6,8 +6,8 @@ ghost use Rattle.zprotocol.specs.declared.process.Process.TheVariants.{Client};
 ghost use Rattle.zworld_model.specs.declared.history.CallEvent.TheVariants as call_event;
 ghost use Rattle.ztraces.specs.declared.stamp.TheConstants.{MAX_STAMP};
 ghost use Rattle.ztraces.specs.declared.trace.Act.TheVariants as act;
-ghost use Rattle.zdesks.specs.Desks.{HasRoom, IsCutForNeed, IsSettled, process_of, SameBooks};
-ghost use Rattle.zdesks.specs.Desks.{SameDesk, stamp_of_desk, TreeTaken};
+ghost use Rattle.zdesks.specs.Desks.{HasRoom, IsCutForNeed, IsLostForNeed, IsSettled, process_of};
+ghost use Rattle.zdesks.specs.Desks.{SameBooks, SameDesk, stamp_of_desk, TreeTaken};
 ghost use Rattle.zcaller.specs.Callers.{MayRefuse};
 ghost use Rattle.zcaller.specs.Steps.{Begins, Moves, SendsAgain};
 
@@ -38,6 +38,7 @@ pub(crate) fn begin_at(
     ensures fault { IfErr result (MayRefuse core.old) }
     ensures stamp { OnOk result (stamp_of_desk desk.new ≡ next) }
     ensures whole { OnOk result (IsCutForNeed desk.old desk.new (stamp_of_desk desk.new)) }
+    ensures unlost { OnOk result (IsLostForNeed desk.old desk.new (stamp_of_desk desk.new)) }
     ensures kept { OnErr result (core.new ≡ core.old) }
     ensures books { OnErr result (SameBooks desk.old desk.new) }
     ensures same { SameDesk desk.old desk.new }
@@ -88,6 +89,7 @@ pub(crate) fn retry_at(desk: &mut Desk, core: &ClientCore, next: Stamp) -> Resul
     ensures sent { OnOk result (SendsAgain desk.old core.now desk.new core.now) }
     ensures stamp { OnOk result (stamp_of_desk desk.new ≡ next) }
     ensures whole { OnOk result (IsCutForNeed desk.old desk.new (stamp_of_desk desk.new)) }
+    ensures unlost { OnOk result (IsLostForNeed desk.old desk.new (stamp_of_desk desk.new)) }
     ensures books { OnErr result (SameBooks desk.old desk.new) }
     ensures same { SameDesk desk.old desk.new }
 {

@@ -1,11 +1,12 @@
 //! What a caller's thread owns.
 
-ghost use Rattle.std.specs.Prelude.{◌≡◌, IfErr, IfOk, OnErr, OnOk, max, true};
+ghost use Rattle.std.specs.Prelude.{◌≡◌, IfErr, IfOk, OnErr, OnOk, max, true, false};
 ghost use Rattle.zprotocol.specs.declared.process.Process.TheVariants.{Client};
 ghost use Rattle.ztraces.specs.Deeds.{AtClient};
-ghost use Rattle.zdesks.specs.Desks.{is_cut_of, IsAt, pending, process_of, SameDesk};
+ghost use Rattle.zdesks.specs.Desks.{is_cut_of, is_traced_of, IsAt, pending, process_of, SameDesk};
 ghost use Rattle.zdesks.specs.Desks.{seen_of, self_of, stamp_of_desk, Stands, trace_of};
-ghost use Rattle.zdesks.specs.Endings.{HasEnded, IsCutAsBefore, SameWires};
+ghost use Rattle.zdesks.specs.Endings.{HasEnded, IsCutAsBefore, IsLostAsBefore};
+ghost use Rattle.zdesks.specs.Endings.{LeavesNothing, SameWires};
 
 use crate::asking::{begin_at, retry_at};
 use crate::hearing::{front_of, hear_or_keep};
@@ -17,7 +18,8 @@ use zpath::Memory;
 use zprotocol::Process;
 use ztraces::Stamp;
 
-/// A client with its desk. It went by the client table from its opening view through its trace.
+/// A client with its desk. It went by the client table from its opening view, through its trace if
+/// it keeps one.
 #[derive(Drop)]
 pub struct Caller {
     pub(crate) alloc: Global,
@@ -35,7 +37,7 @@ pub struct Caller {
 }
 
 impl Caller {
-    ghost use Rattle.zcaller.specs.Callers.{Began, IsUncut, Retried, SameCaller, Turned};
+    ghost use Rattle.zcaller.specs.Callers.{Began, IsUncut, IsUnlost, Retried, SameCaller, Turned};
     ghost use Rattle.zcaller.specs.Callers.{caller_desk, caller_id, caller_stamp, caller_view};
     ghost use Rattle.zcaller.specs.Callers.{learnt_of, MayRefuse, SameLearnt};
 
@@ -92,6 +94,7 @@ impl Caller {
         ensures fault { IfErr result (MayRefuse (caller_view self.old)) }
         ensures refused { OnErr result (SameCaller self.old self.new) }
         ensures whole { OnOk result (IsUncut self.old self.new) }
+        ensures unlost { OnOk result (IsUnlost self.old self.new) }
         ensures learnt { SameLearnt self.old self.new }
     {
         if self.core.outstanding().is_some() {
@@ -123,6 +126,7 @@ impl Caller {
         ensures retried { IfOk result (Retried self.old self.new) }
         ensures refused { OnErr result (SameCaller self.old self.new) }
         ensures whole { OnOk result (IsUncut self.old self.new) }
+        ensures unlost { OnOk result (IsUnlost self.old self.new) }
         ensures learnt { SameLearnt self.old self.new }
     {
         if self.core.outstanding().is_none() {
@@ -145,6 +149,7 @@ impl Caller {
         ensures same { SameDesk (caller_desk self.old) (caller_desk self.new) }
         ensures turned { Turned self.old self.new result }
         ensures whole { IsUncut self.old self.new }
+        ensures unlost { IsUnlost self.old self.new }
         ensures learnt { SameLearnt self.old self.new }
     {
         if !self.desk.settle() {
@@ -182,6 +187,8 @@ impl Caller {
         ensures seen { result.1.seen.items ≡ seen_of (caller_desk self) }
         ensures cut { is_cut_of (caller_desk self) ≡ true → result.1.trace.is_cut ≡ true }
         ensures whole { IsCutAsBefore (caller_desk self) result.1 }
+        ensures kept { IsLostAsBefore (caller_desk self) result.1 }
+        ensures untraced { is_traced_of (caller_desk self) ≡ false → LeavesNothing result.1 }
     {
         let Caller {
             id,

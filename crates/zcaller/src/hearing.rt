@@ -5,8 +5,9 @@ ghost use Rattle.zprotocol.specs.declared.process.Process.TheVariants.{Client};
 ghost use Rattle.zworld_model.specs.declared.outcome.Outcome.TheVariants.{Acted};
 ghost use Rattle.ztraces.specs.declared.stamp.TheConstants.{MAX_STAMP};
 ghost use Rattle.ztraces.specs.declared.trace.Act.TheVariants.{Took};
-ghost use Rattle.zdesks.specs.Desks.{HasRoom, HasTaken, IsCutForNeed, IsSettled, Keeps, pending};
-ghost use Rattle.zdesks.specs.Desks.{process_of, SameBooks, SameDesk, SameRest, stamp_of_desk};
+ghost use Rattle.zdesks.specs.Desks.{HasRoom, HasTaken, IsCutForNeed, IsLostForNeed, IsSettled};
+ghost use Rattle.zdesks.specs.Desks.{Keeps, pending, process_of, SameBooks, SameDesk, SameRest};
+ghost use Rattle.zdesks.specs.Desks.{stamp_of_desk};
 ghost use Rattle.zcaller.specs.Steps.{answer_event, Heard, MayHear, Moves, MovesAt};
 
 use std::alloc::Global;
@@ -72,6 +73,9 @@ fn take_at(desk: &mut Desk, link: usize) -> Option<(Process, Stamped)>
     if link >= desk.links() {
         return None;
     }
+    if desk.is_empty(link) {
+        return None;
+    }
     desk.take(link)
 }
 
@@ -97,6 +101,7 @@ pub(crate) fn hear_or_keep(
     ensures heard { MayHear id desk.old core.old desk.new core.new
         from (stamp, message) next result }
     ensures whole { IsCutForNeed desk.old desk.new (stamp_of_desk desk.new) }
+    ensures unlost { IsLostForNeed desk.old desk.new (stamp_of_desk desk.new) }
     ensures same { SameDesk desk.old desk.new }
 {
     let sender = from;
@@ -137,6 +142,7 @@ fn hear(
         (Heard id desk.old core.old desk.new core.new from (stamp, message)) }
     ensures stamp { OnOk result (stamp_of_desk desk.new ≡ next) }
     ensures whole { IsCutForNeed desk.old desk.new (stamp_of_desk desk.new) }
+    ensures unlost { IsLostForNeed desk.old desk.new (stamp_of_desk desk.new) }
     ensures back { IfErr result (λ back. back ≡ (stamp, message)) }
     ensures kept { OnErr result (core.new ≡ core.old) }
     ensures keeps { OnErr result (Keeps desk.old desk.new) }

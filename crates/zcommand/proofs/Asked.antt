@@ -1,8 +1,8 @@
 -- What is answered is what was asked for.
 use Rattle.std.proofs.Common.{◌≡◌, ◌⊎◌, inr, Result, Ok, Err, IfOk, IfErr}
 use Rattle.zcommand.specs.declared.order.Settings.{Settings}
-use Rattle.zcommand.specs.declared.fault.WordsFault.{WordsFault}
-use Rattle.zcommand.specs.declared.fault.WordsFault.TheVariants.{Memory}
+use Rattle.zcli.specs.declared.fault.WordsFault.{WordsFault}
+use Rattle.zcli.specs.declared.fault.WordsFault.TheVariants.{Memory}
 
 pub asked-ok : (asked answer : Result Settings WordsFault) → asked ≡ answer → IfOk answer (λ settings. asked ≡ Ok settings)
 asked-ok asked (Ok settings) is = is

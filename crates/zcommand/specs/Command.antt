@@ -1,17 +1,13 @@
 -- What a run of the program comes to, by its words and by what its devices did.
-use Rattle.std.specs.Prelude.{ℕ, ◌≡◌, ◌⊎◌, List, [], ◌∷◌, ◌++◌, Ok}
-use Rattle.zdevices.specs.Device.{SourceRun, SinkRun, Failed, TookBeginning}
+use Rattle.std.specs.Prelude.{ℕ, ◌≡◌, ◌⊎◌, List, Ok}
+use Rattle.zdevices.specs.Device.{SourceRun, SinkRun}
+use Rattle.zcli.specs.Telling.{IsTold}
 use Rattle.zscript.specs.Outcome.{IsPlayed, IsCutBy, IsIdle, play_fault_text}
 use Rattle.zscript.specs.Servers.{IsServers}
 use Rattle.zscript.specs.declared.fault.PlayFault.{PlayFault}
 use Rattle.zscript.specs.declared.fault.PlayFault.TheVariants.{Memory}
 use Rattle.zcommand.specs.declared.order.Settings.TheVariants.{Script}
 use Rattle.zcommand.specs.Asked.{settings_asked}
-
--- A device took the line, or it took a prefix of it and failed.
-abbrev pub IsTold : SinkRun → List ℕ → Type 0
-IsTold faults line =
-    faults.took (line ++ 10 ∷ []) ⊎ (TookBeginning faults.took (line ++ 10 ∷ []) × Failed faults.failed)
 
 -- The words ask for a script over exactly this many servers.
 abbrev pub AskForServers : List (List ℕ) → ℕ → Type 0

@@ -1,4 +1,3 @@
-pub mod Words
 pub mod Command
 pub mod Asked
 pub mod support

@@ -1,17 +1,14 @@
 //! A program's words, and what they do: `command` is main without its devices.
 //!
 //! `settings` reads the words with `clap`. `command` does what they ask for, reports a fault in one
-//! line, and returns the exit status. `refuse` reports why the words could not even be had, and
-//! returns the exit status.
+//! line, and returns the exit status.
 #![tactic(auto)]
 
-mod fault;
 mod order;
 mod program;
 pub mod rows;
 mod words;
 
-pub use fault::WordsFault;
 pub use order::Settings;
-pub use program::{command, refuse, tell};
+pub use program::command;
 pub use words::settings;

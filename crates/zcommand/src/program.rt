@@ -1,17 +1,17 @@
 //! A run of the program, without its devices.
 
 ghost use Rattle.std.specs.Prelude.{◌≡◌, ◌≤◌, [], codes, Err};
-ghost use Rattle.zoptions.specs.Asked.{texts_of};
+ghost use Rattle.zcli.specs.Asked.{texts_of};
 ghost use Rattle.zdevices.specs.Device.{source_run, sink_run};
-ghost use Rattle.zcommand.specs.Words.{words_fault_text, words_fault_status};
 ghost use Rattle.zcommand.specs.Asked.{settings_asked};
-ghost use Rattle.zcommand.specs.Command.{IsTold, IsPlayedAsAsked, IsCutAndTold};
+ghost use Rattle.zcli.specs.Telling.{IsTold};
+ghost use Rattle.zcommand.specs.Command.{IsPlayedAsAsked, IsCutAndTold};
 
-use crate::fault::WordsFault;
 use crate::order::Settings;
 use crate::words::settings;
 use std::alloc::Global;
-use zscript::{Sink, Source, play, write_all};
+use zcli::{WordsFault, refuse, tell};
+use zscript::{Sink, Source, play};
 
 /// Does what the words ask for, reports a fault on `faults`, and returns the exit status.
 ///
@@ -55,26 +55,4 @@ pub fn command<S: Source, K: Sink, F: Sink>(
             1
         }
     }
-}
-
-/// Reports why there are no words to do, and returns the exit status.
-pub fn refuse<F: Sink>(fault: WordsFault, faults: &mut F) -> u8
-    ensures status { result ≡ words_fault_status fault }
-    ensures told { IsTold
-        (sink_run F.took F.failed faults.old faults.new) (words_fault_text fault) }
-{
-    tell(faults, fault.text());
-    fault.status()
-}
-
-/// Writes a line. Only a fault of the device ends it early.
-pub fn tell<F: Sink>(faults: &mut F, text: &str)
-    ensures { IsTold (sink_run F.took F.failed faults.old faults.new) text.now }
-{
-    let Ok(()) = write_all(faults, text.as_bytes()) else {
-        return;
-    };
-    let Ok(()) = write_all(faults, b"\n") else {
-        return;
-    };
 }

@@ -3,8 +3,8 @@
 ghost use Rattle.std.specs.Prelude.{◌≡◌, codes, Err, Ok};
 ghost use Rattle.zcommand.specs.support.Rows.{text_asked};
 
-use crate::fault::WordsFault;
 use crate::order::Settings;
+use zcli::WordsFault;
 
 /// Words of the program, separated by spaces, and how many servers they ask for.
 pub fn words_ask_for_servers()

@@ -1,13 +1,12 @@
 //! A program's words.
 
 ghost use Rattle.std.specs.Prelude.{◌≡◌, IfErr, IfOk, Ok, Some};
-ghost use Rattle.zoptions.specs.Asked.{texts_of};
+ghost use Rattle.zcli.specs.Asked.{texts_of};
 ghost use Rattle.zcommand.specs.Asked.{settings_asked, settings_of, IsFaultOf, IsScript};
 
-use crate::fault::WordsFault;
 use crate::order::Settings;
 use std::alloc::Global;
-use zoptions::{NumberOption, numbers_asked};
+use zcli::{NumberOption, WordsFault, numbers_asked};
 use zprotocol::MAX_SERVERS;
 use zscript::Servers;
 

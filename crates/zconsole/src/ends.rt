@@ -10,8 +10,9 @@ use crossbeam_channel::{Pass, RuledReceiver, RuledSender, bounded_with};
 use std::alloc::Global;
 use std::sync::Wait;
 use thiserror::Error;
+use zbells::Bells;
 use zpath::Memory;
-use zprotocol::ServerId;
+use zprotocol::{Process, ServerId};
 
 /// How many orders the channel has room for.
 pub const ROOM: usize = 32;
@@ -26,6 +27,8 @@ pub struct Closed;
 pub struct Console {
     pub(crate) to: RuledSender<Order, Log, Fifo>,
     pub(crate) pass: Pass<Order, Log>,
+    // that of the master's thread is rung
+    pub(crate) bells: Bells,
     ghost seat: { IsSeatAt (sends_on to) pass },
     ghost puts: { (view pass).puts ≡ true },
 }
@@ -47,14 +50,14 @@ impl Console {
 
     /// Returns the two ends of an empty channel with room for `ROOM` orders. The only error is out
     /// of memory.
-    pub fn open(alloc: Global) -> Result<(Console, Inbox), Memory>
+    pub fn open(alloc: Global, bells: Bells) -> Result<(Console, Inbox), Memory>
         ensures ends { IfOk result (λ r. AreEnds r.0 r.1) }
         ensures empty { IfOk result (λ r. (ordered r.0 ≡ []) × (taken_of r.1 ≡ [])) }
         ensures room { IfOk result (λ r. room_of r.0 ≡ ROOM) }
     {
         let (to, from, mut pass) = bounded_with::<Order, Log, Fifo, Global>(alloc, ROOM)?;
         let other = to.another::<Roles>(&mut pass);
-        Ok((Console { to, pass }, Inbox { from, pass: other }))
+        Ok((Console { to, pass, bells }, Inbox { from, pass: other }))
     }
 
     /// Orders that a server join. Blocks until there is room. At `Err` nothing was sent.
@@ -77,14 +80,17 @@ impl Console {
         self.put(rt, Order::Retire(server))
     }
 
-    // Sends an order.
+    // Sends an order, and wakes the master's thread.
     fn put<R: Wait>(&mut self, rt: &R, order: Order) -> Result<(), Closed>
         ensures ok { OnOk result (ordered self.new ≡ ordered self.old ++ order ∷ []) }
         ensures err { OnErr result (ordered self.new ≡ ordered self.old) }
         ensures ends { IsSameConsole self.old self.new }
     {
         match self.to.send_as::<Puts, R>(rt, &mut self.pass, order) {
-            Ok(()) => Ok(()),
+            Ok(()) => {
+                self.bells.ring(Process::Master.place());
+                Ok(())
+            }
             Err(_) => Err(Closed),
         }
     }
@@ -94,7 +100,7 @@ impl Console {
         requires { AreEnds self inbox }
         ensures { (left : List Order) × (ordered self ≡ taken_of inbox ++ left) }
     {
-        let Console { to, mut pass } = self;
+        let Console { to, mut pass, .. } = self;
         let Inbox {
             from: _,
             pass: other,

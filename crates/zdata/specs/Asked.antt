@@ -4,8 +4,8 @@ use Rattle.std.specs.Str.{bytes_eq}
 use Rattle.zcommand.specs.Asked.{settings_asked}
 use Rattle.zcommand.specs.declared.order.Settings.{Settings}
 use Rattle.zcommand.specs.declared.order.Settings.TheVariants.{Script}
-use Rattle.zcommand.specs.declared.fault.WordsFault.{WordsFault}
-use Rattle.zcommand.specs.declared.fault.WordsFault.TheVariants.{BadWords}
+use Rattle.zcli.specs.declared.fault.WordsFault.{WordsFault}
+use Rattle.zcli.specs.declared.fault.WordsFault.TheVariants.{BadWords}
 use Rattle.zfile.specs.declared.mode.SyncMode.{SyncMode}
 use Rattle.zfile.specs.declared.mode.SyncMode.TheVariants.{Batch, Never}
 

@@ -1,6 +1,6 @@
 -- The exit status of a program whose script ended early: this project's own profile.
 use Rattle.std.specs.Prelude.{ℕ}
-use Rattle.zcommand.specs.Words.{words_fault_status}
+use Rattle.zcli.specs.Words.{words_fault_status}
 use Rattle.zdata.specs.declared.fault.DataFault.{DataFault}
 use Rattle.zdata.specs.declared.fault.DataFault.TheVariants.{Words, Memory, Read, Write, Folder, Service, Batch}
 use Rattle.zdurable.specs.declared.fault.CommitFault.{CommitFault}

@@ -5,7 +5,7 @@ ghost use Rattle.std.specs.Prelude.{◌≡◌};
 use std::alloc::{AllocError, AllocFailed};
 use std::fmt;
 use thiserror::Error;
-use zcommand::WordsFault;
+use zcli::WordsFault;
 use zdurable::{CommitFault, OpenFault};
 use zfile::FileFault;
 use zjournal::OpenError;

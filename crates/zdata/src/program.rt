@@ -11,7 +11,7 @@ use crate::fault::DataFault;
 use crate::words::data_settings;
 use std::alloc::Global;
 use std::fs::{File, Files};
-use zcommand::{WordsFault, tell};
+use zcli::{WordsFault, tell};
 use zdurable::Durable;
 use zfile::{FileDevice, SyncMode};
 use zscript::{Servers, Sink, Source};
@@ -21,7 +21,7 @@ const LONG: usize = 1_048_576;
 
 /// Does what the words ask for, reports a fault on `faults`, and returns the exit status: 0 where
 /// all was answered, or that of the fault (`DataFault::status`).
-pub fn data_command<R: Files<File = File>, S: Source, K: Sink, F: Sink>(
+pub fn data_command<R: Files<File = File> + Copy, S: Source, K: Sink, F: Sink>(
     alloc: Global,
     files: &R,
     words: &[&str],
@@ -41,7 +41,7 @@ pub fn data_command<R: Files<File = File>, S: Source, K: Sink, F: Sink>(
 }
 
 // Opens the folder that the words ask for, and answers all lines (`answer_all`).
-fn run<R: Files<File = File>, S: Source, K: Sink, F: Sink>(
+fn run<R: Files<File = File> + Copy, S: Source, K: Sink, F: Sink>(
     alloc: Global,
     files: &R,
     words: &[&str],
@@ -55,17 +55,29 @@ fn run<R: Files<File = File>, S: Source, K: Sink, F: Sink>(
     let asked = data_settings(alloc, words)?;
     let device = FileDevice::open(alloc, files, folder, asked.mode)?;
     tell_opening(alloc, asked.mode, device.waiting(), faults);
-    let mut service = opened(alloc, device, asked.servers)?;
-    answer_all(alloc, &mut service, source, sink)?;
-    Ok(())
+    let service = opened(alloc, device, asked.servers)?;
+    answer(alloc, service, source, sink)
+}
+
+// Answers all lines (`answer_all`).
+fn answer<R: Files<File = File> + Copy, S: Source, K: Sink>(
+    alloc: Global,
+    mut service: Durable<FileDevice<R>>,
+    source: &mut S,
+    sink: &mut K,
+) -> Result<(), DataFault>
+    requires open { IsOpen service }
+    requires sound { IsSound seen_of MayLeaveOf service }
+{
+    answer_all(alloc, &mut service, source, sink)
 }
 
 // Opens the service of a file.
-fn opened(
+fn opened<R: Files<File = File> + Copy>(
     alloc: Global,
-    device: FileDevice,
+    device: FileDevice<R>,
     servers: Servers,
-) -> Result<Durable<FileDevice>, DataFault>
+) -> Result<Durable<FileDevice<R>>, DataFault>
     requires durable { Only (seen_of device) (MayLeaveOf device) }
     ensures serving { IfOk result (λ service. (batches : List (List ℕ))
         × IsServing seen_of MayLeaveOf servers batches service) }

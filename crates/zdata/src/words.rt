@@ -1,11 +1,12 @@
 //! The words of a script that keeps a folder.
 
 ghost use Rattle.std.specs.Prelude.{◌≡◌, ◌⊎◌, IfOk, IfErr, Ok, Err};
-ghost use Rattle.zoptions.specs.Asked.{texts_of};
+ghost use Rattle.zcli.specs.Asked.{texts_of};
 ghost use Rattle.zdata.specs.Asked.{data_asked, mode_of};
 
 use std::alloc::Global;
-use zcommand::{Settings, WordsFault, settings};
+use zcli::WordsFault;
+use zcommand::{Settings, settings};
 use zfile::SyncMode;
 use zscript::Servers;
 

@@ -1,11 +1,13 @@
 -- What waits before the rings, where one link of many changes.
-use Rattle.std.proofs.Common.{◌≡◌, ◌≢◌, ◌<◌, ◌≤◌, ◌+◌, ℕ, List, [], ◌∷◌, ◌++◌, length, set, sym, ap, ◌∙◌, subst, ⊎_elim, arith}
+use Rattle.std.proofs.Common.{◌≡◌, ◌≢◌, ◌≤◌, ◌+◌, ◌||◌, ℕ, Bool, false, List, [], ◌∷◌, ◌++◌, length, set, refl, ◌∙◌, subst, ⊎_elim, arith}
 use mathlib.Core.Option.{some}
 use lib.ListN.{get_elem?}
 use Rattle.atomic_table.proofs.Lists.{at_set}
 use Rattle.zrings.specs.declared.ends.Tx.{Tx}
-use Rattle.zrings.specs.Ends.{put_of, waiting}
-use Rattle.zdesks.specs.Waiting.{EachBelow, IsEmpty, NothingWaits}
+use Rattle.zrings.specs.declared.ends.Rx.{Rx}
+use Rattle.zrings.specs.Ends.{in_ring, put_of, waiting}
+use Rattle.zdesks.specs.Waiting.{EachBelow, IsEmpty, NothingWaits, SeesNothing, SeesSome}
+use Rattle.zdesks.proofs.Endings.{neither}
 use Rattle.zdesks.proofs.Wires.{within}
 
 module _ {X : Type 0} (P : X → Type 0) where
@@ -27,7 +29,26 @@ module _ {M : Type 0} where
   pub fresh_is_empty : (t : Tx M) → put_of t ≡ [] → IsEmpty t
   fresh_is_empty t fresh = back_of _ (waiting t) fresh
 
+  -- a link on which nothing waits now
+  pub nothing_there : (outs : List (Tx M)) (k : ℕ) (y : Tx M) → IsEmpty y → NothingWaits outs → NothingWaits (set outs k y)
+  nothing_there outs k y mine none i t is =
+      ⊎_elim (λ h. subst IsEmpty h.1 mine) (λ h. none i t h.1) (at_set outs k i y t is)
+
   -- a link on which nothing more waits
   pub nothing_more : (outs : List (Tx M)) (k : ℕ) (x y : Tx M) → get_elem? outs k ≡ some x → waiting y ≡ waiting x → NothingWaits outs → NothingWaits (set outs k y)
-  nothing_more outs k x y at same none i t is =
-      ⊎_elim (λ h. subst IsEmpty h.1 (same ∙ none k x at)) (λ h. none i t h.1) (at_set outs k i y t is)
+  nothing_more outs k x y at same none = nothing_there outs k y (same ∙ none k x at) none
+
+  -- a link of which it is noticed whether something waits on it
+  pub nothing_noticed : (outs : List (Tx M)) (k : ℕ) (y : Tx M) (before there : Bool) → (before ≡ false → NothingWaits outs) → (there ≡ false → IsEmpty y)
+      → (before || there) ≡ false → NothingWaits (set outs k y)
+  nothing_noticed outs k y before there none mine is =
+      let each = neither before there is in nothing_there outs k y (mine each.1) (none each.0)
+
+  -- the end that was looked at is the one that is there now
+  pub sees_nothing : (ins : List (Rx M)) (k : ℕ) (y : Rx M) → in_ring y ≡ [] → SeesNothing k (set ins k y)
+  sees_nothing ins k y mine r at =
+      ⊎_elim (λ h. subst (λ (x : Rx M). in_ring x ≡ []) h.1 mine) (λ h. absurd (h.0 refl)) (at_set ins k k y r at)
+
+  pub sees_some : (ins : List (Rx M)) (k : ℕ) (y : Rx M) → in_ring y ≢ [] → SeesSome k (set ins k y)
+  sees_some ins k y mine r at =
+      ⊎_elim (λ h. subst (λ (x : Rx M). in_ring x ≢ []) h.1 mine) (λ h. absurd (h.0 refl)) (at_set ins k k y r at)

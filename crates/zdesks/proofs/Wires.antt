@@ -28,10 +28,10 @@ each_set {X} P Q xs i y each mine other j x at =
     ⊎_elim (λ h. subst (λ (p : ℕ × X). Q p.0 p.1) (λ k. (sym h.0 k, h.1 k)) mine) (λ h. other j x h.0 (each j x h.1)) (at_set xs i j y x at)
 
 pub same_desk : (a b c : Desk) → SameDesk a b → SameDesk b c → SameDesk a c
-same_desk a b c x y = record { me = y.me ∙ x.me; last = y.last ∙ x.last; clients = y.clients ∙ x.clients; links = y.links ∙ x.links; ins = y.ins ∙ x.ins; outs = y.outs ∙ x.outs }
+same_desk a b c x y = record { me = y.me ∙ x.me; last = y.last ∙ x.last; clients = y.clients ∙ x.clients; traced = y.traced ∙ x.traced; links = y.links ∙ x.links; ins = y.ins ∙ x.ins; outs = y.outs ∙ x.outs }
 
 pub same_books : (a b c : Desk) → SameBooks a b → SameBooks b c → SameBooks a c
-same_books a b c x y = record { trace = y.trace ∙ x.trace; told = y.told ∙ x.told; stamp = y.stamp ∙ x.stamp; is_cut = y.is_cut ∙ x.is_cut; room = λ r. y.room (x.room r) }
+same_books a b c x y = record { trace = y.trace ∙ x.trace; told = y.told ∙ x.told; stamp = y.stamp ∙ x.stamp; is_cut = y.is_cut ∙ x.is_cut; lost = y.lost ∙ x.lost; room = λ r. y.room (x.room r) }
 
 -- a process is itself
 pub same_self : (p : Process) → is_same p p ≡ true
@@ -127,6 +127,22 @@ module _ (who : Self) (b : Books) (s : TreeStanding) (deeds : List TreeDeed) whe
             ap (λ l. put_of y ++ stamped b.stamp l)
             (sym (msg_else (process_at i) to m w (ap (λ q. is_same (process_at i) q) (sym is) ∙ apart i k (λ e. absurd (omega arith)))))
             ∙ a.put i y at;
+      }
+
+  -- one end looked, and took nothing
+  pub in_looked : (t : TreeTaken) (w : List TreePost) (k : ℕ) (r r' : Rx TreeStamped) → Accounts who b s t w deeds
+      → get_elem? b.ins k ≡ some r → taken_of r' ≡ taken_of r → Accounts who (record b { ins = set b.ins k r' }) s t w deeds
+  in_looked t w k r r' a at e =
+      let P : ℕ → Rx TreeStamped → Type 0 = λ i y. taken_of y ≡ takes (process_at i) deeds ++ took_from (process_at i) t in
+      record {
+        goes = a.goes;
+        left = a.left;
+        last = a.last;
+        traced = a.traced;
+        told = a.told;
+        taken = each_set P P b.ins k r' a.taken (e ∙ a.taken k r at) (λ j y ne h. h);
+        others = λ p out. a.others p (λ i lt. out i (let n = length-set b.ins k r' in omega arith));
+        put = a.put;
       }
 
   -- nothing was taken

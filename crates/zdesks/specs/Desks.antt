@@ -1,8 +1,9 @@
--- What a clause says of an endpoint: that its process went by its table through its trace. What was
--- received from its channels, and sent on them, is what its steps received and sent.
+-- What a clause says of an endpoint: that its process went by its table, through its trace if it
+-- keeps one. What was received from its channels, and sent on them, is what its steps received and
+-- sent.
 -- Van Renesse and Schneider, "Chain Replication for Supporting High Throughput and Availability"
 -- (OSDI 2004), section 3.
-use Rattle.std.specs.Prelude.{◌≡◌, ◌<◌, ℕ, Bool, false, List, [], ◌∷◌, ◌++◌, Option, None, Some, length, map, option_to_list, if◌then◌else◌}
+use Rattle.std.specs.Prelude.{◌≡◌, ◌<◌, ℕ, Bool, true, false, List, [], ◌∷◌, ◌++◌, Option, None, Some, length, map, option_to_list, if◌then◌else◌}
 use Rattle.std.specs.Option.{option_map}
 use Rattle.std.specs.Vec.{vec_len, vec_capacity}
 use mathlib.Core.Option.{some}
@@ -97,6 +98,12 @@ seen_of d = d.seen.items
 abbrev pub is_cut_of : Desk → Bool
 is_cut_of d = d.is_cut
 
+abbrev pub is_lost_of : Desk → Bool
+is_lost_of d = d.is_lost
+
+abbrev pub is_traced_of : Desk → Bool
+is_traced_of d = d.is_traced
+
 abbrev pub stamp_of_desk : Desk → ℕ
 stamp_of_desk d = d.stamp
 
@@ -110,13 +117,14 @@ room_of d = d.out.room
 abbrev pub link_count : Desk → ℕ
 link_count d = length d.ins.items
 
--- the lists of an endpoint, and its last timestamp
+-- the lists of an endpoint, its last timestamp, and whether its trace is cut
 pub record Books : Type 0 where
   pub ins : List (Rx TreeStamped)
   pub outs : List (Tx TreeStamped)
   pub trace : List TraceEvent
   pub told : History
   pub stamp : ℕ
+  pub is_cut : Bool
 
 abbrev pub books_of : Desk → Books
 books_of d = record {
@@ -125,6 +133,7 @@ books_of d = record {
   trace = d.trace.items;
   told = d.seen.items;
   stamp = d.stamp;
+  is_cut = d.is_cut;
 }
 
 -- the process is at none of the first n places
@@ -132,26 +141,28 @@ abbrev pub IsOutside : Process → ℕ → Type 0
 IsOutside p n = (i : ℕ) → i < n → is_same p (process_at i) ≡ false
 
 -- the steps of a process account for its books, and it stands at `s` now; beside what they
--- received, `t` was received; of what they sent, `waits` is on no channel yet
+-- received, `t` was received; of what they sent, `waits` is on no channel yet; they are its trace
+-- and its record, unless the trace is cut
 pub record Accounts (who : Self) (b : Books) (s : TreeStanding) (t : TreeTaken) (waits : List TreePost) (deeds : List TreeDeed) : Type 0 where
   pub goes : GoesBy kept_tree who.me who.opening 0 deeds
   pub left : left_by who.opening deeds ≡ s
   pub last : last_by 0 deeds ≡ b.stamp
-  pub traced : trace_by deeds ≡ b.trace
-  pub told : told_by deeds ≡ b.told
+  pub traced : b.is_cut ≡ false → trace_by deeds ≡ b.trace
+  pub told : b.is_cut ≡ false → told_by deeds ≡ b.told
   pub taken : Each (λ i r. taken_of r ≡ takes (process_at i) deeds ++ took_from (process_at i) t) b.ins
   pub others : (p : Process) → IsOutside p (length b.ins) → (takes p deeds ≡ []) × (took_from p t ≡ [])
   pub put : Each (λ i x. put_of x ++ stamped b.stamp (messages_to (process_at i) waits) ≡ puts (process_at i) deeds) b.outs
 
--- unless its trace is cut, the process went by its table to where it stands
+-- unless what it did is lost, the process went by its table to where it stands; it is never lost
+-- where its trace isn't cut
 abbrev pub Stands : Desk → TreeStanding → TreeTaken → List TreePost → Type 0
 Stands d s t waits =
-    d.is_cut ≡ false → ∥ ((deeds : List TreeDeed) × Accounts (self_of d) (books_of d) s t waits deeds) ∥₁
+    d.is_lost ≡ false → ∥ ((deeds : List TreeDeed) × Accounts (self_of d) (books_of d) s t waits deeds) ∥₁
 
 -- the same, once the caller has seen this too
 abbrev pub StandsToTell : Desk → History → TreeStanding → TreeTaken → List TreePost → Type 0
 StandsToTell d told s t waits =
-    d.is_cut ≡ false
+    d.is_lost ≡ false
     → ∥ ((deeds : List TreeDeed)
     × Accounts (self_of d) (record (books_of d) { told = (books_of d).told ++ told }) s t waits deeds) ∥₁
 
@@ -176,28 +187,30 @@ abbrev pub HasTold : Desk → Desk → History → Type 0
 HasTold a b told =
     (s : TreeStanding) (t : TreeTaken) (posts : List TreePost) → StandsToTell a told s t posts → Stands b s t posts
 
--- the same process, with the same ends of the same rings
+-- the same process, with the same ends of the same rings, and traced as it was
 pub record SameDesk (a b : Desk) : Type 0 where
   pub me : b.me ≡ a.me
   pub last : b.last ≡ a.last
   pub clients : b.clients ≡ a.clients
+  pub traced : b.is_traced ≡ a.is_traced
   pub links : link_count b ≡ link_count a
   pub ins : map ring_of_rx b.ins.items ≡ map ring_of_rx a.ins.items
   pub outs : map ring_of_tx b.outs.items ≡ map ring_of_tx a.outs.items
 
--- there is room for one event in trace and record
+-- there is room for one event in trace and record, if it keeps them
 abbrev pub HasSeenRoom : Desk → Type 0
 HasSeenRoom d = vec_len d.seen < vec_capacity d.seen
 
 abbrev pub HasRoom : Desk → Type 0
-HasRoom d = (vec_len d.trace < vec_capacity d.trace) × HasSeenRoom d
+HasRoom d = is_traced_of d ≡ true → (vec_len d.trace < vec_capacity d.trace) × HasSeenRoom d
 
--- trace, record and last timestamp are as they were
+-- trace, record and last timestamp are as they were, and nothing was lost
 pub record SameBooks (a b : Desk) : Type 0 where
   pub trace : b.trace.items ≡ a.trace.items
   pub told : b.seen.items ≡ a.seen.items
   pub stamp : b.stamp ≡ a.stamp
   pub is_cut : b.is_cut ≡ a.is_cut
+  pub lost : b.is_lost ≡ a.is_lost
   pub room : HasRoom a → HasRoom b
 
 -- the caller saw this in addition
@@ -224,6 +237,14 @@ IsCutForNeed a b stamp = length (trace_of a) < MAX_EVENTS → stamp < MAX_STAMP 
 abbrev pub AreWholeBelow : ℕ → ℕ → Type 0
 AreWholeBelow events last =
     (a b : Desk) (stamp : ℕ) → IsCutForNeed a b stamp → length (trace_of a) < events → stamp < last → is_cut_of b ≡ is_cut_of a
+
+-- an event is lost only at the last timestamp
+abbrev pub IsLostForNeed : Desk → Desk → ℕ → Type 0
+IsLostForNeed a b stamp = stamp < MAX_STAMP → is_lost_of b ≡ is_lost_of a
+
+-- no event is lost before that timestamp
+abbrev pub AreKeptBelow : ℕ → Type 0
+AreKeptBelow last = (a b : Desk) (stamp : ℕ) → IsLostForNeed a b stamp → stamp < last → is_lost_of b ≡ is_lost_of a
 
 -- an event: the process stood at `s` with its last timestamp, had received `t`, and did `act`;
 -- then it stands at `s'`, it has sent `posts`, and its caller has seen `told`

@@ -1,3 +1,4 @@
 pub mod Desks
 pub mod Endings
 pub mod Waiting
+pub mod Untraced

@@ -1,9 +1,10 @@
 //! The trace of an endpoint.
 
-ghost use Rattle.std.specs.Prelude.{◌≡◌, false, IsFalse, IsTrue, max, option_to_list};
+ghost use Rattle.std.specs.Prelude.{◌≡◌, true, false, IsFalse, IsTrue, max, option_to_list};
 ghost use Rattle.ztraces.specs.Stamps.{next_stamp};
 ghost use Rattle.zdesks.specs.Desks.{HasRoom, HasSeen, HasSeenRoom, HasTold, IsCutForNeed};
-ghost use Rattle.zdesks.specs.Desks.{IsEntered, Keeps, SameDesk, SameRest, stamp_of_desk};
+ghost use Rattle.zdesks.specs.Desks.{IsEntered, IsLostForNeed, Keeps, SameDesk, SameRest};
+ghost use Rattle.zdesks.specs.Desks.{is_lost_of, stamp_of_desk};
 ghost use Rattle.zdesks.specs.Desks.{StandsAfter, StandsBeside};
 
 use crate::desk::Desk;
@@ -27,26 +28,32 @@ impl Desk {
         self.stamp.later(taken).next()
     }
 
-    /// Reserves room for one event in trace and record. False if there is no memory for it.
+    /// Reserves room for one event in trace and record, if it keeps them. False if there is no
+    /// memory for it.
     pub fn reserve(&mut self) -> bool
         ensures room { IsTrue result → HasRoom self.new }
         ensures needed { IsFalse result → HasRoom self.old → ⊥ }
         ensures keeps { Keeps self.old self.new }
         ensures same { SameRest self.old self.new }
     {
+        if !self.is_traced {
+            return true;
+        }
         if self.trace.reserve(1).is_err() {
             return false;
         }
         self.seen.reserve(1).is_ok()
     }
 
-    /// Appends an event to the trace, and what the caller saw of it to the record. The trace is cut
-    /// if the timestamp is the last one, or if there is no room for the event.
+    /// Appends an event to the trace, and what the caller saw of it to the record, if it keeps
+    /// them. The trace is cut if the timestamp is the last one, or if there is no room for the
+    /// event.
     pub fn enter(&mut self, act: Act, stamp: Stamp, told: Option<CallEvent>)
         ensures stands { StandsAfter self.old self.new act stamp (option_to_list told) }
         ensures beside { StandsBeside self.old self.new act stamp (option_to_list told) }
         ensures entered { IsEntered self.old self.new stamp act (option_to_list told) }
         ensures whole { HasRoom self.old → IsCutForNeed self.old self.new stamp }
+        ensures kept { IsLostForNeed self.old self.new stamp }
         ensures stamp { self.new.stamp ≡ stamp }
         ensures rest { (self.new.held ≡ self.old.held) × (self.new.out ≡ self.old.out) }
         ensures same { SameDesk self.old self.new }
@@ -56,6 +63,12 @@ impl Desk {
             drop(act);
             drop(told);
             self.is_cut = true;
+            self.is_lost = true;
+            return;
+        }
+        if !self.is_traced {
+            drop(act);
+            drop(told);
             return;
         }
         if self.trace.len() >= MAX_EVENTS {
@@ -76,6 +89,7 @@ impl Desk {
 
     // Appends what the caller saw to the record.
     fn tell(&mut self, told: Option<CallEvent>)
+        requires { self.old.is_traced ≡ true }
         ensures stands { HasTold self.old self.new (option_to_list told) }
         ensures rest { (self.new.held ≡ self.old.held) × (self.new.out ≡ self.old.out) }
         ensures same { SameDesk self.old self.new }
@@ -83,6 +97,7 @@ impl Desk {
         ensures cut { self.new.is_cut ≡ false → self.old.is_cut ≡ false }
         ensures trace { (self.new.trace ≡ self.old.trace) × (self.new.stamp ≡ self.old.stamp) }
         ensures whole { HasSeenRoom self.old → self.new.is_cut ≡ self.old.is_cut }
+        ensures kept { is_lost_of self.new ≡ is_lost_of self.old }
     {
         let Some(told) = told else {
             return;

@@ -12,6 +12,7 @@ mod events;
 mod limits;
 mod links;
 mod posting;
+mod resting;
 
 pub use desk::{Desk, Ending, Stamped};
 pub use limits::{MAX_EVENTS, limits_are_numbers};

@@ -1,8 +1,8 @@
 //! The channels of an endpoint.
 
-ghost use Rattle.std.specs.Prelude.{◌≡◌, ◌<◌, IsFalse, None, true};
+ghost use Rattle.std.specs.Prelude.{◌≡◌, ◌<◌, IsFalse, IsTrue, None, true};
 ghost use Rattle.zdesks.specs.Desks.{HasTaken, Keeps, SameRest, link_count, wires_of};
-ghost use Rattle.zdesks.specs.Waiting.{AreFlushed, NothingWaits};
+ghost use Rattle.zdesks.specs.Waiting.{AreFlushed, NothingWaits, SeesNothing, SeesSome};
 
 use crate::desk::{Desk, Stamped};
 use zprotocol::Process;
@@ -13,6 +13,18 @@ impl Desk {
         ensures { result ≡ link_count self.now }
     {
         self.ins.len()
+    }
+
+    /// Returns whether it finds no message in the ring of a channel.
+    #[tactic(auto, using(crate::proofs::Waiting::sees_nothing, crate::proofs::Waiting::sees_some))]
+    pub fn is_empty(&mut self, link: usize) -> bool
+        requires { link < link_count self.old }
+        ensures none { IsTrue result → SeesNothing link (wires_of self.new).0 }
+        ensures some { IsFalse result → SeesSome link (wires_of self.new).0 }
+        ensures keeps { Keeps self.old self.new }
+        ensures same { SameRest self.old self.new }
+    {
+        self.ins[link].is_empty()
     }
 
     /// Receives the next message of a channel, with its sender. None if its ring has none.
@@ -53,8 +65,11 @@ impl Desk {
         let mut waits = false;
         for link in 0..self.outs.len() {
             let out = &mut self.outs[link];
-            out.flush();
+            let is_moved = out.flush();
             waits |= out.has_waiting();
+            if is_moved {
+                self.bells.ring(link);
+            }
         }
         waits
     }

@@ -36,10 +36,10 @@ impl Desk {
         ensures same { SameDesk self.old self.new }
         ensures books { SameBooks self.old self.new }
     {
-        match self.held.take() {
-            Some(post) => Some(post),
-            None => self.out.next(),
+        if self.held.is_none() {
+            return self.out.next();
         }
+        self.held.take()
     }
 
     // Sends one message, or holds it for later. A process that has no place isn't part of this run:
@@ -58,9 +58,11 @@ impl Desk {
             drop(message);
             return true;
         }
-        match self.outs[place].put((self.stamp, message)) {
+        let out = &mut self.outs[place];
+        match out.put((self.stamp, message)) {
             Ok(()) => {
-                self.waits = true;
+                self.waits |= out.has_waiting();
+                self.bells.ring(place);
                 true
             }
             Err((_, message)) => {
@@ -81,11 +83,13 @@ impl Desk {
         self.waits = true;
         if self.outs.len() == 0 {
             self.is_cut = true;
+            self.is_lost = true;
             return;
         }
         if let Err(refused) = self.outs[0].put_last((self.stamp, Message::Gone)) {
             drop(refused);
             self.is_cut = true;
+            self.is_lost = true;
         }
     }
 }

@@ -1,2 +1,3 @@
 pub mod Unchanged
 pub mod Seen
+pub mod Named

@@ -1,9 +1,9 @@
 -- What is read is what each change made whole, or not at all.
-use Rattle.std.proofs.Common.{◌≡◌, refl, sym, ap, subst, Bool, true, false, not, ◌&&◌, ℕ, zero, suc, ◌+◌, ◌≤◌, if◌then◌else◌, List, [], ◌∷◌, ◌++◌, length, take, drop, arith, append_assoc, length-append, length-take, length-drop}
+use Rattle.std.proofs.Common.{◌≡◌, inl, inr, refl, sym, ◌∙◌, ap, subst, Bool, true, false, not, ◌&&◌, ℕ, zero, suc, ◌+◌, ◌≤◌, if◌then◌else◌, List, [], ◌∷◌, ◌++◌, length, take, drop, arith, append_assoc, length-append, length-take, length-drop}
 use mathlib.Core.Bool.{true≢false}
 use Rattle.std.proofs.lemmas.List.{drop_at, drop_all}
 use Rattle.zjournal.specs.Device.{Torn, Cut}
-use Rattle.zfile.specs.Events.{Event, FileModel, Reaches, after_call, replay, synced, MayLeave}
+use Rattle.zfile.specs.Events.{Event, FileModel, Reaches, IsLeftOf, after_call, keeps_file, keeps_name, replay, synced, MayLeave}
 use Rattle.zfile.proofs.Unchanged.{torn_not, cut_not}
 
 take_front : (k at : ℕ) (file rest : List ℕ) → k ≤ at → k ≤ length file → take k (take at file ++ rest) ≡ take k file
@@ -48,6 +48,10 @@ settled : (kept : Bool) (m : FileModel) → Reaches m.kept m.changes m.seen → 
 settled true m reaches = refl
 settled false m reaches = reaches
 
+whole_left : (whole : Bool) (bytes : List ℕ) → IsLeftOf whole bytes bytes
+whole_left true bytes = refl
+whole_left false bytes = tt
+
 abbrev IsLeft : FileModel → Type 0
 IsLeft m = Reaches m.kept m.changes m.seen
 
@@ -57,20 +61,27 @@ after (suc zero) at true bytes m left = (m.seen, left, torn_whole at bytes m.see
 after (suc zero) at false bytes m left = (m.seen, left, torn_not at (length bytes) m.seen)
 after (suc (suc zero)) len true bytes m left = (m.seen, left, cut_whole len m.seen)
 after (suc (suc zero)) len false bytes m left = (m.seen, left, cut_not len m.seen)
-after (suc (suc (suc zero))) at ok bytes m left = settled (ok && not m.has_failed) m left
-after (suc (suc (suc (suc more)))) at ok bytes m left = left
+after (suc (suc (suc zero))) at ok bytes m left = settled (keeps_file ok m) m left
+after (suc (suc (suc (suc zero)))) at ok bytes m left = left
+after (suc (suc (suc (suc (suc zero))))) at ok bytes m left = left
+after (suc (suc (suc (suc (suc (suc zero)))))) at ok bytes m left = left
+after (suc (suc (suc (suc (suc (suc (suc zero))))))) at ok bytes m left = left
+after (suc (suc (suc (suc (suc (suc (suc (suc zero)))))))) at true bytes m left = (m.seen, left, inr (whole_left m.is_whole m.beside))
+after (suc (suc (suc (suc (suc (suc (suc (suc zero)))))))) at false bytes m left = (m.seen, left, inl refl)
+after (suc (suc (suc (suc (suc (suc (suc (suc (suc more))))))))) at ok bytes m left = settled (keeps_name ok m) m left
 
 pub seen_may : (events : List Event) → MayLeave events (replay events).seen
 seen_may [] = refl
 seen_may (e ∷ earlier) = after e.0 e.1 e.2 e.3 (replay earlier) (seen_may earlier)
 
-kept_only : (kept : Bool) (m : FileModel) (c : List ℕ) → kept ≡ true → Reaches (if kept then m.seen else m.kept) (if kept then [] else m.changes) c → c ≡ m.seen
+pub kept_only : (kept : Bool) (m : FileModel) (c : List ℕ) → kept ≡ true → Reaches (if kept then m.seen else m.kept) (if kept then [] else m.changes) c → c ≡ m.seen
 kept_only true m c is reaches = reaches
 kept_only false m c is reaches = absurd (true≢false (sym is))
 
 -- a sync that was done leaves what was read, which a crash might have left before
-pub sync_leaves : (events more : List Event) → more ≡ synced true ∷ events → (replay events).has_failed ≡ false → (c : List ℕ) → MayLeave more c → MayLeave events c
-sync_leaves events more is sound c left =
+pub sync_leaves : (events more : List Event) → more ≡ synced true ∷ events → (replay events).has_failed ≡ false → (replay events).is_moved ≡ false → (c : List ℕ) → MayLeave more c → MayLeave events c
+sync_leaves events more is sound named c left =
     let m = replay events in
-    let only : c ≡ m.seen = kept_only (true && not m.has_failed) m c (ap (λ (b : Bool). true && not b) sound) (subst (λ (l : List Event). MayLeave l c) is left) in
+    let keeps : keeps_file true m ≡ true = ap (λ (b : Bool). true && not b && not m.is_moved) sound ∙ ap (λ (b : Bool). true && not false && not b) named in
+    let only : c ≡ m.seen = kept_only (keeps_file true m) m c keeps (subst (λ (l : List Event). MayLeave l c) is left) in
     subst (λ (l : List ℕ). MayLeave events l) (sym only) (seen_may events)

@@ -29,19 +29,53 @@ synced ok = (3, 0, ok, [])
 abbrev pub refused : Event
 refused = (4, 0, false, [])
 
--- a change since the last sync: a write of so many bytes at an offset, or a cut to a length
+-- a new file was to be begun beside it
+abbrev pub begun : Bool → Event
+begun ok = (5, 0, ok, [])
+
+-- these bytes were to be written at the end of the new file
+abbrev pub added : Bool → List ℕ → Event
+added ok bytes = (6, 0, ok, bytes)
+
+-- the new file was to be brought to the disk
+abbrev pub settled : Bool → Event
+settled ok = (7, 0, ok, [])
+
+-- the new file was to take the name of the old one
+abbrev pub named : Bool → Event
+named ok = (8, 0, ok, [])
+
+-- the folder, with the name, was to be brought to the disk
+abbrev pub folder_synced : Bool → Event
+folder_synced ok = (9, 0, ok, [])
+
+-- a change since the last sync: a write of so many bytes at an offset; a cut to a length; or a new
+-- file took the name, whole on the disk or not, with these bytes
 abbrev pub Change : Type 0
-Change = (ℕ × ℕ) ⊎ ℕ
+Change = (ℕ × ℕ) ⊎ (ℕ ⊎ (Bool × List ℕ))
+
+-- what is left of a new file that took the name: all of it, or where it wasn't synced first, anything
+abbrev pub IsLeftOf : Bool → List ℕ → List ℕ → Type 0
+IsLeftOf true bytes c = c ≡ bytes
+IsLeftOf false bytes c = Unit {0}
 
 -- what a crash may make of a change
 abbrev pub Takes : Change → List ℕ → List ℕ → Type 0
 Takes (inl write) old new = Torn write.0 write.1 old new
-Takes (inr len) old new = Cut len old new
+Takes (inr (inl len)) old new = Cut len old new
+Takes (inr (inr next)) old new = (new ≡ old) ⊎ IsLeftOf next.0 next.1 new
 
 -- what a crash may leave: what was kept, through each change since, of which the newest is first
 abbrev pub Reaches : List ℕ → List Change → List ℕ → Type 0
 Reaches kept [] c = c ≡ kept
 Reaches kept (change ∷ earlier) c = (d : List ℕ) × Reaches kept earlier d × Takes change d c
+
+-- nothing has happened since a whole new file took the name
+abbrev pub ends_with_name : List Change → Bool
+ends_with_name [] = false
+ends_with_name (inl write ∷ earlier) = false
+ends_with_name (inr (inl len) ∷ earlier) = false
+ends_with_name (inr (inr next) ∷ earlier) = next.0
 
 pub record FileModel : Type 0 where
   -- what a read returns
@@ -49,6 +83,11 @@ pub record FileModel : Type 0 where
   -- what was on the disk at the last sync, and the changes since
   pub kept : List ℕ
   pub changes : List Change
+  -- what the new file has, and whether it is whole on the disk
+  pub beside : List ℕ
+  pub is_whole : Bool
+  -- whether a new file took the name, which may not be on the disk
+  pub is_moved : Bool
   -- whether a call has failed, and how many have
   pub has_failed : Bool
   pub faults : ℕ
@@ -56,22 +95,40 @@ pub record FileModel : Type 0 where
 abbrev pub counted : Bool → ℕ → ℕ
 counted ok faults = if ok then faults else faults + 1
 
+-- whether this sync of the file keeps what was read, and whether this sync of the folder does
+abbrev pub keeps_file : Bool → FileModel → Bool
+keeps_file ok m = ok && not m.has_failed && not m.is_moved
+
+abbrev pub keeps_name : Bool → FileModel → Bool
+keeps_name ok m = ok && not m.has_failed && ends_with_name m.changes
+
 -- The file after one more call. A change that failed isn't seen, and may have been done in part. Once
--- a call has failed, a sync keeps nothing.
+-- a call has failed, a sync keeps nothing. A new file changes nothing before it takes the name; and
+-- no sync of the file keeps anything while the name isn't on the disk.
 abbrev pub after_call : ℕ → ℕ → Bool → List ℕ → FileModel → FileModel
 after_call zero at ok bytes m =
-    record { seen = bytes; kept = bytes; changes = []; has_failed = false; faults = 0 }
+    record { seen = bytes; kept = bytes; changes = []; beside = []; is_whole = false; is_moved = false; has_failed = false; faults = 0 }
 after_call (suc zero) at ok bytes m =
     record m { seen = if ok then take at m.seen ++ bytes ++ drop (at + length bytes) m.seen else m.seen; changes = inl (at, length bytes) ∷ m.changes; has_failed = m.has_failed || not ok; faults = counted ok m.faults }
 after_call (suc (suc zero)) len ok bytes m =
-    record m { seen = if ok then take len m.seen else m.seen; changes = inr len ∷ m.changes; has_failed = m.has_failed || not ok; faults = counted ok m.faults }
+    record m { seen = if ok then take len m.seen else m.seen; changes = inr (inl len) ∷ m.changes; has_failed = m.has_failed || not ok; faults = counted ok m.faults }
 after_call (suc (suc (suc zero))) at ok bytes m =
-    record m { kept = if ok && not m.has_failed then m.seen else m.kept; changes = if ok && not m.has_failed then [] else m.changes; has_failed = m.has_failed || not ok; faults = counted ok m.faults }
-after_call (suc (suc (suc (suc more)))) at ok bytes m = record m { faults = m.faults + 1 }
+    record m { kept = if keeps_file ok m then m.seen else m.kept; changes = if keeps_file ok m then [] else m.changes; has_failed = m.has_failed || not ok; faults = counted ok m.faults }
+after_call (suc (suc (suc (suc zero)))) at ok bytes m = record m { faults = m.faults + 1 }
+after_call (suc (suc (suc (suc (suc zero))))) at ok bytes m =
+    record m { beside = []; is_whole = false; has_failed = m.has_failed || not ok; faults = counted ok m.faults }
+after_call (suc (suc (suc (suc (suc (suc zero)))))) at ok bytes m =
+    record m { beside = if ok then m.beside ++ bytes else m.beside; is_whole = false; has_failed = m.has_failed || not ok; faults = counted ok m.faults }
+after_call (suc (suc (suc (suc (suc (suc (suc zero))))))) at ok bytes m =
+    record m { is_whole = ok && not m.has_failed; has_failed = m.has_failed || not ok; faults = counted ok m.faults }
+after_call (suc (suc (suc (suc (suc (suc (suc (suc zero)))))))) at ok bytes m =
+    record m { seen = if ok then m.beside else m.seen; changes = inr (inr (m.is_whole, m.beside)) ∷ m.changes; is_moved = true; has_failed = m.has_failed || not ok; faults = counted ok m.faults }
+after_call (suc (suc (suc (suc (suc (suc (suc (suc (suc more))))))))) at ok bytes m =
+    record m { kept = if keeps_name ok m then m.seen else m.kept; changes = if keeps_name ok m then [] else m.changes; is_moved = m.is_moved && not (keeps_name ok m); has_failed = m.has_failed || not ok; faults = counted ok m.faults }
 
 -- the file after these calls, of which the newest is first
 abbrev pub replay : List Event → FileModel
-replay [] = record { seen = []; kept = []; changes = []; has_failed = false; faults = 0 }
+replay [] = record { seen = []; kept = []; changes = []; beside = []; is_whole = false; is_moved = false; has_failed = false; faults = 0 }
 replay (e ∷ earlier) = after_call e.0 e.1 e.2 e.3 (replay earlier)
 
 -- what a crash may leave after these calls

@@ -4,14 +4,14 @@ use Rattle.zfile.specs.declared.device.FileDevice.{FileDevice}
 use Rattle.zfile.specs.Events.{Event, replay, MayLeave}
 
 -- the calls so far, the newest first
-abbrev pub events_of : FileDevice → List Event
+abbrev pub events_of : {R : Type 0} → FileDevice R → List Event
 events_of f = f.log.events
 
 -- what a read returns, and what a crash may leave
-abbrev pub seen_of : FileDevice → List ℕ
+abbrev pub seen_of : {R : Type 0} → FileDevice R → List ℕ
 seen_of f = (replay (events_of f)).seen
 
-abbrev pub MayLeaveOf : FileDevice → List ℕ → Type 0
+abbrev pub MayLeaveOf : {R : Type 0} → FileDevice R → List ℕ → Type 0
 MayLeaveOf f = MayLeave (events_of f)
 
 -- how many bytes wait to be handed out
@@ -19,5 +19,5 @@ abbrev pub count_of : {A : Type 0} → Option (Vec ℕ A) → ℕ
 count_of None = 0
 count_of (Some bytes) = length bytes.items
 
-abbrev pub waiting_of : FileDevice → ℕ
+abbrev pub waiting_of : {R : Type 0} → FileDevice R → ℕ
 waiting_of f = count_of f.waits

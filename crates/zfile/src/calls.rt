@@ -2,8 +2,9 @@
 
 use crate::FileFault;
 use std::alloc::Global;
-use std::fs::File;
-use std::io::Read;
+use std::fs;
+use std::fs::{File, Files};
+use std::io::{Read, Write};
 use std::os::unix::fs::FileExt;
 
 /// Writes all the bytes at this offset.
@@ -26,4 +27,19 @@ pub(crate) fn read_all(alloc: Global, mut file: &File) -> Result<Vec<u8>, FileFa
     let mut bytes = Vec::new(alloc);
     file.read_to_end(&mut bytes)?;
     Ok(bytes)
+}
+
+/// Writes all the bytes at the end of a file that nobody else writes.
+pub(crate) fn append(mut file: &File, bytes: &[u8]) -> bool {
+    file.write_all(bytes).is_ok()
+}
+
+/// Waits until the disk has a file, with its length, or a folder with its names.
+pub(crate) fn sync_all(file: &File) -> bool {
+    file.sync_all().is_ok()
+}
+
+/// Gives a file the name of another, which loses it.
+pub(crate) fn rename<R: Files<File = File>>(files: &R, from: &str, to: &str) -> bool {
+    fs::rename(files, from, to).is_ok()
 }

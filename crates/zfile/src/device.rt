@@ -1,58 +1,63 @@
 //! A device over one file of the system. Each method makes one call, and then notes it with its
-//! answer.
+//! answer. The new file takes its place in three such steps.
 
-ghost use Rattle.std.specs.Prelude.{◌≡◌, ◌∷◌, [], IfOk, Err, length};
+ghost use Rattle.std.specs.Prelude.{◌≡◌, ◌∷◌, [], true, false, IfOk, IfErr, OnErr, OnOk, length};
 ghost use Rattle.zjournal.specs.Device.{Only};
 ghost use Rattle.zjournal.specs.declared.device.DeviceError.TheVariants.{Failed};
 ghost use Rattle.zfile.specs.Events.{held, refused, replay, MayLeave};
+ghost use Rattle.zfile.specs.Events.{ends_with_name, folder_synced, named, settled};
 ghost use Rattle.zfile.specs.Moments.{LeftSince, left_now, left_last};
 ghost use Rattle.zfile.specs.Waiting.{calls_before};
 
+use crate::numbers::{
+    ADDED, BEGUN, FOLDER_SYNCED, HELD, NAMED, REFUSED, SETTLED, SHORTENED, SYNCED, WRITTEN,
+};
+use crate::opening::Place;
 use crate::record::Record;
 use crate::{FileFault, SyncMode, calls, opening};
 use std::alloc::Global;
 use std::fs::{File, Files};
+use std::mem;
 use zjournal::{Device, DeviceError};
 
-const HELD: u64 = 0;
-
-const WRITTEN: u64 = 1;
-
-const SHORTENED: u64 = 2;
-
-const SYNCED: u64 = 3;
-
-const REFUSED: u64 = 4;
-
-/// The file `journal` of a folder. It is locked until this is dropped.
+/// The file `journal` of a folder. It is locked until this is dropped, also when a new one,
+/// `journal.new`, takes its place.
 #[derive(Drop)]
-pub struct FileDevice {
+pub struct FileDevice<R> {
+    files: R,
+    place: Place,
     file: File,
+    // The new file, where one is begun, and the one that lost its name last.
+    beside: Option<File>,
+    former: Option<File>,
     mode: SyncMode,
     // What was read at opening, until the file is changed or synced.
     waits: Option<Vec<u8>>,
     has_failed: bool,
+    // A new file has the name, which may not be on the disk.
+    is_moved: bool,
     log: Record,
     ghost waiting: { log.events ≡ calls_before waits log.events },
     ghost failed: { has_failed ≡ (replay log.events).has_failed },
+    ghost moved: { is_moved ≡ (replay log.events).is_moved },
 }
 
-impl FileDevice {
+impl<R: Files<File = File> + Copy> FileDevice<R> {
     ghost use Rattle.zfile.specs.File.{events_of, seen_of, MayLeaveOf, waiting_of};
 
     /// Opens the file of the folder, locks it and reads it whole. Folder and file are made where
     /// they are missing, for their owner alone. File, folder and the folder above are synced.
-    pub fn open<R: Files<File = File>>(
+    pub fn open(
         alloc: Global,
         files: &R,
         folder: &str,
         mode: SyncMode,
-    ) -> Result<FileDevice, FileFault>
+    ) -> Result<FileDevice<R>, FileFault>
         ensures fresh { IfOk result (λ file. events_of file ≡ held (seen_of file) ∷ []) }
         ensures durable { IfOk result (λ file. Only (seen_of file) (MayLeaveOf file)) }
     {
-        let (file, bytes) = opening::open_locked(alloc, files, folder)?;
-        Ok(FileDevice::begin(file, bytes, mode))
+        let (place, file, bytes) = opening::open_locked(alloc, files, folder)?;
+        Ok(FileDevice::begin(*files, place, file, bytes, mode))
     }
 
     /// How many bytes wait to be read.
@@ -66,16 +71,21 @@ impl FileDevice {
     }
 
     // The device over a file that holds these bytes, all of them on the disk.
-    fn begin(file: File, bytes: Vec<u8>, mode: SyncMode) -> FileDevice
+    fn begin(files: R, place: Place, file: File, bytes: Vec<u8>, mode: SyncMode) -> FileDevice<R>
         ensures fresh { events_of result ≡ held bytes.items ∷ [] }
     {
         let mut log = Record::new();
         log.note(&[HELD, 0, 1], &bytes);
         FileDevice {
+            files,
+            place,
             file,
+            beside: None,
+            former: None,
             mode,
             waits: Some(bytes),
             has_failed: false,
+            is_moved: false,
             log,
         }
     }
@@ -89,9 +99,77 @@ impl FileDevice {
         self.log.note(&[REFUSED, 0, 0], &[]);
         DeviceError::Failed
     }
+
+    // Brings the new file to the disk.
+    fn settle(&mut self) -> Result<(), DeviceError>
+        ensures done { OnOk result (events_of self.new ≡ settled true ∷ events_of self.old) }
+        ensures not_done { OnErr result (events_of self.new
+            ≡ settled false ∷ events_of self.old) }
+        ensures told { IfErr result (λ e. e ≡ Failed) }
+    {
+        let done = match &self.beside {
+            Some(next) => self.mode == SyncMode::Never || calls::sync_all(next),
+            None => false,
+        };
+        self.waits = None;
+        if done {
+            self.log.note(&[SETTLED, 0, 1], &[]);
+            Ok(())
+        } else {
+            self.log.note(&[SETTLED, 0, 0], &[]);
+            self.has_failed = true;
+            Err(DeviceError::Failed)
+        }
+    }
+
+    // Gives the new file the name of the old one, which stays locked.
+    fn take_name(&mut self) -> Result<(), DeviceError>
+        ensures done { OnOk result (events_of self.new ≡ named true ∷ events_of self.old) }
+        ensures not_done { OnErr result (events_of self.new ≡ named false ∷ events_of self.old) }
+        ensures told { IfErr result (λ e. e ≡ Failed) }
+    {
+        self.waits = None;
+        self.is_moved = true;
+        if calls::rename(&self.files, &self.place.new_path, &self.place.path) {
+            self.log.note(&[NAMED, 0, 1], &[]);
+            if let Some(next) = self.beside.take() {
+                self.former = Some(mem::replace(&mut self.file, next));
+            }
+            Ok(())
+        } else {
+            self.log.note(&[NAMED, 0, 0], &[]);
+            self.has_failed = true;
+            Err(DeviceError::Failed)
+        }
+    }
+
+    // Brings the folder to the disk, with the name. Then the old file's bytes are let go.
+    fn sync_folder(&mut self) -> Result<(), DeviceError>
+        requires whole { ends_with_name (replay (events_of self.old)).changes ≡ true }
+        requires sound { (replay (events_of self.old)).has_failed ≡ false }
+        ensures done { OnOk result (events_of self.new
+            ≡ folder_synced true ∷ events_of self.old) }
+        ensures not_done { OnErr result (events_of self.new
+            ≡ folder_synced false ∷ events_of self.old) }
+        ensures told { IfErr result (λ e. e ≡ Failed) }
+    {
+        self.waits = None;
+        if self.mode == SyncMode::Never || calls::sync_all(&self.place.folder) {
+            self.log.note(&[FOLDER_SYNCED, 0, 1], &[]);
+            self.is_moved = false;
+            if let Some(former) = &self.former {
+                calls::cut(former, 0);
+            }
+            Ok(())
+        } else {
+            self.log.note(&[FOLDER_SYNCED, 0, 0], &[]);
+            self.has_failed = true;
+            Err(DeviceError::Failed)
+        }
+    }
 }
 
-impl Device for FileDevice {
+impl<R: Files<File = File> + Copy> Device for FileDevice<R> {
     ghost seen = { λ f. (replay f.log.events).seen };
 
     ghost may_leave = { λ f. MayLeave f.log.events };
@@ -101,6 +179,8 @@ impl Device for FileDevice {
     ghost left_since = { λ f. LeftSince f.log.events };
 
     ghost faults = { λ f. (replay f.log.events).faults };
+
+    ghost beside = { λ f. (replay f.log.events).beside };
 
     ghost counts_now = { λ f t c le may. left_now f.log.events t c may };
 
@@ -145,8 +225,9 @@ impl Device for FileDevice {
         }
     }
 
+    // No sync of the file brings its name to the disk.
     fn sync(&mut self) -> Result<(), DeviceError> {
-        if self.has_failed {
+        if self.has_failed || self.is_moved {
             return Err(self.refuse());
         }
         self.waits = None;
@@ -158,5 +239,53 @@ impl Device for FileDevice {
             self.has_failed = true;
             Err(DeviceError::Failed)
         }
+    }
+
+    fn begin_beside(&mut self) -> Result<(), DeviceError> {
+        if self.has_failed {
+            return Err(self.refuse());
+        }
+        self.waits = None;
+        match opening::new_file(&self.files, &self.place.new_path) {
+            Ok(next) => {
+                self.beside = Some(next);
+                self.log.note(&[BEGUN, 0, 1], &[]);
+                Ok(())
+            }
+            Err(_) => {
+                self.log.note(&[BEGUN, 0, 0], &[]);
+                self.has_failed = true;
+                Err(DeviceError::Failed)
+            }
+        }
+    }
+
+    fn add_beside(&mut self, bytes: &[u8]) -> Result<(), DeviceError> {
+        if self.has_failed {
+            return Err(self.refuse());
+        }
+        self.waits = None;
+        let done = match &self.beside {
+            Some(next) => calls::append(next, bytes),
+            None => false,
+        };
+        if done {
+            self.log.note(&[ADDED, 0, 1], bytes);
+            Ok(())
+        } else {
+            self.log.note(&[ADDED, 0, 0], bytes);
+            self.has_failed = true;
+            Err(DeviceError::Failed)
+        }
+    }
+
+    fn take_place(&mut self) -> Result<(), DeviceError> {
+        if self.has_failed {
+            return Err(self.refuse());
+        }
+        self.settle()?; // first the new file is on the disk
+        self.take_name()?; // then it has the name
+        self.sync_folder()?; // now its name is on the disk
+        Ok(())
     }
 }

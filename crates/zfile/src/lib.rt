@@ -25,6 +25,7 @@ mod device;
 mod fault;
 pub mod laws;
 mod mode;
+mod numbers;
 mod opening;
 mod record;
 pub mod rows;

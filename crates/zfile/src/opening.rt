@@ -1,4 +1,4 @@
-//! How the file of a folder is found, locked and read.
+//! How the file of a folder is found, locked and read, and how a new one is made beside it.
 
 use crate::FileFault;
 use crate::calls::read_all;
@@ -6,28 +6,74 @@ use std::alloc::Global;
 use std::fs;
 use std::fs::{DirBuilder, File, Files, OpenOptions};
 use std::io::ErrorKind;
-use std::os::unix::fs::{DirBuilderExt, OpenOptionsExt};
+use std::os::unix::fs::{DirBuilderExt, MetadataExt, OpenOptionsExt};
+
+/// Where a file stands.
+#[derive(Drop)]
+pub(crate) struct Place {
+    /// The folder, open.
+    pub(crate) folder: File,
+    /// The path of the file.
+    pub(crate) path: String,
+    /// The path of a new file, before it takes the place of the other.
+    pub(crate) new_path: String,
+}
 
 /// The file of the folder with all that it holds, which is on the disk. Both are made where they are
-/// missing. The lock is held as long as the file is open.
+/// missing. The lock is held as long as the file is open. An unfinished new file is passed over.
 pub(crate) fn open_locked<R: Files<File = File>>(
     alloc: Global,
     files: &R,
     folder: &str,
-) -> Result<(File, Vec<u8>), FileFault> {
-    let inside = open_folder(alloc, files, folder)?;
-    let path = joined(alloc, folder, "/journal")?;
-    let file = open_file(files, &path)?;
-    file.try_lock()?;
-    if !file.metadata()?.is_file() {
-        return Err(FileFault::NotFile);
-    }
+) -> Result<(Place, File, Vec<u8>), FileFault> {
+    let place = Place {
+        folder: open_folder(alloc, files, folder)?,
+        path: joined(alloc, folder, "/journal")?,
+        new_path: joined(alloc, folder, "/journal.new")?,
+    };
+    let file = open_file(files, &place.path)?;
+    lock(files, &file, &place.path)?;
     file.sync_all()?;
-    inside.sync_all()?;
+    place.folder.sync_all()?;
     let above = joined(alloc, folder, "/..")?;
     File::open(files, &above)?.sync_all()?;
     let bytes = read_all(alloc, &file)?;
-    Ok((file, bytes))
+    Ok((place, file, bytes))
+}
+
+// Locks the file. Another may have taken its name since it was opened: then whoever put it there has
+// the folder open.
+fn lock<R: Files<File = File>>(files: &R, file: &File, path: &str) -> Result<(), FileFault> {
+    file.try_lock()?;
+    let held = file.metadata()?;
+    if !held.is_file() {
+        return Err(FileFault::NotFile);
+    }
+    let found = fs::symlink_metadata(files, path)?;
+    if found.dev() == held.dev() && found.ino() == held.ino() {
+        Ok(())
+    } else {
+        Err(FileFault::InUse)
+    }
+}
+
+/// A new file, which has nothing and is locked. What stood at its name is removed. It is locked
+/// before it can have another name: so nobody can lock it then.
+pub(crate) fn new_file<R: Files<File = File>>(files: &R, path: &str) -> Result<File, FileFault> {
+    match fs::remove_file(files, path) {
+        Err(error) if error.kind() != ErrorKind::NotFound => return Err(FileFault::from(error)),
+        _ => {}
+    }
+    let file = open_new(files, path)?;
+    file.try_lock()?;
+    Ok(file)
+}
+
+// Makes a file that isn't there yet. A copy of a descriptor is above 2.
+fn open_new<R: Files<File = File>>(files: &R, path: &str) -> Result<File, FileFault> {
+    let mut options = OpenOptions::new();
+    options.read(true).write(true).create_new(true).mode(0o600);
+    Ok(options.open(files, path)?.try_clone()?)
 }
 
 fn joined(alloc: Global, folder: &str, name: &str) -> Result<String, FileFault> {

@@ -2,6 +2,7 @@
 
 ghost use Rattle.std.specs.Prelude.{◌≡◌, [], ◌∷◌, List, ℕ, true, false};
 ghost use Rattle.zfile.specs.Events.{held, written, shortened, synced, refused, replay, MayLeave};
+ghost use Rattle.zfile.specs.Events.{added, begun, folder_synced, named, settled};
 
 /// What is read after some calls, the newest first. A call that failed changes nothing of it.
 pub fn calls_change_a_file()
@@ -28,4 +29,35 @@ pub fn crashes_leave_what_was_synced()
         (1 ∷ []) }
     ensures too_late { MayLeave (synced true ∷ written 0 false (9 ∷ []) ∷ held (1 ∷ []) ∷ [])
         (1 ∷ []) }
+{}
+
+/// A new file changes nothing before it takes the name. Then it is what is read.
+pub fn new_files_take_the_name()
+    ensures beside { (replay (added true (8 ∷ []) ∷ begun true ∷ held (1 ∷ []) ∷ [])).beside
+        ≡ 8 ∷ [] }
+    ensures before { (replay (added true (8 ∷ []) ∷ begun true ∷ held (1 ∷ []) ∷ [])).seen
+        ≡ 1 ∷ [] }
+    ensures left { (c : List ℕ) → MayLeave (settled true ∷ added true (8 ∷ []) ∷ begun true
+        ∷ held (1 ∷ []) ∷ []) c → c ≡ 1 ∷ [] }
+    ensures behind { (replay (named true ∷ settled true ∷ added true (8 ∷ []) ∷ begun true
+        ∷ held (1 ∷ []) ∷ [])).seen ≡ 8 ∷ [] }
+    ensures not_behind { (replay (named false ∷ settled true ∷ added true (8 ∷ []) ∷ begun true
+        ∷ held (1 ∷ []) ∷ [])).seen ≡ 1 ∷ [] }
+{}
+
+/// Until the folder is synced a crash leaves either file; then the new one. Where the new file wasn't
+/// synced before it took the name, a crash leaves anything. A sync of the file keeps no name.
+pub fn names_are_kept_by_the_folder()
+    ensures either_old { MayLeave (named true ∷ settled true ∷ added true (8 ∷ []) ∷ begun true
+        ∷ held (1 ∷ []) ∷ []) (1 ∷ []) }
+    ensures either_new { MayLeave (named true ∷ settled true ∷ added true (8 ∷ []) ∷ begun true
+        ∷ held (1 ∷ []) ∷ []) (8 ∷ []) }
+    ensures no_part { MayLeave (named true ∷ settled true ∷ added true (8 ∷ []) ∷ begun true
+        ∷ held (1 ∷ []) ∷ []) [] → ⊥ }
+    ensures kept { (c : List ℕ) → MayLeave (folder_synced true ∷ named true ∷ settled true
+        ∷ added true (8 ∷ []) ∷ begun true ∷ held (1 ∷ []) ∷ []) c → c ≡ 8 ∷ [] }
+    ensures unsettled { MayLeave (folder_synced true ∷ named true ∷ added true (8 ∷ [])
+        ∷ begun true ∷ held (1 ∷ []) ∷ []) (7 ∷ 7 ∷ []) }
+    ensures of_the_file { MayLeave (synced true ∷ named true ∷ settled true ∷ added true (8 ∷ [])
+        ∷ begun true ∷ held (1 ∷ []) ∷ []) (1 ∷ []) }
 {}

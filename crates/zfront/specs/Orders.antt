@@ -15,15 +15,12 @@ use Rattle.zworld.specs.declared.did.Did.{Did}
 use Rattle.zworld.specs.declared.did.Did.TheVariants as became
 use Rattle.zworld.specs.declared.did.IdleCause.{IdleCause}
 use Rattle.zworld.specs.declared.did.IdleCause.TheVariants as cause
-use Rattle.zworld.specs.Did.{HasCause}
-use Rattle.zworld.specs.Steps.{HasDone}
 use Rattle.zcalls.specs.declared.call.Call.{Call}
 use Rattle.zcalls.specs.declared.reply.Reply.{Reply}
 use Rattle.zalone.specs.declared.order.Order.{Order}
 use Rattle.zalone.specs.declared.order.Order.TheVariants as order
-use Rattle.zalone.specs.Alone.{AloneView, Settles, SameCall}
+use Rattle.zalone.specs.Alone.{AloneView, Gives, Settles, SameCall}
 use Rattle.zalone.specs.Told.{TellsOrdered, TellsSettled}
-use Rattle.zalone.specs.Order.{event_of}
 use Rattle.ztables.specs.Tables.{operator_sent}
 use Rattle.zfront.specs.declared.orders.Wanted.{Wanted}
 use Rattle.zfront.specs.declared.orders.Wanted.TheVariants as wanted
@@ -59,12 +56,12 @@ did_text other = codes "done"
 abbrev pub told_operator : List ℕ → FrontView → FrontView
 told_operator text v = with_tables (operator_sent (text ++ 10 ∷ []) v.tables) v
 
--- an order is given to the chain
+-- an order is given to the chain, which refuses it where it would take away the last server of a
+-- service that keeps its changes
 pub record IsGiven (given : Order) (old new : FrontView) : Type 0 where
   pub did : Did
   pub asker : AloneView
-  pub happened : HasDone old.asker.world asker.world (event_of given) did
-  pub cause : HasCause old.asker.world.held (event_of given) did
+  pub gives : Gives old.asker given asker did
   pub same : SameCall old.asker asker
   pub tells : TellsOrdered old.asker asker
   pub told : new ≡ told_operator (did_text did) (record old { asker = asker })

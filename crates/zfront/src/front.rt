@@ -4,6 +4,7 @@ ghost use Rattle.std.specs.Prelude.{◌≡◌, ◌≤◌, ◌+◌, ◌^◌, true
 ghost use Rattle.std.specs.Prelude.{IfNone, IfOk, IfSome, IsErr, OnErr, OnOk};
 ghost use Rattle.std.specs.FinMap.{get};
 ghost use Rattle.std.specs.Option.{option_copied, option_map};
+ghost use Rattle.zalone.specs.Changes.{no_changes};
 ghost use Rattle.zpieces.specs.Outbox.{first_of};
 ghost use Rattle.zfront.specs.Inputs as input;
 ghost use Rattle.zfront.specs.Orders.{Hears};
@@ -44,9 +45,10 @@ impl Model for Front {
 
 impl Front {
     /// Returns a server with an empty tree. The chain is the servers up to `last`, and the others
-    /// are spare.
+    /// are spare. Nothing that it makes is kept.
     pub fn new(alloc: Global, last: ServerId, clock: Clock) -> Result<Front, Memory>
-        ensures { IfOk result (input.IsNew last clock) }
+        ensures new { IfOk result (input.IsNew last clock) }
+        ensures keeps { IfOk result (λ f. f.front.asker.changes ≡ no_changes false) }
     {
         Ok(Front {
             inner: Inner::new(alloc, last, clock, false)?,

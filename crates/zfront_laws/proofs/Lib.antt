@@ -22,6 +22,7 @@ mod Opening
 pub mod Restored
 pub mod Inputs
 pub mod Made
+pub mod Ordered
 pub mod Late
 pub mod Sessions
 mod Handled

@@ -3,3 +3,4 @@ pub mod Laws
 pub mod Seats
 pub mod Given
 pub mod Making
+pub mod Orders

@@ -8,6 +8,8 @@ ghost use Rattle.zfront_laws.specs.Given.{EverySessionIsGot, WhoSpeaksIsAlive};
 ghost use Rattle.zfront_laws.specs.Making.{ANewServerIsRestored, EveryChangeIsMade};
 ghost use Rattle.zfront_laws.specs.Making.{EveryEntryIsMadeAgain, EveryInputMakesMore};
 ghost use Rattle.zfront_laws.specs.Making.{EverySessionIsRestored};
+ghost use Rattle.zfront_laws.specs.Orders.{EveryOrderIsDone, EveryRunKeepsAlike};
+ghost use Rattle.zfront_laws.specs.Orders.{NoOrderTakesTheLast};
 ghost use Rattle.zfront_laws.specs.Seats.{EveryFrontIsSeated, OneSpeaks, SeatsAreKept};
 
 use zalone::laws::replies_are_the_trees;
@@ -40,6 +42,22 @@ pub fn every_input_makes_more()
 /// the ones that are left: each once, in order, with its reply.
 pub fn every_change_is_made()
     ensures { EveryChangeIsMade }
+{}
+
+/// Whether a server keeps the updates that it makes stays, whatever its inputs are.
+pub fn every_run_keeps_alike()
+    ensures { EveryRunKeepsAlike }
+{}
+
+/// Where a server keeps them, an order of the chain's operator that would take away the last server
+/// with the state is answered `no Last`. It changes nothing.
+pub fn no_order_takes_the_last()
+    ensures { NoOrderTakesTheLast }
+{}
+
+/// Where it doesn't, as in memory, each order is done, and answered by what became of it.
+pub fn every_order_is_done()
+    ensures { EveryOrderIsDone }
 {}
 
 /// At each input the log of the server's calls goes on: what stood in it stays, and more may come

@@ -8,6 +8,7 @@ use Rattle.zworld_model.specs.Links.{is_same}
 use Rattle.ztraces.proofs.Processes.{same_itself, same_process}
 use Rattle.zprotocol.specs.Places.{process_at}
 use Rattle.zdesks.specs.Desks.{IsOutside}
+use Rattle.zdesks.proofs.Wires.{apart}
 use Rattle.zmesh.proofs.Said.{at_most}
 
 -- a process is at one of so many places, or at none
@@ -75,3 +76,12 @@ here_client i c false false at p q = eq-eqb c (i - (MAX_SERVERS + 1)) (omega (ar
 
 pub client_here : (i c : ℕ) → i ≡ MAX_SERVERS + 1 + c → is_same (Client c) (process_at i) ≡ true
 client_here i c at = here_client i c (i == 0) (nat_le i MAX_SERVERS) at refl refl
+
+-- no process is at two places
+place_by : (i j : ℕ) (b : Bool) → (i == j) ≡ b → process_at i ≡ process_at j → i ≡ j
+place_by i j true p same = eqb-true i j p
+place_by i j false p same =
+    absurd (true≢false (sym (same_at (process_at i) j same) ∙ apart i j (λ one. true≢false (sym (eq-eqb i j one) ∙ p))))
+
+pub one_place : (i j : ℕ) → process_at i ≡ process_at j → i ≡ j
+one_place i j same = place_by i j (i == j) refl same

@@ -1,4 +1,5 @@
--- What was left, where none of it is cut and the links tell it, makes lawful traces.
+-- What was left, where the links tell it: where none of it is lost, all went by their tables; where
+-- none of it is cut, it makes lawful traces.
 use Rattle.std.proofs.Common.{◌≡◌, ◌<◌, ◌≤◌, ◌+◌, ◌||◌, ◌⊎◌, inl, inr, ⊎_elim, ℕ, zero, suc, Bool, false, true≢false, List, [], ◌∷◌, ◌++◌, length, map, get_or, refl, sym, ap, subst, ◌∙◌, arith}
 use mathlib.Core.Logic.{∥∥₁_map}
 use mathlib.Core.Option.{some, some-injective}
@@ -27,8 +28,9 @@ use Rattle.zdesks.specs.declared.desk.Ending.{Ending}
 use Rattle.zdesks.specs.Desks.{Each, IsOutside, TreeStamped}
 use Rattle.zdesks.specs.Endings.{AccountsAtEnd}
 use Rattle.zdesks.proofs.Endings.{neither}
-use Rattle.zgather.specs.Left.{AreLeft, AreWired, by_place, client_trace_of, is_left_cut, self_at}
-use Rattle.zgather.proofs.Accounts.{accounted, Tells}
+use Rattle.zgather.specs.Left.{AreLeft, AreWired, by_place, client_trace_of, is_left_cut, is_left_lost, self_at}
+use Rattle.zgather.specs.Gone.{HasGone}
+use Rattle.zgather.proofs.Accounts.{accounted, Linked, Tells, went}
 use Rattle.zgather.proofs.Elements.{choose, element_left, element_map, element_or, element_right}
 use Rattle.zgather.proofs.Stands.{client_at, client_here, master_at, same_at, server_at, server_here}
 
@@ -53,6 +55,52 @@ any_both test (x ∷ xs) ys p q = let two = neither (test x) (list_any test xs) 
 pub any_map : {X Y : Type 0} (test : Y → Bool) (f : X → Y) (xs : List X) → list_any test (map f xs) ≡ list_any (λ x. test (f x)) xs
 any_map test f [] = refl
 any_map test f (x ∷ xs) = ap (λ b. test (f x) || b) (any_map test f xs)
+
+-- what the links of what was left tell
+module _ (es : List Ending) (wired : AreWired es) (outs : List (Vec (Tx TreeStamped) Global)) (ins : List (Vec (Rx TreeStamped) Global))
+    (puts : outs ≡ map (λ (e : Ending). e.outs) es) (takes : ins ≡ map (λ (e : Ending). e.ins) es)
+    (tells : AreTold (out_lists outs) (in_lists ins)) where
+  links : (i j : ℕ) (a b : Ending) (tx : Tx TreeStamped) (rx : Rx TreeStamped)
+      → get_elem? es i ≡ some a → get_elem? a.outs.items j ≡ some tx
+      → get_elem? es j ≡ some b → get_elem? b.ins.items i ≡ some rx
+      → Begins (taken_of rx) (put_of tx)
+  links i j a b tx rx at_a at_tx at_b at_rx =
+      tells i j (map put_of a.outs.items) (map taken_of b.ins.items) (put_of tx) (taken_of rx)
+      (subst (λ l. get_elem? (out_lists l) i ≡ some (map put_of a.outs.items)) (sym puts)
+      (element_map (λ (row : Vec (Tx TreeStamped) Global). map put_of row.items) (map (λ (e : Ending). e.outs) es) i a.outs (element_map (λ (e : Ending). e.outs) es i a at_a)))
+      (element_map put_of a.outs.items j tx at_tx)
+      (subst (λ l. get_elem? (in_lists l) j ≡ some (map taken_of b.ins.items)) (sym takes)
+      (element_map (λ (column : Vec (Rx TreeStamped) Global). map taken_of column.items) (map (λ (e : Ending). e.ins) es) j b.ins (element_map (λ (e : Ending). e.ins) es j b at_b)))
+      (element_map taken_of b.ins.items i rx at_rx)
+
+  pub are_linked : Linked es
+  are_linked =
+      record {
+        ins = λ i e at.
+            sym (length-map e.ins.items ring_of_rx)
+            ∙ wired.each_column i (map ring_of_rx e.ins.items) (element_map (λ (e : Ending). map ring_of_rx e.ins.items) es i e at);
+        outs = λ i e at.
+            sym (length-map e.outs.items ring_of_tx)
+            ∙ wired.each_row i (map ring_of_tx e.outs.items) (element_map (λ (e : Ending). map ring_of_tx e.outs.items) es i e at);
+        links = links;
+      }
+
+-- a test that no element of all processes passes
+none_of_all : (test : Ending → Bool) (m : Ending) (ss cs : List Ending) → (test m || (list_any test ss || list_any test cs)) ≡ false
+    → Each (λ i e. test e ≡ false) (by_place m ss cs)
+none_of_all test m ss cs none =
+    let first = neither (test m) (list_any test ss || list_any test cs) none in
+    let rest = neither (list_any test ss) (list_any test cs) first.1 in
+    let nowhere : list_any test (by_place m ss cs) ≡ false = rw first.0 (any_both test ss cs rest.0 rest.1) in
+    none_passes test (by_place m ss cs) nowhere
+
+-- where nothing is lost, all processes went by their tables
+pub gone : (last : ℕ) (m : Ending) (ss cs : List Ending) → Linked (by_place m ss cs) → is_left_lost m ss cs ≡ false
+    → AreLeft last (length cs) (by_place m ss cs) → ∥ HasGone last (length cs) (by_place m ss cs) ∥₁
+gone last m ss cs linked kept left =
+    let es = by_place m ss cs in
+    ∥∥₁_map (choose (λ i e d. AccountsAtEnd (self_at last (length cs) i) e d) es (λ i e at. left i e at (none_of_all (λ (e : Ending). e.is_lost) m ss cs kept i e at)))
+    (λ ds. went last (length cs) es ds.0 linked ds.1)
 
 -- a number is below a bound, or not
 pub below : (i n : ℕ) → (i < n) ⊎ (n ≤ i)
@@ -127,48 +175,20 @@ module _ (last : ℕ) (m : Ending) (ss cs : List Ending) (t : Traces) (all_serve
       (below k MAX_SERVERS)
   no_events (Client c) out = none_beyond (λ (client : ClientTrace). client.trace.events.items) c out
 
-  module _ (wired : AreWired es) (outs : List (Vec (Tx TreeStamped) Global)) (ins : List (Vec (Rx TreeStamped) Global))
-      (puts : outs ≡ map (λ (e : Ending). e.outs) es) (takes : ins ≡ map (λ (e : Ending). e.ins) es)
-      (tells : AreTold (out_lists outs) (in_lists ins)) where
-    links : (i j : ℕ) (a b : Ending) (tx : Tx TreeStamped) (rx : Rx TreeStamped)
-        → get_elem? es i ≡ some a → get_elem? a.outs.items j ≡ some tx
-        → get_elem? es j ≡ some b → get_elem? b.ins.items i ≡ some rx
-        → Begins (taken_of rx) (put_of tx)
-    links i j a b tx rx at_a at_tx at_b at_rx =
-        tells i j (map put_of a.outs.items) (map taken_of b.ins.items) (put_of tx) (taken_of rx)
-        (subst (λ l. get_elem? (out_lists l) i ≡ some (map put_of a.outs.items)) (sym puts)
-        (element_map (λ (row : Vec (Tx TreeStamped) Global). map put_of row.items) (map (λ (e : Ending). e.outs) es) i a.outs (element_map (λ (e : Ending). e.outs) es i a at_a)))
-        (element_map put_of a.outs.items j tx at_tx)
-        (subst (λ l. get_elem? (in_lists l) j ≡ some (map taken_of b.ins.items)) (sym takes)
-        (element_map (λ (column : Vec (Rx TreeStamped) Global). map taken_of column.items) (map (λ (e : Ending). e.ins) es) j b.ins (element_map (λ (e : Ending). e.ins) es j b at_b)))
-        (element_map taken_of b.ins.items i rx at_rx)
-
-    all_tell : Tells last (length cs) t es
-    all_tell =
-        record {
-          end = end;
-          count = count;
-          events = events;
-          no_events = no_events;
-          told = told;
-          none_told = none_beyond (λ (client : ClientTrace). client.«record».items);
-          ins = λ i e at.
-              sym (length-map e.ins.items ring_of_rx)
-              ∙ wired.each_column i (map ring_of_rx e.ins.items) (element_map (λ (e : Ending). map ring_of_rx e.ins.items) es i e at);
-          outs = λ i e at.
-              sym (length-map e.outs.items ring_of_tx)
-              ∙ wired.each_row i (map ring_of_tx e.outs.items) (element_map (λ (e : Ending). map ring_of_tx e.outs.items) es i e at);
-          links = links;
-        }
-
-    pub lawful : AreLeft last (length cs) es → is_left_cut m ss cs ≡ false → ∥ AreLawful t ∥₁
-    lawful left uncut =
-        let test : Ending → Bool = λ e. e.trace.is_cut in
-        let first = neither m.trace.is_cut (list_any test ss || list_any test cs) uncut in
-        let rest = neither (list_any test ss) (list_any test cs) first.1 in
-        let none : list_any test es ≡ false = rw first.0 (any_both test ss cs rest.0 rest.1) in
-        ∥∥₁_map (choose (λ i e d. AccountsAtEnd (self_at last (length cs) i) e d) es (λ i e at. left i e at (none_passes test es none i e at)))
-        (λ ds. accounted last (length cs) t es ds.0 all_tell ds.1)
+  pub lawful : Linked es → AreLeft last (length cs) es → is_left_cut m ss cs ≡ false → ∥ AreLawful t ∥₁
+  lawful linked left uncut =
+      let whole = none_of_all (λ (e : Ending). e.trace.is_cut) m ss cs uncut in
+      let tells : Tells last (length cs) t es = record {
+        end = end;
+        count = count;
+        events = events;
+        no_events = no_events;
+        told = told;
+        none_told = none_beyond (λ (client : ClientTrace). client.«record».items);
+        whole = whole;
+      } in
+      ∥∥₁_map (choose (λ i e d. AccountsAtEnd (self_at last (length cs) i) e d) es (λ i e at. left i e at (e.kept (whole i e at))))
+      (λ ds. accounted last (length cs) es ds.0 linked ds.1 t tells)
 
 -- ends that were kept are wired as they were
 pub wired_lists : (es : List Ending) (outs : List (Vec (Tx TreeStamped) Global)) (ins : List (Vec (Rx TreeStamped) Global))

@@ -39,6 +39,16 @@ is_left_cut master servers clients =
     master.trace.is_cut
     || (list_any (λ (e : Ending). e.trace.is_cut) servers || list_any (λ (e : Ending). e.trace.is_cut) clients)
 
+-- what one of them did is lost
+abbrev pub is_left_lost : Ending → List Ending → List Ending → Bool
+is_left_lost master servers clients =
+    master.is_lost || (list_any (λ (e : Ending). e.is_lost) servers || list_any (λ (e : Ending). e.is_lost) clients)
+
+-- they have those ends, unless what one did is lost
+abbrev pub AreWiredUnlessLost : Ending → List Ending → List Ending → Type 0
+AreWiredUnlessLost master servers clients =
+    is_left_lost master servers clients ≡ false → AreWired (by_place master servers clients)
+
 -- they have those ends, unless one trace is cut
 abbrev pub AreWiredUnlessCut : Ending → List Ending → List Ending → Type 0
 AreWiredUnlessCut master servers clients =

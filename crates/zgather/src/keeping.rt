@@ -18,6 +18,13 @@ pub(crate) fn is_any_cut(endings: &Vec<Ending>) -> bool
     endings.iter().any(|ending| ending.trace.is_cut)
 }
 
+/// Returns whether what one of the processes did is lost.
+pub(crate) fn is_any_lost(endings: &Vec<Ending>) -> bool
+    ensures { result ≡ list_any (λ (e : Ending). e.is_lost) endings.now.items }
+{
+    endings.iter().any(|ending| ending.is_lost)
+}
+
 /// Appends the ends of one process to the others, and returns its trace with what its caller saw.
 pub(crate) fn keep(mesh: &mut Mesh<Stamped>, ending: Ending) -> Result<ClientTrace, Memory>
     ensures outs { OnOk result (mesh.new.outs.items ≡ mesh.old.outs.items ++ ending.outs ∷ []) }
@@ -29,6 +36,7 @@ pub(crate) fn keep(mesh: &mut Mesh<Stamped>, ending: Ending) -> Result<ClientTra
         outs,
         trace,
         seen,
+        ..
     } = ending;
     mesh.outs.push(outs)?;
     mesh.ins.push(ins)?;

@@ -1,6 +1,6 @@
 -- The exit status of a program whose server ended early: this project's own profile.
 use Rattle.std.specs.Prelude.{ℕ}
-use Rattle.zcommand.specs.Words.{words_fault_status}
+use Rattle.zcli.specs.Words.{words_fault_status}
 use Rattle.zfile.specs.declared.fault.FileFault.{FileFault}
 use Rattle.zfile.specs.declared.fault.FileFault.TheVariants as folder
 use Rattle.zjournal.specs.declared.fault.OpenError.{OpenError}

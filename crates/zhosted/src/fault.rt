@@ -4,7 +4,7 @@ ghost use Rattle.std.specs.Prelude.{◌≡◌};
 
 use std::fmt;
 use thiserror::Error;
-use zcommand::WordsFault;
+use zcli::WordsFault;
 use zfile::FileFault;
 use zjournal::OpenError;
 use zkept::OpenFault;

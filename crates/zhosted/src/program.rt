@@ -10,7 +10,7 @@ use crate::hosted::Hosted;
 use crate::words::{HostedSettings, hosted_settings};
 use std::alloc::Global;
 use std::fs::{File, Files};
-use zcommand::{WordsFault, tell};
+use zcli::{WordsFault, tell};
 use zdevices::{Sink, Source};
 use zfile::{FileDevice, SyncMode};
 use zkept::Kept;
@@ -21,7 +21,7 @@ const LONG: usize = 1_048_576;
 
 /// Does what the words ask for, reports a fault on `faults`, and returns the exit status: 0 where
 /// the source has ended, or that of the fault (`HostedFault::status`).
-pub fn hosted_command<R: Files<File = File>, S: Source, K: Sink, F: Sink>(
+pub fn hosted_command<R: Files<File = File> + Copy, S: Source, K: Sink, F: Sink>(
     alloc: Global,
     files: &R,
     words: &[&str],
@@ -40,8 +40,8 @@ pub fn hosted_command<R: Files<File = File>, S: Source, K: Sink, F: Sink>(
     }
 }
 
-// Opens the folder that the words ask for, and takes all inputs (`zpipe::serve_all`).
-fn run<R: Files<File = File>, S: Source, K: Sink, F: Sink>(
+// Opens the folder that the words ask for, and takes all inputs.
+fn run<R: Files<File = File> + Copy, S: Source, K: Sink, F: Sink>(
     alloc: Global,
     files: &R,
     words: &[&str],
@@ -55,17 +55,31 @@ fn run<R: Files<File = File>, S: Source, K: Sink, F: Sink>(
     let asked = hosted_settings(words)?;
     let device = FileDevice::open(alloc, files, folder, asked.mode)?;
     tell_opening(alloc, asked.mode, device.waiting(), faults);
-    let mut service = opened(alloc, device, asked)?;
-    serve_all(alloc, &mut service, source, sink)?;
-    Ok(())
+    let service = opened(alloc, device, asked)?;
+    serve(alloc, service, source, sink)
+}
+
+// Takes all inputs (`zpipe::serve_all`).
+fn serve<R: Files<File = File> + Copy, S: Source, K: Sink>(
+    alloc: Global,
+    mut service: Hosted<FileDevice<R>>,
+    source: &mut S,
+    sink: &mut K,
+) -> Result<(), HostedFault>
+    requires good { IsGood seen_of MayLeaveOf service.kept }
+{
+    match serve_all(alloc, &mut service, source, sink) {
+        Ok(()) => Ok(()),
+        Err(fault) => Err(HostedFault::Serve(fault)),
+    }
 }
 
 // Opens the service of a file.
-fn opened(
+fn opened<R: Files<File = File> + Copy>(
     alloc: Global,
-    device: FileDevice,
+    device: FileDevice<R>,
     asked: HostedSettings,
-) -> Result<Hosted<FileDevice>, HostedFault>
+) -> Result<Hosted<FileDevice<R>>, HostedFault>
     requires durable { Only (seen_of device) (MayLeaveOf device) }
     ensures good { IfOk result (λ service. IsGood seen_of MayLeaveOf service.kept) }
 {

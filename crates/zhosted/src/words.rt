@@ -1,10 +1,10 @@
 //! The words of a server that keeps a folder. Its host writes them.
 
 ghost use Rattle.std.specs.Prelude.{◌≡◌, IfErr, IfOk, IfSome};
-ghost use Rattle.zoptions.specs.Asked.{texts_of};
+ghost use Rattle.zcli.specs.Asked.{texts_of};
 ghost use Rattle.zhosted.specs.Asked.{IsAsked, mode_of, Spells};
 
-use zcommand::WordsFault;
+use zcli::WordsFault;
 use zfile::SyncMode;
 use zkept::{ServerId, TickLength};
 

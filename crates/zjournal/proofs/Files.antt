@@ -1,7 +1,7 @@
 -- What files stand for while they are made, grow and are opened.
 use Rattle.std.proofs.Common.{◌≡◌, ◌≢◌, inl, inr, ℕ, zero, suc, ◌+◌, ◌-◌, ◌<◌, ◌≤◌, List, [], ◌∷◌, ◌++◌, length, map, take, drop, refl, sym, ◌∙◌, ap, subst, arith, length-append, length-take}
 use Rattle.std.proofs.lemmas.Bool.{cases_eq}
-use Rattle.std.proofs.lemmas.List.{take_at, drop_at}
+use Rattle.std.proofs.lemmas.List.{take_at, drop_at, append-nil}
 use Rattle.zjournal.specs.Blocks.{IsText, AreTexts, blocks, at_rest, IsEnd}
 use Rattle.zjournal.specs.Checksum.{stamped}
 use Rattle.zjournal.specs.Gates.{IsClosing, IsAdding}
@@ -46,6 +46,30 @@ module _ (servers : ℕ) (batches : List (List ℕ)) (file : List ℕ) (end : �
   pub closed_rests : (c : List ℕ) → c ≡ take end file ++ 0 ∷ [] → c ≡ at_rest (holdings servers batches)
   closed_rests c is = is ∙ ap (λ (l : List ℕ). l ++ 0 ∷ []) front_stays
 
+-- one batch more
+module _ (servers : ℕ) (batches : List (List ℕ)) where
+  more_holdings : (batch : List ℕ) → holdings servers (batches ++ batch ∷ []) ≡ holdings servers batches ++ stamped batch ∷ []
+  more_holdings batch = ap (λ (l : List (List ℕ)). head servers ∷ l) (map_more batches batch)
+    where
+      map_more : (bs : List (List ℕ)) (b : List ℕ) → map stamped (bs ++ b ∷ []) ≡ map stamped bs ++ stamped b ∷ []
+      map_more [] b = refl
+      map_more (x ∷ bs) b = ap (λ (l : List (List ℕ)). stamped x ∷ l) (map_more bs b)
+
+  pub more_texts : AreTexts (holdings servers batches) → (batch : List ℕ) → IsText (stamped batch) → AreTexts (holdings servers (batches ++ batch ∷ []))
+  more_texts texts batch h = subst AreTexts (sym (more_holdings batch)) (texts-push (holdings servers batches) (stamped batch) texts h)
+
+  pub more_blocks : (batch rest : List ℕ) → blocks (holdings servers batches) ++ 1 ∷ (stamped batch ++ 0 ∷ rest) ≡ blocks (holdings servers (batches ++ batch ∷ [])) ++ rest
+  more_blocks batch rest = sym (ap (λ (l : List (List ℕ)). blocks l ++ rest) (more_holdings batch) ∙ blocks-push (holdings servers batches) (stamped batch) rest)
+
+  pub one_more : (batch : List ℕ) → blocks (holdings servers batches) ++ 1 ∷ (stamped batch ++ 0 ∷ []) ≡ blocks (holdings servers (batches ++ batch ∷ []))
+  one_more batch = more_blocks batch [] ∙ append-nil (blocks (holdings servers (batches ++ batch ∷ [])))
+
+  pub more_size : (end : ℕ) → end ≡ length (blocks (holdings servers batches)) → (batch block : List ℕ) → block ≡ stamped batch ++ 0 ∷ 0 ∷ [] → end + length block ≡ length (blocks (holdings servers (batches ++ batch ∷ [])))
+  more_size end ends batch block block_is =
+      let size = ap length block_is in
+      let longer = ap (λ (l : List (List ℕ)). length (blocks l)) (more_holdings batch) ∙ length-blocks-push (holdings servers batches) (stamped batch) in
+      omega (arith, ends, size, longer, length-append (stamped batch) (0 ∷ 0 ∷ []))
+
 -- a batch is put into a file at rest
 module _ (servers : ℕ) (batches : List (List ℕ)) (file : List ℕ) (end : ℕ) (texts : AreTexts (holdings servers batches)) (is : file ≡ at_rest (holdings servers batches)) (ends : end ≡ length (blocks (holdings servers batches))) where
   pub rest_front : take end file ≡ blocks (holdings servers batches)
@@ -57,25 +81,12 @@ module _ (servers : ℕ) (batches : List (List ℕ)) (file : List ℕ) (end : �
   pub rest_keeps : Keeps servers batches file
   rest_keeps = record { texts = texts; end = 0 ∷ []; split = is; counts_for_nothing = tt }
 
-  more_holdings : (batch : List ℕ) → holdings servers (batches ++ batch ∷ []) ≡ holdings servers batches ++ stamped batch ∷ []
-  more_holdings batch = ap (λ (l : List (List ℕ)). head servers ∷ l) (map_more batches batch)
-    where
-      map_more : (bs : List (List ℕ)) (b : List ℕ) → map stamped (bs ++ b ∷ []) ≡ map stamped bs ++ stamped b ∷ []
-      map_more [] b = refl
-      map_more (x ∷ bs) b = ap (λ (l : List (List ℕ)). stamped x ∷ l) (map_more bs b)
-
-  more_texts : (batch : List ℕ) → IsText (stamped batch) → AreTexts (holdings servers (batches ++ batch ∷ []))
-  more_texts batch h = subst AreTexts (sym (more_holdings batch)) (texts-push (holdings servers batches) (stamped batch) texts h)
-
-  one_more : (batch rest : List ℕ) → blocks (holdings servers batches) ++ 1 ∷ (stamped batch ++ 0 ∷ rest) ≡ blocks (holdings servers (batches ++ batch ∷ [])) ++ rest
-  one_more batch rest = sym (ap (λ (l : List (List ℕ)). blocks l ++ rest) (more_holdings batch) ∙ blocks-push (holdings servers batches) (stamped batch) rest)
-
   any_gate : (batch : List ℕ) → IsText (stamped batch) → (gate : ℕ) (c : List ℕ) → c ≡ blocks (holdings servers batches) ++ gate ∷ (stamped batch ++ 0 ∷ 0 ∷ []) → IsWithOrWithout servers batches batch c
   any_gate batch h gate c at = elim (cases_eq gate 1) [
     | inl open_gate ↦ inr (record {
-      texts = more_texts batch h;
+      texts = more_texts servers batches texts batch h;
       end = 0 ∷ [];
-      split = at ∙ ap (λ (g : ℕ). blocks (holdings servers batches) ++ g ∷ (stamped batch ++ 0 ∷ 0 ∷ [])) open_gate ∙ one_more batch (0 ∷ []);
+      split = at ∙ ap (λ (g : ℕ). blocks (holdings servers batches) ++ g ∷ (stamped batch ++ 0 ∷ 0 ∷ [])) open_gate ∙ more_blocks servers batches batch (0 ∷ []);
       counts_for_nothing = tt;
     })
     | inr shut ↦ inl (record { texts = texts; end = gate ∷ (stamped batch ++ 0 ∷ 0 ∷ []); split = at; counts_for_nothing = shut })
@@ -94,16 +105,13 @@ module _ (servers : ℕ) (batches : List (List ℕ)) (file : List ℕ) (end : �
 
   pub added_rests : (batch block c : List ℕ) → block ≡ stamped batch ++ 0 ∷ 0 ∷ [] → c ≡ take end file ++ 1 ∷ block → c ≡ at_rest (holdings servers (batches ++ batch ∷ []))
   added_rests batch block c block_is at =
-      at ∙ ap (λ (l : List ℕ). l ++ 1 ∷ block) rest_front ∙ ap (λ (l : List ℕ). blocks (holdings servers batches) ++ 1 ∷ l) block_is ∙ one_more batch (0 ∷ [])
+      at ∙ ap (λ (l : List ℕ). l ++ 1 ∷ block) rest_front ∙ ap (λ (l : List ℕ). blocks (holdings servers batches) ++ 1 ∷ l) block_is ∙ more_blocks servers batches batch (0 ∷ [])
 
   pub added_texts : (batch : List ℕ) → IsText (stamped batch) → AreTexts (holdings servers (batches ++ batch ∷ []))
-  added_texts = more_texts
+  added_texts = more_texts servers batches texts
 
   pub added_end : (batch block : List ℕ) → block ≡ stamped batch ++ 0 ∷ 0 ∷ [] → end + length block ≡ length (blocks (holdings servers (batches ++ batch ∷ [])))
-  added_end batch block block_is =
-      let size = ap length block_is in
-      let longer = ap (λ (l : List (List ℕ)). length (blocks l)) (more_holdings batch) ∙ length-blocks-push (holdings servers batches) (stamped batch) in
-      omega (arith, ends, size, longer, length-append (stamped batch) (0 ∷ 0 ∷ []))
+  added_end = more_size servers batches end ends
 
 -- a file is made
 module _ (servers : ℕ) (some : 0 < servers) where

@@ -2,7 +2,8 @@
 use Rattle.std.proofs.Common.{◌≡◌, ◌⊎◌, inl, inr, ⊎_elim, ℕ, zero, suc, ◌≤◌, List, [], ◌∷◌, ◌++◌, length, drop, refl, sym, ◌∙◌, subst, arith, length-append}
 use Rattle.zjournal.specs.declared.moment.Moment.{Moment}
 use Rattle.zjournal.specs.Device.{Elapses, Follows}
-use Rattle.zjournal.specs.Past.{CanBe, HadBeen, IsCopy}
+use Rattle.zjournal.proofs.Moments.{elapses_both}
+use Rattle.zjournal.specs.Past.{CanBe, HadBeen, IsCopy, Since}
 
 keeps : (past : List Moment) (v : Moment) (c : List ℕ) → HadBeen past c → HadBeen (past ++ v ∷ []) c
 keeps [] v c had = absurd had
@@ -25,17 +26,13 @@ drop_push (suc t) [] v le = absurd (omega arith)
 drop_push (suc t) (p ∷ past) v le = drop_push t past v (omega arith)
 
 -- copies can be the same
-copy_can : (v old : Moment) (c : List ℕ) → IsCopy v old → CanBe v c → CanBe old c
+pub copy_can : (v old : Moment) (c : List ℕ) → IsCopy v old → CanBe v c → CanBe old c
 copy_can v old c is (inl disk) = inl (disk ∙ is.0)
 copy_can v old c is (inr seen) = inr (seen ∙ is.1)
 
 can_copy : (v old : Moment) (c : List ℕ) → IsCopy v old → CanBe old c → CanBe v c
 can_copy v old c is (inl disk) = inl (disk ∙ sym is.0)
 can_copy v old c is (inr seen) = inr (seen ∙ sym is.1)
-
--- what a crash since t might have left
-abbrev Since : List Moment → Moment → ℕ → List ℕ → Type 0
-Since past m t c = CanBe m c ⊎ HadBeen (drop t past) c
 
 elapses_push : (past : List Moment) (v old new : Moment) → IsCopy v old → Elapses (length past) (length (past ++ v ∷ [])) (Since past old) (Since (past ++ v ∷ []) new) (CanBe new)
 elapses_push past v old new is = record {
@@ -56,3 +53,24 @@ elapses_to past later v old new is same =
 pub follows_each : (step : List ℕ → List ℕ → Type 0) (old new : Moment) → step old.disk.items new.disk.items → step old.seen.items new.seen.items → Follows step (CanBe old) (CanBe new)
 follows_each step old new disk seen c (inl is) = (old.disk.items, inl refl, subst (step old.disk.items) (sym is) disk)
 follows_each step old new disk seen c (inr is) = (old.seen.items, inr refl, subst (step old.seen.items) (sym is) seen)
+
+-- a new file that is on the disk has taken the name, and a crash may leave it or the old one
+pub taken_either : (old mid new : Moment) (before disk seen : List ℕ) → IsCopy mid old → disk ≡ seen → seen ≡ before → (new.disk.items ≡ mid.disk.items) ⊎ (new.disk.items ≡ disk) → new.seen.items ≡ seen
+    → (c : List ℕ) → CanBe new c → CanBe old c ⊎ (c ≡ before)
+taken_either old mid new before disk seen copy whole same (inl stays) now c (inl is) = inl (inl (is ∙ stays ∙ copy.0))
+taken_either old mid new before disk seen copy whole same (inr next) now c (inl is) = inr (is ∙ next ∙ whole ∙ same)
+taken_either old mid new before disk seen copy whole same is_disk now c (inr is) = inr (is ∙ now ∙ same)
+
+-- and the other runs of its three steps
+module _ (past after_sync after_name after_all : List Moment) (old mid new last : Moment) where
+  pub sync_and_name : Elapses (length past) (length after_sync) (Since past old) (Since after_sync mid) (CanBe mid) → IsCopy mid old → Elapses (length after_sync) (length after_name) (Since after_sync mid) (Since after_name new) (CanBe new)
+      → Elapses (length past) (length after_name) (Since past old) (Since after_name new) (CanBe new)
+  sync_and_name first copy second =
+      elapses_both (length past) (length after_sync) (length after_name) (Since past old) (Since after_sync mid) (Since after_name new) (CanBe mid) (CanBe new)
+      first second (λ t c may. inl (inl (copy_can mid old c copy may)))
+
+  pub all_three : (before : List ℕ) → Elapses (length past) (length after_name) (Since past old) (Since after_name new) (CanBe new) → ((c : List ℕ) → CanBe new c → CanBe old c ⊎ (c ≡ before)) → last.seen.items ≡ before
+      → Elapses (length after_name) (length after_all) (Since after_name new) (Since after_all last) (CanBe last) → Elapses (length past) (length after_all) (Since past old) (Since after_all last) (CanBe last)
+  all_three before first either seen second =
+      elapses_both (length past) (length after_name) (length after_all) (Since past old) (Since after_name new) (Since after_all last) (CanBe new) (CanBe last)
+      first second (λ t c may. ⊎_elim (λ was. inl (inl was)) (λ is. inr (inr (is ∙ sym seen))) (either c may))

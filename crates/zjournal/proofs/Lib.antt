@@ -6,6 +6,7 @@ pub mod Moments
 mod Opens
 pub mod Puts
 pub mod Readings
+mod Renewals
 mod Runs
 pub mod Scan
 mod Steps

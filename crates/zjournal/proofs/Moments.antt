@@ -1,5 +1,5 @@
 -- How a run of calls of a device goes on.
-use Rattle.std.proofs.Common.{inl, inr, ⊎_elim, ℕ, List, sym, subst, arith}
+use Rattle.std.proofs.Common.{◌⊎◌, inl, inr, ⊎_elim, ℕ, List, sym, subst, arith}
 use Rattle.zjournal.specs.Device.{Only, Follows, Elapses, LeavesOnly}
 
 module _ {D : Type 0} (moment : D → ℕ) (left_since : D → ℕ → List ℕ → Type 0) where
@@ -46,3 +46,12 @@ module _ {D : Type 0} (moment : D → ℕ) (left_since : D → ℕ → List ℕ 
         → Elapses (moment mid) (moment new) (left_since mid) (left_since new) (may_leave new) → LeavesOnly moment left_since old new (step file)
     synced_leaves mid new follows first synced time =
         goes_on old mid new (step file) (may_leave new) (call_leaves mid follows first) time (λ c left. follows_only mid follows c (synced c left))
+
+-- two calls, where what a crash leaves between them is left before or behind them
+pub elapses_both : (before mid now : ℕ) (past between since : ℕ → List ℕ → Type 0) (may_between may_leave : List ℕ → Type 0) → Elapses before mid past between may_between → Elapses mid now between since may_leave
+    → ((t : ℕ) (c : List ℕ) → may_between c → past t c ⊎ may_leave c) → Elapses before now past since may_leave
+elapses_both before mid now past between since may_between may_leave first second here = record {
+  later = omega (arith, first.later, second.later);
+  nothing_else = λ t c le left. ⊎_elim (λ was. ⊎_elim (λ earlier. inl earlier) (here t c) (first.nothing_else t c le was)) (λ may. inr may) (second.nothing_else t c (omega (arith, le, first.later)) left);
+  keeps = λ t c le left. second.keeps t c (omega (arith, le, first.later)) (first.keeps t c le left);
+}

@@ -18,7 +18,7 @@ neither : (b more : Bool) → (b || more) ≡ false → (b ≡ false) × (more �
 neither true more is = absurd (true≢false is)
 neither false more is = (refl, is)
 
-tested_text : (text : List ℕ) → list_any (λ b. b == 0) text ≡ false → IsText text
+pub tested_text : (text : List ℕ) → list_any (λ b. b == 0) text ≡ false → IsText text
 tested_text [] is = tt
 tested_text (b ∷ text) is =
     let t = neither (b == 0) (list_any (λ (b : ℕ). b == 0) text) is in
@@ -45,11 +45,12 @@ module _ {D : Type 0} (seen : D → List ℕ) (may_leave : D → List ℕ → Ty
     leaves new run = weaker moment left_since journal.device new (IsAdding (take journal.end (seen journal.device)) block) (IsWithOrWithout servers batches batch) run
         (λ c adding. adding_keeps servers batches (seen journal.device) journal.end rest.texts rest.file rest.end batch block c text block_is adding)
 
-    pub rests : (later : Journal D) → seen later.device ≡ take journal.end (seen journal.device) ++ 1 ∷ block → later.end ≡ journal.end + length block → Only (seen later.device) (may_leave later.device)
+    pub rests : (later : Journal D) → later.servers ≡ journal.servers → seen later.device ≡ take journal.end (seen journal.device) ++ 1 ∷ block → later.end ≡ journal.end + length block → Only (seen later.device) (may_leave later.device)
         → IsAtRest seen may_leave servers (batches ++ batch ∷ []) later
-    rests later file end only = record {
+    rests later same file end only = record {
       texts = added_texts servers batches (seen journal.device) journal.end rest.texts rest.file rest.end batch text;
       file = added_rests servers batches (seen journal.device) journal.end rest.texts rest.file rest.end batch block (seen later.device) block_is file;
+      head_is = same ∙ rest.head_is;
       end = end ∙ added_end servers batches (seen journal.device) journal.end rest.texts rest.file rest.end batch block block_is;
       durable = only;
     }

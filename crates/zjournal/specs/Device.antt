@@ -2,7 +2,10 @@
 -- which the power goes, the machine stops or the process is killed. Until the next sync nothing is
 -- sure of what was written: in its range a crash leaves any bytes, of the length any between. What
 -- a sync kept stays, and so do bytes that no later call wrote over. POSIX.1-2017 promises as much
--- of `fsync`, and SQLite's "Atomic Commit In SQLite", section 2, assumes as much of a disk.
+-- of `fsync`, and SQLite's "Atomic Commit In SQLite", section 2, assumes as much of a disk. A new
+-- file takes the place of an old one by its name: POSIX.1-2017, `rename`, says that the name stands
+-- for one of the two at each moment. That a crash leaves one of the two as well, and that a sync of
+-- the folder decides it, is believed: POSIX says it of no disk.
 use Rattle.std.specs.Prelude.{◌<◌, ◌≡◌, ◌⊎◌, ℕ, ◌+◌, ◌≤◌, max, List, ◌++◌, length, take, drop, Result, IsErrOf}
 use Rattle.zjournal.specs.declared.device.DeviceError.{DeviceError}
 use Rattle.zjournal.specs.declared.device.DeviceError.TheVariants.{Failed}
@@ -27,6 +30,11 @@ pub record Cut (n : ℕ) (old new : List ℕ) : Type 0 where
 -- each outcome of a crash now is an outcome of a crash before, and one step on it
 abbrev pub Follows : (List ℕ → List ℕ → Type 0) → (List ℕ → Type 0) → (List ℕ → Type 0) → Type 0
 Follows step old new = (c : List ℕ) → new c → (d : List ℕ) × old d × step d c
+
+-- A new file takes the place of an old one. A crash leaves what it might have left of the old one, or
+-- the new one, whole.
+abbrev pub IsEither : (List ℕ → Type 0) → List ℕ → List ℕ → Type 0
+IsEither may_leave next c = may_leave c ⊎ (c ≡ next)
 
 -- a crash leaves this file and no other
 abbrev pub Only : List ℕ → (List ℕ → Type 0) → Type 0

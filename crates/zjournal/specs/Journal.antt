@@ -54,10 +54,11 @@ abbrev pub StandsFor : ℕ → List (List ℕ) → List ℕ → Type 0
 StandsFor servers batches file = Keeps servers batches file ⊎ (IsBeingMade servers file × (batches ≡ []))
 
 -- a journal over a device: the file is at rest with these batches, all of it on the disk, and the
--- next block begins where the closed gate is
+-- next block begins where the closed gate is. It knows for how many servers it is
 pub record IsAtRest {D : Type 0} (seen : D → List ℕ) (may_leave : D → List ℕ → Type 0) (servers : ℕ) (batches : List (List ℕ)) (journal : Journal D) : Type 0 where
   pub texts : AreTexts (holdings servers batches)
   pub file : seen journal.device ≡ at_rest (holdings servers batches)
+  pub head_is : journal.servers ≡ servers
   pub end : journal.end ≡ length (blocks (holdings servers batches))
   pub durable : Only (seen journal.device) (may_leave journal.device)
 

@@ -10,4 +10,6 @@ pub mod Memory
 pub mod Opened
 pub mod Past
 pub mod Puts
+pub mod Renewal
 pub mod Scan
+pub mod Untouched

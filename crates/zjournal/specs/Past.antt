@@ -12,6 +12,10 @@ abbrev pub HadBeen : List Moment → List ℕ → Type 0
 HadBeen [] bytes = ⊥
 HadBeen (m ∷ past) bytes = CanBe m bytes ⊎ HadBeen past bytes
 
+-- what a crash since a moment might have left
+abbrev pub Since : List Moment → Moment → ℕ → List ℕ → Type 0
+Since past m t c = CanBe m c ⊎ HadBeen (drop t past) c
+
 -- the two hold the same
 abbrev pub IsCopy : Moment → Moment → Type 0
 IsCopy m n = (m.disk.items ≡ n.disk.items) × (m.seen.items ≡ n.seen.items)

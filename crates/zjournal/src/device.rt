@@ -1,8 +1,9 @@
 //! A file as a journal sees it: what a read returns, and what a crash may leave.
 
-ghost use Rattle.std.specs.Prelude.{◌≡◌, ◌≤◌, List, ℕ, length, take, IfOk, OnOk};
+ghost use Rattle.std.specs.Prelude.{◌≡◌, ◌≤◌, ◌++◌, [], List, ℕ, length, take, IfOk, OnOk};
 ghost use Rattle.zjournal.specs.declared.device.DeviceError.TheVariants.{Memory};
 ghost use Rattle.zjournal.specs.Device.{Only, Follows, Torn, Cut, Holds, Elapses, HasCause};
+ghost use Rattle.zjournal.specs.Device.{IsEither};
 
 use std::alloc::{AllocError, AllocFailed, Global};
 use thiserror::Error;
@@ -34,7 +35,7 @@ impl<T: Drop> From<AllocFailed<T>> for DeviceError {
     }
 }
 
-/// One file on a disk.
+/// One file on a disk, and a new one beside it that may take its place.
 pub trait Device {
     /// The bytes that a read returns.
     ghost seen: { Self → List ℕ };
@@ -50,6 +51,9 @@ pub trait Device {
 
     /// How often the disk has failed.
     ghost faults: { Self → ℕ };
+
+    /// What the new file beside this one has so far; nothing where none was begun.
+    ghost beside: { Self → List ℕ };
 
     /// All bytes of the file.
     fn read(&mut self, alloc: Global) -> Result<Vec<u8>, DeviceError>
@@ -84,6 +88,35 @@ pub trait Device {
         ensures durable { OnOk result (Only (seen self.old) (may_leave self.new)) }
         ensures seen { seen self.new ≡ seen self.old }
         ensures crash { (c : List ℕ) → may_leave self.new c → may_leave self.old c }
+        ensures time { Elapses (moment self.old) (moment self.new)
+            (left_since self.old) (left_since self.new) (may_leave self.new) }
+        ensures cause { HasCause (faults self.old) (faults self.new) result };
+
+    /// Begins a new file beside this one. An unfinished one of before counts for nothing.
+    fn begin_beside(&mut self) -> Result<(), DeviceError>
+        ensures begun { OnOk result (beside self.new ≡ []) }
+        ensures seen { seen self.new ≡ seen self.old }
+        ensures crash { (c : List ℕ) → may_leave self.new c → may_leave self.old c }
+        ensures time { Elapses (moment self.old) (moment self.new)
+            (left_since self.old) (left_since self.new) (may_leave self.new) }
+        ensures cause { HasCause (faults self.old) (faults self.new) result };
+
+    /// Adds bytes at the end of the new file.
+    fn add_beside(&mut self, bytes: &[u8]) -> Result<(), DeviceError>
+        ensures added { OnOk result (beside self.new ≡ beside self.old ++ bytes.now) }
+        ensures seen { seen self.new ≡ seen self.old }
+        ensures crash { (c : List ℕ) → may_leave self.new c → may_leave self.old c }
+        ensures time { Elapses (moment self.old) (moment self.new)
+            (left_since self.old) (left_since self.new) (may_leave self.new) }
+        ensures cause { HasCause (faults self.old) (faults self.new) result };
+
+    /// Puts the new file in the place of this one. First it is brought to the disk, then it takes
+    /// the name, and then the name is brought to the disk.
+    fn take_place(&mut self) -> Result<(), DeviceError>
+        ensures taken { OnOk result (seen self.new ≡ beside self.old) }
+        ensures durable { OnOk result (Only (beside self.old) (may_leave self.new)) }
+        ensures crash { (c : List ℕ) → may_leave self.new c
+            → IsEither (may_leave self.old) (beside self.old) c }
         ensures time { Elapses (moment self.old) (moment self.new)
             (left_since self.old) (left_since self.new) (may_leave self.new) }
         ensures cause { HasCause (faults self.old) (faults self.new) result };

@@ -19,7 +19,10 @@ use std::alloc::Global;
 pub struct Journal<D: Device> {
     pub(crate) alloc: Global,
     pub(crate) device: D,
+    pub(crate) servers: u8,
     pub(crate) end: usize,
+    // Where the blocks of the new file end, in a renewal.
+    pub(crate) renewed_end: usize,
     pub(crate) is_open: bool,
 }
 
@@ -29,6 +32,13 @@ impl<D: Device> Journal<D> {
         ensures { result.now ≡ device_of self.now }
     {
         &self.device
+    }
+
+    /// How many bytes the blocks of the file have, without the gate behind them.
+    pub fn size(&self) -> usize
+        ensures { result ≡ size_of self.now }
+    {
+        self.end // of the blocks
     }
 
     /// Puts a batch behind the others. At `Ok` it is on the disk: from then on every crash leaves a

@@ -1,22 +1,24 @@
 //! A file in memory, whose writes tear.
 
-ghost use Rattle.std.specs.Prelude.{◌≡◌, ◌⊎◌, ◌≤◌, [], ◌∷◌, ◌++◌, List, ℕ, length, drop, take};
+ghost use Rattle.std.specs.Prelude.{◌≡◌, ◌⊎◌, [], ◌∷◌, ◌++◌, List, ℕ, length};
 ghost use Rattle.std.specs.Prelude.{IfOk, OnOk, OnErr};
 ghost use Rattle.std.proofs.Common.{inl};
-ghost use Rattle.zjournal.specs.Device.{Cut, Holds, Only, Torn};
-ghost use Rattle.zjournal.specs.Past.{CanBe, HadBeen, IsCopy, only_bytes};
+ghost use Rattle.zjournal.specs.Device.{Elapses, HasCause, Only};
+ghost use Rattle.zjournal.specs.Past.{CanBe, IsCopy, Since, only_bytes};
 
+use crate::tearing::{next_chance, shortened, torn, torn_cut, written};
 use crate::{Device, DeviceError, Moment};
 use std::alloc::{AllocError, Global};
 
 /// A file in memory with what a power cut would leave of it, now and at each moment so far. Each
 /// write and each cut tears: what a power cut leaves of it is chosen by a number that the test
-/// gives. From some call on the disk fails.
+/// gives. From some call on the disk fails. A new file beside it tears, too, until it is synced.
 #[derive(Drop)]
 pub struct MemoryFile {
     alloc: Global,
     current: Moment,
     past: Vec<Moment>,
+    beside: Moment,
     chance: u64,
     calls: u64,
 }
@@ -25,7 +27,8 @@ impl MemoryFile {
     ghost use Rattle.zjournal.specs.Memory.{current_of, past_of};
 
     /// A file with these bytes, all of them on the disk. The chance chooses what power cuts leave,
-    /// and so many writes, cuts and syncs succeed.
+    /// and so many steps succeed: a write, a cut or a sync is one, and so is what begins the new
+    /// file or adds to it. It takes the place of this one in three.
     pub fn new(alloc: Global, bytes: &[u8], chance: u64, calls: u64) -> Result<Self, AllocError>
         ensures seen { IfOk result (λ file. (current_of file).seen.items ≡ bytes.now) }
         ensures disk { IfOk result (λ file. (current_of file).disk.items ≡ bytes.now) }
@@ -39,6 +42,10 @@ impl MemoryFile {
             alloc,
             current: Moment { disk, seen },
             past: Vec::new(alloc),
+            beside: Moment {
+                disk: Vec::new(alloc),
+                seen: Vec::new(alloc),
+            },
             chance,
             calls,
         })
@@ -51,11 +58,96 @@ impl MemoryFile {
         &self.current
     }
 
-    /// The file before each write, cut and sync so far.
+    /// The file before each step so far.
     pub fn past(&self) -> &[Moment]
         ensures { result.now ≡ past_of self.now }
     {
         &self.past
+    }
+
+    // One step more, which leaves both files as they are.
+    fn pass(&mut self) -> Result<(), DeviceError>
+        ensures copy { IsCopy self.new.current self.old.current }
+        ensures beside { self.new.beside ≡ self.old.beside }
+        ensures time { Elapses (length self.old.past.items) (length self.new.past.items)
+            (Since self.old.past.items self.old.current)
+            (Since self.new.past.items self.new.current) (CanBe self.new.current) }
+        ensures cause { HasCause (length self.old.past.items) (length self.new.past.items) result }
+    {
+        let disk = self.current.disk.to_vec(self.alloc)?;
+        let seen = self.current.seen.to_vec(self.alloc)?;
+        replace(
+            self.alloc,
+            &mut self.current,
+            &mut self.past,
+            Moment { disk, seen },
+        )?;
+        if self.calls == 0 {
+            return Err(DeviceError::Failed);
+        }
+        self.calls -= 1;
+        self.chance = next_chance(self.chance);
+        Ok(())
+    }
+
+    // Brings the new file to the disk.
+    fn sync_beside(&mut self) -> Result<(), DeviceError>
+        ensures copy { IsCopy self.new.current self.old.current }
+        ensures same { self.new.beside.seen.items ≡ self.old.beside.seen.items }
+        ensures whole { OnOk result (self.new.beside.disk.items ≡ self.new.beside.seen.items) }
+        ensures time { Elapses (length self.old.past.items) (length self.new.past.items)
+            (Since self.old.past.items self.old.current)
+            (Since self.new.past.items self.new.current) (CanBe self.new.current) }
+        ensures cause { HasCause (length self.old.past.items) (length self.new.past.items) result }
+    {
+        self.pass()?;
+        self.beside.disk = self.beside.seen.to_vec(self.alloc)?;
+        Ok(())
+    }
+
+    // The new file takes the name: a power cut leaves the old one or what is on the disk of it.
+    fn take_name(&mut self) -> Result<(), DeviceError>
+        ensures seen { OnOk result (self.new.current.seen.items ≡ self.old.beside.seen.items) }
+        ensures seen_err { OnErr result (self.new.current.seen.items
+            ≡ self.old.current.seen.items) }
+        ensures disk { (self.new.current.disk.items ≡ self.old.current.disk.items)
+            ⊎ (self.new.current.disk.items ≡ self.old.beside.disk.items) }
+        ensures time { Elapses (length self.old.past.items) (length self.new.past.items)
+            (Since self.old.past.items self.old.current)
+            (Since self.new.past.items self.new.current) (CanBe self.new.current) }
+        ensures cause { HasCause (length self.old.past.items) (length self.new.past.items) result }
+    {
+        let disk = self.left_of_name()?;
+        if self.calls == 0 {
+            let seen = self.current.seen.to_vec(self.alloc)?;
+            replace(
+                self.alloc,
+                &mut self.current,
+                &mut self.past,
+                Moment { disk, seen },
+            )?;
+            return Err(DeviceError::Failed);
+        }
+        let seen = self.beside.seen.to_vec(self.alloc)?;
+        replace(
+            self.alloc,
+            &mut self.current,
+            &mut self.past,
+            Moment { disk, seen },
+        )?;
+        self.calls -= 1;
+        Ok(())
+    }
+
+    // What a power cut leaves of the file whose name a new one has taken.
+    fn left_of_name(&self) -> Result<Vec<u8>, AllocError>
+        ensures { IfOk result (λ disk. (disk.items ≡ self.now.current.disk.items)
+            ⊎ (disk.items ≡ self.now.beside.disk.items)) }
+    {
+        if self.chance / 65536 % 2 == 0 {
+            return self.current.disk.to_vec(self.alloc);
+        }
+        self.beside.disk.to_vec(self.alloc)
     }
 }
 
@@ -79,91 +171,6 @@ fn replace(
     Ok(())
 }
 
-// The next chance (a linear congruential generator).
-fn next_chance(chance: u64) -> u64 {
-    chance
-        .wrapping_mul(6364136223846793005)
-        .wrapping_add(1442695040888963407)
-}
-
-// Of a write in this range what a power cut leaves: of each byte the old one, the new one or
-// another, and a length between.
-fn torn(
-    alloc: Global,
-    disk: &[u8],
-    at: usize,
-    bytes: &[u8],
-    chance: u64,
-) -> Result<Vec<u8>, AllocError>
-    ensures { IfOk result (λ next. Torn at (length bytes.now) disk.now next.items) }
-{
-    if at > disk.len() {
-        return disk.to_vec(alloc);
-    }
-    let mut next = disk[..at].to_vec(alloc)?;
-    add_torn(&mut next, &disk[at..], bytes, chance)?;
-    if bytes.len() < disk.len() - at {
-        next.extend_from_slice(&disk[at + bytes.len()..])?;
-    }
-    Ok(next)
-}
-
-// The torn range: as long as the write, or where the file ended in it, no shorter than it was.
-fn add_torn(next: &mut Vec<u8>, old: &[u8], bytes: &[u8], chance: u64) -> Result<(), AllocError>
-    ensures { OnOk result ((range : List ℕ) × (next.new.items ≡ next.old.items ++ range)
-        × (length range ≤ length bytes.now)
-        × ((length old.now ≤ length range) ⊎ (length range ≡ length bytes.now))) }
-{
-    let mut chance = chance;
-    for i in 0..bytes.len() {
-        chance = next_chance(chance);
-        if i >= old.len() && chance / 4294967296 % 16 == 0 {
-            return Ok(());
-        }
-        let byte = match chance / 65536 % 4 {
-            0 => (chance / 1048576 % 3) as u8,
-            1 if i < old.len() => old[i],
-            _ => bytes[i],
-        };
-        next.push(byte)?;
-    }
-    Ok(())
-}
-
-// What a power cut leaves of a cut: some length between.
-fn torn_cut(alloc: Global, disk: &[u8], len: usize, chance: u64) -> Result<Vec<u8>, AllocError>
-    ensures { IfOk result (λ next. Cut len disk.now next.items) }
-{
-    if disk.len() <= len {
-        return disk.to_vec(alloc);
-    }
-    let more = chance / 65536 % (disk.len() - len + 1) as u64;
-    disk[..len + more as usize].to_vec(alloc)
-}
-
-// The content after a write.
-fn written(alloc: Global, seen: &[u8], at: usize, bytes: &[u8]) -> Result<Vec<u8>, AllocError>
-    requires { at ≤ length seen.now }
-    ensures holds { IfOk result (λ next. Holds seen.now at bytes.now next.items) }
-    ensures torn { IfOk result (λ next. Torn at (length bytes.now) seen.now next.items) }
-{
-    let mut next = seen[..at].to_vec(alloc)?;
-    next.extend_from_slice(bytes)?;
-    if bytes.len() < seen.len() - at {
-        next.extend_from_slice(&seen[at + bytes.len()..])?;
-    }
-    Ok(next)
-}
-
-// The content after a cut.
-fn shortened(alloc: Global, seen: &[u8], len: usize) -> Result<Vec<u8>, AllocError>
-    requires { len ≤ length seen.now }
-    ensures front { IfOk result (λ next. next.items ≡ take len seen.now) }
-    ensures cut { IfOk result (λ next. Cut len seen.now next.items) }
-{
-    seen[..len].to_vec(alloc)
-}
-
 impl Device for MemoryFile {
     ghost seen = { λ m. m.current.seen.items };
 
@@ -171,9 +178,11 @@ impl Device for MemoryFile {
 
     ghost moment = { λ m. length m.past.items };
 
-    ghost left_since = { λ m t c. CanBe m.current c ⊎ HadBeen (drop t m.past.items) c };
+    ghost left_since = { λ m. Since m.past.items m.current };
 
     ghost faults = { λ m. length m.past.items };
+
+    ghost beside = { λ m. m.beside.seen.items };
 
     ghost counts_now = { λ m t c le now. inl now };
 
@@ -251,6 +260,30 @@ impl Device for MemoryFile {
             Moment { disk, seen },
         )?;
         self.calls -= 1;
+        Ok(())
+    }
+
+    fn begin_beside(&mut self) -> Result<(), DeviceError> {
+        self.pass()?;
+        self.beside = Moment {
+            disk: Vec::new(self.alloc),
+            seen: Vec::new(self.alloc),
+        };
+        Ok(())
+    }
+
+    fn add_beside(&mut self, bytes: &[u8]) -> Result<(), DeviceError> {
+        self.pass()?;
+        let end = self.beside.disk.len();
+        self.beside.disk = torn(self.alloc, &self.beside.disk, end, bytes, self.chance)?;
+        self.beside.seen.extend_from_slice(bytes)?;
+        Ok(())
+    }
+
+    fn take_place(&mut self) -> Result<(), DeviceError> {
+        self.sync_beside()?; // first it is whole on the disk
+        self.take_name()?; // then it has the name
+        self.sync()?; // now its name is on the disk
         Ok(())
     }
 }

@@ -130,7 +130,9 @@ pub fn open<D: Device>(
             Journal {
                 alloc,
                 device,
+                servers,
                 end,
+                renewed_end: 0,
                 is_open: true,
             },
             text,

@@ -3,8 +3,9 @@
 ghost use Rattle.std.specs.Prelude.{◌≡◌, [], ◌∷◌, codes};
 ghost use Rattle.zjournal.specs.Blocks.{at_rest, IsEnd};
 ghost use Rattle.zjournal.specs.Checksum.{adler, stamped};
-ghost use Rattle.zjournal.specs.Device.{Cut, Torn};
+ghost use Rattle.zjournal.specs.Device.{Cut, IsEither, Torn};
 ghost use Rattle.zjournal.specs.Journal.{holdings, IsUnmade, Keeps};
+ghost use Rattle.zjournal.specs.Renewal.{IsOldOrNew};
 
 /// A checksum, and a text behind its own.
 pub fn texts_have_checksums()
@@ -45,4 +46,13 @@ pub fn crashes_leave_the_rest()
     ensures shorter { Torn 0 1 (1 ∷ 2 ∷ []) (1 ∷ []) → ⊥ }
     ensures cut_too_far { Cut 1 (1 ∷ 2 ∷ []) [] → ⊥ }
     ensures cut_no_front { Cut 1 (1 ∷ 2 ∷ []) (9 ∷ []) → ⊥ }
+{}
+
+/// While a new file takes the place of an old one, a crash leaves either, and nothing in part.
+pub fn new_files_take_the_place()
+    ensures old { IsEither (λ c. c ≡ 1 ∷ []) (2 ∷ 3 ∷ []) (1 ∷ []) }
+    ensures next { IsEither (λ c. c ≡ 1 ∷ []) (2 ∷ 3 ∷ []) (2 ∷ 3 ∷ []) }
+    ensures part { IsEither (λ c. c ≡ 1 ∷ []) (2 ∷ 3 ∷ []) (2 ∷ []) → ⊥ }
+    ensures nothing { IsEither (λ c. c ≡ 1 ∷ []) (2 ∷ 3 ∷ []) [] → ⊥ }
+    ensures renewed { IsOldOrNew 3 ((97 ∷ []) ∷ []) [] (at_rest (holdings 3 [])) }
 {}

@@ -10,3 +10,5 @@ mod failures;
 mod faults;
 #[cfg(test)]
 mod lives;
+#[cfg(test)]
+mod renewals;

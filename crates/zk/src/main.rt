@@ -3,7 +3,8 @@
 
 use std::env;
 use std::process::ExitCode;
-use zcommand::{WordsFault, command, refuse};
+use zcli::{WordsFault, refuse};
+use zcommand::command;
 use zscript::{ReaderSource, Sink, Source, WriterSink};
 
 fn main(rt: HostRuntime) -> ExitCode {

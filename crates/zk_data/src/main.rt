@@ -7,7 +7,7 @@
 
 use std::env;
 use std::process::ExitCode;
-use zcommand::{WordsFault, refuse};
+use zcli::{WordsFault, refuse};
 use zdata::data_command;
 use zscript::{ReaderSource, Sink, Source, WriterSink};
 

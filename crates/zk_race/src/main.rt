@@ -8,7 +8,7 @@ use std::env;
 use std::process::ExitCode;
 use std::sync::Wait;
 use std::thread::Threads;
-use zcommand::{WordsFault, refuse};
+use zcli::{WordsFault, refuse};
 use zdevices::{Sink, WriterSink};
 use zracing::race_command;
 

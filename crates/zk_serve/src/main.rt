@@ -6,7 +6,7 @@
 
 use std::env;
 use std::process::ExitCode;
-use zcommand::{WordsFault, refuse};
+use zcli::{WordsFault, refuse};
 use zdevices::{ReaderSource, Sink, Source, WriterSink};
 use zhosted::hosted_command;
 

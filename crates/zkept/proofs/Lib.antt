@@ -5,3 +5,4 @@ pub mod Written
 pub mod Restoring
 pub mod Serving
 pub mod Opening
+pub mod Lasting

@@ -1,11 +1,15 @@
 -- What holds of entries, and over all lives of a service. The functions of `src/laws.rt` promise it.
-use Rattle.std.specs.Prelude.{◌≡◌, ℕ, List, [], ◌++◌, Option, Some}
+use Rattle.std.specs.Prelude.{◌≡◌, ℕ, true, List, [], ◌++◌, codes, Option, Some}
 use Rattle.zcalls.specs.declared.call.Call.{Call}
+use Rattle.zworld.specs.Steps.{world_in}
+use Rattle.zalone.specs.declared.order.Order.{Order}
+use Rattle.zalone.specs.Order.{takes_last}
 use Rattle.zturns.specs.Turns.{Log, IsOneTrees}
 use Rattle.zjournal.specs.Journal.{StandsFor}
 use Rattle.zjournal.specs.Scan.{joined}
 use Rattle.zrecords.specs.declared.record.Record.{Record}
-use Rattle.zfront.specs.Front.{FrontView}
+use Rattle.zfront.specs.Front.{FrontView, IsReady}
+use Rattle.zfront.specs.Orders.{IsGiven, told_operator}
 use Rattle.zfront.specs.Restoring.{Entry}
 use Rattle.zfront_laws.specs.Making.{entry_updates, updates_in, updates_of}
 use Rattle.zfront_laws.specs.Runs.{IsLog}
@@ -33,6 +37,15 @@ WhatIsKeptStandsInALog =
     (servers : ℕ) (entries : List Entry) (v : FrontView) → HasKept servers entries v
     → (log : Log) × (waiting : Option Call) × IsLog v log waiting × IsOneTrees log
     × (updates_in log ≡ entry_updates entries ++ updates_of (made_by v))
+
+-- Whatever its inputs were, a front that has kept entries refuses an order that would take away the
+-- last server: it answers `no Last`, and nothing else is different. That is asked of the world in
+-- which the order would be done: behind what is done before each input
+abbrev pub TheLastServerStays : Type 0
+TheLastServerStays =
+    (servers : ℕ) (entries : List Entry) (v ready w : FrontView) (order : Order) → HasKept servers entries v → IsReady v ready
+    → takes_last (world_in ready.asker.world) order ≡ true → IsGiven order ready w
+    → w ≡ told_operator (codes "no Last") ready
 
 -- From a new file on, whatever the lives were: the last file's text is that of some entries. All
 -- calls that the lives told stand in one log, each once, in order and with the reply that was told.

@@ -1,7 +1,7 @@
 //! What holds of entries, and over all lives of a service. Each function's contract is a law.
 
 ghost use Rattle.zkept.specs.Laws.{EntriesComeBack, LivesAreOneTree, RecordsComeBack};
-ghost use Rattle.zkept.specs.Laws.{TextsTellApart, WhatIsKeptStandsInALog};
+ghost use Rattle.zkept.specs.Laws.{TextsTellApart, TheLastServerStays, WhatIsKeptStandsInALog};
 
 /// Entries are written as records, and come back from them. No records are written so by others.
 pub fn entries_come_back()
@@ -18,6 +18,12 @@ pub fn texts_tell_apart()
 /// updates are those that were kept, and those that are left to be kept.
 pub fn what_is_kept_stands_in_a_log()
     ensures { WhatIsKeptStandsInALog }
+{}
+
+/// An order of the chain's operator that would take away the last server with the state is refused,
+/// whatever the inputs were: it is answered `no Last`, and changes nothing.
+pub fn the_last_server_stays()
+    ensures { TheLastServerStays }
 {}
 
 /// Whatever the lives of a service were, the calls that they told stand in one log, in order, each

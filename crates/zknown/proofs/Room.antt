@@ -13,11 +13,12 @@ use Rattle.zcalls.specs.declared.reply.Reply.TheVariants as reply
 use Rattle.zcalls.specs.CallRuns.{after_calls, is_change}
 use Rattle.zcalls.specs.Part.{is_gone}
 use Rattle.zcalls.specs.Step.{step, update_result, is_exhausted}
-use Rattle.zcalls.proofs.LawfulCalls.{after-good}
+use Rattle.zcalls.proofs.LawfulCalls.{after-good, step-good}
+use Rattle.zcalls.proofs.LawfulParts.{IsGood}
 use Rattle.zcalls.proofs.Sessions.{or_refused}
 use Rattle.zcalls.proofs.Taking.{changes_take_one_zxid}
 use Rattle.zknown.specs.Known.{KnownView, known_of, time_after, Fits}
-use Rattle.zknown.specs.Laws.{KnownHasRoom}
+use Rattle.zknown.specs.Laws.{KnownHasRoom, KnownHasRoomFrom}
 use Rattle.zknown.proofs.Following.{known_is_the_trees, replies_fit, neither}
 
 -- the last zxid and the last tick are not used up
@@ -88,3 +89,13 @@ pub known_has_room : KnownHasRoom
 known_has_room calls =
     let low = after_low calls opening_tree (lit< tt, lit< tt) in
     record { zxid = low.0; time = low.1; sessions = λ id s there. ((after-good calls).1 id s there).most }
+
+-- the same from any tree
+good_after : (calls : List (ℕ × Update)) (t : Tree) → IsGood t → IsGood (after_calls t calls)
+good_after [] t good = good
+good_after (call ∷ calls) t good = good_after calls (step t call.0 call.1).0 (step-good t call.0 call.1 good)
+
+pub known_has_room_from : KnownHasRoomFrom
+known_has_room_from t lawful bounded calls =
+    let low = after_low calls t (bounded.zxid, bounded.time) in
+    record { zxid = low.0; time = low.1; sessions = λ id s there. ((good_after calls t (lawful, bounded.sessions)).1 id s there).most }

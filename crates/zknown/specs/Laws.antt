@@ -2,6 +2,8 @@
 -- it.
 use Rattle.std.specs.Prelude.{◌≡◌, ℕ, List}
 use Rattle.ztree.specs.Tree.{Tree, opening_tree}
+use Rattle.ztree.specs.Lawful.{IsLawful}
+use Rattle.zcalls.specs.Bounds.{IsBounded}
 use Rattle.zcalls.specs.declared.call.Call.TheVariants as call
 use Rattle.zcalls.specs.declared.call.Query.{Query}
 use Rattle.zcalls.specs.declared.call.Update.{Update}
@@ -23,6 +25,10 @@ QueriesTeachNothing =
 -- after any calls from the initial tree, its numbers leave room for one more call
 abbrev pub KnownHasRoom : Type 0
 KnownHasRoom = (calls : List (ℕ × Update)) → HasRoom (known_of (after_calls opening_tree calls))
+
+-- so after any calls from a lawful and bounded tree
+abbrev pub KnownHasRoomFrom : Type 0
+KnownHasRoomFrom = (t : Tree) → IsLawful t → IsBounded t → (calls : List (ℕ × Update)) → HasRoom (known_of (after_calls t calls))
 
 -- and those of every reply are in their ranges
 abbrev pub RepliesFit : Type 0

@@ -1,7 +1,7 @@
 //! What is known.
 
 ghost use Rattle.std.specs.Prelude.{◌≡◌, ◌+◌, ◌^◌, ◌<◌, true, IfOk, OnErr, OnOk};
-ghost use Rattle.std.specs.FinMap.{get};
+ghost use Rattle.std.specs.FinMap.{empty, get, insert};
 ghost use Rattle.ztree.specs.Sessions.{due_sessions};
 ghost use Rattle.ztree.specs.Tree.{opening_tree};
 ghost use Rattle.zcalls.specs.CallRuns.{is_change};
@@ -46,6 +46,28 @@ impl Known {
             time: 0,
             sessions: SessionTable::new(alloc),
         }
+    }
+
+    /// Returns what is known where this is the last zxid and this is the clock, and there are no
+    /// sessions yet. Allocates nothing.
+    pub fn begun(alloc: Global, zxid: Zxid, time: u64) -> Known
+        ensures { result ≡ record { zxid = zxid; time = time; sessions = empty } }
+    {
+        Known {
+            zxid,
+            time,
+            sessions: SessionTable::new(alloc),
+        }
+    }
+
+    /// Adds a session, as it is. After `Memory` nothing has changed.
+    pub fn put_session(&mut self, id: SessionId, session: Session) -> Result<(), Memory>
+        ensures put { OnOk result (self.new
+            ≡ record self.old { sessions = insert self.old.sessions id session }) }
+        ensures same { OnErr result (self.new ≡ self.old) }
+    {
+        self.sessions.open(id, session)?;
+        Ok(())
     }
 
     /// Returns the zxid of the last change.

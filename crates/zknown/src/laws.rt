@@ -1,6 +1,7 @@
 //! What is known is the tree's. Each function's contract is a law; its body does nothing.
 
-ghost use Rattle.zknown.specs.Laws.{KnownHasRoom, KnownIsTheTrees, QueriesTeachNothing};
+ghost use Rattle.zknown.specs.Laws.{KnownHasRoom, KnownHasRoomFrom};
+ghost use Rattle.zknown.specs.Laws.{KnownIsTheTrees, QueriesTeachNothing};
 ghost use Rattle.zknown.specs.Laws.{RepliesFit};
 
 /// What is known after a client's call and its reply is that of the tree after the call, where it
@@ -11,8 +12,10 @@ pub fn known_is_the_trees()
 {}
 
 /// What is known after any calls from the initial tree has room for one more, and the numbers of
-/// every reply are in their ranges. So they fit in 64 bits.
+/// every reply are in their ranges. So they fit in 64 bits. So it is from any lawful and bounded
+/// tree.
 pub fn known_has_room()
     ensures room { KnownHasRoom }
+    ensures room_from { KnownHasRoomFrom }
     ensures replies { RepliesFit }
 {}

@@ -1,7 +1,9 @@
 pub mod Changing
 pub mod Creating
+pub mod Dated
 pub mod KeptMaps
 pub mod Marks
+pub mod OfUpdate
 pub mod Ticking
 pub mod Restored
 pub mod RestoredLaws

@@ -18,7 +18,7 @@ use Rattle.zcalls.specs.declared.limits.TheConstants.{MAX_RAISES}
 use Rattle.zcalls.specs.Bounds.{IsWithin, IsGranted, IsBounded}
 use Rattle.zcalls.proofs.Bounds.{all_insert}
 use Rattle.zcalls.proofs.Timed.{put-granted}
-use Rattle.zops.specs.Restored.{CanBegin}
+use Rattle.zops.specs.Restored.{IsDated, AllDated, CanBegin}
 use Rattle.zops.specs.support.Ready.{IsRestoring}
 
 no_nodes : (P : Node → Type 0) → AllNodes P finite.empty
@@ -45,15 +45,18 @@ restoring_root store root time zxid applied can is given =
       bounded = subst IsBounded (sym is) bounded;
       applied_few = can.applied_few;
       given_few = omega (arith, here, given);
+      dated = subst AllDated (sym is) (all_insert (IsDated zxid time) finite.empty [] root
+          (no_nodes (IsDated zxid time)) can.dated);
     }
 
 -- a node put, or refused
 pub restoring_node : (old new : StoreView) (applied : ℕ) (path : Path) (n : Node)
     (result : Result (Unit {0}) RestoreFault) → IsRestoring old applied →
-    IsWithin (MAX_RAISES * old.tree.zxid) n → OnOk result (new.tree ≡ with_row old.tree path n) →
+    IsWithin (MAX_RAISES * old.tree.zxid) n → IsDated old.tree.zxid old.tree.time n →
+    OnOk result (new.tree ≡ with_row old.tree path n) →
     OnOk result (new.given ≡ old.given + 1) → OnOk result (CanPut old.tree path n) →
     OnErr result (new ≡ old) → IsRestoring new applied
-restoring_node old new applied path n (Ok u) before within tree given can err =
+restoring_node old new applied path n (Ok u) before within dated tree given can err =
     let bounded : IsBounded (with_row old.tree path n) = record {
       zxid = before.bounded.zxid;
       time = before.bounded.time;
@@ -69,8 +72,10 @@ restoring_node old new applied path n (Ok u) before within tree given can err =
       bounded = subst IsBounded (sym tree) bounded;
       applied_few = before.applied_few;
       given_few = omega (arith, longer, few, given);
+      dated = subst AllDated (sym tree) (all_insert (IsDated old.tree.zxid old.tree.time)
+          old.tree.nodes path n before.dated dated);
     }
-restoring_node old new applied path n (Err fault) before within tree given can err =
+restoring_node old new applied path n (Err fault) before within dated tree given can err =
     subst (λ (s : StoreView). IsRestoring s applied) (sym err) before
 
 -- a session put, or refused
@@ -91,6 +96,7 @@ restoring_session old new applied id s (Ok u) before granted tree given err =
       bounded = subst IsBounded (sym tree) bounded;
       applied_few = before.applied_few;
       given_few = omega (arith, same, few, given);
+      dated = subst AllDated (sym tree) before.dated;
     }
 restoring_session old new applied id s (Err fault) before granted tree given err =
     subst (λ (v : StoreView). IsRestoring v applied) (sym err) before

@@ -27,7 +27,7 @@ module _ (t : Tree) (settled : IsSettled t) where
   sessions_left = Left nat_cmp_total nat_cmp-IsAntisymmetric t.sessions
 
   -- its next session can be put
-  granted_can : (u : Tree) (e : ℕ × Session) (rest : List (ℕ × Session)) → u.time ≡ t.time →
+  pub granted_can : (u : Tree) (e : ℕ × Session) (rest : List (ℕ × Session)) → u.time ≡ t.time →
       u.zxid ≡ t.zxid → sessions_left u.sessions (e ∷ rest) → CanPutGranted u e.0 e.1
   granted_can u e rest time zxid left =
       let is = left_is nat_cmp_total nat_cmp-IsAntisymmetric t.sessions u.sessions e rest left in
@@ -37,7 +37,7 @@ module _ (t : Tree) (settled : IsSettled t) where
       }
 
   -- its next node can be put
-  bounded_can : (u : Tree) (e : Path × Node) (rest : List (Path × Node)) →
+  pub bounded_can : (u : Tree) (e : Path × Node) (rest : List (Path × Node)) →
       u.sessions ≡ t.sessions → u.time ≡ t.time → u.zxid ≡ t.zxid → has_node u.nodes [] ≡ true →
       nodes_left u.nodes (e ∷ rest) → CanPutNode u e.0 e.1
   bounded_can u e rest sessions time zxid root left =

@@ -1,14 +1,16 @@
 -- A machine restored from rows: the root, the sessions, the other nodes and the cached replies. Here
 -- is what the rows make, and which of them can be put. Rows of a state are this project's profile.
-use Rattle.std.specs.Prelude.{ℕ, ◌*◌, ◌<◌, ◌≤◌}
+use Rattle.std.specs.Prelude.{ℕ, ◌*◌, ◌<◌, ◌≤◌, length}
 use Rattle.std.specs.FinMap.{empty, insert}
 use Rattle.ztree.specs.declared.limits.TheConstants.{ZXID_BOUND, TICK_BOUND}
 use Rattle.ztree.specs.declared.node.Node.{Node}
 use Rattle.ztree.specs.declared.session.Session.{Session}
 use Rattle.ztree.specs.Tree.{Tree, Path}
+use Rattle.ztree.specs.Lawful.{AllNodes}
 use Rattle.zstore.specs.Restored.{rooted_tree, CanBeRoot, CanPut, CanPutSession}
-use Rattle.zcalls.specs.declared.limits.TheConstants.{MAX_RAISES}
+use Rattle.zcalls.specs.declared.limits.TheConstants.{MAX_PARTS, MAX_RAISES}
 use Rattle.zcalls.specs.declared.reply.Reply.{Reply}
+use Rattle.zcalls.specs.declared.reply.Reply.TheVariants as told
 use Rattle.zcalls.specs.Bounds.{IsWithin, IsGranted}
 use Rattle.zops.specs.declared.limits.TheConstants.{MAX_APPLIED}
 use Rattle.zops.specs.Machine.{MachineState}
@@ -31,6 +33,14 @@ with_reply s client number reply =
       };
     }
 
+-- The reply is one to an update: only these are cached. A multi has at most 64 parts.
+abbrev pub IsOfUpdate : Reply → Type 0
+IsOfUpdate (told.Data bytes stat) = ⊥
+IsOfUpdate (told.Exists stat) = ⊥
+IsOfUpdate (told.Children names) = ⊥
+IsOfUpdate (told.Multi replies) = length replies ≤ MAX_PARTS
+IsOfUpdate other = Unit {0}
+
 -- no zxid of the node is above this one, and no tick of it is above this one
 pub record IsDated (zxid time : ℕ) (n : Node) : Type 0 where
   pub czxid : n.czxid ≤ zxid
@@ -38,6 +48,10 @@ pub record IsDated (zxid time : ℕ) (n : Node) : Type 0 where
   pub pzxid : n.pzxid ≤ zxid
   pub ctime : n.ctime ≤ time
   pub mtime : n.mtime ≤ time
+
+-- no node of the tree is of a later change or tick
+abbrev pub AllDated : Tree → Type 0
+AllDated t = AllNodes (IsDated t.zxid t.time) t.nodes
 
 -- a machine can begin with this root and these numbers
 pub record CanBegin (root : Node) (time zxid applied : ℕ) : Type 0 where

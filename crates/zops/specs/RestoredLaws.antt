@@ -4,18 +4,18 @@ use Rattle.std.specs.FinMap.{get, entries}
 use Rattle.ztree.specs.declared.node.Node.{Node}
 use Rattle.ztree.specs.declared.session.Session.{Session}
 use Rattle.ztree.specs.Tree.{Tree, Path}
-use Rattle.ztree.specs.Lawful.{IsLawful, AllNodes}
+use Rattle.ztree.specs.Lawful.{IsLawful}
 use Rattle.zcalls.specs.Bounds.{IsBounded}
 use Rattle.zstore.specs.Restored.{with_row, with_session_row, with_rows, with_session_rows, rooted_tree}
 use Rattle.zstore.specs.RestoredLaws.{IsNextSession, IsNext}
 use Rattle.zops.specs.declared.limits.TheConstants.{MAX_APPLIED}
-use Rattle.zops.specs.Restored.{IsDated, CanBegin, CanPutGranted, CanPutNode}
+use Rattle.zops.specs.Restored.{AllDated, CanBegin, CanPutGranted, CanPutNode}
 
 -- the tree is lawful and bounded, and no node is of a later change or tick
 pub record IsSettled (t : Tree) : Type 0 where
   pub lawful : IsLawful t
   pub bounded : IsBounded t
-  pub dated : AllNodes (IsDated t.zxid t.time) t.nodes
+  pub dated : AllDated t
 
 -- each of these sessions can be put after those before it
 abbrev pub CanPutAllGranted : Tree → List (ℕ × Session) → Type 0

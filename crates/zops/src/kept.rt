@@ -1,8 +1,11 @@
 //! The cached replies: the last one to each client, with its call number.
 
-ghost use Rattle.std.specs.Prelude.{◌≡◌, None, Some, IfNone, IfOk, IfSome};
-ghost use Rattle.std.specs.FinMap.{empty, get, insert};
+ghost use Rattle.std.specs.Prelude.{◌≡◌, ◌<◌, ◌≤◌, ◌++◌, [], ◌∷◌, length, None, Some, IfNone, IfOk, IfSome, OnOk};
+ghost use Rattle.std.specs.FinMap.{empty, get, insert, keys};
+ghost use Rattle.ztree.specs.declared.limits.TheConstants.{MAX_CLIENTS};
 ghost use Rattle.zcalls.specs.Kept.{last_of, kept_reply};
+ghost use Rattle.zops.specs.Restored.{IsOfUpdate};
+ghost use Rattle.zops.specs.support.Places.{clients_from};
 
 use std::alloc::Global;
 use std::marker::Model;
@@ -21,12 +24,15 @@ struct Kept {
 impl Model for Kept {
     ghost use Rattle.zcalls.specs.Kept as kept;
     ghost use Rattle.zops.specs.support.Codes.{coded_kept};
+    ghost use Rattle.zops.specs.Restored.{IsOfUpdate};
 
     ghost Value = { kept.Kept };
 
     ghost coded = { coded_kept };
 
     ghost view = { λ k. record { number = k.number; reply = k.reply } };
+
+    ghost invariant = { λ k. IsOfUpdate k.reply };
 }
 
 impl Kept {
@@ -110,6 +116,7 @@ impl KeptReplies {
     pub(crate) fn get(&self, client: ClientId) -> Option<(CallNumber, &Reply)>
         ensures kept { IfSome result (λ kept. get self.now client
             ≡ Some (record { number = kept.0; reply = kept.1.now })) }
+        ensures of_update { IfSome result (λ kept. IsOfUpdate kept.1.now) }
         ensures none { IfNone result (get self.now client ≡ None) }
     {
         match &self.places[client.number() as usize] {
@@ -118,8 +125,17 @@ impl KeptReplies {
         }
     }
 
+    /// Returns the clients with a cached reply in their order, or `Memory`.
+    pub(crate) fn clients(&self, alloc: Global) -> Result<Vec<ClientId>, Memory>
+        ensures clients { IfOk result (λ clients. clients.items ≡ keys self.now) }
+        ensures few { IfOk result (λ clients. length clients.items ≤ MAX_CLIENTS) }
+    {
+        clients_of(alloc, &self.places)
+    }
+
     /// Caches the reply to this call of the client, and drops the one before it.
     pub(crate) fn keep(&mut self, client: ClientId, number: CallNumber, reply: Reply)
+        requires { IsOfUpdate reply }
         ensures { self.new ≡ insert self.old client (record { number = number; reply = reply }) }
     {
         self.places[client.number() as usize] = Some(Kept { number, reply });
@@ -131,6 +147,37 @@ impl KeptReplies {
     {
         let places = copied_places(alloc, &self.places)?;
         Ok(KeptReplies { places })
+    }
+}
+
+// Returns the clients whose places have a reply.
+fn clients_of(alloc: Global, places: &[Option<Kept>]) -> Result<Vec<ClientId>, Memory>
+    requires { length places.now ≡ MAX_CLIENTS }
+    ensures clients { IfOk result (λ clients. clients.items ≡ clients_from 0 places.now) }
+    ensures few { IfOk result (λ clients. length clients.items ≤ MAX_CLIENTS) }
+{
+    let mut clients = Vec::new(alloc);
+    for number in 0..MAX_CLIENTS {
+        add_client(&mut clients, number, &places[number as usize])?;
+    }
+    Ok(clients)
+}
+
+// Adds the client with this number, if its place has a reply.
+fn add_client(clients: &mut Vec<ClientId>, number: u8, place: &Option<Kept>) -> Result<(), Memory>
+    requires { number < MAX_CLIENTS }
+    ensures { OnOk result
+        (clients.new.items ≡ clients.old.items ++ clients_from number (place.now ∷ [])) }
+{
+    if place.is_none() {
+        return Ok(());
+    }
+    match ClientId::new(number) {
+        Some(client) => {
+            clients.push(client)?;
+            Ok(())
+        }
+        None => unreachable!(),
     }
 }
 

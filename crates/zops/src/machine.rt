@@ -2,7 +2,7 @@
 
 ghost use Rattle.zops.specs.declared.limits.TheConstants.{MAX_APPLIED};
 ghost use Rattle.zops.specs.support.Ready.{IsSteady, StaysBounded};
-ghost use Rattle.zops.specs.support.Steps.{IsEntered};
+ghost use Rattle.zops.specs.support.Steps.{HasFewParts, IsEntered};
 ghost use Rattle.std.specs.Prelude.{◌≡◌, ◌<◌, ◌≤◌, IfOk, OnOk, OnErr, IsErr, true, false};
 
 use crate::kept::KeptReplies;
@@ -10,7 +10,7 @@ use crate::query::answer;
 use crate::update::update;
 use std::alloc::Global;
 use std::marker::Model;
-use zcalls::{Entry, Query, Reply};
+use zcalls::{Entry, Query, Reply, Update};
 use zpath::Memory;
 use zstore::Store;
 
@@ -40,7 +40,7 @@ impl Model for Machine {
 
     ghost view = { view_of };
 
-    ghost invariant = { λ m. IsSound m.store m.applied };
+    ghost invariant = { λ m. IsSound m.store m.applied m.is_broken };
 }
 
 impl Machine {
@@ -71,6 +71,17 @@ impl Machine {
             applied: 0,
             is_broken: false,
         })
+    }
+
+    /// An invariant of every machine: its tree is lawful, each key of it is a path, and its numbers
+    /// are bounded. The function does nothing.
+    pub fn keeps_lawful(&self)
+        ensures lawful { IsLawful self.now.state.service.plain }
+        ensures paths { HasPaths self.now.state.service.plain.nodes }
+        ensures bounded { IsBounded self.now.state.service.plain }
+    {
+        self.store.keeps_lawful();
+        self.store.keeps_paths();
     }
 
     /// Returns the number of entries applied, including those that were refused or didn't act.
@@ -176,6 +187,7 @@ fn enter(
     ensures done { IfOk result (IsEntered entry.now store.old kept.old store.new kept.new) }
     ensures left { StaysBounded store.old store.new }
 {
+    keeps_few_parts(&entry.update);
     let number = entry.number.number();
     let last = kept.last_number(entry.client);
     if number <= last {
@@ -188,4 +200,13 @@ fn enter(
     };
     kept.keep(entry.client, entry.number, copy);
     Ok(Some(reply))
+}
+
+// Says that a multi has few parts: reading them brings that into the proof.
+fn keeps_few_parts(update: &Update)
+    ensures { HasFewParts update.now }
+{
+    if let Update::Multi(parts) = update {
+        let _ = parts.as_slice();
+    }
 }

@@ -1,8 +1,11 @@
 //! Reading a machine's state, row by row.
 
-ghost use Rattle.std.specs.Prelude.{◌≡◌, false, is_some, None, Some, IfNone, IfOk, IfSome};
+ghost use Rattle.std.specs.Prelude.{◌≡◌, ◌≤◌, false, length, is_some, None, Some, IfNone, IfOk, IfSome};
 ghost use Rattle.std.specs.FinMap.{get, keys};
+ghost use Rattle.ztree.specs.declared.limits.TheConstants.{MAX_CLIENTS};
 ghost use Rattle.ztree.specs.Tree.{has_node};
+ghost use Rattle.zops.specs.Restored.{IsOfUpdate};
+ghost use Rattle.zops.specs.RestoredLaws.{IsSettled};
 
 use crate::machine::Machine;
 use zcalls::{CallNumber, Reply};
@@ -30,9 +33,12 @@ impl Machine {
     /// children.
     pub fn paths(&self) -> Result<Vec<Path>, Memory>
         requires whole { self.now.is_broken ≡ false }
-        ensures { IfOk result (λ paths.
+        ensures paths { IfOk result (λ paths.
             paths.items ≡ keys self.now.state.service.plain.nodes) }
+        // So its rows make it: none of them is refused.
+        ensures settled { IsSettled self.now.state.service.plain }
     {
+        self.store.keeps_lawful();
         self.store.paths()
     }
 
@@ -64,11 +70,22 @@ impl Machine {
         self.store.session(id)
     }
 
+    /// Returns the clients with a cached reply in their order, or `Memory`.
+    pub fn clients(&self) -> Result<Vec<ClientId>, Memory>
+        requires whole { self.now.is_broken ≡ false }
+        ensures clients { IfOk result (λ clients.
+            clients.items ≡ keys self.now.state.service.kept) }
+        ensures few { IfOk result (λ clients. length clients.items ≤ MAX_CLIENTS) }
+    {
+        self.kept.clients(self.alloc)
+    }
+
     /// Returns the client's cached reply with the number of its call, if there is one.
     pub fn kept(&self, client: ClientId) -> Option<(CallNumber, &Reply)>
         requires whole { self.now.is_broken ≡ false }
         ensures kept { IfSome result (λ kept. get self.now.state.service.kept client
             ≡ Some (record { number = kept.0; reply = kept.1.now })) }
+        ensures of_update { IfSome result (λ kept. IsOfUpdate kept.1.now) }
         ensures none { IfNone result (get self.now.state.service.kept client ≡ None) }
     {
         self.kept.get(client)

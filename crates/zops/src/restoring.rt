@@ -8,14 +8,14 @@ ghost use Rattle.zcalls.specs.declared.limits.TheConstants.{MAX_RAISES};
 ghost use Rattle.zcalls.specs.Bounds.{IsWithin, IsBounded};
 ghost use Rattle.zstore.specs.declared.restore_fault.RestoreFault.TheVariants.{Memory as OfMemory};
 ghost use Rattle.zstore.specs.Restored.{with_row, with_session_row};
-ghost use Rattle.zops.specs.Restored.{rooted_machine, with_plain, with_reply, IsDated, CanBegin, CanPutNode, CanPutGranted};
+ghost use Rattle.zops.specs.Restored.{rooted_machine, with_plain, with_reply, IsDated, IsOfUpdate, CanBegin, CanPutNode, CanPutGranted};
 
 use crate::kept::KeptReplies;
 use crate::limits::MAX_APPLIED;
 use crate::machine::Machine;
 use std::alloc::Global;
 use std::marker::Model;
-use zcalls::limits::{MAX_COUNTER, MAX_RAISES, MAX_TIMEOUT, MIN_TIMEOUT};
+use zcalls::limits::{MAX_COUNTER, MAX_PARTS, MAX_RAISES, MAX_TIMEOUT, MIN_TIMEOUT};
 use zcalls::{CallNumber, Reply};
 use zpath::Path;
 use zstore::{ClientId, Node, RestoreFault, Session, SessionId, Store, Zxid};
@@ -125,10 +125,24 @@ impl Restoring {
     }
 
     /// Caches a reply to the client, with the number of its call. Replaces one that was put before.
-    pub fn put_reply(&mut self, client: ClientId, number: CallNumber, reply: Reply)
-        ensures { self.new ≡ with_reply self.old client number reply }
+    /// Refuses the reply to a query. If it is refused, nothing has changed.
+    pub fn put_reply(
+        &mut self,
+        client: ClientId,
+        number: CallNumber,
+        reply: Reply,
+    ) -> Result<(), RestoreFault>
+        ensures state { OnOk result (self.new ≡ with_reply self.old client number reply) }
+        ensures can { OnOk result (IsOfUpdate reply) }
+        ensures fault { IfErr result (λ fault. IsOfUpdate reply → fault ≡ OfMemory) }
+        ensures err { OnErr result (self.new ≡ self.old) }
     {
+        if !is_of_update(&reply) {
+            drop(reply);
+            return Err(RestoreFault::Unlawful);
+        }
         self.kept.keep(client, number, reply);
+        Ok(())
     }
 
     /// Returns the machine, once all rows are put.
@@ -147,6 +161,18 @@ impl Restoring {
             applied: self.applied,
             is_broken: false,
         }
+    }
+}
+
+// Returns whether it is the reply to an update.
+fn is_of_update(reply: &Reply) -> bool
+    ensures yes { IsTrue result → IsOfUpdate reply.now }
+    ensures no { IsFalse result → IsOfUpdate reply.now → ⊥ }
+{
+    match reply {
+        Reply::Multi(replies) => replies.as_slice().len() <= MAX_PARTS,
+        Reply::Data(_, _) | Reply::Exists(_) | Reply::Children(_) => false,
+        _ => true,
     }
 }
 

@@ -1,12 +1,16 @@
 //! Worked examples. Each clause is one; the body does nothing.
 
-ghost use Rattle.std.specs.Prelude.{◌≡◌, ◌*◌, Some};
+ghost use Rattle.std.specs.Prelude.{◌≡◌, ◌*◌, [], replicate, Some};
 ghost use Rattle.std.specs.FinMap.{get};
 ghost use Rattle.ztree.specs.support.Samples.{some_node, two_nodes};
-ghost use Rattle.zcalls.specs.declared.reply.Reply.TheVariants.{Deleted, Pinged};
+ghost use Rattle.ztree.specs.Tree.{stat_with};
+ghost use Rattle.zcalls.specs.declared.refusal.Refusal.TheVariants.{NoNode};
+ghost use Rattle.zcalls.specs.declared.reply.PartReply.TheVariants.{Checked};
+ghost use Rattle.zcalls.specs.declared.reply.Reply.TheVariants.{Deleted, Pinged, Refused, Multi};
+ghost use Rattle.zcalls.specs.declared.reply.Reply.TheVariants.{Data as DataOf, Exists, Children};
 ghost use Rattle.zops.specs.declared.limits.TheConstants.{MAX_APPLIED};
 ghost use Rattle.zops.specs.Machine.{opening_machine};
-ghost use Rattle.zops.specs.Restored.{rooted_machine, with_plain, with_reply, IsDated};
+ghost use Rattle.zops.specs.Restored.{rooted_machine, with_plain, with_reply, IsOfUpdate, IsDated};
 
 /// The limit as a number.
 pub fn limit_is_a_number()
@@ -22,6 +26,17 @@ pub fn dates()
     ensures pzxid { IsDated 2 5 some_node → ⊥ }
     ensures ctime { IsDated 3 5 (record some_node { ctime = 6 }) → ⊥ }
     ensures mtime { IsDated 3 4 some_node → ⊥ }
+{}
+
+/// Which replies are cached: those to updates. A multi has at most 64 parts.
+pub fn cached_replies()
+    ensures deleted { IsOfUpdate Deleted }
+    ensures refused { IsOfUpdate (Refused NoNode) }
+    ensures multi { IsOfUpdate (Multi (replicate 64 Checked)) }
+    ensures too_many { IsOfUpdate (Multi (replicate 65 Checked)) → ⊥ }
+    ensures names { IsOfUpdate (Children []) → ⊥ }
+    ensures content { IsOfUpdate (DataOf [] (stat_with some_node 0)) → ⊥ }
+    ensures exists { IsOfUpdate (Exists (stat_with some_node 0)) → ⊥ }
 {}
 
 /// What rows make of a machine: a reply is cached for its own client, and the tree stays.

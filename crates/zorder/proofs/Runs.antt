@@ -1,5 +1,5 @@
 -- Every event keeps a run sound, so every run is sound, and what is committed stays committed.
-use Rattle.std.proofs.Common.{◌≡◌, Bool, true, false, if◌then◌else◌, List, [], ◌∷◌, ◌++◌, refl, sym, ap, ◌∙◌, subst}
+use Rattle.std.proofs.Common.{◌≡◌, ℕ, Bool, true, false, if◌then◌else◌, List, [], ◌∷◌, ◌++◌, refl, sym, ap, ◌∙◌, subst}
 use Rattle.zcalls.specs.Kept.{Plain}
 use Rattle.zcalls.specs.PlainTree.{plain_tree}
 use Rattle.zprotocol.specs.declared.process.Process.TheVariants.{Master, Server, Client}
@@ -12,7 +12,7 @@ use Rattle.zorder.specs.chain.Flow.{log_machine}
 use Rattle.zorder.specs.chain.Last.{LastsAreLengths}
 use Rattle.zorder.specs.chain.Account.{Account, account_by, next_account, account_after, opening_account}
 use Rattle.zorder.specs.chain.Sound.{IsSound, IsSoundAfter}
-use Rattle.zorder.specs.chain.Events.{KeepsSound}
+use Rattle.zorder.specs.chain.Events.{KeepsSoundOver}
 use Rattle.zorder.proofs.chain_lemmas.tables.Lasts.{lasts, lasts_happen}
 use Rattle.zorder.proofs.chain_lemmas.steps.Opening.{opening_sound}
 use Rattle.zorder.proofs.chain_lemmas.steps.Drops.{requests_are_lost}
@@ -36,37 +36,42 @@ account_world plain t (event ∷ events) =
     ∙ ap (λ w. run (log_machine plain) w events)
     (account_world_if (is_enabled t.world event) (account_by plain t event (acts (log_machine plain) t.world event)) t)
 
--- each event
-pub each_event : (event : Event) → KeepsSound event
-each_event (Begin c call) = calls_begin c call
-each_event (Retry c) = calls_are_sent_again c
-each_event (Take from Master) = master_hears from
-each_event (Take Master (Server y)) = servers_hear_master y
-each_event (Take (Server p) (Server y)) = servers_hear_servers p y
-each_event (Take (Client c) (Server y)) = servers_hear_clients c y
-each_event (Take from (Client c)) = clients_hear from c
-each_event (Ignore from to) = requests_are_lost from to
-each_event (Fail x) = servers_fail x
-each_event (Join x) = servers_join x
-each_event (Retire x) = members_retire x
+module _ {P : Type 0} (plain : Plain P) where
+  -- each event
+  pub each_event : (event : Event) → KeepsSoundOver plain event
+  each_event (Begin c call) = calls_begin plain c call
+  each_event (Retry c) = calls_are_sent_again plain c
+  each_event (Take from Master) = master_hears plain from
+  each_event (Take Master (Server y)) = servers_hear_master plain y
+  each_event (Take (Server p) (Server y)) = servers_hear_servers plain p y
+  each_event (Take (Client c) (Server y)) = servers_hear_clients plain c y
+  each_event (Take from (Client c)) = clients_hear plain from c
+  each_event (Ignore from to) = requests_are_lost plain from to
+  each_event (Fail x) = servers_fail plain x
+  each_event (Join x) = servers_join plain x
+  each_event (Retire x) = members_retire plain x
 
-pub lasts_next : (t : Account) (event : Event) → LastsAreLengths t.world → LastsAreLengths (next_account plain_tree t event).world
-lasts_next t event exact =
-    subst LastsAreLengths (sym (account_world_if (is_enabled t.world event) (account_by plain_tree t event (acts (log_machine plain_tree) t.world event)) t))
-    (lasts_happen plain_tree t.world event exact)
+  pub lasts_next : (t : Account) (event : Event) → LastsAreLengths t.world → LastsAreLengths (next_account plain t event).world
+  lasts_next t event exact =
+      subst LastsAreLengths (sym (account_world_if (is_enabled t.world event) (account_by plain t event (acts (log_machine plain) t.world event)) t))
+      (lasts_happen plain t.world event exact)
 
--- each list of events
-runs_sound : (t : Account) → LastsAreLengths t.world → IsSound plain_tree t → (events : List Event) → IsSoundAfter plain_tree t (account_after plain_tree t events)
-runs_sound t exact s [] = (s, prefix_same t.committed)
-runs_sound t exact s (event ∷ events) =
-    let next = each_event event t exact s in
-    let later = runs_sound (next_account plain_tree t event) (lasts_next t event exact) next.0 events in
-    (later.0, prefix_of t.committed (next_account plain_tree t event).committed (account_after plain_tree (next_account plain_tree t event) events).committed next.1 later.1)
+  -- each list of events
+  runs_sound : (t : Account) → LastsAreLengths t.world → IsSound plain t → (events : List Event) → IsSoundAfter plain t (account_after plain t events)
+  runs_sound t exact s [] = (s, prefix_same t.committed)
+  runs_sound t exact s (event ∷ events) =
+      let next = each_event event t exact s in
+      let later = runs_sound (next_account plain t event) (lasts_next t event exact) next.0 events in
+      (later.0, prefix_of t.committed (next_account plain t event).committed (account_after plain (next_account plain t event) events).committed next.1 later.1)
 
--- from the opening
+  -- from the opening
+  pub run_is_sound : (servers clients : ℕ) (events : List Event) → IsSound plain (account_after plain (opening_account plain servers clients) events)
+  run_is_sound servers clients events =
+      (runs_sound (opening_account plain servers clients) (lasts plain servers clients []) (opening_sound plain servers clients) events).0
+
+-- over the plain tree
 pub every_run_is_sound : EveryRunIsSound
-every_run_is_sound servers clients events =
-    (runs_sound (opening_account plain_tree servers clients) (lasts plain_tree servers clients []) (opening_sound plain_tree servers clients) events).0
+every_run_is_sound = run_is_sound plain_tree
 
 -- more events
 account_more : (t : Account) (events more : List Event) → account_after plain_tree t (events ++ more) ≡ account_after plain_tree (account_after plain_tree t events) more
@@ -79,4 +84,4 @@ committed_stays servers clients events more =
     let t = account_of servers clients events in
     let exact = subst LastsAreLengths (sym (account_world plain_tree (opening_account plain_tree servers clients) events)) (lasts plain_tree servers clients events) in
     subst (λ (u : Account). IsPrefix t.committed u.committed) (sym (account_more (opening_account plain_tree servers clients) events more))
-    (runs_sound t exact (every_run_is_sound servers clients events) more).1
+    (runs_sound plain_tree t exact (every_run_is_sound servers clients events) more).1

@@ -1,6 +1,7 @@
 pub mod Cuts
 pub mod Facts
 pub mod Headline
+pub mod FromTree
 pub mod legal
 pub mod chain
 pub mod servers

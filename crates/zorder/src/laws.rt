@@ -2,6 +2,11 @@
 //! anything.
 
 ghost use Rattle.zorder.specs.Cuts.{EveryHistoryWithCutsIsExplained};
+ghost use Rattle.zorder.specs.FromTree.{
+  EveryHistoryFromIsExplained,
+  EveryHistoryFromWithCutsIsExplained,
+  EveryHistoryFromWithLossesIsExplained,
+};
 ghost use Rattle.zorder.specs.Headline.{
   EveryHistoryIsExplained,
   EveryHistoryWithLossesIsExplained,
@@ -26,4 +31,13 @@ pub fn every_history_with_losses_is_explained()
 /// own channels lose nothing.
 pub fn every_history_with_cuts_is_explained()
     ensures { EveryHistoryWithCutsIsExplained }
+{}
+
+/// A chain can begin with any tree that is lawful and whose sessions are such as are granted. For
+/// every list of events, its history is linearizable from that tree on. So it is where failed
+/// servers lose what they held, and where channels lose their ends.
+pub fn every_history_from_a_tree_is_explained()
+    ensures history { EveryHistoryFromIsExplained }
+    ensures losses { EveryHistoryFromWithLossesIsExplained }
+    ensures cuts { EveryHistoryFromWithCutsIsExplained }
 {}

@@ -2,8 +2,8 @@
 
 ghost use Rattle.std.specs.Prelude.{◌≡◌, ◌≤◌, [], codes};
 ghost use Rattle.zdevices.specs.Device.{sink_run};
-ghost use Rattle.zcommand.specs.Command.{IsTold};
-ghost use Rattle.zoptions.specs.Asked.{texts_of};
+ghost use Rattle.zcli.specs.Telling.{IsTold};
+ghost use Rattle.zcli.specs.Asked.{texts_of};
 ghost use Rattle.zrace.specs.declared.plan.Race.{Race};
 ghost use Rattle.zracing.specs.Asked.{IsRaceAsked};
 ghost use Rattle.zracing.specs.Run.{IsGoodRace, IsNotGood};
@@ -13,7 +13,7 @@ use crate::words::race_settings;
 use std::alloc::Global;
 use std::sync::Wait;
 use std::thread::Threads;
-use zcommand::refuse;
+use zcli::refuse;
 use zdevices::Sink;
 use zrace::race;
 

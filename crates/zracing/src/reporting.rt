@@ -2,11 +2,11 @@
 
 ghost use Rattle.std.specs.Prelude.{◌≡◌, ◌≤◌, [], All, IsErr, IsOk, IsSome};
 ghost use Rattle.zdevices.specs.Device.{sink_run};
-ghost use Rattle.zcommand.specs.Command.{IsTold};
+ghost use Rattle.zcli.specs.Telling.{IsTold};
 ghost use Rattle.zracing.specs.Run.{IsGoodReport, IsNotGoodReport, start_fault_text};
 
 use std::alloc::Global;
-use zcommand::{WordsFault, refuse, tell};
+use zcli::{WordsFault, refuse, tell};
 use zdevices::{Sink, write_all};
 use zrace::{Outcome, StartFault};
 

@@ -1,13 +1,12 @@
 //! The words of a race.
 
 ghost use Rattle.std.specs.Prelude.{◌≡◌, ◌<◌, IfErr, IfNone, IfOk, IfSome, Some};
-ghost use Rattle.zoptions.specs.Asked.{texts_of};
+ghost use Rattle.zcli.specs.Asked.{texts_of};
 ghost use Rattle.zrace.specs.declared.plan.Race.{Race};
 ghost use Rattle.zracing.specs.Asked.{IsRaceAsked, IsRaceOf};
 
 use std::alloc::Global;
-use zcommand::WordsFault;
-use zoptions::{NumberOption, numbers_asked};
+use zcli::{NumberOption, WordsFault, numbers_asked};
 use zprotocol::ServerId;
 use zrace::Race;
 

@@ -1,6 +1,7 @@
 //! The two ends of a channel.
-ghost use Rattle.std.specs.Prelude.{◌≡◌, ◌≢◌, ◌++◌, [], ◌∷◌, length, option_to_list};
+ghost use Rattle.std.specs.Prelude.{◌≡◌, ◌≢◌, ◌<◌, ◌++◌, [], ◌∷◌, length, option_to_list};
 ghost use Rattle.std.specs.Prelude.{IfErr, IfOk, IfSome, IsFalse, IsOk, IsTrue, OnErr, OnOk};
+ghost use mathlib.Core.List.{IsPrefix};
 ghost use Rattle.zrings.specs.Ends.{AreEnds, HasLastPlace, in_ring, IsAllThere, IsFlushed, put_of};
 ghost use Rattle.zrings.specs.Ends.{ring_of_rx, ring_of_tx, taken_of, waiting};
 ghost use Rattle.zrings.specs.declared.ends.TheConstants.{RING};
@@ -51,8 +52,8 @@ pub fn link<M: Drop>(alloc: Global) -> Result<(Tx<M>, Rx<M>), Memory>
 }
 
 impl<M: Drop> Tx<M> {
-    /// Sends a message: it waits in the outbox for a flush. Hands it back if there is no memory, or
-    /// if a last message waits.
+    /// Sends a message: it goes into the ring, or waits in the outbox for a flush, if others wait
+    /// there or the ring is full. Hands it back if there is no memory, or if a last message waits.
     pub fn put(&mut self, message: M) -> Result<(), M>
         ensures ok { OnOk result (put_of self.new ≡ put_of self.old ++ message ∷ []) }
         ensures err { IfErr result (λ m. (m ≡ message) × (put_of self.new ≡ put_of self.old)) }
@@ -60,9 +61,16 @@ impl<M: Drop> Tx<M> {
         ensures before_last { OnOk result (HasLastPlace self.old) }
         ensures waits { OnErr result (waiting self.new ≡ waiting self.old) }
         ensures place { HasLastPlace self.old → HasLastPlace self.new }
+        ensures flushed { IsFlushed self.old → IsFlushed self.new }
     {
         if self.last.is_some() {
             return Err(message);
+        }
+        if self.outbox.is_empty() {
+            if !self.ring.is_full() {
+                self.ring.push_reserved(message);
+                return Ok(());
+            }
         }
         match self.outbox.push_back(message) {
             Ok(()) => Ok(()),
@@ -87,20 +95,25 @@ impl<M: Drop> Tx<M> {
     }
 
     /// Moves messages from the outbox into the ring while it has room, then the last message.
-    /// What still waits found no free slot.
-    pub fn flush(&mut self)
+    /// What still waits found no free slot. Returns whether any was moved.
+    pub fn flush(&mut self) -> bool
+        ensures moved { IsTrue result → length (waiting self.new) < length (waiting self.old) }
+        ensures still { IsFalse result → waiting self.new ≡ waiting self.old }
         ensures flushed { IsFlushed self.new }
         ensures put { put_of self.new ≡ put_of self.old }
         ensures ends { ring_of_tx self.new ≡ ring_of_tx self.old }
         ensures place { HasLastPlace self.old → HasLastPlace self.new }
     {
+        let mut is_moved = false;
         while !self.ring.is_full() {
             let Some(message) = self.outbox.pop_front() else {
-                self.flush_last();
-                return;
+                is_moved |= self.flush_last();
+                return is_moved;
             };
             self.ring.push_reserved(message);
+            is_moved = true;
         }
+        is_moved
     }
 
     /// Returns whether a message waits before the ring.
@@ -111,24 +124,40 @@ impl<M: Drop> Tx<M> {
         !self.outbox.is_empty() || self.last.is_some()
     }
 
-    // Moves the last message into the ring, if it has room. The outbox is empty.
-    fn flush_last(&mut self)
+    // Moves the last message into the ring, if it has room. The outbox is empty. Returns whether
+    // it was moved.
+    fn flush_last(&mut self) -> bool
         requires { self.old.outbox.items ≡ [] }
+        ensures moved { IsTrue result → length (waiting self.new) < length (waiting self.old) }
+        ensures still { IsFalse result → waiting self.new ≡ waiting self.old }
         ensures flushed { IsFlushed self.new }
         ensures put { put_of self.new ≡ put_of self.old }
         ensures ends { ring_of_tx self.new ≡ ring_of_tx self.old }
         ensures place { HasLastPlace self.old → HasLastPlace self.new }
     {
         if self.ring.is_full() {
-            return;
+            return false;
         }
-        if let Some(message) = self.last.take() {
-            self.ring.push_reserved(message);
-        }
+        let Some(message) = self.last.take() else {
+            return false;
+        };
+        self.ring.push_reserved(message);
+        true
     }
 }
 
 impl<M: Drop> Rx<M> {
+    /// Returns whether this end finds no message in the ring.
+    pub fn is_empty(&mut self) -> bool
+        ensures none { IsTrue result → in_ring self.new ≡ [] }
+        ensures some { IsFalse result → in_ring self.new ≢ [] }
+        ensures seen { IsPrefix (in_ring self.old) (in_ring self.new) }
+        ensures taken { taken_of self.new ≡ taken_of self.old }
+        ensures ends { ring_of_rx self.new ≡ ring_of_rx self.old }
+    {
+        self.ring.is_empty()
+    }
+
     /// Receives the oldest message in the ring. None if this end finds none.
     pub fn take(&mut self) -> Option<M>
         ensures taken { taken_of self.new ≡ taken_of self.old ++ option_to_list result }

@@ -1,5 +1,5 @@
 -- The desks of a run, one behind the other, and the links that they were handed.
-use Rattle.std.proofs.Common.{◌≡◌, ◌<◌, ◌≤◌, ◌+◌, ℕ, zero, suc, List, [], ◌∷◌, ◌++◌, length, map, reverse, refl, sym, ap, subst, ◌∙◌, append-nil, append_assoc, arith}
+use Rattle.std.proofs.Common.{◌≡◌, ◌<◌, ◌≤◌, ◌+◌, ℕ, zero, suc, Bool, List, [], ◌∷◌, ◌++◌, length, map, reverse, refl, sym, ap, subst, ◌∙◌, append-nil, append_assoc, arith}
 use Rattle.std.proofs.lemmas.List.{length-map, length-reverse, map-append, nil_from_length, reverse-append}
 use Rattle.zprotocol.specs.declared.limits.TheConstants.{MAX_SERVERS}
 use mathlib.Core.Option.{some-injective, some-ne-none}
@@ -21,7 +21,7 @@ use Rattle.zdesks.specs.Desks.{IsDeskOf}
 use Rattle.zrun.specs.declared.opening.Ends.{Ends}
 use Rattle.zrun.specs.declared.supply.Supply.{Supply}
 use Rattle.zrun.specs.Openings.{HasEnds, in_rings_in, out_rings_in}
-use Rattle.zrun.specs.Runs.{AreDesks, in_rings_of, IsRun, out_rings_of}
+use Rattle.zrun.specs.Runs.{AreDesks, AreTraced, in_rings_of, IsRun, out_rings_of}
 use Rattle.zrun.specs.Supplies.{HandsEnds, HandsOut, in_rings_left, left, out_rings_left}
 
 pub reverse_push : {X : Type 0} (xs : List X) (x : X) → reverse (xs ++ x ∷ []) ≡ x ∷ reverse xs
@@ -70,6 +70,15 @@ module _ (last n : ℕ) where
   both_desks k (d ∷ ds) es one two =
       let there : k + suc (length ds) ≡ suc k + length ds = omega arith in
       more_desks k d (ds ++ es) (first_desk k d ds one) (both_desks (suc k) ds es (other_desks k d ds one) (subst (λ m. AreDesks last n m es) there two))
+
+-- one traced as the others
+pub more_traced : (t : Bool) (d : Desk) (ds : List Desk) → d.is_traced ≡ t → AreTraced t ds → AreTraced t (d ∷ ds)
+more_traced t d ds first rest zero e at = subst (λ (x : Desk). x.is_traced ≡ t) (some-injective d e at) first
+more_traced t d ds first rest (suc i) e at = rest i e at
+
+pub both_traced : (t : Bool) (ds es : List Desk) → AreTraced t ds → AreTraced t es → AreTraced t (ds ++ es)
+both_traced t [] es one two = two
+both_traced t (d ∷ ds) es one two = more_traced t d (ds ++ es) (one 0 d refl) (both_traced t ds es (λ i e at. one (suc i) e at) two)
 
 pub hands_none : (a : Supply) → HandsOut a a []
 hands_none a = (sym (append-nil (out_rings_left a)), sym (append-nil (in_rings_left a)))

@@ -1,5 +1,5 @@
 -- What desks left.
-use Rattle.std.proofs.Common.{◌≡◌, ◌<◌, ◌+◌, ◌||◌, inl, inr, ℕ, zero, suc, Bool, Option, None, Some, false, true≢false, List, [], ◌∷◌, length, map, get_or, refl, sym, ap, subst, ◌∙◌, arith}
+use Rattle.std.proofs.Common.{◌≡◌, ◌<◌, ◌+◌, ◌||◌, inl, inr, ℕ, zero, suc, Bool, Option, None, Some, IsSome, false, true≢false, List, [], ◌∷◌, length, map, get_or, refl, sym, ap, subst, ◌∙◌, arith}
 use Rattle.std.specs.List.{list_any}
 use Rattle.std.proofs.lemmas.List.Folds.{list_any-append}
 use Rattle.std.proofs.lemmas.List.{length-map}
@@ -16,9 +16,9 @@ use Rattle.zmesh.proofs.Said.{within}
 use Rattle.zdesks.specs.declared.desk.Desk.{Desk}
 use Rattle.zdesks.specs.declared.desk.Ending.{Ending}
 use Rattle.zdesks.specs.Desks.{Each, IsDeskOf, SameDesk, Self, self_of}
-use Rattle.zdesks.specs.Endings.{HasEnded, SameWires}
+use Rattle.zdesks.specs.Endings.{HasEnded, LeavesNothing, SameWires}
 use Rattle.zdesks.proofs.Endings.{neither, same_self_of}
-use Rattle.zgather.specs.Left.{AreWired, by_place, client_trace_of, is_left_cut, self_at}
+use Rattle.zgather.specs.Left.{AreWired, by_place, client_trace_of, is_left_cut, is_left_lost, self_at}
 use Rattle.zgather.proofs.Elements.{element, element_map, element_or}
 use Rattle.zgather.proofs.Stands.{client_at, same_at}
 use Rattle.zrun.specs.declared.client.Client as client
@@ -27,7 +27,7 @@ use Rattle.zrun.specs.declared.posts.ClientPost.{ClientPost}
 use Rattle.zrun.specs.Origins.{client_desks, desk_wiring, Run}
 use Rattle.zrun.specs.Clients.{AreIn, client_desk, client_wiring, IsLeftIn}
 use Rattle.zrun.specs.Members.{IsTold}
-use Rattle.zrun.specs.Runs.{AreDesks, AreLeftBy, in_rings_of, IsLeftBy, IsRun, out_rings_of, Pairs}
+use Rattle.zrun.specs.Runs.{AreDesks, AreLeftBy, AreTraced, in_rings_of, IsLeftBy, IsRun, out_rings_of, Pairs}
 use Rattle.zrun.proofs.Desks.{first_desk, other_desks}
 use Rattle.zrun.proofs.Still.{wired_alike}
 use Rattle.zrun.proofs.Pairs.{pairs_at, pairs_count, pairs_from}
@@ -39,17 +39,17 @@ element_is (y ∷ xs) zero x none at = some-injective y x at
 element_is (y ∷ xs) (suc i) x none at = element_is xs i x none at
 
 -- what is left of a desk that was handed back is left by the desk that went
-pub left_by : (a b : Desk) (e : Ending) → SameDesk a b → HasEnded (self_of b) e → SameWires b e → IsLeftBy a e
-left_by a b e same ended wires =
-    inr (subst (λ (w : Self). HasEnded w e) (same_self_of a b same) ended, (wires.0 ∙ same.ins, wires.1 ∙ same.outs))
+pub left_by : (a b : Desk) (e : Ending) → SameDesk a b → HasEnded (self_of b) e → SameWires b e → (b.is_traced ≡ false → LeavesNothing e) → IsLeftBy a e
+left_by a b e same ended wires bare =
+    inr (subst (λ (w : Self). HasEnded w e) (same_self_of a b same) ended, (wires.0 ∙ same.ins, wires.1 ∙ same.outs), λ untraced. bare (same.traced ∙ untraced))
 
 -- who has the desk of a place
 self_is : (last n i : ℕ) (d : Desk) → IsDeskOf (process_at i) last n d → self_of d ≡ self_at last n i
 self_is last n i d is = rw (is.0, is.1, is.2) refl
 
 ended_by : (last n i : ℕ) (d : Desk) (e : Ending) → IsDeskOf (process_at i) last n d → IsLeftBy d e → HasEnded (self_at last n i) e
-ended_by last n i d e is (inl cut) uncut = absurd (true≢false (sym cut ∙ uncut))
-ended_by last n i d e is (inr left) uncut = subst (λ (w : Self). HasEnded w e) (self_is last n i d is) left.0 uncut
+ended_by last n i d e is (inl lost) kept = absurd (true≢false (sym lost ∙ kept))
+ended_by last n i d e is (inr left) kept = subst (λ (w : Self). HasEnded w e) (self_is last n i d is) left.0 kept
 
 pub left_is : (last n k : ℕ) (ds : List Desk) (es : List Ending) → AreDesks last n k ds → AreLeftBy ds es → Each (λ i e. HasEnded (self_at last n (k + i)) e) es
 left_is last n k [] [] each all i e at = absurd (some-ne-none e (sym at))
@@ -62,29 +62,75 @@ left_is last n k (d ∷ ds) (x ∷ es) each all (suc i) e at =
     let there : suc k + i ≡ k + suc i = omega arith in
     subst (λ m. HasEnded (self_at last n m) e) there (left_is last n (suc k) ds es (other_desks last n k d ds each) all.1 i e at)
 
--- what isn't cut has the links of the desks
-wires_by : (d : Desk) (e : Ending) → e.trace.is_cut ≡ false → IsLeftBy d e → SameWires d e
-wires_by d e uncut (inl cut) = absurd (true≢false (sym cut ∙ uncut))
-wires_by d e uncut (inr left) = left.1
+-- what isn't lost has the links of the desks
+wires_by : (d : Desk) (e : Ending) → e.is_lost ≡ false → IsLeftBy d e → SameWires d e
+wires_by d e kept (inl lost) = absurd (true≢false (sym lost ∙ kept))
+wires_by d e kept (inr left) = left.1
 
-same_wires : (ds : List Desk) (es : List Ending) → list_any (λ (e : Ending). e.trace.is_cut) es ≡ false → AreLeftBy ds es
+abbrev pub lost_in : List Ending → Bool
+lost_in es = list_any (λ (e : Ending). e.is_lost) es
+
+same_wires : (ds : List Desk) (es : List Ending) → lost_in es ≡ false → AreLeftBy ds es
     → (map out_rings_of ds ≡ map (λ (e : Ending). map ring_of_tx e.outs.items) es) × (map in_rings_of ds ≡ map (λ (e : Ending). map ring_of_rx e.ins.items) es)
-same_wires [] [] uncut all = (refl, refl)
-same_wires [] (e ∷ es) uncut all = absurd all
-same_wires (d ∷ ds) [] uncut all = absurd all
-same_wires (d ∷ ds) (e ∷ es) uncut all =
-    let two = neither e.trace.is_cut (list_any (λ (e : Ending). e.trace.is_cut) es) uncut in
+same_wires [] [] kept all = (refl, refl)
+same_wires [] (e ∷ es) kept all = absurd all
+same_wires (d ∷ ds) [] kept all = absurd all
+same_wires (d ∷ ds) (e ∷ es) kept all =
+    let two = neither e.is_lost (lost_in es) kept in
     let rest = same_wires ds es two.1 all.1 in
     let wires = wires_by d e two.0 all.0 in
     ((λ k. sym wires.1 k ∷ rest.0 k), (λ k. sym wires.0 k ∷ rest.1 k))
+
+-- the same, one by one
+pub wires_each : (ds : List Desk) (es : List Ending) → lost_in es ≡ false → AreLeftBy ds es → Pairs SameWires ds es
+wires_each [] [] kept all = tt
+wires_each [] (e ∷ es) kept all = absurd all
+wires_each (d ∷ ds) [] kept all = absurd all
+wires_each (d ∷ ds) (e ∷ es) kept all =
+    let two = neither e.is_lost (lost_in es) kept in (wires_by d e two.0 all.0, wires_each ds es two.1 all.1)
+
+-- what isn't lost is without a trace, where the desks have none
+bare_by : (d : Desk) (e : Ending) → d.is_traced ≡ false → e.is_lost ≡ false → IsLeftBy d e → LeavesNothing e
+bare_by d e untraced kept (inl lost) = absurd (true≢false (sym lost ∙ kept))
+bare_by d e untraced kept (inr left) = left.2 untraced
+
+pub bare_each : (ds : List Desk) (es : List Ending) → AreTraced false ds → lost_in es ≡ false → AreLeftBy ds es → Each (λ i e. LeavesNothing e) es
+bare_each [] [] untraced kept all i e at = absurd (some-ne-none e (sym at))
+bare_each [] (x ∷ es) untraced kept all i e at = absurd all
+bare_each (d ∷ ds) [] untraced kept all i e at = absurd all
+bare_each (d ∷ ds) (x ∷ es) untraced kept all zero e at =
+    let two = neither x.is_lost (lost_in es) kept in
+    subst LeavesNothing (some-injective x e at) (bare_by d x (untraced 0 d refl) two.0 all.0)
+bare_each (d ∷ ds) (x ∷ es) untraced kept all (suc i) e at =
+    let two = neither x.is_lost (lost_in es) kept in
+    bare_each ds es (λ j y there. untraced (suc j) y there) two.1 all.1 i e at
+
+-- none is lost where none is cut
+none_lost : (es : List Ending) → list_any (λ (e : Ending). e.trace.is_cut) es ≡ false → lost_in es ≡ false
+none_lost [] uncut = refl
+none_lost (e ∷ es) uncut =
+    let two = neither e.trace.is_cut (list_any (λ (e : Ending). e.trace.is_cut) es) uncut in
+    rw (e.kept two.0) (none_lost es two.1)
+
+-- what is lost of all processes is what is lost of one of them
+pub lost_of_all : (m : Ending) (ss cs : List Ending) → lost_in (by_place m ss cs) ≡ is_left_lost m ss cs
+lost_of_all m ss cs = ap (λ b. m.is_lost || b) (list_any-append (λ (e : Ending). e.is_lost) ss cs)
+
+wired_kept : (last n : ℕ) (ds : List Desk) (es : List Ending) → IsRun last n ds → AreLeftBy ds es → lost_in es ≡ false → AreWired es
+wired_kept last n ds es is all kept =
+    let same = same_wires ds es kept all in
+    subst (λ (w : ℕ × List (List Ring) × List (List Ring)). IsWoven w.0 w.1 w.2) (λ k. (sym (pairs_count IsLeftBy ds es all) k, same.0 k, same.1 k)) is.wired
 
 pub wired_is : (last n : ℕ) (ds : List Desk) (m : Ending) (ss cs : List Ending) → IsRun last n ds → AreLeftBy ds (by_place m ss cs)
     → is_left_cut m ss cs ≡ false → AreWired (by_place m ss cs)
 wired_is last n ds m ss cs is all uncut =
     let test : Ending → Bool = λ e. e.trace.is_cut in
     let none : list_any test (by_place m ss cs) ≡ false = ap (λ b. m.trace.is_cut || b) (list_any-append test ss cs) ∙ uncut in
-    let same = same_wires ds (by_place m ss cs) none all in
-    subst (λ (w : ℕ × List (List Ring) × List (List Ring)). IsWoven w.0 w.1 w.2) (λ k. (sym (pairs_count IsLeftBy ds (by_place m ss cs) all) k, same.0 k, same.1 k)) is.wired
+    wired_kept last n ds (by_place m ss cs) is all (none_lost (by_place m ss cs) none)
+
+pub wired_unlost : (last n : ℕ) (ds : List Desk) (m : Ending) (ss cs : List Ending) → IsRun last n ds → AreLeftBy ds (by_place m ss cs)
+    → is_left_lost m ss cs ≡ false → AreWired (by_place m ss cs)
+wired_unlost last n ds m ss cs is all kept = wired_kept last n ds (by_place m ss cs) is all (lost_of_all m ss cs ∙ kept)
 
 same_number : (i c : ℕ) → Client c ≡ process_at (MAX_SERVERS + 1 + i) → c ≡ i
 same_number i c at = let here = client_at (MAX_SERVERS + 1 + i) c (same_at (Client c) (MAX_SERVERS + 1 + i) at) in omega (arith, here)
@@ -102,16 +148,16 @@ module _ (run : Run) (places : List (Option client.Client)) (es : List Ending) (
   long : length es ≡ length run
   long = pairs_count IsLeftIn places es left ∙ many
 
-  -- what is left at a place is left by the client that was made there, or is cut
+  -- what is left at a place is left by the client that was made there, or is lost
   left_at : (i : ℕ) (p : ClientPost) (place : Option client.Client) (e : Ending) → get_elem? run i ≡ some p → get_elem? places i ≡ some place
       → IsLeftIn place e → IsLeftBy (desk_of p) e
-  left_at i p None e at there cut = inl cut
+  left_at i p None e at there gone = inl gone.1
   left_at i p (Some c) e at there ended =
       let is = own i (Some c) there c refl in
       let made = element_map desk_wiring (client_desks run) i (desk_of p) (element_map desk_of run i p at) in
       let one = subst (λ m. get_elem? (map desk_wiring (client_desks run)) m ≡ some (client_wiring c)) is.1 is.0 in
       let same = wired_alike (desk_of p) (client_desk c) (some-injective (client_wiring c) (desk_wiring (desk_of p)) (sym one ∙ made)) in
-      left_by (desk_of p) (client_desk c) e same ended.0 ended.1
+      left_by (desk_of p) (client_desk c) e same ended.0 ended.1 ended.4
 
   pub clients_left : AreLeftBy (client_desks run) es
   clients_left = pairs_from IsLeftBy (client_desks run) es (long ∙ sym (length-map run desk_of)) (λ i d e at at'.
@@ -122,9 +168,9 @@ module _ (run : Run) (places : List (Option client.Client)) (es : List Ending) (
       subst (λ x. IsLeftBy x e) same (left_at i was.0 place.0 e was.1 place.1 (pairs_at IsLeftIn places es i place.0 e left place.1 at')))
 
   told_of : (t : Traces) (i : ℕ) (place : Option client.Client) (e : Ending) → t.clients.items ≡ map client_trace_of es → get_elem? es i ≡ some e → IsLeftIn place e → IsTold t i place
-  told_of t i None e is at cut =
+  told_of t i None e is at gone =
       ap (λ l. get_or (map (λ (x : ClientTrace). x.trace.is_cut) l) i false) is
-      ∙ element_or (λ (x : ClientTrace). x.trace.is_cut) (map client_trace_of es) i (client_trace_of e) false (element_map client_trace_of es i e at) ∙ cut
+      ∙ element_or (λ (x : ClientTrace). x.trace.is_cut) (map client_trace_of es) i (client_trace_of e) false (element_map client_trace_of es i e at) ∙ gone.0
   told_of t i (Some c) e is at ended =
       let there = element_map client_trace_of es i e at in (
         ap (λ l. get_or (map (λ (x : ClientTrace). x.trace.events.items) l) i []) is
@@ -140,3 +186,17 @@ module _ (run : Run) (places : List (Option client.Client)) (es : List Ending) (
       let place = element places i (subst (λ n. i < n) (sym many) lt) in
       subst (λ x. IsTold t i x) (sym (element_is places i place.0 None place.1))
       (told_of t i place.0 e.0 is e.1 (pairs_at IsLeftIn places es i place.0 e.0 left place.1 e.1))
+
+-- where nothing is lost, all clients are there
+is_there : (place : Option client.Client) (e : Ending) → IsLeftIn place e → e.is_lost ≡ false → IsSome place
+is_there None e gone kept = absurd (true≢false (sym gone.1 ∙ kept))
+is_there (Some c) e left kept = refl
+
+pub all_there : (places : List (Option client.Client)) (es : List Ending) → Pairs IsLeftIn places es → lost_in es ≡ false
+    → (i : ℕ) → i < length places → IsSome (get_or places i None)
+all_there [] es left kept i lt = absurd (omega (arith, lt))
+all_there (p ∷ places) [] left kept i lt = absurd left
+all_there (p ∷ places) (e ∷ es) left kept zero lt =
+    is_there p e left.0 (neither e.is_lost (lost_in es) kept).0
+all_there (p ∷ places) (e ∷ es) left kept (suc i) lt =
+    all_there places es left.1 (neither e.is_lost (lost_in es) kept).1 i (omega (arith, lt))

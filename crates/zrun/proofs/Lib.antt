@@ -4,3 +4,4 @@ pub mod Leavings
 pub mod Still
 pub mod Pairs
 pub mod Places
+pub mod Left

@@ -1,5 +1,5 @@
 -- What a clause says of a client of a cluster.
-use Rattle.std.specs.Prelude.{◌≡◌, ◌≢◌, ◌<◌, ℕ, zero, suc, true, List, Option, None, Some}
+use Rattle.std.specs.Prelude.{◌≡◌, ◌≢◌, ◌<◌, ℕ, zero, suc, true, false, List, Option, None, Some}
 use Rattle.zcalls.specs.declared.call.Call.{Call}
 use Rattle.zcalls.specs.declared.reply.Reply.{Reply}
 use Rattle.zprotocol.specs.declared.client.begin_fault.BeginFault.{BeginFault}
@@ -8,7 +8,7 @@ use Rattle.zdesks.specs.declared.desk.Desk.{Desk}
 use Rattle.zdesks.specs.declared.desk.Ending.{Ending}
 use Rattle.zdesks.specs.Desks.{Each}
 use Rattle.zdesks.specs.Desks as desk
-use Rattle.zdesks.specs.Endings.{HasEnded, SameWires}
+use Rattle.zdesks.specs.Endings.{HasEnded, LeavesNothing, SameWires}
 use Rattle.zcaller.specs.declared.caller.Caller.{Caller}
 use Rattle.zcaller.specs.Callers.{caller_desk, caller_id, caller_view, Began, MayRefuse, SameCaller, Turned}
 use Rattle.zwords.specs.declared.halts.HaltSeat.{HaltSeat}
@@ -88,11 +88,13 @@ IsClientOf run number c = BelongsTo run c × (number_of c ≡ number)
 abbrev pub AreIn : Run → List (Option Client) → Type 0
 AreIn run places = Each (λ i place. (c : Client) → place ≡ Some c → IsClientOf run i c) places
 
--- it is what the client left; the trace of one that isn't there is cut
+-- it is what the client left, without trace and record if that isn't traced; what one did that
+-- isn't there is lost, and its trace is cut
 abbrev pub IsLeftIn : Option Client → Ending → Type 0
-IsLeftIn None e = e.trace.is_cut ≡ true
+IsLeftIn None e = (e.trace.is_cut ≡ true) × (e.is_lost ≡ true)
 IsLeftIn (Some c) e =
     HasEnded (desk.self_of (client_desk c)) e
     × SameWires (client_desk c) e
     × (e.trace.events.items ≡ desk.trace_of (client_desk c))
     × (e.seen.items ≡ desk.seen_of (client_desk c))
+    × (desk.is_traced_of (client_desk c) ≡ false → LeavesNothing e)

@@ -1,9 +1,15 @@
 -- What a clause says of a cluster.
-use Rattle.std.specs.Prelude.{ℕ}
+use Rattle.std.specs.Prelude.{ℕ, Bool, List}
+use Rattle.zdesks.specs.declared.desk.Desk.{Desk}
 use Rattle.zrun.specs.declared.cluster.Cluster.{Cluster}
+use Rattle.zrun.specs.declared.opening.Opening.{Opening}
+use Rattle.zrun.specs.Handles.{given_desks}
 use Rattle.zrun.specs.Origins.{Run}
 
--- the last server of its initial chain, and the number of its clients
+-- its initial state: the last server of its chain, and the number of its clients
+abbrev pub cluster_opening : Cluster → Opening
+cluster_opening c = c.opening
+
 abbrev pub last_server : Cluster → ℕ
 last_server c = c.opening.last
 
@@ -13,3 +19,11 @@ client_count c = c.opening.clients
 -- the run to which it belongs
 abbrev pub cluster_run : Cluster → Run
 cluster_run c = c.run.value.items
+
+-- the endpoints that its processes were started with, by place
+abbrev pub cluster_desks : Cluster → List Desk
+cluster_desks c = given_desks c.master c.servers.items c.run.value.items
+
+-- whether its processes keep traces
+abbrev pub cluster_is_traced : Cluster → Bool
+cluster_is_traced c = c.opening.is_traced

@@ -10,3 +10,4 @@ pub mod Promised
 pub mod Members
 pub mod Faults
 pub mod Asked
+pub mod Untraced

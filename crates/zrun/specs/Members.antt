@@ -1,5 +1,5 @@
 -- What a clause says of the clients of a run.
-use Rattle.std.specs.Prelude.{◌≡◌, ◌<◌, ℕ, Bool, true, false, Option, None, Some, IsSome, get_or, map}
+use Rattle.std.specs.Prelude.{◌≡◌, ◌<◌, ℕ, Bool, true, false, List, Option, None, Some, IsSome, get_or, map}
 use Rattle.zprotocol.specs.declared.process.Process.TheVariants as process
 use Rattle.ztraces.specs.declared.trace.ClientTrace.{ClientTrace}
 use Rattle.ztraces.specs.declared.trace.Traces.{Traces}
@@ -9,6 +9,10 @@ use Rattle.zrun.specs.declared.client.Client.{Client}
 use Rattle.zrun.specs.declared.clients.Clients.{Clients}
 use Rattle.zrun.specs.Origins.{Run}
 use Rattle.zrun.specs.Clients.{client_desk}
+
+-- the place of each client, by number
+abbrev pub places_of : Clients → List (Option Client)
+places_of cs = cs.places.items
 
 -- the client of that number, if it is there
 abbrev pub client_at : Clients → ℕ → Option Client

@@ -7,13 +7,13 @@ use Rattle.zdesks.specs.declared.desk.Desk.{Desk}
 use Rattle.zdesks.specs.Desks.{AreFreshIns, AreFreshOuts, IsDeskOf}
 use Rattle.zrun.specs.declared.opening.Ends.{Ends}
 use Rattle.zrun.specs.declared.opening.Opening.{Opening}
-use Rattle.zrun.specs.Runs.{AreDesks, in_rings_of, IsRun, out_rings_of}
+use Rattle.zrun.specs.Runs.{AreDesks, AreTraced, in_rings_of, IsRun, out_rings_of}
 
 -- it is the endpoint of that process in a run with that initial state
 abbrev pub IsDeskAt : Opening → Process → Desk → Type 0
 IsDeskAt opening p d = IsDeskOf p opening.last opening.clients d
 
--- they are the endpoints of its servers, of its clients, or of all its processes
+-- they are the endpoints of its servers, of its clients, or of all its processes, traced as it says
 abbrev pub AreServerDesks : Opening → List Desk → Type 0
 AreServerDesks opening desks = AreDesks opening.last opening.clients 1 desks
 
@@ -21,7 +21,7 @@ abbrev pub AreClientDesks : Opening → List Desk → Type 0
 AreClientDesks opening desks = AreDesks opening.last opening.clients (MAX_SERVERS + 1) desks
 
 abbrev pub IsRunFrom : Opening → List Desk → Type 0
-IsRunFrom opening desks = IsRun opening.last opening.clients desks
+IsRunFrom opening desks = IsRun opening.last opening.clients desks × AreTraced opening.is_traced desks
 
 -- nothing was sent on them, and there are as many from others as to others
 abbrev pub AreFresh : Ends → Type 0

@@ -1,20 +1,22 @@
 -- Who a client is, and of which run.
-use Rattle.std.specs.Prelude.{◌≡◌, ℕ, List, map}
+use Rattle.std.specs.Prelude.{◌≡◌, ℕ, Bool, List, map}
 use mathlib.Core.Option.{some}
 use lib.ListN.{get_elem?}
 use Rattle.zprotocol.specs.declared.process.Process.{Process}
 use Rattle.zrings.specs.Ends.{Ring}
 use Rattle.zdesks.specs.declared.desk.Desk.{Desk}
-use Rattle.zdesks.specs.Desks.{link_count, process_of}
+use Rattle.zdesks.specs.Desks.{is_traced_of, link_count, process_of}
 use Rattle.zcaller.specs.Callers.{caller_desk}
 use Rattle.zrun.specs.declared.posts.ClientPost.{ClientPost}
 use Rattle.zrun.specs.Runs.{in_rings_of, out_rings_of}
 
--- who a process is, in which run, and on which rings it receives and sends: no call changes it
+-- who a process is, in which run, on which rings it receives and sends, and whether it keeps a
+-- trace: no call changes it
 pub record Wiring : Type 0 where
   pub me : Process
   pub last : ℕ
   pub clients : ℕ
+  pub traced : Bool
   pub links : ℕ
   pub ins : List Ring
   pub outs : List Ring
@@ -24,6 +26,7 @@ desk_wiring d = record {
   me = process_of d;
   last = d.last;
   clients = d.clients;
+  traced = is_traced_of d;
   links = link_count d;
   ins = in_rings_of d;
   outs = out_rings_of d;

@@ -1,12 +1,12 @@
 -- The endpoints of a run, by place, and what they left.
-use Rattle.std.specs.Prelude.{◌≡◌, ◌⊎◌, ℕ, ◌+◌, true, List, [], ◌∷◌, length, map}
+use Rattle.std.specs.Prelude.{◌≡◌, ◌⊎◌, ℕ, ◌+◌, Bool, true, false, List, [], ◌∷◌, length, map}
 use Rattle.zprotocol.specs.Places.{process_at}
 use Rattle.zrings.specs.Ends.{Ring, ring_of_rx, ring_of_tx}
 use Rattle.zmesh.specs.Woven.{IsWoven}
 use Rattle.zdesks.specs.declared.desk.Desk.{Desk}
 use Rattle.zdesks.specs.declared.desk.Ending.{Ending}
-use Rattle.zdesks.specs.Desks.{Each, IsDeskOf, self_of, wires_of}
-use Rattle.zdesks.specs.Endings.{HasEnded, SameWires}
+use Rattle.zdesks.specs.Desks.{Each, IsDeskOf, is_traced_of, self_of, wires_of}
+use Rattle.zdesks.specs.Endings.{HasEnded, LeavesNothing, SameWires}
 
 -- the rings on which a process sends, and those from which it receives
 abbrev pub out_rings_of : Desk → List Ring
@@ -19,14 +19,19 @@ in_rings_of d = map ring_of_rx (wires_of d).0
 abbrev pub AreDesks : ℕ → ℕ → ℕ → List Desk → Type 0
 AreDesks last clients place desks = Each (λ i d. IsDeskOf (process_at (place + i)) last clients d) desks
 
+-- all of them are traced, or none is
+abbrev pub AreTraced : Bool → List Desk → Type 0
+AreTraced is_traced desks = Each (λ i d. is_traced_of d ≡ is_traced) desks
+
 -- they are the endpoints of all processes of a run, with a channel from each to each
 pub record IsRun (last clients : ℕ) (desks : List Desk) : Type 0 where
   pub each : AreDesks last clients 0 desks
   pub wired : IsWoven (length desks) (map out_rings_of desks) (map in_rings_of desks)
 
--- it is what the endpoint left, or its trace is cut
+-- it is what the endpoint left, without trace and record if that isn't traced; or what the process
+-- did is lost
 abbrev pub IsLeftBy : Desk → Ending → Type 0
-IsLeftBy d e = (e.trace.is_cut ≡ true) ⊎ (HasEnded (self_of d) e × SameWires d e)
+IsLeftBy d e = (e.is_lost ≡ true) ⊎ (HasEnded (self_of d) e × SameWires d e × (is_traced_of d ≡ false → LeavesNothing e))
 
 -- the lists have the same length, and the relation holds place by place
 abbrev pub Pairs : {X Y : Type 0} → (X → Y → Type 0) → List X → List Y → Type 0
@@ -35,6 +40,6 @@ Pairs R [] (y ∷ ys) = ⊥
 Pairs R (x ∷ xs) [] = ⊥
 Pairs R (x ∷ xs) (y ∷ ys) = R x y × Pairs R xs ys
 
--- each is what the endpoint of its place left, or its trace is cut
+-- each is what the endpoint of its place left, or what that did is lost
 abbrev pub AreLeftBy : List Desk → List Ending → Type 0
 AreLeftBy desks endings = Pairs IsLeftBy desks endings

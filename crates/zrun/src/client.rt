@@ -11,11 +11,12 @@ use crate::patience::Patience;
 use std::alloc::Global;
 use std::sync::Arc;
 use std::thread;
+use zbells::Bells;
 use zcaller::Caller;
 use zcalls::{Call, CallNumber, ClientId, Reply};
 use zclient::BeginFault;
 use zpath::Memory;
-use zprotocol::ServerId;
+use zprotocol::{Process, ServerId};
 use ztraces::Stamp;
 use zwords::halts::{Halt, HaltSeat};
 
@@ -25,6 +26,7 @@ pub struct Client {
     pub(crate) caller: Caller,
     pub(crate) halt: Arc<Halt, Global>,
     pub(crate) seat: HaltSeat,
+    pub(crate) bells: Bells,
     ghost own: { IsSeatOf (arc_value halt) seat },
 }
 
@@ -76,6 +78,7 @@ impl Client {
         ensures same { SameClient self.old self.new }
     {
         self.halt.set(&mut self.seat, server.number() as u32);
+        self.bells.ring(Process::Server(server).place());
     }
 
     /// Returns its number.

@@ -74,7 +74,12 @@ fn introduce(post: ClientPost) -> Client
 {
     let ClientPost {
         caller,
-        halt: HaltPost { halt, seat },
+        halt: HaltPost { halt, seat, bells },
     } = post;
-    Client { caller, halt, seat }
+    Client {
+        caller,
+        halt,
+        seat,
+        bells,
+    }
 }

@@ -4,6 +4,7 @@ ghost use Rattle.std.specs.Prelude.{◌≡◌, false, IfOk, length};
 ghost use Rattle.zprotocol.specs.declared.limits.TheConstants.{MAX_SERVERS};
 ghost use Rattle.ztraces.specs.Audit.{is_any_cut};
 ghost use Rattle.ztraces.specs.Lawful.{AreLawful};
+ghost use Rattle.zgather.specs.Left.{by_place};
 ghost use Rattle.zrun.specs.Handles.{given_desks};
 ghost use Rattle.zrun.specs.Openings.{IsRunFrom};
 
@@ -17,9 +18,10 @@ use std::alloc::Global;
 use std::snapshot::Snapshot;
 use std::thread::{PromisedHandle, Threads};
 use zconsole::ends::{Console, Inbox};
+use zdesks::Ending;
 use zgather::gather;
 use zpath::Memory;
-use zprotocol::MAX_SERVERS;
+use zprotocol::{MAX_SERVERS, ServerId};
 use zthreads::{MasterThread, ServerThread};
 use ztraces::Traces;
 
@@ -38,8 +40,10 @@ pub struct Cluster {
 }
 
 impl Cluster {
-    ghost use Rattle.zrun.specs.Clusters.{client_count, cluster_run, last_server};
-    ghost use Rattle.zrun.specs.Members.{AreTold, clients_run};
+    ghost use Rattle.zrun.specs.Clients.{IsLeftIn};
+    ghost use Rattle.zrun.specs.Clusters.{client_count, cluster_desks, cluster_run, last_server};
+    ghost use Rattle.zrun.specs.Members.{AreTold, clients_run, places_of};
+    ghost use Rattle.zrun.specs.Runs.{AreLeftBy, Pairs};
 
     /// Ends all threads, and returns the traces of all processes. They are lawful, unless one is
     /// cut. The trace of a client that isn't among `clients` is cut.
@@ -60,8 +64,35 @@ impl Cluster {
             is_any_cut traces ≡ false → ∥ AreLawful traces ∥₁) }
         ensures told { IfOk result (λ traces. AreTold (client_count self) traces clients) }
     {
+        let last = self.last();
+        let (master, servers, clients) = self.leave(rt, alloc, console, clients)?;
+        gather(alloc, last, master, servers, clients)
+    }
+
+    // Returns the last server of its initial chain.
+    fn last(&self) -> ServerId
+        ensures { result ≡ last_server self.now }
+    {
+        let Cluster { opening, .. } = self;
+        opening.last
+    }
+
+    /// Ends all threads, and returns what the processes left: the master, the servers by number,
+    /// and the clients by number.
+    pub(crate) fn leave<R: Threads>(
+        self,
+        rt: &R,
+        alloc: Global,
+        console: Console,
+        clients: Clients,
+    ) -> Result<(Ending, Vec<Ending>, Vec<Ending>), Memory>
+        requires own { clients_run clients ≡ cluster_run self }
+        ensures servers { IfOk result (λ left. length left.1.items ≡ MAX_SERVERS) }
+        ensures left { IfOk result (λ left.
+            AreLeftBy (cluster_desks self) (by_place left.0 left.1.items left.2.items)) }
+        ensures kept { IfOk result (λ left. Pairs IsLeftIn (places_of clients) left.2.items) }
+    {
         let Cluster {
-            opening,
             mut halt,
             master,
             servers,
@@ -82,7 +113,7 @@ impl Cluster {
             drop((chief, servers));
             return Err(Memory);
         };
-        gather(alloc, opening.last, chief.into_ending(), servers, clients)
+        Ok((chief.into_ending(), servers, clients))
     }
 }
 

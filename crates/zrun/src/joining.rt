@@ -37,7 +37,8 @@ pub(crate) fn join_servers<R: Threads>(
     endings
 }
 
-/// Returns what the clients left, by number. The trace of a client that isn't here is cut.
+/// Returns what the clients left, by number. The trace of a client that isn't here is cut, and what
+/// it did is lost.
 pub(crate) fn end_clients(alloc: Global, clients: Clients) -> Result<Vec<Ending>, Memory>
     ensures left { IfOk result (λ ended.
         AreLeftBy (client_desks (clients_run clients)) ended.items) }
@@ -51,7 +52,7 @@ pub(crate) fn end_clients(alloc: Global, clients: Clients) -> Result<Vec<Ending>
     Ok(endings)
 }
 
-// Returns what a client left, if it is here, and a cut trace otherwise.
+// Returns what a client left, if it is here. Otherwise what it did is lost.
 fn end_client(alloc: Global, place: Option<Client>) -> Ending
     ensures { IsLeftIn place result }
 {
@@ -61,9 +62,10 @@ fn end_client(alloc: Global, place: Option<Client>) -> Ending
     }
 }
 
-// Returns a cut trace, for a client that isn't here.
+// Returns what stands for a client that isn't here.
 fn missing(alloc: Global) -> Ending
-    ensures { result.trace.is_cut ≡ true }
+    ensures cut { result.trace.is_cut ≡ true }
+    ensures lost { result.is_lost ≡ true }
 {
     Ending {
         ins: Vec::new(alloc),
@@ -73,5 +75,6 @@ fn missing(alloc: Global) -> Ending
             is_cut: true,
         },
         seen: Vec::new(alloc),
+        is_lost: true,
     }
 }

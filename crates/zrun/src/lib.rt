@@ -1,7 +1,8 @@
 //! The service in threads.
 //!
 //! A cluster has a thread for each server and one for the master. Its clients are owned by their
-//! callers' threads. When it is joined it returns the traces of all processes, for the audit.
+//! callers' threads. When it is joined it returns the traces of all processes, for the audit. One
+//! that is started untraced keeps none, and may run for good.
 //!
 //! What its callers name stands here: calls and replies, paths and data, numbers, and one `Fault`.
 #![tactic(auto)]
@@ -20,6 +21,7 @@ mod posts;
 mod promises;
 mod starting;
 mod supply;
+mod untraced;
 
 pub use asking::TURNS;
 pub use client::Client;
@@ -30,6 +32,7 @@ pub use faults::{StartFault, Unanswered};
 pub use gates::open_gates;
 pub use patience::Patience;
 pub use promises::HandsBack;
+pub use untraced::Untraced;
 pub use zcalls::{
     Call, Check, ClientId, Create, Data, DataFault, Delete, Expected, Kind, Multi, Part, PartReply,
     Query, Refusal, Reply, SessionId, SetData, Stat, Ttl, Update,

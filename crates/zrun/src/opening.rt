@@ -5,10 +5,12 @@ ghost use Rattle.ztree.specs.declared.limits.TheConstants.{MAX_CLIENTS};
 ghost use Rattle.zprotocol.specs.server.Machine.{kept_tree};
 ghost use Rattle.zprotocol.specs.server.View.{opening_server};
 ghost use Rattle.zprotocol.specs.declared.process.Process.TheVariants as process;
+ghost use Rattle.zdesks.specs.Desks.{is_traced_of};
 ghost use Rattle.zthreads.specs.Owned.{master_desk, server_desk};
 ghost use Rattle.zcaller.specs.Callers.{caller_desk};
 
 use std::alloc::Global;
+use zbells::Bells;
 use zcaller::Caller;
 use zcalls::ClientId;
 use zclient::ClientCore;
@@ -27,6 +29,8 @@ pub(crate) struct Opening {
     pub(crate) last: ServerId,
     /// How many clients there are.
     pub(crate) clients: u8,
+    /// Whether each process keeps a trace.
+    pub(crate) is_traced: bool,
     ghost few: { clients ≤ MAX_CLIENTS },
 }
 
@@ -35,6 +39,7 @@ pub(crate) struct Opening {
 pub(crate) struct Ends {
     pub(crate) ins: Vec<Rx<Stamped>>,
     pub(crate) outs: Vec<Tx<Stamped>>,
+    pub(crate) bells: Bells,
 }
 
 impl Opening {
@@ -45,9 +50,19 @@ impl Opening {
         requires { AreFresh ends }
         ensures desk { IsDeskAt self.now process.Master (master_desk result) }
         ensures ends { HasEnds ends (master_desk result) }
+        ensures traced { is_traced_of (master_desk result) ≡ self.now.is_traced }
     {
-        let Ends { ins, outs } = ends;
-        let desk = Desk::new(alloc, Process::Master, self.last, self.clients, ins, outs);
+        let Ends { ins, outs, bells } = ends;
+        let desk = Desk::new(
+            alloc,
+            Process::Master,
+            self.last,
+            self.clients,
+            ins,
+            outs,
+            bells,
+            self.is_traced,
+        );
         MasterThread::new(desk, Master::new(self.last, self.clients))
     }
 
@@ -62,11 +77,13 @@ impl Opening {
         ensures desk { IfOk result (λ server.
             IsDeskAt self.now (process.Server id) (server_desk server)) }
         ensures ends { IfOk result (λ server. HasEnds ends (server_desk server)) }
+        ensures traced { IfOk result (λ server.
+            is_traced_of (server_desk server) ≡ self.now.is_traced) }
     {
         // This call hands its clause to the prover: the number is one of a chain.
         let _ = id.number();
         let server = server_at(alloc, id, self.last)?;
-        let Ends { ins, outs } = ends;
+        let Ends { ins, outs, bells } = ends;
         let desk = Desk::new(
             alloc,
             Process::Server(id),
@@ -74,6 +91,8 @@ impl Opening {
             self.clients,
             ins,
             outs,
+            bells,
+            self.is_traced,
         );
         Ok(ServerThread::new(id, desk, server))
     }
@@ -84,8 +103,9 @@ impl Opening {
         requires known { id < self.now.clients }
         ensures desk { IsDeskAt self.now (process.Client id) (caller_desk result) }
         ensures ends { HasEnds ends (caller_desk result) }
+        ensures traced { is_traced_of (caller_desk result) ≡ self.now.is_traced }
     {
-        let Ends { ins, outs } = ends;
+        let Ends { ins, outs, bells } = ends;
         let desk = Desk::new(
             alloc,
             Process::Client(id),
@@ -93,6 +113,8 @@ impl Opening {
             self.clients,
             ins,
             outs,
+            bells,
+            self.is_traced,
         );
         Caller::new(alloc, id, desk, ClientCore::new(alloc, self.last))
     }

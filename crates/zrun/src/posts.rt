@@ -6,6 +6,7 @@ ghost use Rattle.zrun.specs.Supplies.{HandsOut, left};
 ghost use Rattle.zrun.specs.Origins.{client_desks};
 ghost use Rattle.zrun.specs.Members.{clients_run, HasAll};
 ghost use Rattle.zrun.specs.Posts.{desks_in, post_desks, run_in};
+ghost use Rattle.zrun.specs.Runs.{AreTraced};
 ghost use Rattle.zrun.specs.Openings.{AreClientDesks, AreServerDesks, IsRunFrom};
 
 use crate::clients::Clients;
@@ -13,6 +14,8 @@ use crate::opening::Opening;
 use crate::supply::{HaltPost, Supply};
 use std::alloc::Global;
 use std::snapshot::Snapshot;
+use std::time::Duration;
+use zbells::Bells;
 use zcaller::Caller;
 use zcalls::ClientId;
 use zconsole::ends::{Console, Inbox};
@@ -57,7 +60,7 @@ pub(crate) struct Posts {
 }
 
 /// Returns all that a run needs. The only error is out of memory.
-pub(crate) fn prepare(alloc: Global, opening: &Opening) -> Result<Posts, Memory>
+pub(crate) fn prepare(alloc: Global, opening: &Opening, longest: Duration) -> Result<Posts, Memory>
     ensures servers { IfOk result (λ posts. length posts.servers.items ≡ MAX_SERVERS) }
     ensures count { IfOk result (λ posts. length (run_in posts) ≡ opening.now.clients) }
     ensures own { IfOk result (λ posts. clients_run posts.clients ≡ run_in posts) }
@@ -65,7 +68,8 @@ pub(crate) fn prepare(alloc: Global, opening: &Opening) -> Result<Posts, Memory>
     ensures run { IfOk result (λ posts. IsRunFrom opening.now (desks_in posts)) }
 {
     let count = 1 + MAX_SERVERS as usize + opening.clients as usize;
-    let mut supply = Supply::new(alloc, count)?;
+    let bells = Bells::new(alloc, 1 + MAX_SERVERS as usize, longest)?;
+    let mut supply = Supply::new(alloc, count, bells)?;
     let Ok(callers) = prepare_clients(alloc, opening, &mut supply) else {
         drop(supply);
         return Err(Memory);
@@ -78,7 +82,7 @@ pub(crate) fn prepare(alloc: Global, opening: &Opening) -> Result<Posts, Memory>
         drop((supply, callers, servers));
         return Err(Memory);
     };
-    let Ok((console, inbox)) = Console::open(alloc) else {
+    let Ok((console, inbox)) = supply.console(alloc) else {
         drop((supply, callers, servers, ends, halt));
         return Err(Memory);
     };
@@ -109,6 +113,8 @@ fn prepare_clients(
     ensures left { OnOk result (left supply.new + opening.now.clients ≡ left supply.old) }
     ensures desks { IfOk result (λ posts.
         AreClientDesks opening.now (client_desks posts.items)) }
+    ensures traced { IfOk result (λ posts.
+        AreTraced opening.now.is_traced (client_desks posts.items)) }
     ensures rings { IfOk result (λ posts.
         HandsOut supply.old supply.new (client_desks posts.items)) }
 {
@@ -135,6 +141,8 @@ fn prepare_servers(
     ensures servers { IfOk result (λ posts. length posts.items ≡ MAX_SERVERS) }
     ensures left { OnOk result (left supply.new + MAX_SERVERS ≡ left supply.old) }
     ensures desks { IfOk result (λ posts. AreServerDesks opening.now (post_desks posts.items)) }
+    ensures traced { IfOk result (λ posts.
+        AreTraced opening.now.is_traced (post_desks posts.items)) }
     ensures rings { IfOk result (λ posts.
         HandsOut supply.old supply.new (post_desks posts.items)) }
 {

@@ -26,12 +26,14 @@ use std::snapshot::Snapshot;
 use std::sync::Wait;
 use std::thread;
 use std::thread::{PromisedHandle, Threads};
+use std::time::Duration;
+use zbells::SLEEP_MILLIS;
 use zconsole::ends::{Console, Inbox};
 use zprotocol::{MAX_SERVERS, ServerId};
 use zthreads::{Gate, MasterThread, ServerThread, preside, serve};
 
 impl Cluster {
-    ghost use Rattle.zrun.specs.Clusters.{client_count, cluster_run, last_server};
+    ghost use Rattle.zrun.specs.Clusters.{client_count, cluster_opening, cluster_run, last_server};
 
     /// Starts a thread for each of the sixteen servers, spare ones too, and one for the master.
     ///
@@ -52,8 +54,49 @@ impl Cluster {
         ensures numbers { IfOk result (λ run.
             (last_server run.0 ≡ last) × (client_count run.0 ≡ clients)) }
     {
-        let opening = Opening { last, clients };
-        let posts = prepare(alloc, &opening)?;
+        let longest = Duration::from_millis(SLEEP_MILLIS);
+        Cluster::start_sleeping(rt, alloc, last, clients, gates, longest)
+    }
+
+    /// The same, but a thread that found nothing to do for a while, and isn't woken, sleeps so long
+    /// at a time. `start` says 20 milliseconds. With a longer time a test sees who isn't woken.
+    pub fn start_sleeping<G: Gate + Send + 'static, R: Threads + Wait + Copy + Send + 'static>(
+        rt: R,
+        alloc: Global,
+        last: ServerId,
+        clients: u8,
+        gates: Vec<G>,
+        longest: Duration,
+    ) -> Result<(Cluster, Console, Clients), StartFault>
+        requires clients { clients ≤ MAX_CLIENTS }
+        requires gates { length gates.items ≡ MAX_SERVERS }
+        ensures all { IfOk result (λ run. HasAll clients run.2) }
+        ensures own { IfOk result (λ run. clients_run run.2 ≡ cluster_run run.0) }
+        ensures numbers { IfOk result (λ run.
+            (last_server run.0 ≡ last) × (client_count run.0 ≡ clients)) }
+    {
+        let opening = Opening {
+            last,
+            clients,
+            is_traced: true,
+        };
+        Cluster::start_from(rt, alloc, opening, gates, longest)
+    }
+
+    // Starts a run with this initial state.
+    pub(crate) fn start_from<G: Gate + Send + 'static, R: Threads + Wait + Copy + Send + 'static>(
+        rt: R,
+        alloc: Global,
+        opening: Opening,
+        gates: Vec<G>,
+        longest: Duration,
+    ) -> Result<(Cluster, Console, Clients), StartFault>
+        requires gates { length gates.items ≡ MAX_SERVERS }
+        ensures all { IfOk result (λ run. HasAll opening.clients run.2) }
+        ensures own { IfOk result (λ run. clients_run run.2 ≡ cluster_run run.0) }
+        ensures opening { IfOk result (λ run. cluster_opening run.0 ≡ opening) }
+    {
+        let posts = prepare(alloc, &opening, longest)?;
         let Ok(threads) = Vec::with_capacity(alloc, MAX_SERVERS as usize) else {
             drop((posts, gates));
             return Err(StartFault::Memory);
@@ -79,8 +122,7 @@ impl Cluster {
         requires room { MAX_SERVERS ≤ vec_capacity threads }
         ensures all { IfOk result (λ run. HasAll opening.clients run.2) }
         ensures own { IfOk result (λ run. clients_run run.2 ≡ cluster_run run.0) }
-        ensures numbers { IfOk result (λ run.
-            (last_server run.0 ≡ opening.last) × (client_count run.0 ≡ opening.clients)) }
+        ensures opening { IfOk result (λ run. cluster_opening run.0 ≡ opening) }
         ensures fault { IfErr result (λ fault. fault ≡ Thread) }
     {
         let Posts {
@@ -131,8 +173,9 @@ fn start_master<R: Threads + Wait + Copy + Send + 'static>(
     let MasterPost {
         chief,
         inbox,
-        halt: HaltPost { halt, seat },
+        halt: HaltPost { halt, seat, bells },
     } = post;
+    drop(bells);
     let promise = SameMaster(Snapshot::of(&chief));
     match thread::spawn_with(
         &rt,
@@ -161,8 +204,9 @@ fn start_server<G: Gate + Send + 'static, R: Threads + Wait + Copy + Send + 'sta
 {
     let ServerPost {
         member,
-        halt: HaltPost { halt, seat },
+        halt: HaltPost { halt, seat, bells },
     } = post;
+    drop(bells);
     let promise = SameServer(Snapshot::of(&member));
     match thread::spawn_with(
         &rt,

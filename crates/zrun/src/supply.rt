@@ -8,17 +8,20 @@ ghost use Rattle.zmesh.specs.Woven.{AreBlankIns, AreBlankOuts, AreWide};
 use crate::opening::Ends;
 use std::alloc::Global;
 use std::sync::Arc;
+use zbells::Bells;
+use zconsole::ends::{Console, Inbox};
 use zdesks::Stamped;
 use zmesh::{Mesh, weave};
 use zpath::Memory;
 use zrings::ends::{Rx, Tx};
 use zwords::halts::{Halt, HaltSeat};
 
-/// A seat at the run's halt word.
+/// A seat at the run's halt word, and the bells of those who look at it.
 #[derive(Drop)]
 pub(crate) struct HaltPost {
     pub(crate) halt: Arc<Halt, Global>,
     pub(crate) seat: HaltSeat,
+    pub(crate) bells: Bells,
     ghost own: { IsSeatOf (arc_value halt) seat },
 }
 
@@ -26,6 +29,7 @@ impl HaltPost {
     /// Ends the run. A thread that sees this receives nothing more.
     pub(crate) fn end(&mut self) {
         self.halt.set(&mut self.seat, 0);
+        self.bells.ring_all();
     }
 }
 
@@ -38,6 +42,7 @@ pub(crate) struct Supply {
     width: usize,
     halt: Arc<Halt, Global>,
     seats: Vec<HaltSeat>,
+    bells: Bells,
     ghost blank_outs: { AreBlankOuts outs.items },
     ghost blank_ins: { AreBlankIns ins.items },
     ghost wide_outs: { AreWide width outs.items },
@@ -51,8 +56,8 @@ impl Supply {
     ghost use Rattle.zrun.specs.Supplies.{HandsEnds, IsWovenFor, left};
     ghost use Rattle.zrun.specs.Openings.{AreFresh};
 
-    /// Returns the supply for `count` processes.
-    pub(crate) fn new(alloc: Global, count: usize) -> Result<Supply, Memory>
+    /// Returns the supply for `count` processes, with these bells.
+    pub(crate) fn new(alloc: Global, count: usize, bells: Bells) -> Result<Supply, Memory>
         requires { count < 100 }
         ensures left { IfOk result (λ supply. left supply ≡ count) }
         ensures woven { IfOk result (IsWovenFor count) }
@@ -66,6 +71,7 @@ impl Supply {
             width: count,
             halt,
             seats,
+            bells,
         })
     }
 
@@ -77,6 +83,8 @@ impl Supply {
         ensures rings { IfOk result (λ parts. HandsEnds self.old self.new parts.0) }
     {
         let halt = Arc::try_clone(&self.halt)?;
+        let bells = self.bells.copied()?;
+        let others = self.bells.copied()?;
         let Some(outs) = self.outs.pop() else {
             unreachable!()
         };
@@ -86,7 +94,17 @@ impl Supply {
         let Some(seat) = self.seats.pop() else {
             unreachable!()
         };
-        Ok((Ends { ins, outs }, HaltPost { halt, seat }))
+        let ends = Ends {
+            ins,
+            outs,
+            bells: others,
+        };
+        Ok((ends, HaltPost { halt, seat, bells }))
+    }
+
+    /// Returns the two ends of the console's channel.
+    pub(crate) fn console(&self, alloc: Global) -> Result<(Console, Inbox), Memory> {
+        Console::open(alloc, self.bells.copied()?)
     }
 
     /// Returns the seat of whoever ends the run.
@@ -96,6 +114,7 @@ impl Supply {
             ins,
             halt,
             mut seats,
+            bells,
             ..
         } = self;
         drop(outs);
@@ -104,6 +123,6 @@ impl Supply {
             unreachable!()
         };
         drop(seats);
-        HaltPost { halt, seat }
+        HaltPost { halt, seat, bells }
     }
 }

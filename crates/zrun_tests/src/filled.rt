@@ -47,12 +47,12 @@ fn hears(client: &mut Client) -> bool
     client.stamp() != before
 }
 
-// Takes turns until each message has its answer. How many were heard, and whether two of them were
-// heard at two turns in a row.
-fn hear_all(client: &mut Client) -> (u32, bool)
+// Takes turns until each message has its answer, of which some were heard before. How many were
+// heard in all, and whether two of them were heard at two turns in a row.
+fn hear_all(client: &mut Client, before: u32) -> (u32, bool)
     ensures { SameClient client.old client.new }
 {
-    let mut heard = 0u32;
+    let mut heard = before;
     let mut was_heard = false;
     let mut in_a_row = false;
     for _ in 0..TURNS {
@@ -78,12 +78,10 @@ fn fill_and_hear(client: &mut Client, alloc: Global, meeting: &Meeting) -> Optio
     if send_all(client, alloc).is_none() {
         return None;
     }
-    // What was sent goes into the ring at a turn. The first answer may come at it.
-    let is_first = hears(client);
+    // The first message may be answered already: that answer isn't waited for again.
+    let first = if hears(client) { 1 } else { 0 };
     meeting.come();
-    let (heard, in_a_row) = hear_all(client);
-    let first = if is_first { 1 } else { 0 };
-    Some((heard.saturating_add(first), in_a_row))
+    Some(hear_all(client, first))
 }
 
 // The same, by one of the clients.

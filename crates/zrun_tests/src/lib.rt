@@ -6,6 +6,8 @@
 #[cfg(test)]
 mod apart;
 #[cfg(test)]
+mod bells;
+#[cfg(test)]
 mod calls;
 #[cfg(test)]
 mod filled;

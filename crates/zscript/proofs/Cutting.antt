@@ -14,7 +14,7 @@ use Rattle.zscript.specs.declared.fault.PlayFault.{PlayFault}
 use Rattle.zscript.specs.declared.fault.PlayFault.TheVariants.{Read, Write, Memory}
 use Rattle.zscript.proofs.ScriptLines.{lines_of-carried, whole_lines_of-carried, last_line-one, whole_played}
 use Rattle.zscript.proofs.Runs.{Heard, StoppedLater, stopped-append, stopped-append_whole, stopped-last}
-use Rattle.zscript.proofs.Stops.{failed_after}
+use Rattle.zdevices.proofs.Beginnings.{failed_after}
 use Rattle.zscript.proofs.Done.{done-text}
 
 -- the whole lines among which a fault came, where a line was not played

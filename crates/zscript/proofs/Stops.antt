@@ -3,7 +3,8 @@ use Rattle.std.proofs.Common.{◌≡◌, ◌<◌, ◌+◌, ℕ, List, [], ◌∷
 use Rattle.std.proofs.lemmas.List.{append-nil}
 use Rattle.zscript.specs.Line.{ServiceWorld}
 use Rattle.zscript.specs.Done.{IsLineDone}
-use Rattle.zdevices.specs.Device.{TookBeginning, Failed}
+use Rattle.zdevices.specs.Device.{TookBeginning}
+use Rattle.zdevices.proofs.Beginnings.{failed_after}
 use Rattle.zscript.specs.support.Lines.{whole_lines_after, line_left, last_line, lines_after, AreLinesDone, IsPart}
 use Rattle.zscript.specs.support.PlayerView.{PlayerView, world_now, Tells}
 use Rattle.zscript.specs.Outcome.{IsStopped}
@@ -13,9 +14,6 @@ use Rattle.zscript.specs.declared.fault.PlayFault.TheVariants.{Read, Write, Memo
 use Rattle.zscript.proofs.Progress.{Progress, progress-cut, progress-want}
 use Rattle.zscript.proofs.Done.{done-none, done-line, done-written, done-stopped}
 use Rattle.zscript.proofs.Tells.{tells_begun, tells_both, tells_cut}
-
-pub failed_after : (failed all_failed : ℕ → Type 0) → ((n : ℕ) → failed n → all_failed (0 + n)) → Failed failed → Failed all_failed
-failed_after failed all_failed grow h = (0 + h.0, omega (arith, h.1), grow h.0 h.2)
 
 -- a fault at the next line of a block
 pub progress-stopped : (took more_took all_took : List ℕ → Type 0) (failed all_failed : ℕ → Type 0) (p q : PlayerView) (bytes rest end more : List ℕ) → ((a b : List ℕ) → took a → more_took b → all_took (a ++ b)) → ((n : ℕ) → failed n → all_failed (0 + n)) → Progress took p q bytes rest → IsPart end → rest ≡ end ++ 10 ∷ more → (fault : PlayFault) → IsLineStoppedBy q (q.line ++ end) (record { took = more_took; failed = failed }) fault → IsStoppedBy (world_now p) (whole_lines_after p.line bytes) (whole_lines_after p.line bytes) all_took all_failed fault
@@ -105,10 +103,3 @@ module _ (took more_took all_took : List ℕ → Type 0) (both : (a b : List ℕ
       done-stopped all_took old new (line ∷ []) [] (line ∷ []) refl
       (done-written (λ text. Tells took text left) (TookBeginning all_took) old new (line ∷ [])
       (λ text told. tells_cut took more_took all_took both text left told cut) (one-told old new held line left none h))
-
--- a beginning of a text is one of a longer text, and all of a text with a beginning of what follows
-pub beginning-longer : (took : List ℕ → Type 0) (a b : List ℕ) → TookBeginning took a → TookBeginning took (a ++ b)
-beginning-longer took a b h = (h.0, (h.1.0 ++ b, ap (λ t. t ++ b) h.1.1 ∙ append_assoc h.0 h.1.0 b), h.2)
-
-pub beginning-later : (took more_took all_took : List ℕ → Type 0) (a b : List ℕ) → ((a b : List ℕ) → took a → more_took b → all_took (a ++ b)) → took a → TookBeginning more_took b → TookBeginning all_took (a ++ b)
-beginning-later took more_took all_took a b both h cut = (a ++ cut.0, (cut.1.0, ap (λ t. a ++ t) cut.1.1 ∙ sym (append_assoc a cut.0 cut.1.0)), both a cut.0 h cut.2)

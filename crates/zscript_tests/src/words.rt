@@ -2,7 +2,8 @@
 
 use std::alloc::Global;
 use std::process::Abort;
-use zcommand::{Settings, WordsFault, command, settings};
+use zcli::WordsFault;
+use zcommand::{Settings, command, settings};
 use zscript::{SliceSource, VecSink};
 
 // Words, each with the number of servers that they ask for.

@@ -5,10 +5,10 @@
 use Rattle.std.specs.Prelude.{◌≡◌, ◌⊎◌, ℕ, true, Option, None, Some}
 use Rattle.std.specs.Option.{option_map}
 use Rattle.ztree.specs.Tree.{Tree}
-use Rattle.zcalls.specs.Kept.{KeptState}
+use Rattle.zcalls.specs.Kept.{KeptState, nothing_kept}
 use Rattle.zprotocol.specs.declared.process.Process.{Process}
 use Rattle.zprotocol.specs.Posts.{OutView, Puts}
-use Rattle.zprotocol.specs.server.Machine.{kept_tree}
+use Rattle.zprotocol.specs.server.Machine.{kept_tree, kept_tree_from}
 use Rattle.zprotocol.specs.server.View.{ServerView, MessageOf, Neighbour, Transfer, member}
 use Rattle.zprotocol.specs.server.Memory.{may_be_unheard, may_stop}
 use Rattle.zprotocol.specs.server.Table.{ServerResult, is_retirement, no_effect, server_step}
@@ -50,6 +50,14 @@ first_neighbour s = option_map (λ s. (s, 0)) s
 -- the view of a member of the initial chain, between these neighbours
 abbrev pub first_view : Option ℕ → Option ℕ → TreeView
 first_view pred succ = member kept_tree (first_neighbour pred) (first_neighbour succ)
+
+-- the view of a member of an initial chain that begins with a tree, between these neighbours
+abbrev pub first_view_from : Tree → Option ℕ → Option ℕ → TreeView
+first_view_from t pred succ = member (kept_tree_from t) (first_neighbour pred) (first_neighbour succ)
+
+-- a snapshot with which a chain can begin: no entry was applied, and no reply is cached
+abbrev pub IsFresh : Transfer (KeptState Tree) → Type 0
+IsFresh snapshot = snapshot ≡ record { last = 0; machine = nothing_kept snapshot.machine.plain }
 
 -- the effect of a message: what the server table says, or none where it was unheard
 abbrev pub taken_result : Taken → TreeView → Process → TreeMessage → TreeResult

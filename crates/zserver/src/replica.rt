@@ -4,7 +4,7 @@ ghost use Rattle.std.specs.Prelude.{◌≡◌, true, is_some, IfOk, OnErr, OnOk}
 ghost use Rattle.zprotocol.specs.server.View.{spare};
 ghost use Rattle.zprotocol.specs.Posts.{Puts};
 ghost use Rattle.zprotocol.specs.server.Table.{ack_posts, last_number};
-ghost use Rattle.zserver.specs.Server.{first_neighbour, first_view};
+ghost use Rattle.zserver.specs.Server.{first_neighbour, first_view, first_view_from, IsFresh};
 
 use crate::neighbour::Neighbour;
 use crate::sent::Sent;
@@ -58,6 +58,26 @@ impl Replica {
         Ok(Replica {
             alloc,
             machine: Some(Machine::new(alloc)?),
+            sent: Vec::new(alloc),
+            pred: first_neighbour(pred),
+            succ: first_neighbour(succ),
+        })
+    }
+
+    /// Returns a member of an initial chain that begins with the snapshot's tree.
+    pub(crate) fn restored(
+        alloc: Global,
+        snapshot: &Snapshot,
+        pred: Option<ServerId>,
+        succ: Option<ServerId>,
+    ) -> Result<Replica, Memory>
+        requires { IsFresh snapshot.now }
+        ensures { IfOk result (λ replica. replica
+            ≡ first_view_from snapshot.now.machine.plain pred succ) }
+    {
+        Ok(Replica {
+            alloc,
+            machine: Some(snapshot.machine().copy()?),
             sent: Vec::new(alloc),
             pred: first_neighbour(pred),
             succ: first_neighbour(succ),

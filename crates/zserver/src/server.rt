@@ -4,7 +4,8 @@ ghost use Rattle.std.specs.Prelude.{◌≡◌, false, None, Some, Err, IfOk, IfE
 ghost use Rattle.zprotocol.specs.server.Table.{is_retirement};
 ghost use Rattle.zprotocol.specs.server.View.{spare};
 ghost use Rattle.zserver.specs.declared.stopped.Stopped.{Stopped};
-ghost use Rattle.zserver.specs.Server.{first_view, running, BecomesAt, PutsAt};
+ghost use Rattle.zserver.specs.Server.{first_view, first_view_from, running, IsFresh};
+ghost use Rattle.zserver.specs.Server.{BecomesAt, PutsAt};
 ghost use Rattle.zserver.specs.Server.{IsHeardOr, MayBeUnheard, IsStoppedAt};
 
 use crate::replica::Replica;
@@ -46,6 +47,24 @@ impl Server {
         ensures { IfOk result (λ server. server ≡ running (first_view pred succ)) }
     {
         let replica = Replica::member(alloc, pred, succ)?;
+        Ok(Server {
+            replica: Ok(replica),
+        })
+    }
+
+    /// Returns a member of an initial chain that begins with the snapshot's tree, between these
+    /// neighbours. It holds a copy of that tree.
+    pub fn restored(
+        alloc: Global,
+        snapshot: &Snapshot,
+        pred: Option<ServerId>,
+        succ: Option<ServerId>,
+    ) -> Result<Server, Memory>
+        requires { IsFresh snapshot.now }
+        ensures { IfOk result (λ server. server
+            ≡ running (first_view_from snapshot.now.machine.plain pred succ)) }
+    {
+        let replica = Replica::restored(alloc, snapshot, pred, succ)?;
         Ok(Server {
             replica: Ok(replica),
         })

@@ -35,6 +35,9 @@ impl Model for Snapshot {
 }
 
 impl Snapshot {
+    ghost use Rattle.ztree.specs.Lawful.{IsLawful};
+    ghost use Rattle.zcalls.specs.Bounds.{IsBounded};
+
     /// Returns a snapshot of this machine's state.
     pub(crate) fn of(alloc: Global, machine: &Machine) -> Result<Snapshot, Memory>
         ensures { IfOk result (λ snapshot. snapshot ≡ transfer_of machine.now) }
@@ -61,6 +64,15 @@ impl Snapshot {
         ensures whole { result.now.is_broken ≡ false }
     {
         self.machine.as_ref()
+    }
+
+    /// An invariant of every snapshot: its tree is lawful, and its numbers are bounded. The function
+    /// does nothing.
+    pub fn keeps_lawful(&self)
+        ensures lawful { IsLawful self.now.machine.plain }
+        ensures bounded { IsBounded self.now.machine.plain }
+    {
+        self.machine.as_ref().keeps_lawful();
     }
 
     /// Returns the number of its last entry.

@@ -2,7 +2,7 @@
 //! to end.
 //!
 //! What a thread owns is one value with one invariant: its process went by its table from the
-//! initial state through its trace. The bodies only go round. A thread receives a message only
+//! initial state, through its trace if it keeps one. The bodies only go round. A thread receives a message only
 //! after a look at the halt's bits that found neither the run ended nor its server halted.
 #![tactic(auto)]
 

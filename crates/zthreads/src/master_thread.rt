@@ -1,14 +1,17 @@
 //! What the master's thread owns.
 
-ghost use Rattle.std.specs.Prelude.{◌≡◌, ◌<◌, ◌≤◌, IsFalse, IsTrue, None, [], true};
+ghost use Rattle.std.specs.Prelude.{◌≡◌, ◌<◌, ◌≤◌, IsFalse, IsTrue, None, [], true, false};
 ghost use Rattle.zprotocol.specs.declared.process.Process.TheVariants as process;
 ghost use Rattle.zmaster.specs.declared.limits.TheConstants.{MAX_POSTS};
 ghost use Rattle.zworld_model.specs.declared.outcome.Outcome.TheVariants.{Acted};
 ghost use Rattle.ztraces.specs.Deeds.{AtMaster};
 ghost use Rattle.ztraces.specs.declared.trace.Act.TheVariants.{Joined, Retired, Took};
-ghost use Rattle.zdesks.specs.Desks.{is_cut_of, IsAt, IsSettled, link_count, process_of, room_of};
-ghost use Rattle.zdesks.specs.Desks.{SameBooks, SameDesk, self_of, Stands, trace_of};
-ghost use Rattle.zdesks.specs.Endings.{HasEnded, IsCutAsBefore, SameWires};
+ghost use Rattle.zdesks.specs.Desks.{is_cut_of, is_traced_of, IsAt, IsSettled, link_count};
+ghost use Rattle.zdesks.specs.Desks.{process_of, room_of, SameBooks, SameDesk, self_of, Stands};
+ghost use Rattle.zdesks.specs.Desks.{trace_of, wires_of};
+ghost use Rattle.zdesks.specs.Waiting.{SeesNothing, SeesSome};
+ghost use Rattle.zdesks.specs.Endings.{HasEnded, IsCutAsBefore, IsLostAsBefore};
+ghost use Rattle.zdesks.specs.Endings.{LeavesNothing, SameWires};
 ghost use Rattle.zthreads.specs.Threads.{MasterMoves};
 ghost use Rattle.zthreads.specs.Acts.{act_of, DidNext, MasterReceived};
 
@@ -22,7 +25,8 @@ use ztraces::{Act, Stamp};
 use zwords::looks::Look;
 use zworld_model::Outcome;
 
-/// The master with its desk. It went by the master table from its opening view through its trace.
+/// The master with its desk. It went by the master table from its opening view, through its trace
+/// if it keeps one.
 #[derive(Drop)]
 pub struct MasterThread {
     pub(crate) desk: Desk,
@@ -59,6 +63,17 @@ impl MasterThread {
         // What finds no memory now is kept for the next time.
         let _ = self.desk.settle();
         self.desk.flush();
+    }
+
+    /// Whether it finds no message of a link that it could receive.
+    pub fn is_empty(&mut self, link: usize) -> bool
+        requires { link < link_count (master_desk self.old) }
+        ensures none { IsTrue result → SeesNothing link (wires_of (master_desk self.new)).0 }
+        ensures some { IsFalse result → SeesSome link (wires_of (master_desk self.new)).0 }
+        ensures idle { SameBooks (master_desk self.old) (master_desk self.new) }
+        ensures same { SameDesk (master_desk self.old) (master_desk self.new) }
+    {
+        self.desk.is_empty(link)
     }
 
     /// Receives one message of a link and acts on it, once all is sent that the last event sent.
@@ -143,6 +158,8 @@ impl MasterThread {
         ensures trace { result.trace.events.items ≡ trace_of (master_desk self) }
         ensures cut { is_cut_of (master_desk self) ≡ true → result.trace.is_cut ≡ true }
         ensures whole { IsCutAsBefore (master_desk self) result }
+        ensures kept { IsLostAsBefore (master_desk self) result }
+        ensures untraced { is_traced_of (master_desk self) ≡ false → LeavesNothing result }
     {
         let MasterThread { desk, master } = self;
         drop(master);

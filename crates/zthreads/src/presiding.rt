@@ -15,9 +15,10 @@ use zconsole::ends::Inbox;
 use zconsole::order::Order;
 use zwords::halts::{Halt, HaltSeat};
 
-/// Goes over the links in turn, and takes the console's orders, until bit 0 is set. It looks at the
-/// bit before each message. It follows the orders in turn, each once. One for which there is no
-/// memory is tried again, before any other is received.
+/// Goes over the links in turn, and takes the console's orders, until bit 0 is set. It sends what
+/// waits, and looks at the bit, once a round and before each message. Of a link without a message
+/// it only asks whether it has one. It follows the orders in turn, each once. One for which there
+/// is no memory is tried again, before any other is received.
 pub fn preside<R: Wait>(
     rt: &R,
     mut chief: MasterThread,
@@ -32,26 +33,49 @@ pub fn preside<R: Wait>(
         → (waiting : Option Order)
         × HasFollowed (master_desk result.0) (taken_of result.1) waiting }
 {
-    let links = chief.links();
     let mut idle = Idle::new();
     let mut asked: Option<Order> = None;
     for _ in rt.forever() {
-        let mut is_busy = false;
-        for link in 0..links {
-            chief.flush();
-            let look = halt.look(&mut seat);
-            if look.has(0) {
-                return (chief, inbox);
-            }
-            is_busy |= chief.turn(link, look);
-        }
+        idle.begin_round(&chief.desk);
+        let Some(has_heard) = go_round(&mut chief, halt, &mut seat) else {
+            return (chief, inbox);
+        };
         asked = next_order(rt, &mut inbox, asked);
         let was_asked = asked.is_some();
         asked = obey(&mut chief, asked);
-        is_busy |= was_asked & asked.is_none();
-        idle.end_round(rt, is_busy);
+        let is_busy = has_heard | (was_asked & asked.is_none());
+        idle.end_round(rt, &chief.desk, is_busy);
     }
     unreachable!()
+}
+
+// Goes over the links once. Whether a message was received; None where bit 0 is set.
+fn go_round(chief: &mut MasterThread, halt: &Halt, seat: &mut HaltSeat) -> Option<bool>
+    requires own { IsSeatOf halt.now seat.old }
+    ensures own { IsSeatOf halt.now seat.new }
+    ensures desk { SameDesk (master_desk chief.old) (master_desk chief.new) }
+    ensures orders { (received : List Order) (waiting : Option Order)
+        → HasFollowed (master_desk chief.old) received waiting
+        → HasFollowed (master_desk chief.new) received waiting }
+{
+    chief.flush();
+    if halt.is_set(seat, 0) {
+        return None;
+    }
+    let links = chief.links();
+    let mut is_busy = false;
+    for link in 0..links {
+        if chief.is_empty(link) {
+            continue;
+        }
+        chief.flush();
+        let look = halt.look(seat);
+        if look.has(0) {
+            return None;
+        }
+        is_busy |= chief.turn(link, look);
+    }
+    Some(is_busy)
 }
 
 // Receives an order, unless one waits to be followed.

@@ -3,10 +3,12 @@
 ghost use Rattle.std.specs.Prelude.{◌≡◌, ◌<◌, ◌≤◌, IsFalse, IsTrue, None, true, false};
 ghost use Rattle.zwords.specs.declared.limits.TheConstants.{LAST_BIT};
 ghost use Rattle.ztraces.specs.Deeds.{AtServer};
-ghost use Rattle.zdesks.specs.Desks.{is_cut_of, IsAt, IsSettled, link_count, process_of, SameDesk};
-ghost use Rattle.zdesks.specs.Desks.{self_of, trace_of};
+ghost use Rattle.zdesks.specs.Desks.{is_cut_of, is_traced_of, IsAt, IsSettled, link_count};
+ghost use Rattle.zdesks.specs.Desks.{process_of, SameDesk, self_of, trace_of, wires_of};
+ghost use Rattle.zdesks.specs.Waiting.{SeesNothing, SeesSome};
 ghost use Rattle.ztraces.specs.declared.trace.Act.TheVariants.{Halted};
-ghost use Rattle.zdesks.specs.Endings.{HasEnded, IsCutAsBefore, SameWires};
+ghost use Rattle.zdesks.specs.Endings.{HasEnded, IsCutAsBefore, IsLostAsBefore};
+ghost use Rattle.zdesks.specs.Endings.{LeavesNothing, SameWires};
 ghost use Rattle.zthreads.specs.Threads.{IsServer, end_of, outcome_of, ServerMoves, server_standing};
 ghost use Rattle.zthreads.specs.Threads.{ServerProcess};
 ghost use Rattle.zthreads.specs.Acts.{DidNext, ServerReceived};
@@ -20,7 +22,8 @@ use ztraces::{Act, Stamp};
 use zwords::looks::Look;
 use zworld_model::Outcome;
 
-/// A server with its desk. It went by the server table from its opening view through its trace.
+/// A server with its desk. It went by the server table from its opening view, through its trace if
+/// it keeps one.
 #[derive(Drop)]
 pub struct ServerThread {
     pub(crate) desk: Desk,
@@ -75,6 +78,17 @@ impl ServerThread {
         // What finds no memory now is kept for the next time.
         let _ = self.desk.settle();
         self.desk.flush();
+    }
+
+    /// Whether it finds no message of a link that it could receive.
+    pub fn is_empty(&mut self, link: usize) -> bool
+        requires { link < link_count (server_desk self.old) }
+        ensures none { IsTrue result → SeesNothing link (wires_of (server_desk self.new)).0 }
+        ensures some { IsFalse result → SeesSome link (wires_of (server_desk self.new)).0 }
+        ensures idle { DidNothing self.old self.new }
+        ensures same { SameDesk (server_desk self.old) (server_desk self.new) }
+    {
+        self.desk.is_empty(link)
     }
 
     /// Receives one message of a link and acts on it, once all is sent that the last event sent.
@@ -134,6 +148,8 @@ impl ServerThread {
         ensures trace { result.trace.events.items ≡ trace_of (server_desk self) }
         ensures cut { is_cut_of (server_desk self) ≡ true → result.trace.is_cut ≡ true }
         ensures whole { IsCutAsBefore (server_desk self) result }
+        ensures kept { IsLostAsBefore (server_desk self) result }
+        ensures untraced { is_traced_of (server_desk self) ≡ false → LeavesNothing result }
     {
         let ServerThread { desk, server, .. } = self;
         drop(server);

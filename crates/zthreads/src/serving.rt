@@ -12,7 +12,8 @@ use std::sync::Wait;
 use zwords::halts::{Halt, HaltSeat};
 
 /// Goes over the links in turn until bit 0 is set. At its own bit the server sends its failure
-/// notice, and from then on it receives nothing. It looks at both bits before each message.
+/// notice, and from then on it receives nothing. It sends what waits, and looks at both bits, once
+/// a round and before each message. Of a link without a message it only asks whether it has one.
 pub fn serve<G: Gate, R: Wait>(
     rt: &R,
     mut member: ServerThread,
@@ -23,24 +24,53 @@ pub fn serve<G: Gate, R: Wait>(
     requires own { IsSeatOf halt.now seat }
     ensures { SameDesk (server_desk member) (server_desk result) }
 {
-    let links = member.links();
     let mut idle = Idle::new();
     for _ in rt.forever() {
-        let mut is_busy = false;
-        for link in 0..links {
-            member.flush();
-            let look = halt.look(&mut seat);
-            if look.has(0) {
-                return member;
-            }
-            if look.has(member.bit()) {
-                // Where there is no memory for the notice, the next link tries again.
-                let _ = member.halt();
-                continue;
-            }
-            is_busy |= member.turn(link, &mut gate, look);
-        }
-        idle.end_round(rt, is_busy);
+        idle.begin_round(&member.desk);
+        let Some(is_busy) = go_round(&mut member, &mut gate, halt, &mut seat) else {
+            return member;
+        };
+        idle.end_round(rt, &member.desk, is_busy);
     }
     unreachable!()
+}
+
+// Goes over the links once. Whether a message was received; None where bit 0 is set.
+fn go_round<G: Gate>(
+    member: &mut ServerThread,
+    gate: &mut G,
+    halt: &Halt,
+    seat: &mut HaltSeat,
+) -> Option<bool>
+    requires own { IsSeatOf halt.now seat.old }
+    ensures own { IsSeatOf halt.now seat.new }
+    ensures desk { SameDesk (server_desk member.old) (server_desk member.new) }
+{
+    member.flush();
+    if halt.is_set(seat, 0) {
+        return None;
+    }
+    if halt.is_set(seat, member.bit()) {
+        // Where there is no memory for the notice, the next round tries again.
+        let _ = member.halt();
+    }
+    let links = member.links();
+    let mut is_busy = false;
+    for link in 0..links {
+        if member.is_empty(link) {
+            continue;
+        }
+        member.flush();
+        let look = halt.look(seat);
+        if look.has(0) {
+            return None;
+        }
+        if look.has(member.bit()) {
+            // Where there is no memory for the notice, the next link tries again.
+            let _ = member.halt();
+            continue;
+        }
+        is_busy |= member.turn(link, gate, look);
+    }
+    Some(is_busy)
 }

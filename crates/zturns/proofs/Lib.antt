@@ -3,4 +3,5 @@ pub mod Histories
 pub mod TakingTurns
 pub mod Settled
 pub mod OneTree
+pub mod Lives
 pub mod Logs

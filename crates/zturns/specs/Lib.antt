@@ -1,3 +1,4 @@
 pub mod Turns
 pub mod World
 pub mod Laws
+pub mod FromTree

@@ -1,7 +1,7 @@
 //! Worked examples of the definitions. The functions do nothing.
 
 ghost use Rattle.std.specs.Prelude.{◌≡◌, [], ◌∷◌, None, Some};
-ghost use Rattle.ztree.specs.Tree.{opening_tree};
+ghost use Rattle.ztree.specs.Tree.{Tree, opening_tree};
 ghost use Rattle.zcalls.specs.declared.call.Call.{Call};
 ghost use Rattle.zcalls.specs.declared.reply.Reply.{Reply};
 ghost use Rattle.zprotocol.specs.server.Machine.{kept_tree};
@@ -10,6 +10,7 @@ ghost use Rattle.zworld_model.specs.World.{opening_world};
 ghost use Rattle.zworld_model.specs.declared.history.CallEvent.TheVariants.{Answer, Begin};
 ghost use Rattle.zturns.specs.Turns.{history_of, IsInTurn, IsOneTrees, operation, tree_after};
 ghost use Rattle.zturns.specs.World.{TakesTurns};
+ghost use Rattle.zturns.specs.FromTree.{AreLivesFrom, IsOneTreesFrom, whole};
 
 /// The history of a log: each call, its reply, and the call that waits.
 pub fn histories_of_logs()
@@ -48,4 +49,20 @@ pub fn orders_of_logs()
 pub fn initial_turns()
     ensures one { TakesTurns (opening_world kept_tree 3 1) [] None }
     ensures two { TakesTurns (opening_world kept_tree 3 2) [] None → ⊥ }
+{}
+
+/// Lives one after the other: the first call of a life is answered from the tree that the life
+/// before it left.
+pub fn lives_go_on()
+    ensures none { (t : Tree) → AreLivesFrom t [] }
+    ensures two { (a b : Call) → let t = (serve opening_tree 0 a).0 in
+        AreLivesFrom opening_tree
+        (((a, (serve opening_tree 0 a).1) ∷ []) ∷ (((b, (serve t 0 b).1) ∷ []) ∷ [])) }
+    ensures no_other { (t : Tree) (a : Call) (r : Reply)
+        → IsOneTreesFrom t ((a, r) ∷ []) → r ≡ (serve t 0 a).1 }
+    ensures in_order { (a b : Call) (r s : Reply)
+        → whole (((a, r) ∷ []) ∷ (((b, s) ∷ []) ∷ [])) ≡ (a, r) ∷ ((b, s) ∷ []) }
+    ensures no_other_later { (t : Tree) (a b : Call) (r s : Reply)
+        → AreLivesFrom t (((a, r) ∷ []) ∷ (((b, s) ∷ []) ∷ []))
+        → s ≡ (serve (serve t 0 a).0 0 b).1 }
 {}

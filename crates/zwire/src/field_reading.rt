@@ -14,7 +14,7 @@ use ztree::Zxid;
 
 /// Reads the number of a call.
 #[tactic(auto, unfolding(crate::specs::Fields::call_number))]
-pub(crate) fn call_number_at(bytes: &[u8]) -> Result<(CallNumber, &[u8]), Fault>
+pub fn call_number_at(bytes: &[u8]) -> Result<(CallNumber, &[u8]), Fault>
     ensures { Reads (λ x. (x.0, x.1.now)) result (call_number.read bytes.now) }
 {
     let (number, rest) = u64_at(bytes)?;
@@ -26,7 +26,7 @@ pub(crate) fn call_number_at(bytes: &[u8]) -> Result<(CallNumber, &[u8]), Fault>
 
 /// Reads the number of a log entry.
 #[tactic(auto, unfolding(crate::specs::Fields::log_number))]
-pub(crate) fn log_number_at(bytes: &[u8]) -> Result<(LogNumber, &[u8]), Fault>
+pub fn log_number_at(bytes: &[u8]) -> Result<(LogNumber, &[u8]), Fault>
     ensures { Reads (λ x. (x.0, x.1.now)) result (log_number.read bytes.now) }
 {
     let (number, rest) = u64_at(bytes)?;
@@ -50,7 +50,7 @@ pub(crate) fn epoch_at(bytes: &[u8]) -> Result<(Epoch, &[u8]), Fault>
 
 /// Reads the id of a client.
 #[tactic(auto, unfolding(crate::specs::Fields::client))]
-pub(crate) fn client_at(bytes: &[u8]) -> Result<(ClientId, &[u8]), Fault>
+pub fn client_at(bytes: &[u8]) -> Result<(ClientId, &[u8]), Fault>
     ensures { Reads (λ x. (x.0, x.1.now)) result (client.read bytes.now) }
 {
     let (number, rest) = u8_at(bytes)?;

@@ -16,7 +16,7 @@ use zrecords::put_server;
 
 /// Writes the number of a call.
 #[tactic(auto, unfolding(crate::specs::Fields::call_number))]
-pub(crate) fn put_call_number(out: &mut Vec<u8>, number: CallNumber) -> Result<(), AllocError>
+pub fn put_call_number(out: &mut Vec<u8>, number: CallNumber) -> Result<(), AllocError>
     ensures text { OnOk result (out.new.items ≡ out.old.items ++ call_number.spell number) }
     ensures fits { OnOk result (call_number.Fits number) }
 {
@@ -25,11 +25,11 @@ pub(crate) fn put_call_number(out: &mut Vec<u8>, number: CallNumber) -> Result<(
 
 /// Writes the number of a log entry.
 #[tactic(auto, unfolding(crate::specs::Fields::log_number))]
-pub(crate) fn put_log_number(out: &mut Vec<u8>, number: LogNumber) -> Result<(), AllocError>
-    ensures text { OnOk result (out.new.items ≡ out.old.items ++ log_number.spell number) }
-    ensures fits { OnOk result (log_number.Fits number) }
+pub fn put_log_number(out: &mut Vec<u8>, entry: LogNumber) -> Result<(), AllocError>
+    ensures text { OnOk result (out.new.items ≡ out.old.items ++ log_number.spell entry) }
+    ensures fits { OnOk result (log_number.Fits entry) }
 {
-    put_u64(out, number.number())
+    put_u64(out, entry.number())
 }
 
 /// Writes an epoch.
@@ -43,7 +43,7 @@ pub(crate) fn put_epoch(out: &mut Vec<u8>, epoch: Epoch) -> Result<(), AllocErro
 
 /// Writes the id of a client.
 #[tactic(auto, unfolding(crate::specs::Fields::client))]
-pub(crate) fn put_client(out: &mut Vec<u8>, client: ClientId) -> Result<(), AllocError>
+pub fn put_client(out: &mut Vec<u8>, client: ClientId) -> Result<(), AllocError>
     ensures text { OnOk result (out.new.items ≡ out.old.items ++ client_form.spell client) }
     ensures fits { OnOk result (client_form.Fits client) }
 {

@@ -57,7 +57,7 @@ fn query_behind(alloc: Global, tag: u8, bytes: &[u8]) -> Result<(Query, &[u8]), 
 
 /// Reads a reply.
 #[tactic(auto, unfolding(crate::specs::Replies::reply))]
-pub(crate) fn reply_of(alloc: Global, bytes: &[u8]) -> Result<(Reply, &[u8]), ReadError>
+pub fn reply_of(alloc: Global, bytes: &[u8]) -> Result<(Reply, &[u8]), ReadError>
     ensures { Gives (λ x. (x.0, x.1.now)) result (reply.read bytes.now) }
 {
     let (tag, rest) = u8_at(bytes)?;

@@ -36,7 +36,7 @@ pub(crate) fn put_query(alloc: Global, out: &mut Vec<u8>, query: &Query) -> Resu
 
 /// Writes a reply.
 #[tactic(auto, unfolding(crate::specs::Replies::reply))]
-pub(crate) fn put_reply(alloc: Global, out: &mut Vec<u8>, reply: &Reply) -> Result<(), AllocError>
+pub fn put_reply(alloc: Global, out: &mut Vec<u8>, reply: &Reply) -> Result<(), AllocError>
     ensures text { OnOk result (out.new.items ≡ out.old.items ++ reply_form.spell reply.now) }
     ensures fits { OnOk result (reply_form.Fits reply.now) }
 {

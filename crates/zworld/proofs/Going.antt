@@ -2,10 +2,10 @@
 use Rattle.std.proofs.Common.{◌≡◌, ℕ, Bool, true, false, not, List, [], ◌∷◌, ◌++◌, refl, sym, ap, ◌∙◌, subst, true≢false, append_assoc}
 use Rattle.std.proofs.lemmas.List.{append-nil}
 use Rattle.std.specs.Prelude.{Result, Ok, Err, IfOk, OnErr, is_err}
-use Rattle.ztree.specs.Tree.{Tree}
+use Rattle.ztree.specs.Tree.{Tree, opening_tree}
 use Rattle.zpath.specs.declared.memory.Memory.{Memory}
 use Rattle.zcalls.specs.Kept.{KeptState}
-use Rattle.zprotocol.specs.server.Machine.{kept_tree}
+use Rattle.zprotocol.specs.server.Machine.{Does, kept_tree, kept_tree_from}
 use Rattle.zworld_model.specs.declared.event.Event.{Event}
 use Rattle.zworld_model.specs.declared.event.Event.TheVariants.{Begin, Retry, Take, Ignore, Fail, Join, Retire}
 use Rattle.zworld_model.specs.declared.outcome.Outcome.{Outcome}
@@ -17,14 +17,16 @@ use Rattle.zworld_model.specs.Events.{is_enabled, happens, run}
 use Rattle.zworld_model.specs.Reading.{read, read_all}
 use Rattle.zworld_model.specs.Alike.{IsAlike}
 use Rattle.zworld_model.specs.PlainTree.{IsExplained}
-use Rattle.zworld_model.specs.Laws.{world_after}
+use Rattle.zworld_model.specs.FromTree.{CanStart, IsExplainedFrom, opening_world_from, world_after_from}
+use Rattle.zworld_model.proofs.FirstCallsFrom.{opening_can_start}
+use Rattle.zworld_model.proofs.Starts.{runs_forget_the_start}
 use Rattle.zworld_model.proofs.Alike.{stay_alike, alike_itself, alike_through, read_alike}
-use Rattle.zorder.proofs.Headline.{every_history_is_explained}
+use Rattle.zorder.proofs.Headline.{every_history_from_is_explained}
 use Rattle.zworld.specs.declared.did.Did.{Did}
 use Rattle.zworld.specs.declared.did.Did.TheVariants as deed
 use Rattle.zworld.specs.Held.{Held, world_of}
 use Rattle.zworld.specs.Did.{outcome_of, is_idle}
-use Rattle.zworld.specs.Steps.{WorldView, IsExplainedWithPast, HasHappened, HasRun, HasBegunToRun, can_want_memory}
+use Rattle.zworld.specs.Steps.{WorldView, IsExplainedFromStart, HasHappened, HasRun, HasBegunToRun, can_want_memory}
 use Rattle.zworld.specs.support.Stepped.{HasStepped, GoesBy}
 use Rattle.zworld.specs.support.Past.{HasPast, LeadRead}
 use Rattle.zworld.proofs.Steps.{enabled_anyway, fitting_anyway, read_anyway, read_acted, happens_not}
@@ -47,28 +49,38 @@ pub behind : (past : History) (old new : Held) (before after : History) (event :
 behind past old new before after event did (told, is, stepped) = (told, ap (λ xs. past ++ xs) is ∙ sym (append_assoc past before told), stepped)
 
 -- a run of events and more is a run of both
-run_both : (v : World (KeptState Tree)) (events more : List Event) → run kept_tree v (events ++ more) ≡ run kept_tree (run kept_tree v events) more
-run_both v [] more = refl
-run_both v (event ∷ events) more = run_both (happens kept_tree v event) events more
+run_both : (machine : Does (KeptState Tree)) (v : World (KeptState Tree)) (events more : List Event) → run machine v (events ++ more) ≡ run machine (run machine v events) more
+run_both machine v [] more = refl
+run_both machine v (event ∷ events) more = run_both machine (happens machine v event) events more
+
+-- whatever tree the machines began with
+pub after_both : (t : Tree) (servers clients : ℕ) (events more : List Event)
+    → world_after_from t servers clients (events ++ more) ≡ run kept_tree (world_after_from t servers clients events) more
+after_both t servers clients events more =
+    run_both (kept_tree_from t) (opening_world_from t servers clients) events more ∙ runs_forget_the_start t (world_after_from t servers clients events) more
 
 -- worlds that are alike have one history
 pub same_history : (v w : World (KeptState Tree)) → IsAlike v w → w.history ≡ v.history
 same_history v w alike = ap (λ (x : World (KeptState Tree)). x.history) alike.rest
 
 -- where a run leads from the end of a past
-pub stands_later : (forgotten : Bool) (held next : Held) (history later : History) (events : List Event) (had : HasPast forgotten false held history)
+pub stands_later : (restored forgotten : Bool) (held next : Held) (history later : History) (events : List Event) (had : HasPast restored forgotten false held history)
     → IsAlike (run kept_tree (world_of held (had.past ++ history)) events) (world_of next later)
-    → IsAlike (world_after had.servers had.clients (had.events ++ events)) (world_of next later)
-stands_later forgotten held next history later events had leads =
+    → IsAlike (world_after_from had.tree had.servers had.clients (had.events ++ events)) (world_of next later)
+stands_later restored forgotten held next history later events had leads =
     let first = stay_alike kept_tree _ _ events (had.stands refl) in
-    subst (λ w. IsAlike w (world_of next later)) (sym (run_both _ had.events events)) (alike_through _ _ _ first leads)
+    subst (λ w. IsAlike w (world_of next later)) (sym (after_both had.tree had.servers had.clients had.events events)) (alike_through _ _ _ first leads)
 
 -- the past goes on with it
-pub goes_on : (forgotten : Bool) (held next : Held) (history later : History) (events : List Event) (had : HasPast forgotten false held history)
-    → IsAlike (run kept_tree (world_of held (had.past ++ history)) events) (world_of next (had.past ++ later)) → HasPast forgotten false next later
-goes_on forgotten held next history later events had leads =
-    let stands = stands_later forgotten held next history (had.past ++ later) events had leads in
+pub goes_on : (restored forgotten : Bool) (held next : Held) (history later : History) (events : List Event) (had : HasPast restored forgotten false held history)
+    → IsAlike (run kept_tree (world_of held (had.past ++ history)) events) (world_of next (had.past ++ later)) → HasPast restored forgotten false next later
+goes_on restored forgotten held next history later events had leads =
+    let stands = stands_later restored forgotten held next history (had.past ++ later) events had leads in
     record {
+      tree = had.tree;
+      can_start = had.can_start;
+      initial = had.initial;
+      lasting = had.lasting;
       servers = had.servers;
       clients = had.clients;
       events = had.events ++ events;
@@ -80,17 +92,21 @@ goes_on forgotten held next history later events had leads =
     }
 
 -- so it does with an event
-pub past_goes_on : (forgotten : Bool) (old new : Held) (before after : History) (event : Event) (did : Did) → HasPast forgotten false old before
-    → GoesBy old new event before after did → HasPast forgotten false new after
-past_goes_on forgotten old new before after event did had goes =
-    goes_on forgotten old new before after (read kept_tree (world_of old (had.past ++ before)) event (outcome_of did) ∷ []) had
+pub past_goes_on : (restored forgotten : Bool) (old new : Held) (before after : History) (event : Event) (did : Did) → HasPast restored forgotten false old before
+    → GoesBy old new event before after did → HasPast restored forgotten false new after
+past_goes_on restored forgotten old new before after event did had goes =
+    goes_on restored forgotten old new before after (read kept_tree (world_of old (had.past ++ before)) event (outcome_of did) ∷ []) had
     (happened old new (had.past ++ before) (had.past ++ after) event did (behind had.past old new before after event did goes)).leads
 
 -- where memory is refused, the history is still that of the past
-pub past_stays : (forgotten is_broken : Bool) (held next : Held) (history later : History) → HasPast forgotten is_broken held history → later ≡ history
-    → HasPast forgotten true next later
-past_stays forgotten is_broken held next history later had same =
+pub past_stays : (restored forgotten is_broken : Bool) (held next : Held) (history later : History) → HasPast restored forgotten is_broken held history → later ≡ history
+    → HasPast restored forgotten true next later
+past_stays restored forgotten is_broken held next history later had same =
     record {
+      tree = had.tree;
+      can_start = had.can_start;
+      initial = had.initial;
+      lasting = had.lasting;
       servers = had.servers;
       clients = had.clients;
       events = had.events;
@@ -101,11 +117,16 @@ past_stays forgotten is_broken held next history later had same =
       stands = λ broken. absurd (true≢false broken);
     }
 
--- the opening has a past without events
-pub past_begins : (held : Held) (history : History) (servers clients : ℕ) → is_server servers ≡ true → history ≡ []
-    → world_of held [] ≡ opening_world kept_tree servers clients → HasPast false false held history
-past_begins held history servers clients opens none opening =
+-- an initial world has a past without events, whatever tree it begins with
+pub past_begins_with : (t : Tree) → CanStart t → (restored forgotten : Bool) (held : Held) (history : History) (servers clients : ℕ)
+    → (restored ≡ false → t ≡ opening_tree) → (forgotten ≡ false → restored ≡ false) → is_server servers ≡ true → history ≡ []
+    → world_of held [] ≡ opening_world_from t servers clients → HasPast restored forgotten false held history
+past_begins_with t can restored forgotten held history servers clients initial lasting opens none opening =
     record {
+      tree = t;
+      can_start = can;
+      initial = initial;
+      lasting = lasting;
       servers = servers;
       clients = clients;
       events = [];
@@ -113,16 +134,26 @@ past_begins held history servers clients opens none opening =
       opens = opens;
       whole = λ whole. refl;
       told = sym none;
-      stands = λ _. subst (λ h. IsAlike (opening_world kept_tree servers clients) (world_of held h)) (sym none)
-          (subst (IsAlike (opening_world kept_tree servers clients)) (sym opening) (alike_itself (opening_world kept_tree servers clients)));
+      stands = λ _. subst (λ h. IsAlike (opening_world_from t servers clients) (world_of held h)) (sym none)
+          (subst (IsAlike (opening_world_from t servers clients)) (sym opening) (alike_itself (opening_world_from t servers clients)));
     }
 
+-- so has the world that begins with the initial tree
+pub past_begins : (held : Held) (history : History) (servers clients : ℕ) → is_server servers ≡ true → history ≡ []
+    → world_of held [] ≡ opening_world kept_tree servers clients → HasPast false false false held history
+past_begins held history servers clients opens none opening =
+    past_begins_with opening_tree opening_can_start false false held history servers clients (λ _. refl) (λ _. refl) opens none opening
+
 -- a history that is forgotten is of the past
-pub past_is_longer : (forgotten is_broken : Bool) (held : Held) (history later : History) → HasPast forgotten is_broken held history → later ≡ []
-    → HasPast true is_broken held later
-past_is_longer forgotten is_broken held history later had none =
+pub past_is_longer : (restored forgotten is_broken : Bool) (held : Held) (history later : History) → HasPast restored forgotten is_broken held history → later ≡ []
+    → HasPast restored true is_broken held later
+past_is_longer restored forgotten is_broken held history later had none =
     let all : had.past ++ history ≡ (had.past ++ history) ++ later = sym (append-nil (had.past ++ history)) ∙ ap (λ xs. (had.past ++ history) ++ xs) (sym none) in
     record {
+      tree = had.tree;
+      can_start = had.can_start;
+      initial = had.initial;
+      lasting = λ whole. absurd (true≢false whole);
       servers = had.servers;
       clients = had.clients;
       events = had.events;
@@ -130,19 +161,26 @@ past_is_longer forgotten is_broken held history later had none =
       opens = had.opens;
       whole = λ whole. absurd (true≢false whole);
       told = had.told ∙ all;
-      stands = λ sound. subst (λ xs. IsAlike (world_after had.servers had.clients had.events) (world_of held xs)) all (had.stands sound);
+      stands = λ sound. subst (λ xs. IsAlike (world_after_from had.tree had.servers had.clients had.events) (world_of held xs)) all (had.stands sound);
     }
 
 -- the past and the history are explained
-pub past_is_explained : (w : WorldView) → HasPast w.has_forgotten w.is_broken w.held w.history → IsExplainedWithPast w
+past_from : (w : WorldView) (had : HasPast w.is_restored w.has_forgotten w.is_broken w.held w.history) → IsExplainedFrom had.tree (had.past ++ w.history)
+past_from w had =
+    subst (IsExplainedFrom had.tree) had.told (every_history_from_is_explained had.tree had.can_start had.servers had.clients had.events)
+
+-- from the initial tree, where the world wasn't restored
+past_from_initial : (w : WorldView) (had : HasPast w.is_restored w.has_forgotten w.is_broken w.held w.history) → w.is_restored ≡ false → IsExplained (had.past ++ w.history)
+past_from_initial w had began = subst (λ t. IsExplainedFrom t (had.past ++ w.history)) (had.initial began) (past_from w had)
+
+pub past_is_explained : (w : WorldView) → HasPast w.is_restored w.has_forgotten w.is_broken w.held w.history → IsExplainedFromStart w
 past_is_explained w had =
-    (had.past, had.whole, subst IsExplained had.told (every_history_is_explained had.servers had.clients had.events))
+    (λ began. (had.past, had.whole, past_from_initial w had began), (had.tree, had.past, had.can_start, past_from w had))
 
 -- where nothing was forgotten, the history is
-pub whole_is_explained : (w : WorldView) → HasPast w.has_forgotten w.is_broken w.held w.history → w.has_forgotten ≡ false → IsExplained w.history
+pub whole_is_explained : (w : WorldView) → HasPast w.is_restored w.has_forgotten w.is_broken w.held w.history → w.has_forgotten ≡ false → IsExplained w.history
 whole_is_explained w had whole =
-    subst (λ past. IsExplained (past ++ w.history)) (had.whole whole)
-    (subst IsExplained had.told (every_history_is_explained had.servers had.clients had.events))
+    subst (λ past. IsExplained (past ++ w.history)) (had.whole whole) (past_from_initial w had (had.lasting whole))
 
 -- one more event
 pub lead_more : (v u w : World (KeptState Tree)) (events : List Event) (event : Event) (did : Did) → LeadRead v events u → HasHappened u event did w
@@ -189,18 +227,18 @@ has_begun_to_run v w events front back history leads cut same =
     (front, back, cut, ran.0, ran.1, sym (same_history _ _ ran.2) ∙ sym same)
 
 -- the past after a call, where memory was refused or not
-pub past_after : {A : Type 0} (r : Result A Memory) (Goes : A → Type 0) (forgotten : Bool) (old new : Held) (before after : History)
-    → HasPast forgotten false old before → ((x : A) → Goes x → HasPast forgotten false new after) → IfOk r Goes → OnErr r (after ≡ before)
-    → HasPast forgotten (is_err r) new after
-past_after (Ok x) Goes forgotten old new before after had goes_on goes stays = goes_on x goes
-past_after (Err memory) Goes forgotten old new before after had goes_on goes stays = past_stays forgotten false old new before after had stays
+pub past_after : {A : Type 0} (r : Result A Memory) (Goes : A → Type 0) (restored forgotten : Bool) (old new : Held) (before after : History)
+    → HasPast restored forgotten false old before → ((x : A) → Goes x → HasPast restored forgotten false new after) → IfOk r Goes → OnErr r (after ≡ before)
+    → HasPast restored forgotten (is_err r) new after
+past_after (Ok x) Goes restored forgotten old new before after had goes_on goes stays = goes_on x goes
+past_after (Err memory) Goes restored forgotten old new before after had goes_on goes stays = past_stays restored forgotten false old new before after had stays
 
 -- so after an event
-pub past_after_step : (r : Result Did Memory) (forgotten : Bool) (old new : Held) (before after : History) (event : Event) → HasPast forgotten false old before
-    → IfOk r (GoesBy old new event before after) → OnErr r (after ≡ before) → HasPast forgotten (is_err r) new after
-past_after_step r forgotten old new before after event had goes stays =
-    past_after r (GoesBy old new event before after) forgotten old new before after had
-    (λ did goes. past_goes_on forgotten old new before after event did had goes) goes stays
+pub past_after_step : (r : Result Did Memory) (restored forgotten : Bool) (old new : Held) (before after : History) (event : Event) → HasPast restored forgotten false old before
+    → IfOk r (GoesBy old new event before after) → OnErr r (after ≡ before) → HasPast restored forgotten (is_err r) new after
+past_after_step r restored forgotten old new before after event had goes stays =
+    past_after r (GoesBy old new event before after) restored forgotten old new before after had
+    (λ did goes. past_goes_on restored forgotten old new before after event did had goes) goes stays
 
 acted_idle : (became : Did) → is_idle became ≡ true → outcome_of became ≡ Acted
 acted_idle (deed.Idle cause) idle = refl
@@ -229,14 +267,14 @@ unchanged old new before after event became (told, is, stepped) idle =
     not-true true is = absurd (true≢false (sym is))
 
 -- so it leaves the world
-pub same_world : (r : Result Did Memory) (old new : Held) (before after : History) (event : Event) (forgotten is_broken : Bool) → is_broken ≡ is_err r
+pub same_world : (r : Result Did Memory) (old new : Held) (before after : History) (event : Event) (restored forgotten is_broken : Bool) → is_broken ≡ is_err r
     → IfOk r (GoesBy old new event before after)
     → IfOk r (λ did. is_idle did ≡ true
-    → ◌≡◌ {A = WorldView} (record { held = new; history = after; has_forgotten = forgotten; is_broken = is_broken })
-    (record { held = old; history = before; has_forgotten = forgotten; is_broken = false }))
-same_world (Ok did) old new before after event forgotten is_broken is goes =
+    → ◌≡◌ {A = WorldView} (record { held = new; history = after; has_forgotten = forgotten; is_restored = restored; is_broken = is_broken })
+    (record { held = old; history = before; has_forgotten = forgotten; is_restored = restored; is_broken = false }))
+same_world (Ok did) old new before after event restored forgotten is_broken is goes =
     λ idle. let same = unchanged old new before after event did goes idle in rw (same.0, same.1, is) refl
-same_world (Err memory) old new before after event forgotten is_broken is goes = tt
+same_world (Err memory) old new before after event restored forgotten is_broken is goes = tt
 
 -- what holds in any case holds where a call was refused
 pub on_err : {A E : Type 0} {Q : Type 0} (r : Result A E) → Q → OnErr r Q

@@ -13,11 +13,12 @@ use Rattle.zprotocol.specs.declared.limits.TheConstants.{MAX_SERVERS}
 use Rattle.zprotocol.specs.declared.message.Message.TheVariants as message
 use Rattle.zprotocol.specs.declared.process.Process.{Process}
 use Rattle.zprotocol.specs.declared.process.Process.TheVariants.{Master, Server, Client}
+use Rattle.zprotocol.specs.server.Machine.{Does}
 use Rattle.zprotocol.specs.server.View.{MessageOf}
 use Rattle.ztree.specs.Tree.{Tree}
 use Rattle.zcalls.specs.Kept.{KeptState}
 use Rattle.zworld.specs.Held.{MemberView, bystander, last_words, member_at, nobody, owes}
-use Rattle.zworld.specs.support.Opening.{opening_member}
+use Rattle.zworld.specs.support.Opening.{member_with}
 
 -- what is at most a limit is at most what is behind it
 few_behind : {limit : ℕ} (n m : ℕ) → n ≤ limit → limit ≤ m → n ≤ m
@@ -28,20 +29,20 @@ nobody_behind : (last clients c : ℕ) → clients ≤ c → nobody ≡ opening_
 nobody_behind last clients c behind = rw (le-ltb c clients behind) refl
 
 -- a server behind the chain is a bystander
-pub behind_opening : (last place : ℕ) → last ≤ place → bystander ≡ opening_member last (suc place)
-behind_opening last place behind =
+pub behind_opening : (machine : Does (KeptState Tree)) (last place : ℕ) → last ≤ place → bystander ≡ member_with machine last (suc place)
+behind_opening machine last place behind =
     let some : (suc place == 0) ≡ false = grind (arith, nat_tests) in
     rw (some, lt-ltb last (suc place) (omega arith)) refl
 
 -- the member of each number, in the opening
-pub opening_member_at : (last s : ℕ) → last ≤ MAX_SERVERS
-    → member_at (map (opening_member last) (range_with_len 1 MAX_SERVERS)) s ≡ opening_member last s
-opening_member_at last zero few = refl
-opening_member_at last (suc place) few = elim (test (nat_lt place MAX_SERVERS)) [
-  | inl inside ↦ get_or-map-range_with_len (opening_member last) 1 MAX_SERVERS place (suc place) bystander (ltb-true place MAX_SERVERS inside) (omega arith)
+pub opening_member_at : (machine : Does (KeptState Tree)) (last s : ℕ) → last ≤ MAX_SERVERS
+    → member_at (map (member_with machine last) (range_with_len 1 MAX_SERVERS)) s ≡ member_with machine last s
+opening_member_at machine last zero few = refl
+opening_member_at machine last (suc place) few = elim (test (nat_lt place MAX_SERVERS)) [
+  | inl inside ↦ get_or-map-range_with_len (member_with machine last) 1 MAX_SERVERS place (suc place) bystander (ltb-true place MAX_SERVERS inside) (omega arith)
   | inr outside ↦
-      let long = length-map-range_with_len (opening_member last) 1 MAX_SERVERS in
-      get_or_past (map (opening_member last) (range_with_len 1 MAX_SERVERS)) place bystander (rw long (ltb-false place MAX_SERVERS outside)) ∙ behind_opening last place (few_behind last place few (ltb-false place MAX_SERVERS outside))
+      let long = length-map-range_with_len (member_with machine last) 1 MAX_SERVERS in
+      get_or_past (map (member_with machine last) (range_with_len 1 MAX_SERVERS)) place bystander (rw long (ltb-false place MAX_SERVERS outside)) ∙ behind_opening machine last place (few_behind last place few (ltb-false place MAX_SERVERS outside))
 ]
 
 -- the client of each number, in the opening
@@ -56,12 +57,12 @@ opening_client_at last clients c few = elim (test (nat_lt c MAX_CLIENTS)) [
 ]
 
 -- nobody has failed, so nobody has last words
-pub no_words : (last : ℕ) (from to : Process) → last ≤ MAX_SERVERS
-    → last_words (map (opening_member last) (range_with_len 1 MAX_SERVERS)) from to ≡ []
-no_words last Master to few = refl
-no_words last (Server s) Master few =
+pub no_words : (machine : Does (KeptState Tree)) (last : ℕ) (from to : Process) → last ≤ MAX_SERVERS
+    → last_words (map (member_with machine last) (range_with_len 1 MAX_SERVERS)) from to ≡ []
+no_words machine last Master to few = refl
+no_words machine last (Server s) Master few =
     let words : MemberView → List (MessageOf (KeptState Tree)) = λ m. if owes m then message.Gone ∷ [] else [] in
-    ap words (opening_member_at last s few)
-no_words last (Server s) (Server t) few = refl
-no_words last (Server s) (Client c) few = refl
-no_words last (Client c) to few = refl
+    ap words (opening_member_at machine last s few)
+no_words machine last (Server s) (Server t) few = refl
+no_words machine last (Server s) (Client c) few = refl
+no_words machine last (Client c) to few = refl

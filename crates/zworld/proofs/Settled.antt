@@ -12,10 +12,10 @@ use Rattle.zworld_model.specs.World.{World}
 use Rattle.zworld_model.specs.Events.{is_enabled}
 use Rattle.zworld_model.specs.Settle.{deliveries, settle}
 use Rattle.zworld_model.specs.Alike.{IsAlike}
-use Rattle.zworld_model.specs.Laws.{world_after}
+use Rattle.zworld_model.specs.FromTree.{world_after_from}
 use Rattle.zworld_model.proofs.Alike.{have_the_same_enabled}
 use Rattle.zworld_model.proofs.Settling.{settling_is_a_run, quiet_has_nothing_to_take}
-use Rattle.zworld_model.proofs.Visited.{after_within, links_are_visited, none_passes}
+use Rattle.zworld_model.proofs.Visited.{after_within_from, links_are_visited_from, none_passes}
 use Rattle.zworld.specs.Held.{Held, world_of}
 use Rattle.zworld.specs.Steps.{IsAtRest}
 use Rattle.zworld.specs.support.Settled.{HasSettledBy}
@@ -44,19 +44,19 @@ settled_as_defined strict old new limit before after settled (learnt, told, is, 
 )
 
 -- and the past goes on
-pub past_settles : (strict : Bool) (forgotten : Bool) (old new : Held) (limit : ℕ) (before after : History) (settled : Settled) → HasPast forgotten false old before
-    → Settles strict old new limit before after settled → HasPast forgotten false new after
-past_settles strict forgotten old new limit before after settled had settles =
+pub past_settles : (strict : Bool) (restored forgotten : Bool) (old new : Held) (limit : ℕ) (before after : History) (settled : Settled) → HasPast restored forgotten false old before
+    → Settles strict old new limit before after settled → HasPast restored forgotten false new after
+past_settles strict restored forgotten old new limit before after settled had settles =
     let v = world_of old (had.past ++ before) in
     let (learnt, acted, ends) =
     settled_as_defined strict old new limit (had.past ++ before) (had.past ++ after) settled (settles_behind strict had.past old new limit before after settled settles) in
-    goes_on forgotten old new before after (settle kept_tree v limit (learnt ++ [])).events had
+    goes_on restored forgotten old new before after (settle kept_tree v limit (learnt ++ [])).events had
     (subst (λ w. IsAlike w (world_of new (had.past ++ after))) (settling_is_a_run kept_tree v limit (learnt ++ [])) (ends []).2)
 
 -- where settling ended quiet, no message can be taken
-pub quiet_is_rest : (strict : Bool) (forgotten : Bool) (old new : Held) (limit : ℕ) (before after : History) → HasPast forgotten false old before
+pub quiet_is_rest : (strict : Bool) (restored forgotten : Bool) (old new : Held) (limit : ℕ) (before after : History) → HasPast restored forgotten false old before
     → Settles strict old new limit before after Quiet → IsAtRest (world_of new after)
-quiet_is_rest strict forgotten old new limit before after had settles from to =
+quiet_is_rest strict restored forgotten old new limit before after had settles from to =
     let v = world_of old (had.past ++ before) in
     let w = world_of new (had.past ++ after) in
     let (learnt, acted, ends) =
@@ -64,16 +64,16 @@ quiet_is_rest strict forgotten old new limit before after had settles from to =
     let (ended, taken, leads) = ends [] in
     let done = settle kept_tree v limit (learnt ++ []) in
     let ran = subst (λ u. IsAlike u w) (settling_is_a_run kept_tree v limit (learnt ++ [])) leads in
-    let alike = stands_later forgotten old new before (had.past ++ after) done.events had ran in
+    let alike = stands_later restored forgotten old new before (had.past ++ after) done.events had ran in
     let counted : old.master.clients ≡ had.clients =
     ap (λ (u : World (KeptState Tree)). u.master.clients) (had.stands refl).rest
-    ∙ (after_within had.servers had.clients had.events had.opens).counted in
+    ∙ (after_within_from had.tree had.servers had.clients had.events had.opens).counted in
     let none : list_any (is_enabled done.world) (deliveries had.clients) ≡ false =
     subst (λ n. list_any (is_enabled done.world) (deliveries n) ≡ false) counted (quiet_has_nothing_to_take kept_tree v limit (learnt ++ []) (sym ended)) in
     let rest : is_enabled w (Take from to) ≡ false =
-    elim (links_are_visited had.servers had.clients (had.events ++ done.events) from to had.opens) [
+    elim (links_are_visited_from had.tree had.servers had.clients (had.events ++ done.events) from to had.opens) [
       | inl empty ↦
-          sym (have_the_same_enabled kept_tree (world_after had.servers had.clients (had.events ++ done.events)) w (Take from to) alike) ∙ rw empty refl
+          sym (have_the_same_enabled kept_tree (world_after_from had.tree had.servers had.clients (had.events ++ done.events)) w (Take from to) alike) ∙ rw empty refl
       | inr among ↦
           sym (have_the_same_enabled kept_tree done.world w (Take from to) leads)
           ∙ none_passes (is_enabled done.world) (Take from to) (deliveries had.clients) among none

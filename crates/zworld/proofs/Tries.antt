@@ -26,7 +26,7 @@ use Rattle.zworld.specs.Held.{Held, nobody, world_of}
 use Rattle.zworld.specs.Did.{is_idle, is_short, outcome_of}
 use Rattle.zworld.specs.Steps.{AreActed}
 use Rattle.zworld.specs.support.Stepped.{HasStepped}
-use Rattle.zworld.specs.support.Settling.{TreeSettling, StandsAt, MayLearn, Point, GoesOn, Does, Tries, GoOn, takes_from, takes}
+use Rattle.zworld.specs.support.Settling.{TreeSettling, StandsAt, Point, GoesOn, Does, Tries, GoOn, takes_from, takes}
 use Rattle.zworld.proofs.Steps.{enabled_anyway, read_anyway, read_acted, happens_not}
 
 -- the same settling, where no history is told

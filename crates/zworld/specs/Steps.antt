@@ -19,16 +19,20 @@ use Rattle.zworld_model.specs.Reading.{read, is_fitting, IsReading}
 use Rattle.zworld_model.specs.Settle.{Settling, settle, settling_end}
 use Rattle.zworld_model.specs.Alike.{IsAlike}
 use Rattle.zworld_model.specs.PlainTree.{IsExplained}
+use Rattle.zworld_model.specs.FromTree.{CanStart, IsExplainedFrom}
 use Rattle.zworld.specs.declared.did.Did.{Did}
 use Rattle.zworld.specs.Held.{Held, world_of}
 use Rattle.zworld.specs.Did.{is_idle, outcome_of}
 
--- a world: all processes, what callers saw, whether a past before that was forgotten, and whether
--- memory ever ran out. Once it did, nothing is promised of the processes
+-- a world: all processes, what callers saw, whether a past before that was forgotten, whether it
+-- began with the tree of a snapshot, and whether memory ever ran out. Of a world that began so, the
+-- past that led to the tree counts as forgotten. Once memory ran out, nothing is promised of the
+-- processes
 pub record WorldView : Type 0 where
   pub held : Held
   pub history : History
   pub has_forgotten : Bool
+  pub is_restored : Bool
   pub is_broken : Bool
 
 -- memory never ran out
@@ -43,6 +47,14 @@ world_in w = world_of w.held w.history
 -- nothing was forgotten there is no past
 abbrev pub IsExplainedWithPast : WorldView → Type 0
 IsExplainedWithPast w = (past : History) × (w.has_forgotten ≡ false → past ≡ []) × IsExplained (past ++ w.history)
+
+-- the same of a world that may have begun with the tree of a snapshot. All that callers saw is
+-- linearizable from some tree on that a chain can begin with; where the world began with the
+-- initial tree, from that
+abbrev pub IsExplainedFromStart : WorldView → Type 0
+IsExplainedFromStart w =
+    (w.is_restored ≡ false → IsExplainedWithPast w)
+    × ((t : Tree) × (past : History) × CanStart t × IsExplainedFrom t (past ++ w.history))
 
 -- an event led from one world to another
 pub record HasHappened (v : World (KeptState Tree)) (event : Event) (did : Did) (w : World (KeptState Tree)) : Type 0 where

@@ -4,7 +4,8 @@ ghost use Rattle.std.specs.Prelude.{◌≡◌, true, false, None, IfOk};
 ghost use Rattle.zworld.specs.Held.{bystander, gone_member, owes, is_gone};
 ghost use Rattle.zworld.specs.declared.life.Life.TheVariants.{Owing};
 ghost use Rattle.zworld.specs.support.Members.{Takes};
-ghost use Rattle.zworld.specs.support.Opening.{first_member};
+ghost use Rattle.zserver.specs.Server.{IsFresh};
+ghost use Rattle.zworld.specs.support.Opening.{first_member, first_member_from};
 
 use crate::life::Life;
 use std::alloc::Global;
@@ -45,6 +46,23 @@ impl Member {
         ensures { IfOk result (λ m. m ≡ first_member pred succ) }
     {
         let server = Server::first(alloc, pred, succ)?;
+        Ok(Member {
+            life: Life::Running(server),
+        })
+    }
+
+    /// Returns a member of an initial chain that begins with the snapshot's tree.
+    pub(crate) fn restored(
+        alloc: Global,
+        snapshot: &Snapshot,
+        pred: Option<ServerId>,
+        succ: Option<ServerId>,
+    ) -> Result<Member, Memory>
+        requires { IsFresh snapshot.now }
+        ensures { IfOk result (λ m. m
+            ≡ first_member_from snapshot.now.machine.plain pred succ) }
+    {
+        let server = Server::restored(alloc, snapshot, pred, succ)?;
         Ok(Member {
             life: Life::Running(server),
         })

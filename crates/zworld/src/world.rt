@@ -4,12 +4,14 @@ ghost use Rattle.std.specs.Prelude.{◌≡◌, ◌≤◌, [], true, false, IfOk,
 ghost use Rattle.ztree.specs.declared.limits.TheConstants.{MAX_CLIENTS};
 ghost use Rattle.zprotocol.specs.server.Machine.{kept_tree};
 ghost use Rattle.zworld_model.specs.PlainTree.{IsExplained};
+ghost use Rattle.zserver.specs.Server.{IsFresh};
+ghost use Rattle.zworld_model.specs.FromTree.{CanStart, opening_world_from};
 ghost use Rattle.zworld_model.specs.World.{opening_world};
 ghost use Rattle.zworld_model.specs.declared.settled.Settled.TheVariants.{Quiet};
 ghost use Rattle.zworld.specs.Did.{HasCause, is_idle};
 ghost use Rattle.zworld.specs.Last.{is_last};
 ghost use Rattle.zworld.specs.Steps.{CanWantMemory, CanWantMemoryToSettle, HasRunOut};
-ghost use Rattle.zworld.specs.Steps.{HasBegunToRun, HasDone, HasRun, IsAtRest, IsExplainedWithPast};
+ghost use Rattle.zworld.specs.Steps.{HasBegunToRun, HasDone, HasRun, IsAtRest, IsExplainedFromStart};
 ghost use Rattle.zworld.specs.Steps.{IsSettled, IsSettledActing, IsSound, world_in};
 ghost use Rattle.zworld.specs.support.Settled.{IsSettledBy};
 
@@ -19,6 +21,7 @@ use std::alloc::Global;
 use std::marker::Model;
 use zpath::Memory;
 use zprotocol::ServerId;
+use zserver::Snapshot;
 use zworld_model::{CallEvent, Event, Settled};
 
 /// All processes with their channels, and the history of what callers saw.
@@ -34,6 +37,7 @@ pub struct World {
     processes: Processes,
     history: Vec<CallEvent>,
     has_forgotten: bool,
+    is_restored: bool,
     is_broken: bool,
 }
 
@@ -50,10 +54,12 @@ impl Model for World {
       held = w.processes;
       history = w.history.items;
       has_forgotten = w.has_forgotten;
+      is_restored = w.is_restored;
       is_broken = w.is_broken;
     } };
 
-    ghost invariant = { λ w. HasPast w.has_forgotten w.is_broken w.processes w.history.items };
+    ghost invariant = { λ w. HasPast w.is_restored w.has_forgotten w.is_broken w.processes
+        w.history.items };
 }
 
 impl World {
@@ -63,6 +69,7 @@ impl World {
         requires { clients ≤ MAX_CLIENTS }
         ensures world { IfOk result (λ w. world_in w ≡ opening_world kept_tree last clients) }
         ensures whole { IfOk result (λ w. w.has_forgotten ≡ false) }
+        ensures initial { IfOk result (λ w. w.is_restored ≡ false) }
         ensures sound { IfOk result IsSound }
     {
         // The invariant asks that the number of a server is one of a chain, and the clause of
@@ -72,6 +79,36 @@ impl World {
             processes: Processes::new(alloc, last, clients)?,
             history: Vec::new(alloc),
             has_forgotten: false,
+            is_restored: false,
+            is_broken: false,
+        })
+    }
+
+    /// Returns the initial world of a chain that begins with the snapshot's tree. Each server of
+    /// the chain holds a copy of it. All clients begin anew, and the history is empty.
+    pub fn restored(
+        alloc: Global,
+        last: ServerId,
+        clients: u8,
+        snapshot: &Snapshot,
+    ) -> Result<World, Memory>
+        requires few { clients ≤ MAX_CLIENTS }
+        requires fresh { IsFresh snapshot.now }
+        ensures world { IfOk result
+            (λ w. world_in w ≡ opening_world_from snapshot.now.machine.plain last clients) }
+        ensures can_start { CanStart snapshot.now.machine.plain }
+        ensures past { IfOk result (λ w. w.has_forgotten ≡ true) }
+        ensures restored { IfOk result (λ w. w.is_restored ≡ true) }
+        ensures sound { IfOk result IsSound }
+    {
+        snapshot.keeps_lawful();
+        // As in `new`.
+        let _ = last.number();
+        Ok(World {
+            processes: Processes::restored(alloc, last, clients, snapshot)?,
+            history: Vec::new(alloc),
+            has_forgotten: true,
+            is_restored: true,
             is_broken: false,
         })
     }
@@ -85,7 +122,7 @@ impl World {
     /// events. After `Memory` it is the history before the call that failed.
     pub fn history(&self) -> &[CallEvent]
         ensures history { result.now ≡ self.now.history }
-        ensures explained { IsExplainedWithPast self.now }
+        ensures explained { IsExplainedFromStart self.now }
         ensures whole { self.now.has_forgotten ≡ false → IsExplained result.now }
     {
         &self.history
@@ -94,7 +131,7 @@ impl World {
     /// Hands out the history, and drops the world.
     pub fn into_history(self) -> Vec<CallEvent>
         ensures history { result.items ≡ self.history }
-        ensures explained { IsExplainedWithPast self }
+        ensures explained { IsExplainedFromStart self }
         ensures whole { self.has_forgotten ≡ false → IsExplained result.items }
     {
         let World { history, .. } = self;
@@ -123,8 +160,9 @@ impl World {
         ensures happened { IfOk result (HasDone self.old self.new event) }
         ensures same { IfOk result (λ did. is_idle did ≡ true → self.new ≡ self.old) }
         ensures cause { IfOk result (HasCause self.old.held event) }
-        ensures explained { IsExplainedWithPast self.new }
+        ensures explained { IsExplainedFromStart self.new }
         ensures past { self.new.has_forgotten ≡ self.old.has_forgotten }
+        ensures start { self.new.is_restored ≡ self.old.is_restored }
         ensures history { OnErr result (self.new.history ≡ self.old.history) }
         ensures sound { OnOk result (IsSound self.old × IsSound self.new) }
         ensures broken { OnErr result (self.new.is_broken ≡ true) }
@@ -144,8 +182,9 @@ impl World {
     /// `step` may return it, and the history is then that of the events before it.
     pub fn run(&mut self, events: Vec<Event>) -> Result<(), Memory>
         ensures ran { OnOk result (HasRun (world_in self.old) events.items (world_in self.new)) }
-        ensures explained { IsExplainedWithPast self.new }
+        ensures explained { IsExplainedFromStart self.new }
         ensures past { self.new.has_forgotten ≡ self.old.has_forgotten }
+        ensures start { self.new.is_restored ≡ self.old.is_restored }
         ensures kept { OnErr result
             (HasBegunToRun (world_in self.old) events.items self.new.history) }
         ensures sound { OnOk result (IsSound self.old × IsSound self.new) }
@@ -171,8 +210,9 @@ impl World {
     pub fn settle(&mut self, limit: usize) -> Result<Settled, Memory>
         ensures settled { IfOk result (IsSettled self.old self.new limit) }
         ensures quiet { IfOk result (λ settled. settled ≡ Quiet → IsAtRest (world_in self.new)) }
-        ensures explained { IsExplainedWithPast self.new }
+        ensures explained { IsExplainedFromStart self.new }
         ensures past { self.new.has_forgotten ≡ self.old.has_forgotten }
+        ensures start { self.new.is_restored ≡ self.old.is_restored }
         ensures history { OnErr result (self.new.history ≡ self.old.history) }
         ensures sound { OnOk result (IsSound self.old × IsSound self.new) }
         ensures broken { OnErr result (self.new.is_broken ≡ true) }
@@ -188,8 +228,9 @@ impl World {
     pub fn settle_strictly(&mut self, limit: usize) -> Result<Settled, Memory>
         ensures settled { IfOk result (IsSettledActing self.old self.new limit) }
         ensures quiet { IfOk result (λ settled. settled ≡ Quiet → IsAtRest (world_in self.new)) }
-        ensures explained { IsExplainedWithPast self.new }
+        ensures explained { IsExplainedFromStart self.new }
         ensures past { self.new.has_forgotten ≡ self.old.has_forgotten }
+        ensures start { self.new.is_restored ≡ self.old.is_restored }
         ensures history { OnErr result (self.new.history ≡ self.old.history) }
         ensures sound { OnOk result (IsSound self.old × IsSound self.new) }
         ensures broken { OnErr result (self.new.is_broken ≡ true) }
@@ -204,8 +245,9 @@ impl World {
     fn settle_by(&mut self, limit: usize, strict: bool) -> Result<Settled, Memory>
         ensures settled { IfOk result (IsSettledBy strict self.old self.new limit) }
         ensures quiet { IfOk result (λ settled. settled ≡ Quiet → IsAtRest (world_in self.new)) }
-        ensures explained { IsExplainedWithPast self.new }
+        ensures explained { IsExplainedFromStart self.new }
         ensures past { self.new.has_forgotten ≡ self.old.has_forgotten }
+        ensures start { self.new.is_restored ≡ self.old.is_restored }
         ensures history { OnErr result (self.new.history ≡ self.old.history) }
         ensures sound { OnOk result (IsSound self.old × IsSound self.new) }
         ensures broken { OnErr result (self.new.is_broken ≡ true) }

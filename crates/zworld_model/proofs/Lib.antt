@@ -2,6 +2,10 @@ pub mod Among
 pub mod OrderRows
 pub mod RunOrder
 pub mod FirstCalls
+pub mod FirstCallsFrom
+pub mod Starts
+pub mod Orders
+pub mod Lives
 pub mod Tables
 pub mod Alike
 pub mod Retiring

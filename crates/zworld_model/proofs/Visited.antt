@@ -1,15 +1,16 @@
 -- Settling visits every link that holds a message.
-use Rattle.std.proofs.Common.{if◌then◌else◌, ◌≡◌, ℕ, ◌+◌, ◌-◌, ◌<◌, ◌≤◌, zero, suc, Bool, true, false, nat_lt, nat_le, ◌==◌, List, [], ◌∷◌, ◌++◌, map, Option, Some, None, refl, sym, ap, subst, inl, inr, arith, ltb-true, eqb-true}
+use Rattle.std.proofs.Common.{if◌then◌else◌, ◌≡◌, ℕ, ◌+◌, ◌-◌, ◌<◌, ◌≤◌, zero, suc, Bool, true, false, nat_lt, nat_le, ◌==◌, List, [], ◌∷◌, map, Option, Some, None, refl, sym, subst, inl, inr, arith, ltb-true, eqb-true}
 use mathlib.Core.Bool.{true≢false}
 use Rattle.std.specs.Prelude.{◌⊎◌, ◌||◌, flat_map}
 use Rattle.std.specs.List.{AllByRecursion, range_with_len, list_any}
 use Rattle.std.proofs.lemmas.Bool.Decides.{nat_tests}
+use Rattle.ztree.specs.Tree.{Tree}
 use Rattle.zcalls.specs.Lists.{Among}
 use Rattle.zcalls.proofs.Among.{test}
 use Rattle.zprotocol.specs.declared.limits.TheConstants.{MAX_SERVERS}
 use Rattle.zprotocol.specs.declared.process.Process.{Process}
 use Rattle.zprotocol.specs.declared.process.Process.TheVariants.{Master, Server, Client}
-use Rattle.zprotocol.specs.server.Machine.{Does, kept_tree}
+use Rattle.zprotocol.specs.server.Machine.{Does, kept_tree, kept_tree_from}
 use Rattle.zprotocol.specs.Places.{is_server, process_at}
 use Rattle.zprotocol.proofs.Places.{process_at-server, process_at-client}
 use Rattle.zprotocol.specs.server.View.{Neighbour, MessageOf, spare, member, opening_server}
@@ -18,8 +19,10 @@ use Rattle.zworld_model.specs.declared.event.Event.TheVariants.{Take}
 use Rattle.zworld_model.specs.World.{World, opening_world}
 use Rattle.zworld_model.specs.Events.{is_enabled}
 use Rattle.zworld_model.specs.Settle.{processes, deliveries}
+use Rattle.zworld_model.specs.FromTree.{opening_world_from, world_after_from}
 use Rattle.zworld_model.specs.Laws.{world_after, settling_of, LinksAreVisited, QuietIsQuiet}
 use Rattle.zworld_model.specs.support.Within.{is_process, IsServer, IsNear, IsNamed, IsViewWithin, IsMemberWithin, IsWithin}
+use Rattle.zworld_model.proofs.Among.{among_map, among_first, among_second}
 use Rattle.zworld_model.proofs.Tests.{both}
 use Rattle.zworld_model.proofs.Within.{run_within}
 use Rattle.zworld_model.proofs.Settling.{settling_is_a_run, quiet_has_nothing_to_take}
@@ -96,21 +99,7 @@ module _ {M : Type 0} (machine : Does M) (servers clients : ℕ) (is : is_server
     sent = λ from to m among. absurd among;
   }
 
--- what is among a list is among its image, and among what its image is made of
-among_map : {A B : Type 0} (f : A → B) (x : A) (xs : List A) → Among x xs → Among (f x) (map f xs)
-among_map f x (y ∷ ys) (inl e) = inl (ap f e)
-among_map f x (y ∷ ys) (inr among) = inr (among_map f x ys among)
-among_map f x [] among = absurd among
-
-among_first : {A : Type 0} (x : A) (xs ys : List A) → Among x xs → Among x (xs ++ ys)
-among_first x (z ∷ xs) ys (inl e) = inl e
-among_first x (z ∷ xs) ys (inr among) = inr (among_first x xs ys among)
-among_first x [] ys among = absurd among
-
-among_second : {A : Type 0} (x : A) (xs ys : List A) → Among x ys → Among x (xs ++ ys)
-among_second x [] ys among = among
-among_second x (z ∷ xs) ys among = inr (among_second x xs ys among)
-
+-- what is among an image of lists
 among_parts : {A B : Type 0} (f : A → List B) (x : A) (y : B) (xs : List A) → Among x xs → Among y (f x) → Among y (flat_map f xs)
 among_parts f x y (z ∷ xs) (inl e) part = among_first y (f z) (flat_map f xs) (subst (λ u. Among y (f u)) (sym e) part)
 among_parts f x y (z ∷ xs) (inr among) part = among_second y (f z) (flat_map f xs) (among_parts f x y xs among part)
@@ -158,6 +147,16 @@ visited clients w from to within (m ∷ more) is =
 -- after a run it is so
 pub after_within : (servers clients : ℕ) (events : List Event) → is_server servers ≡ true → IsWithin clients (world_after servers clients events)
 after_within servers clients events is = run_within _ clients kept_tree (opening_world kept_tree servers clients) events (opening_within kept_tree servers clients is)
+
+-- also from another tree
+pub after_within_from : (t : Tree) (servers clients : ℕ) (events : List Event) → is_server servers ≡ true → IsWithin clients (world_after_from t servers clients events)
+after_within_from t servers clients events is =
+    run_within _ clients (kept_tree_from t) (opening_world_from t servers clients) events (opening_within (kept_tree_from t) servers clients is)
+
+pub links_are_visited_from : (t : Tree) (servers clients : ℕ) (events : List Event) (from to : Process) → is_server servers ≡ true
+    → ((world_after_from t servers clients events).links from to ≡ []) ⊎ Among (Take from to) (deliveries clients)
+links_are_visited_from t servers clients events from to is =
+    visited clients (world_after_from t servers clients events) from to (after_within_from t servers clients events is) _ refl
 
 pub links_are_visited : LinksAreVisited
 links_are_visited servers clients events from to is =

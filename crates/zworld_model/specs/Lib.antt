@@ -1,6 +1,8 @@
 pub mod History
 pub mod LegalOrder
 pub mod PlainTree
+pub mod FromTree
+pub mod Lives
 pub mod Links
 pub mod World
 pub mod Events

@@ -13,6 +13,8 @@ ghost use Rattle.zworld_model.specs.Alike.{HaveTheSameEnabled, StayAlike, ReadAl
 ghost use Rattle.zworld_model.specs.Alike.{HaveTheSameOutcomes, AreAlikeThemselves, AlikeIsTransitive};
 ghost use Rattle.zworld_model.specs.Alike.{RetiredHaveFailed};
 ghost use Rattle.zprotocol.specs.server.Machine.{kept_tree};
+ghost use Rattle.zworld_model.specs.FromTree.{EventsForgetTheStart, RunsForgetTheStart};
+ghost use Rattle.zworld_model.specs.Lives.{TwoLivesAreOne, TheSecondLifeLeavesTheTree};
 ghost use Rattle.zworld_model.specs.support.Learning.{DoneIsLearnt, IdleIsPassed, PassBegins};
 ghost use Rattle.zworld_model.specs.support.Learning.{PassesEnd, ReadingIsLearnt};
 ghost use Rattle.zworld_model.specs.Laws.{FittingOutcomesAreRead, LinksAreVisited, QuietIsQuiet};
@@ -87,4 +89,19 @@ pub fn calls_do_the_plain_step()
     ensures update { (t : Tree) (c : ℕ) (u : Update) → serve t c (call.Update u) ≡ step t c u }
     ensures query { (t : Tree) (c : ℕ) (q : Query)
         → serve t c (call.Query q) ≡ (t, query_reply t q) }
+{}
+
+/// What happens at an event, and so in a run, doesn't hang on the tree that the machines began
+/// with.
+pub fn runs_forget_the_start()
+    ensures event { EventsForgetTheStart }
+    ensures run { RunsForgetTheStart }
+{}
+
+/// A service lives, and is begun anew with the tree that it left, of which alone a snapshot was
+/// kept. What callers saw in both lives is what one plain tree explains, as if there were one life.
+/// So it is with any number of lives, as the law joins the first two of them to one.
+pub fn two_lives_are_one()
+    ensures explained { TwoLivesAreOne }
+    ensures leaves { TheSecondLifeLeavesTheTree }
 {}

@@ -1,5 +1,6 @@
 //! Worked rows: each function's contract has some, and its body does nothing.
 
+mod beginnings;
 mod joins;
 mod orders;
 mod repairs;

@@ -2,7 +2,7 @@
 use Rattle.std.specs.Prelude.{ℕ, ◌==◌, List, Result}
 use Rattle.std.specs.List.{slice_split}
 use Rattle.zcommand.specs.declared.order.Settings.{Settings}
-use Rattle.zcommand.specs.declared.fault.WordsFault.{WordsFault}
+use Rattle.zcli.specs.declared.fault.WordsFault.{WordsFault}
 use Rattle.zcommand.specs.Asked.{settings_asked}
 
 -- What a text's words, between spaces, ask for.

@@ -1,5 +1,5 @@
 -- What the places of kept replies stand for: the place of a client's number has what is kept for it.
-use Rattle.std.specs.Prelude.{ℕ, ◌+◌, List, [], ◌∷◌, Option, Some, None}
+use Rattle.std.specs.Prelude.{ℕ, ◌+◌, List, [], ◌∷◌, map, Option, Some, None}
 use Rattle.std.specs.Ordering.{nat_cmp}
 use Rattle.std.specs.FinMap.{FinMap, from_entries}
 use Rattle.zcalls.specs.Kept.{Kept}
@@ -9,6 +9,10 @@ abbrev pub entries_from : ℕ → List (Option Kept) → List (ℕ × Kept)
 entries_from number [] = []
 entries_from number (None ∷ places) = entries_from (number + 1) places
 entries_from number (Some kept ∷ places) = (number, kept) ∷ entries_from (number + 1) places
+
+-- the clients' numbers of these
+abbrev pub clients_from : ℕ → List (Option Kept) → List ℕ
+clients_from number places = map (λ e. e.0) (entries_from number places)
 
 -- the kept replies by the clients' numbers
 abbrev pub replies_in : List (Option Kept) → FinMap nat_cmp Kept

@@ -1,5 +1,5 @@
 -- When a store is ready for a call, and what a call leaves of it.
-use Rattle.std.specs.Prelude.{◌≡◌, ◌≢◌, true, List, [], ℕ, ◌+◌, ◌*◌, ◌<◌, ◌≤◌, Some}
+use Rattle.std.specs.Prelude.{◌≡◌, ◌≢◌, true, false, Bool, List, [], ℕ, ◌+◌, ◌*◌, ◌<◌, ◌≤◌, Some}
 use Rattle.ztree.specs.Room.{HasRoom}
 use Rattle.ztree.specs.Lawful.{AllNodes}
 use Rattle.ztree.specs.declared.limits.TheConstants.{MAX_NODES, ZXID_BOUND}
@@ -15,6 +15,7 @@ use Rattle.zcalls.specs.declared.limits.TheConstants.{MAX_PARTS, MAX_RAISES}
 use Rattle.zops.specs.declared.limits.TheConstants.{MAX_APPLIED}
 use Rattle.zcalls.specs.Bounds.{IsBounded, IsWithin}
 use Rattle.zcalls.specs.support.Alone.{ChangesNodesAlone}
+use Rattle.zops.specs.Restored.{AllDated}
 
 -- a part can be done: each counter has room for one more, the next change has a number, and an Id is left
 pub record IsReadyForPart (store : StoreView) : Type 0 where
@@ -71,14 +72,16 @@ pub record IsRun (old new : StoreView) : Type 0 where
   pub alone : ChangesNodesAlone old.tree new.tree
   pub within : AllNodes (IsWithin (MAX_RAISES * old.tree.zxid + MAX_PARTS)) new.tree.nodes
 
--- what a machine keeps: bounded numbers, few entries, and few Ids for each entry beside those of its first nodes
-pub record IsSound (store : StoreView) (applied : ℕ) : Type 0 where
+-- what a machine keeps: bounded numbers, few entries, and few Ids for each entry beside those of its first nodes; and while it has memory, no node of a later change or tick
+pub record IsSound (store : StoreView) (applied : ℕ) (is_broken : Bool) : Type 0 where
   pub bounded : IsBounded store.tree
   pub applied_few : applied ≤ MAX_APPLIED
   pub given_few : store.given ≤ MAX_PARTS * applied + MAX_NODES
+  pub dated : is_broken ≡ false → AllDated store.tree
 
--- what a machine keeps while it is restored: bounded numbers, few entries, and one Id for each node
+-- what a machine keeps while it is restored: bounded numbers, few entries, one Id for each node, and no node of a later change or tick
 pub record IsRestoring (store : StoreView) (applied : ℕ) : Type 0 where
   pub bounded : IsBounded store.tree
   pub applied_few : applied ≤ MAX_APPLIED
   pub given_few : store.given ≤ finite.len store.tree.nodes
+  pub dated : AllDated store.tree

@@ -1,11 +1,14 @@
 -- The steps of `zcalls`, said of stores: what a call gives, leaves and answers.
-use Rattle.std.specs.Prelude.{◌≡◌, Bool, length, nat_lt, Option, Result, Ok}
+use Rattle.std.specs.Prelude.{◌≡◌, ◌≤◌, Bool, length, nat_lt, Option, Result, Ok}
 use Rattle.std.specs.Ordering.{nat_cmp}
 use Rattle.std.specs.FinMap.{FinMap}
 use Rattle.ztree.specs.declared.node.Node.{Node}
 use Rattle.ztree.specs.Tree.{Tree, Nodes, Path, children}
 use Rattle.zstore.specs.StoreView.{StoreView, Id, AtPath}
+use Rattle.zcalls.specs.declared.limits.TheConstants.{MAX_PARTS}
 use Rattle.zcalls.specs.declared.call.Entry.{Entry}
+use Rattle.zcalls.specs.declared.call.Update.{Update}
+use Rattle.zcalls.specs.declared.call.Update.TheVariants as call
 use Rattle.zcalls.specs.declared.reply.Reply.{Reply}
 use Rattle.zcalls.specs.Kept.{Kept, entry_step}
 use Rattle.zcalls.specs.Part.{node_has}
@@ -40,3 +43,8 @@ TellsWhether test store id told = AtPath store id (λ path. told ≡ node_has te
 -- whether the node at a path has children
 abbrev pub is_parent : Nodes → Path → Bool
 is_parent nodes path = nat_lt 0 (length (children nodes path))
+
+-- a multi has at most 64 parts
+abbrev pub HasFewParts : Update → Type 0
+HasFewParts (call.Multi parts) = length parts ≤ MAX_PARTS
+HasFewParts other = Unit {0}

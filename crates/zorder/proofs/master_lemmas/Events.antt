@@ -3,7 +3,7 @@ use Rattle.std.specs.Prelude.{is_none}
 use Rattle.std.proofs.Common.{◌≡◌, ℕ, Bool, true, false, List, ◌∷◌, sym, subst, inl, inr, refl}
 use Rattle.zcalls.specs.declared.call.Entry.{Entry}
 use Rattle.zcalls.specs.Lists.{Among}
-use Rattle.zcalls.specs.PlainTree.{plain_tree}
+use Rattle.zcalls.specs.Kept.{Plain}
 use Rattle.zcalls.proofs.Among.{test}
 use Rattle.zprotocol.specs.declared.message.Message.TheVariants as message
 use Rattle.zprotocol.specs.declared.process.Process.{Process}
@@ -25,48 +25,16 @@ use Rattle.zorder.proofs.chain_lemmas.links.LaterWorlds.{justified_later}
 use Rattle.zorder.proofs.chain_lemmas.steps.Opening.{among_tested}
 use Rattle.zorder.proofs.chain_lemmas.steps.Drops.{kept_not_to, dropped_sound}
 use Rattle.zorder.proofs.chain_lemmas.Events.{where_enabled, front_there, quiet_event}
-use Rattle.zorder.specs.master.Laws.{MasterHears, ServersJoin, MembersRetire}
+use Rattle.zorder.specs.chain.Events.{KeepsSoundOver}
 use Rattle.zorder.proofs.master_lemmas.chain.Moves.{world_with_move}
 use Rattle.zorder.proofs.master_lemmas.chain.StandingChains.{unheard, have_heard, joined_heard, retire_ordered}
 use Rattle.zorder.proofs.master_lemmas.chain.Departures.{gone_heard}
 use Rattle.zorder.proofs.master_lemmas.chain.Joins.{joins_sound}
 
--- what the master does with a message
-heard : (t : Account) → IsSound plain_tree t → (from : Process) (m : LogMessage) → IsJustified t.world t.items from Master m
-    → IsSound plain_tree (record t { world = world_with_move t.world (master.master_step {T = Transfer (List Entry)} t.world.master from m).0 (master.master_step t.world.master from m).1 })
-unfolding master.master_step
-heard t s (Server x) (message.Have epoch last) justified = have_heard plain_tree t s x epoch last justified
-heard t s (Server x) (message.Joined epoch) justified = joined_heard plain_tree t s x
-heard t s (Server x) message.Gone justified = gone_heard plain_tree t s x justified
-heard t s from m justified = unheard plain_tree t s
-
--- the front of a link
-front_heard : (t : Account) → IsSound plain_tree t → (from : Process) (m : LogMessage) (rest : List LogMessage) → t.world.links from Master ≡ m ∷ rest
-    → IsSound plain_tree (record t { world = front_step (log_machine plain_tree) t.world from Master (m ∷ rest) })
-front_heard t s from m rest link =
-    let dropped : Account = record t { world = record t.world { links = without_front t.world.links from Master } } in
-    heard dropped (dropped_sound plain_tree t s from Master (kept_not_to t.world from Master (λ z. refl))) from m
-    (justified_later t.world dropped.world t.items t.items
-    (record { begun = λ o h. h; given = λ i h. h; opened = λ z k h. (h.0, λ p a. h.1 p (front_among t.world.links from Master Master (Server z) (message.NewPred k p) a)); failed = λ z h. h })
-    from Master m (s.justified from Master m (subst (Among m) (sym link) (inl refl))))
-
--- the events Take at the master
-pub master_hears : MasterHears
-master_hears Master t lasts s = where_enabled t (Take Master Master) s (λ e. front_there t Master Master e
-    (λ m rest link alive. quiet_event t _ (front_heard t s Master m rest link)))
-master_hears (Server p) t lasts s = where_enabled t (Take (Server p) Master) s (λ e. front_there t (Server p) Master e
-    (λ m rest link alive. quiet_event t _ (front_heard t s (Server p) m rest link)))
-master_hears (Client c) t lasts s = where_enabled t (Take (Client c) Master) s (λ e. front_there t (Client c) Master e
-    (λ m rest link alive. quiet_event t _ (front_heard t s (Client c) m rest link)))
-
 -- who may join wasn't used
 not_used : (v : MasterView) (x : ℕ) → is_none (master.join_fault v x) ≡ true → is_among x v.used ≡ true → ⊥
 unfolding master.join_fault
 not_used v x free used = let not : ◌≡◌ {A = Bool} false true = rw used at free in cc not
-
--- the event Join
-pub servers_join : ServersJoin
-servers_join x t lasts s = where_enabled t (Join x) s (λ e. quiet_event t _ (joins_sound plain_tree t s x (not_used t.world.master x (right_of (is_server x) (is_none (master.join_fault t.world.master x)) e))))
 
 -- who may be ordered to leave is a member
 is_member : (v : MasterView) (x : ℕ) → is_none (master.retire_fault v x) ≡ true → Among x (members v)
@@ -76,7 +44,40 @@ is_member v x free = elim (test (is_among x (members v))) [
   | inr not ↦ let no : ◌≡◌ {A = Bool} false true = rw not at free in absurd (cc no)
 ]
 
--- the event Retire
-pub members_retire : MembersRetire
-members_retire x t lasts s = where_enabled t (Retire x) s (λ e. quiet_event t _
-    (retire_ordered plain_tree t s x (is_member t.world.master x (right_of (is_server x) (is_none (master.retire_fault t.world.master x)) e))))
+module _ {P : Type 0} (plain : Plain P) where
+  -- what the master does with a message
+  heard : (t : Account) → IsSound plain t → (from : Process) (m : LogMessage) → IsJustified t.world t.items from Master m
+      → IsSound plain (record t { world = world_with_move t.world (master.master_step {T = Transfer (List Entry)} t.world.master from m).0 (master.master_step t.world.master from m).1 })
+  unfolding master.master_step
+  heard t s (Server x) (message.Have epoch last) justified = have_heard plain t s x epoch last justified
+  heard t s (Server x) (message.Joined epoch) justified = joined_heard plain t s x
+  heard t s (Server x) message.Gone justified = gone_heard plain t s x justified
+  heard t s from m justified = unheard plain t s
+
+  -- the front of a link
+  front_heard : (t : Account) → IsSound plain t → (from : Process) (m : LogMessage) (rest : List LogMessage) → t.world.links from Master ≡ m ∷ rest
+      → IsSound plain (record t { world = front_step (log_machine plain) t.world from Master (m ∷ rest) })
+  front_heard t s from m rest link =
+      let dropped : Account = record t { world = record t.world { links = without_front t.world.links from Master } } in
+      heard dropped (dropped_sound plain t s from Master (kept_not_to t.world from Master (λ z. refl))) from m
+      (justified_later t.world dropped.world t.items t.items
+      (record { begun = λ o h. h; given = λ i h. h; opened = λ z k h. (h.0, λ p a. h.1 p (front_among t.world.links from Master Master (Server z) (message.NewPred k p) a)); failed = λ z h. h })
+      from Master m (s.justified from Master m (subst (Among m) (sym link) (inl refl))))
+
+  -- the events Take at the master
+  pub master_hears : (from : Process) → KeepsSoundOver plain (Take from Master)
+  master_hears Master t lasts s = where_enabled plain t (Take Master Master) s (λ e. front_there plain t Master Master e
+      (λ m rest link alive. quiet_event plain t _ (front_heard t s Master m rest link)))
+  master_hears (Server p) t lasts s = where_enabled plain t (Take (Server p) Master) s (λ e. front_there plain t (Server p) Master e
+      (λ m rest link alive. quiet_event plain t _ (front_heard t s (Server p) m rest link)))
+  master_hears (Client c) t lasts s = where_enabled plain t (Take (Client c) Master) s (λ e. front_there plain t (Client c) Master e
+      (λ m rest link alive. quiet_event plain t _ (front_heard t s (Client c) m rest link)))
+
+  -- the event Join
+  pub servers_join : (x : ℕ) → KeepsSoundOver plain (Join x)
+  servers_join x t lasts s = where_enabled plain t (Join x) s (λ e. quiet_event plain t _ (joins_sound plain t s x (not_used t.world.master x (right_of (is_server x) (is_none (master.join_fault t.world.master x)) e))))
+
+  -- the event Retire
+  pub members_retire : (x : ℕ) → KeepsSoundOver plain (Retire x)
+  members_retire x t lasts s = where_enabled plain t (Retire x) s (λ e. quiet_event plain t _
+      (retire_ordered plain t s x (is_member t.world.master x (right_of (is_server x) (is_none (master.retire_fault t.world.master x)) e))))

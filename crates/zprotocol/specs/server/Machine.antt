@@ -32,6 +32,14 @@ machine_of plain =
 abbrev pub kept_tree : Does (KeptState Tree)
 kept_tree = machine_of plain_tree
 
+-- the plain tree, beginning with this tree
+abbrev pub plain_from : Tree → Plain Tree
+plain_from t = record plain_tree { opening = t }
+
+-- the machine that begins with this tree, and with no cached reply: for it all clients begin anew
+abbrev pub kept_tree_from : Tree → Does (KeptState Tree)
+kept_tree_from t = machine_of (plain_from t)
+
 -- a machine after these entries, one after the other
 abbrev pub after_entries : {M : Type 0} → Does M → M → List Entry → M
 after_entries does m entries = kept.after_entries does.apply m entries

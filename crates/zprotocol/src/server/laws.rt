@@ -5,10 +5,11 @@ ghost use Rattle.ztree.specs.Tree.{Tree, opening_tree};
 ghost use Rattle.zcalls.specs.declared.call.Query.{Query};
 ghost use Rattle.zcalls.specs.declared.call.Update.{Update};
 ghost use Rattle.zcalls.specs.Kept.{KeptState, nothing_kept};
+ghost use Rattle.zcalls.specs.PlainTree.{plain_tree};
 ghost use Rattle.zcalls.specs.Step.{step, query_reply};
-ghost use Rattle.zprotocol.specs.server.Machine.{kept_tree};
+ghost use Rattle.zprotocol.specs.server.Machine.{kept_tree, kept_tree_from, plain_from};
 ghost use Rattle.zprotocol.specs.server.support.Homomorphism.{LogStandsForMachine, TableKeepsLogs};
-ghost use Rattle.zprotocol.specs.server.Laws.{OnlyTailsAnswer, first_step};
+ghost use Rattle.zprotocol.specs.server.Laws.{OnlyTailsAnswer, TableForgetsTheStart, first_step};
 
 /// A log of entries stands for the tree with cached replies that it leads to. The log replies as
 /// that tree does, and a server does the same with either. So what holds of a chain of logs holds
@@ -31,4 +32,14 @@ pub fn machine_does_the_plain_step()
     ensures first_reply { (t : Tree) (c : ℕ) (u : Update)
         → (first_step t c u).1 ≡ Some (step t c u).1 }
     ensures query { (s : KeptState Tree) (q : Query) → kept_tree.ask s q ≡ query_reply s.plain q }
+{}
+
+/// A machine can begin with another tree than the initial one. It begins with that tree and no
+/// cached reply, and does what any other does.
+pub fn machines_begin_with_a_tree()
+    ensures start { (t : Tree) → (kept_tree_from t).start ≡ nothing_kept t }
+    ensures update { (t : Tree) → (plain_from t).update ≡ plain_tree.update }
+    ensures ask { (t : Tree) → (plain_from t).ask ≡ plain_tree.ask }
+    ensures initial { kept_tree_from opening_tree ≡ kept_tree }
+    ensures table { TableForgetsTheStart }
 {}

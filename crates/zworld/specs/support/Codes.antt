@@ -33,6 +33,7 @@ coded_held =
 -- how a world is stored
 abbrev pub coded_world : Coded WorldView
 coded_world =
-    code_by (Held × (History × (Bool × Bool))) (coded× coded_held (coded× (coded_list call_event.the_row.coded) (coded× coded_bool coded_bool)))
-    (λ w. (w.held, (w.history, (w.has_forgotten, w.is_broken))))
-    (λ p. record { held = p.0; history = p.1.0; has_forgotten = p.1.1.0; is_broken = p.1.1.1 }) (λ _. refl)
+    code_by (Held × (History × (Bool × (Bool × Bool))))
+    (coded× coded_held (coded× (coded_list call_event.the_row.coded) (coded× coded_bool (coded× coded_bool coded_bool))))
+    (λ w. (w.held, (w.history, (w.has_forgotten, (w.is_restored, w.is_broken)))))
+    (λ p. record { held = p.0; history = p.1.0; has_forgotten = p.1.1.0; is_restored = p.1.1.1.0; is_broken = p.1.1.1.1 }) (λ _. refl)

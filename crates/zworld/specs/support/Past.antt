@@ -1,6 +1,6 @@
 -- What a world keeps of its past, and runs, one event after the other.
 use Rattle.std.specs.Prelude.{◌≡◌, ℕ, Bool, true, false, List, [], ◌∷◌, ◌++◌}
-use Rattle.ztree.specs.Tree.{Tree}
+use Rattle.ztree.specs.Tree.{Tree, opening_tree}
 use Rattle.zcalls.specs.Kept.{KeptState}
 use Rattle.zprotocol.specs.server.Machine.{kept_tree}
 use Rattle.zworld_model.specs.declared.event.Event.{Event}
@@ -11,20 +11,25 @@ use Rattle.zprotocol.specs.Places.{is_server}
 use Rattle.zworld_model.specs.Events.{happens}
 use Rattle.zworld_model.specs.Reading.{read}
 use Rattle.zworld_model.specs.Alike.{IsAlike}
-use Rattle.zworld_model.specs.Laws.{world_after}
+use Rattle.zworld_model.specs.FromTree.{CanStart, world_after_from}
 use Rattle.zworld.specs.Held.{Held, world_of}
 
 -- there is a run from an initial world whose history is a past and then this history; where nothing
--- was forgotten there is no past. Unless memory ran out, the processes are where the run ends
-pub record HasPast (has_forgotten is_broken : Bool) (held : Held) (history : History) : Type 0 where
+-- was forgotten there is no past. Unless memory ran out, the processes are where the run ends. The
+-- run begins with a tree: the initial one, unless the world was restored
+pub record HasPast (is_restored has_forgotten is_broken : Bool) (held : Held) (history : History) : Type 0 where
+  pub tree : Tree
+  pub can_start : CanStart tree
+  pub initial : is_restored ≡ false → tree ≡ opening_tree
+  pub lasting : has_forgotten ≡ false → is_restored ≡ false
   pub servers : ℕ
   pub clients : ℕ
   pub events : List Event
   pub past : History
   pub opens : is_server servers ≡ true
   pub whole : has_forgotten ≡ false → past ≡ []
-  pub told : (world_after servers clients events).history ≡ past ++ history
-  pub stands : is_broken ≡ false → IsAlike (world_after servers clients events) (world_of held (past ++ history))
+  pub told : (world_after_from tree servers clients events).history ≡ past ++ history
+  pub stands : is_broken ≡ false → IsAlike (world_after_from tree servers clients events) (world_of held (past ++ history))
 
 -- the events lead from one world to another, one after the other, each resolved by some outcome
 abbrev pub LeadRead : World (KeptState Tree) → List Event → World (KeptState Tree) → Type 0

@@ -7,6 +7,7 @@ use Rattle.ztree.specs.Tree.{opening_tree}
 use Rattle.zcalls.specs.declared.call.Call.TheVariants as call
 use Rattle.zcalls.specs.declared.call.Query.{Query}
 use Rattle.zcalls.specs.declared.call.Update.{Update}
+use Rattle.zcalls.specs.declared.reply.Reply.{Reply}
 use Rattle.zcalls.specs.Step.{step, query_reply}
 use Rattle.zworld_model.specs.declared.history.CallEvent.TheVariants.{Begin, Answer}
 use Rattle.zcalls.specs.Operation.{Operation}
@@ -76,3 +77,7 @@ update_is_first update query =
     ∷ Begin 1 2 (call.Query query)
     ∷ Answer 1 2 (query_reply (step opening_tree 1 update).0 query)
     ∷ []
+
+-- a query is asked, and answered with this reply
+abbrev pub query_of : Query → Reply → History
+query_of query reply = Begin 1 1 (call.Query query) ∷ Answer 1 1 reply ∷ []

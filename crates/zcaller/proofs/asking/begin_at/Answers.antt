@@ -78,3 +78,6 @@ returns-in-Ok-begin-clause-begun c =
 pub returns-in-Ok-begin-clause-whole : goal.returns-in-Ok-begin-clause-whole
 returns-in-Ok-begin-clause-whole c few early =
     c.enter.ensures.whole c.requires.room few (subst (λ n. n < MAX_STAMP) c.enter.ensures.stamp early)
+
+pub returns-in-Ok-begin-clause-unlost : goal.returns-in-Ok-begin-clause-unlost
+returns-in-Ok-begin-clause-unlost c early = c.enter.ensures.kept (subst (λ n. n < MAX_STAMP) c.enter.ensures.stamp early)

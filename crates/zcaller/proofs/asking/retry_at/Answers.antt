@@ -45,3 +45,6 @@ returns-clause-sent c =
 pub returns-clause-whole : goal.returns-clause-whole
 returns-clause-whole c few early =
     c.enter.ensures.whole c.requires.room few (subst (λ n. n < MAX_STAMP) c.enter.ensures.stamp early)
+
+pub returns-clause-unlost : goal.returns-clause-unlost
+returns-clause-unlost c early = c.enter.ensures.kept (subst (λ n. n < MAX_STAMP) c.enter.ensures.stamp early)

@@ -66,3 +66,6 @@ returns-in-Ok-take-clause-heard c =
 pub returns-in-Ok-take-clause-whole : goal.returns-in-Ok-take-clause-whole
 returns-in-Ok-take-clause-whole c few early =
     c.enter.ensures.whole c.requires.room few (subst (λ n. n < MAX_STAMP) c.enter.ensures.stamp early)
+
+pub returns-in-Ok-take-clause-unlost : goal.returns-in-Ok-take-clause-unlost
+returns-in-Ok-take-clause-unlost c early = c.enter.ensures.kept (subst (λ n. n < MAX_STAMP) c.enter.ensures.stamp early)

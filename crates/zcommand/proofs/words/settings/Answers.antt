@@ -1,8 +1,8 @@
 use Rattle.std.proofs.Common.{rules, ◌≡◌, ◌∙◌, ℕ, List, [], ◌∷◌, Option, Some, Result, Vec, Global, codes, inr, map, option_map, sym, ap}
-use Rattle.zoptions.specs.Asked.{asked_of, spelling_of, texts_of}
+use Rattle.zcli.specs.Asked.{asked_of, spelling_of, texts_of}
 use Rattle.zcommand.specs.Asked.{settings_asked, settings_of}
 use Rattle.zcommand.specs.declared.order.Settings.{Settings}
-use Rattle.zcommand.specs.declared.fault.WordsFault.{WordsFault}
+use Rattle.zcli.specs.declared.fault.WordsFault.{WordsFault}
 use Rattle.zcommand.proofs.Asked.{asked-err, asked-ok}
 use Rattle.zcommand.proofs.words.settings.Goals as goal
 

@@ -5,7 +5,7 @@ use Rattle.ztraces.specs.declared.trace.ClientTrace.{ClientTrace}
 use Rattle.zdesks.specs.declared.desk.Ending.{Ending}
 use Rattle.zdesks.proofs.Endings.{neither}
 use Rattle.zgather.specs.Left.{by_place, client_trace_of, is_left_cut}
-use Rattle.zgather.proofs.Whole.{any_map, kept_all, lawful, wired_lists}
+use Rattle.zgather.proofs.Whole.{any_map, are_linked, kept_all, lawful, wired_lists}
 use Rattle.zgather.proofs.gathering.gather.Goals as goal
 use Rattle.zgather.proofs.gathering.gather.Goals.{then-is_cut, else-is_cut, then-not-is_told, else-not-is_told}
 
@@ -62,7 +62,7 @@ returns-clause-lawful c whole =
                   few_clients = c.result-1.given.1.0;
                 }
                 c.requires.servers refl (ap (λ (t : Trace). t.events) kept) c.in-Ok-keep_servers.ensures.traces c.in-Ok-keep_clients.ensures.traces
-                (c.requires.wired uncut) c.keep_clients.new.mesh.outs.items c.keep_clients.new.mesh.ins.items outs ins (v.are_told-is_told.ensures told)
+                (are_linked (by_place m ss cs) (c.requires.wired uncut) c.keep_clients.new.mesh.outs.items c.keep_clients.new.mesh.ins.items outs ins (v.are_told-is_told.ensures told))
                 c.requires.left uncut
           ]
     ]

@@ -6,6 +6,6 @@ use Rattle.zhosted.specs.Hosted.{IsGood}
 use Rattle.zhosted.proofs.program.opened.Goals as goal
 
 pub returns-in-Ok : goal.returns-in-Ok
-returns-in-Ok c = record {
-  good = subst (λ (kept : Kept FileDevice). IsGood seen_of MayLeaveOf kept) (sym c.new.ensures) (c.in-Ok.ensures.open, c.in-Ok.ensures.sound);
+returns-in-Ok g c = record {
+  good = subst (λ (kept : Kept (FileDevice g.row.R.Denot)). IsGood seen_of MayLeaveOf kept) (sym c.new.ensures) (c.in-Ok.ensures.open, c.in-Ok.ensures.sound);
 }

@@ -1,8 +1,16 @@
-use Rattle.std.proofs.Common.{◌≡◌, ◌<◌, true, nat_lt, Some, ap, ◌∙◌, arith, rules}
+use Rattle.std.proofs.Common.{◌≡◌, ◌<◌, true, nat_lt, Some, sym, ap, subst, ◌∙◌, arith, rules}
 use Rattle.std.proofs.lemmas.Bool.Decides.{nat_tests}
 use Rattle.std.specs.FinMap.{get, insert}
 use Rattle.zcalls.specs.Kept.{last_of, entry_step}
+use Rattle.zops.specs.Restored.{IsOfUpdate}
+use Rattle.zops.proofs.OfUpdate.{made-of_update}
 use Rattle.zops.proofs.machine.enter.Goals as goal
+
+pub keep-requires : goal.keep-requires
+keep-requires c =
+    subst IsOfUpdate (sym c.in-Ok.ensures)
+    (made-of_update c.args.store.now.tree c.args.entry.now.client c.args.entry.now.update c.update.new.store.tree c.in_ok-reply.reply
+    c.keeps_few_parts.ensures c.in_ok-reply.ensures.done)
 
 pub returns-then-number-last-clause-done : goal.returns-then-number-last-clause-done
 unfolding entry_step

@@ -3,7 +3,6 @@ use Rattle.std.specs.Prelude.{◌&&◌, not}
 use Rattle.std.proofs.Common.{◌≡◌, ℕ, Bool, true, false, List, [], ◌∷◌, drop, Option, Some, None, refl, sym, ap, ◌∙◌, subst, inl, inr}
 use Rattle.zcalls.specs.declared.call.Entry.{Entry}
 use Rattle.zcalls.specs.Kept.{Plain}
-use Rattle.zcalls.specs.PlainTree.{plain_tree}
 use Rattle.zcalls.proofs.Among.{test}
 use Rattle.zprotocol.specs.declared.message.Message.TheVariants as message
 use Rattle.zprotocol.specs.declared.process.Process.{Process}
@@ -17,7 +16,7 @@ use Rattle.zorder.specs.chain.Flow.{LogWorld, LogMessage, Log, flow, first_snaps
 use Rattle.zorder.specs.chain.Chain.{IsAhead, IsOpened, Place, IsPast, LeadsTo, is_fresh, HasDistinctEpochs, HasNoTailOrderBehind}
 use Rattle.zorder.specs.chain.Account.{Account}
 use Rattle.zorder.specs.chain.Sound.{IsSound}
-use Rattle.zorder.specs.chain.Laws.{RequestsAreLost}
+use Rattle.zorder.specs.chain.Events.{KeepsSoundOver}
 use Rattle.zorder.proofs.chain_lemmas.links.Links.{front_among, same_process}
 use Rattle.zorder.proofs.chain_lemmas.links.LaterWorlds.{justified_later}
 use Rattle.zorder.proofs.chain_lemmas.steps.Takes.{front_not_to}
@@ -124,6 +123,6 @@ kept_request w from to is Q drops p z h = elim (test (is_same p from && is_same 
     gone (m ∷ l) is h = drops m l is h
 
 -- the event Ignore
-pub requests_are_lost : RequestsAreLost
-requests_are_lost from to t lasts s = where_enabled t (Ignore from to) s (λ e. quiet_event t _
-    (dropped_sound plain_tree t s from to (kept_request t.world from to (left_of (front_is is_request (t.world.links from to)) (not (has_failed t.world to)) e))))
+pub requests_are_lost : {P : Type 0} (plain : Plain P) (from to : Process) → KeepsSoundOver plain (Ignore from to)
+requests_are_lost plain from to t lasts s = where_enabled plain t (Ignore from to) s (λ e. quiet_event plain t _
+    (dropped_sound plain t s from to (kept_request t.world from to (left_of (front_is is_request (t.world.links from to)) (not (has_failed t.world to)) e))))

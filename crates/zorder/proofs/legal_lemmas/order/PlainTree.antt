@@ -1,9 +1,8 @@
 -- The items explain their history, over the plain tree.
 use Rattle.std.specs.List.{AllByRecursion}
 use Rattle.std.proofs.Common.{◌≡◌, List, [], ◌∷◌, refl, sym, subst}
-use Rattle.ztree.specs.Tree.{Tree}
+use Rattle.ztree.specs.Tree.{Tree, opening_tree}
 use Rattle.ztree.specs.Lawful.{IsLawful}
-use Rattle.ztree.proofs.Lawful.{lawful_opening}
 use Rattle.zcalls.specs.declared.call.Call.{Call}
 use Rattle.zcalls.specs.declared.call.Call.TheVariants.{Update, Query}
 use Rattle.zcalls.specs.Operation.{Operation, AreOneUpdate}
@@ -11,12 +10,14 @@ use Rattle.zcalls.specs.PlainTree.{plain_tree}
 use Rattle.zcalls.specs.Lists.{NoTwo}
 use Rattle.zcalls.proofs.LawfulParts.{IsGood}
 use Rattle.zcalls.proofs.LawfulCalls.{step-good}
-use Rattle.zcalls.proofs.Bounds.{no_sessions}
 use Rattle.zcalls.proofs.ActedLogs.{acted_entries_once}
 use Rattle.zworld_model.specs.History.{History}
 use Rattle.zworld_model.specs.LegalOrder.{operation_step, IsLegalOrder, states_from}
+use Rattle.zprotocol.specs.server.Machine.{plain_from}
 use Rattle.zworld_model.specs.PlainTree.{service_of}
-use Rattle.zorder.specs.legal.Laws.{ItemsExplain}
+use Rattle.zworld_model.specs.FromTree.{CanStart}
+use Rattle.zworld_model.proofs.FirstCallsFrom.{opening_can_start}
+use Rattle.zorder.specs.legal.Laws.{ItemsExplain, ItemsExplainFrom}
 use Rattle.zorder.proofs.legal_lemmas.order.LegalOrders.{legal_order}
 
 -- a call keeps a tree good
@@ -32,19 +33,28 @@ weaker : (ts : List Tree) → AllByRecursion IsGood ts → AllByRecursion IsLawf
 weaker [] h = tt
 weaker (t ∷ ts) h = (h.0.0, weaker ts h.1)
 
-lawful_order : (history : History) (order : List Operation) → IsLegalOrder IsGood (service_of plain_tree) history order → IsLegalOrder IsLawful (service_of plain_tree) history order
-lawful_order history order legal = record {
+-- a tree that a chain can begin with is good
+good_start : (t : Tree) → CanStart t → IsGood t
+good_start t can = (can.lawful, can.granted)
+
+lawful_order : (t : Tree) (history : History) (order : List Operation) → IsLegalOrder IsGood (service_of (plain_from t)) history order
+    → IsLegalOrder IsLawful (service_of (plain_from t)) history order
+lawful_order t history order legal = record {
   begun = legal.begun;
   once = legal.once;
   answered = legal.answered;
   unanswered = legal.unanswered;
   in_time = legal.in_time;
-  lawful = weaker (states_from (service_of plain_tree) plain_tree.opening order) legal.lawful;
+  lawful = weaker (states_from (service_of (plain_from t)) t order) legal.lawful;
 }
 
--- over the plain tree, whose every state is lawful
+-- over the plain tree that begins with a tree, whose every state is lawful
+pub items_explain_from : ItemsExplainFrom
+items_explain_from t can history committed items acted replays rising in_time answered once =
+    let found = legal_order IsGood (plain_from t) history items (good_start t can) call_good
+    (subst (NoTwo AreOneUpdate) (sym acted) (acted_entries_once (plain_from t) committed)) replays rising in_time answered once in
+    (found.0, lawful_order t history found.0 found.1)
+
+-- over the plain tree
 pub items_explain : ItemsExplain
-items_explain history committed items acted replays rising in_time answered once =
-    let found = legal_order IsGood plain_tree history items (lawful_opening, no_sessions) call_good
-    (subst (NoTwo AreOneUpdate) (sym acted) (acted_entries_once plain_tree committed)) replays rising in_time answered once in
-    (found.0, lawful_order history found.0 found.1)
+items_explain = items_explain_from opening_tree opening_can_start

@@ -2,7 +2,6 @@
 use Rattle.std.proofs.Common.{◌≡◌, ◌⊎◌, ℕ, Bool, true, false, List, [], ◌∷◌, Option, Some, None, refl, sym, ap, ◌∙◌, subst}
 use Rattle.zcalls.specs.declared.call.Entry.{Entry}
 use Rattle.zcalls.specs.Kept.{Plain}
-use Rattle.zcalls.specs.PlainTree.{plain_tree}
 use Rattle.zprotocol.specs.declared.message.Message.TheVariants as message
 use Rattle.zprotocol.specs.declared.process.Process.TheVariants.{Master, Server}
 use Rattle.zprotocol.specs.server.View.{ServerView, Neighbour}
@@ -21,7 +20,7 @@ use Rattle.zorder.proofs.chain_lemmas.links.Links.{at_itself}
 use Rattle.zorder.proofs.chain_lemmas.steps.ServerSteps.{account_with_view}
 use Rattle.zorder.proofs.chain_lemmas.steps.Stops.{stop_sound}
 use Rattle.zorder.proofs.chain_lemmas.Events.{where_enabled, front_there}
-use Rattle.zorder.specs.master.Laws.{ServersHearMaster}
+use Rattle.zorder.specs.chain.Events.{KeepsSoundOver}
 use Rattle.zorder.proofs.master_lemmas.orders.OrderSteps.{IsGoodTurn, turn_sound, turn_begins}
 use Rattle.zorder.proofs.master_lemmas.orders.Neighbours.{final_log_of, first_log_of, same_final_log, same_first, after_turn, take_tail_order, take_head_order, take_pred_order}
 use Rattle.zorder.proofs.master_lemmas.orders.Successors.{take_succ_order}
@@ -80,36 +79,37 @@ unfolding server.server_step new_succ_row
 without_log plain None last sent pred succ epoch z n none = refl
 without_log plain (Some log) last sent pred succ epoch z n none = absurd (cc none)
 
--- what a server ignores from the master
-module _ (t : Account) (s : IsSound plain_tree t) (y : ℕ) where
-  abbrev IsHeard : LogMessage → Type 0
-  IsHeard m = (rest : List LogMessage) → t.world.links Master (Server y) ≡ m ∷ rest → t.world.failed y ≡ false
-      → IsSoundAfter plain_tree t (account_by plain_tree t (Take Master (Server y)) (front_step (log_machine plain_tree) t.world Master (Server y) (m ∷ rest)))
+module _ {P : Type 0} (plain : Plain P) where
+  -- what a server ignores from the master
+  module _ (t : Account) (s : IsSound plain t) (y : ℕ) where
+    abbrev IsHeard : LogMessage → Type 0
+    IsHeard m = (rest : List LogMessage) → t.world.links Master (Server y) ≡ m ∷ rest → t.world.failed y ≡ false
+        → IsSoundAfter plain t (account_by plain t (Take Master (Server y)) (front_step (log_machine plain) t.world Master (Server y) (m ∷ rest)))
 
-  succ_by : (epoch z : ℕ) (n : Option ℕ) (log : Log) → log_at t.world y ≡ log → IsHeard (message.NewSucc epoch z n)
-  succ_by epoch z n None is rest link alive = take_ignored plain_tree t s y (message.NewSucc epoch z n) rest link alive refl
-      (without_log plain_tree (t.world.servers y).machine (t.world.servers y).last (t.world.servers y).sent (t.world.servers y).pred (t.world.servers y).succ epoch z n is)
-  succ_by epoch z None (Some log) is rest link alive = take_whole_order plain_tree t s y epoch z rest link alive log is
-  succ_by epoch z (Some n) (Some log) is rest link alive = take_succ_order plain_tree t s y epoch z n rest link alive log is
+    succ_by : (epoch z : ℕ) (n : Option ℕ) (log : Log) → log_at t.world y ≡ log → IsHeard (message.NewSucc epoch z n)
+    succ_by epoch z n None is rest link alive = take_ignored plain t s y (message.NewSucc epoch z n) rest link alive refl
+        (without_log plain (t.world.servers y).machine (t.world.servers y).last (t.world.servers y).sent (t.world.servers y).pred (t.world.servers y).succ epoch z n is)
+    succ_by epoch z None (Some log) is rest link alive = take_whole_order plain t s y epoch z rest link alive log is
+    succ_by epoch z (Some n) (Some log) is rest link alive = take_succ_order plain t s y epoch z n rest link alive log is
 
-  heard : (m : LogMessage) → IsHeard m
-  unfolding server.server_step
-  heard (message.NewPred epoch p) rest link alive = take_pred_order plain_tree t s y epoch p rest link alive
-  heard (message.BecomeHead epoch) rest link alive = take_head_order plain_tree t s y epoch rest link alive
-  heard (message.BecomeTail epoch) rest link alive = take_tail_order plain_tree t s y epoch rest link alive
-  heard (message.NewSucc epoch z n) rest link alive = succ_by epoch z n (log_at t.world y) refl rest link alive
-  heard (message.Submit number update) rest link alive = take_ignored plain_tree t s y (message.Submit number update) rest link alive refl refl
-  heard (message.Query number query) rest link alive = take_ignored plain_tree t s y (message.Query number query) rest link alive refl refl
-  heard (message.Answer number reply) rest link alive = take_ignored plain_tree t s y (message.Answer number reply) rest link alive refl refl
-  heard (message.Update epoch n e) rest link alive = take_ignored plain_tree t s y (message.Update epoch n e) rest link alive refl refl
-  heard (message.Ack epoch n) rest link alive = take_ignored plain_tree t s y (message.Ack epoch n) rest link alive refl refl
-  heard (message.Snapshot epoch transfer) rest link alive = take_ignored plain_tree t s y (message.Snapshot epoch transfer) rest link alive refl refl
-  heard (message.Have epoch last) rest link alive = take_ignored plain_tree t s y (message.Have epoch last) rest link alive refl refl
-  heard (message.Joined epoch) rest link alive = take_ignored plain_tree t s y (message.Joined epoch) rest link alive refl refl
-  heard message.Retire rest link alive = take_retirement plain_tree t s y message.Retire rest link alive refl
-  heard message.Gone rest link alive = take_ignored plain_tree t s y message.Gone rest link alive refl refl
-  heard (message.Config epoch head tail) rest link alive = take_ignored plain_tree t s y (message.Config epoch head tail) rest link alive refl refl
+    heard : (m : LogMessage) → IsHeard m
+    unfolding server.server_step
+    heard (message.NewPred epoch p) rest link alive = take_pred_order plain t s y epoch p rest link alive
+    heard (message.BecomeHead epoch) rest link alive = take_head_order plain t s y epoch rest link alive
+    heard (message.BecomeTail epoch) rest link alive = take_tail_order plain t s y epoch rest link alive
+    heard (message.NewSucc epoch z n) rest link alive = succ_by epoch z n (log_at t.world y) refl rest link alive
+    heard (message.Submit number update) rest link alive = take_ignored plain t s y (message.Submit number update) rest link alive refl refl
+    heard (message.Query number query) rest link alive = take_ignored plain t s y (message.Query number query) rest link alive refl refl
+    heard (message.Answer number reply) rest link alive = take_ignored plain t s y (message.Answer number reply) rest link alive refl refl
+    heard (message.Update epoch n e) rest link alive = take_ignored plain t s y (message.Update epoch n e) rest link alive refl refl
+    heard (message.Ack epoch n) rest link alive = take_ignored plain t s y (message.Ack epoch n) rest link alive refl refl
+    heard (message.Snapshot epoch transfer) rest link alive = take_ignored plain t s y (message.Snapshot epoch transfer) rest link alive refl refl
+    heard (message.Have epoch last) rest link alive = take_ignored plain t s y (message.Have epoch last) rest link alive refl refl
+    heard (message.Joined epoch) rest link alive = take_ignored plain t s y (message.Joined epoch) rest link alive refl refl
+    heard message.Retire rest link alive = take_retirement plain t s y message.Retire rest link alive refl
+    heard message.Gone rest link alive = take_ignored plain t s y message.Gone rest link alive refl refl
+    heard (message.Config epoch head tail) rest link alive = take_ignored plain t s y (message.Config epoch head tail) rest link alive refl refl
 
--- a server takes whatever is the front of the master's link
-pub servers_hear_master : ServersHearMaster
-servers_hear_master y t lasts s = where_enabled t (Take Master (Server y)) s (λ e. front_there t Master (Server y) e (heard t s y))
+  -- a server takes whatever is the front of the master's link
+  pub servers_hear_master : (y : ℕ) → KeepsSoundOver plain (Take Master (Server y))
+  servers_hear_master y t lasts s = where_enabled plain t (Take Master (Server y)) s (λ e. front_there plain t Master (Server y) e (heard t s y))

@@ -1,5 +1,5 @@
 use Rattle.std.proofs.Common.{refl}
-use Rattle.zoptions.proofs.OnWords.{asked_on_literals}
+use Rattle.zcli.proofs.OnWords.{asked_on_literals}
 use Rattle.zracing.proofs.rows.words_give_four_numbers.Goals as goal
 
 pub returns : goal.returns

@@ -1,5 +1,5 @@
 use Rattle.std.proofs.Common.{rules, ◌≡◌, ◌∙◌, ℕ, List, Option, None, Some, Vec, Global, codes, map, option_map, sym, ap}
-use Rattle.zoptions.specs.Asked.{asked_of, spelling_of, texts_of}
+use Rattle.zcli.specs.Asked.{asked_of, spelling_of, texts_of}
 use Rattle.zracing.specs.Asked.{race_options}
 use Rattle.zracing.proofs.Asked.{asked-given, given-asked}
 use Rattle.zracing.proofs.words.race_settings.Goals as goal

@@ -6,9 +6,10 @@ use Rattle.zthreads.specs.Owned.{master_desk}
 use Rattle.zrun.specs.declared.posts.ClientPost.{ClientPost}
 use Rattle.zrun.specs.Origins.{client_desks}
 use Rattle.zrun.specs.Posts.{post_desks}
-use Rattle.zrun.specs.Runs.{AreDesks, IsRun}
+use Rattle.zrun.specs.Openings.{IsRunFrom}
+use Rattle.zrun.specs.Runs.{AreDesks}
 use Rattle.zrun.specs.Supplies.{left}
-use Rattle.zrun.proofs.Desks.{both_desks, hands_both, hands_more, is_run, more_desks, posts_count}
+use Rattle.zrun.proofs.Desks.{both_desks, both_traced, hands_both, hands_more, is_run, more_desks, more_traced, posts_count}
 use Rattle.zrun.proofs.Leavings.{number_at}
 use Rattle.zrun.proofs.posts.prepare.Goals as goal
 
@@ -34,8 +35,10 @@ returns-clause-run c =
     let next : MAX_SERVERS + 1 ≡ 1 + length ss = omega (arith, count, servers) in
     let desks = more_desks o.last o.clients 0 m (ss ++ cs) c.master-chief.ensures.desk
     (both_desks o.last o.clients 1 ss cs c.in-Ok-prepare_servers.ensures.desks (subst (λ k. AreDesks o.last o.clients k cs) next c.in-Ok.ensures.desks)) in
-    subst (λ (v : Vec ClientPost Global). IsRun o.last o.clients (m ∷ (ss ++ client_desks v.items))) (sym c.of-run.ensures)
-    (is_run o.last o.clients _ s0 s3 (m ∷ (ss ++ cs)) c.in_ok-supply.ensures.woven none handed desks)
+    let traced = more_traced o.is_traced m (ss ++ cs) c.master-chief.ensures.traced
+    (both_traced o.is_traced ss cs c.in-Ok-prepare_servers.ensures.traced c.in-Ok.ensures.traced) in
+    subst (λ (v : Vec ClientPost Global). IsRunFrom o (m ∷ (ss ++ client_desks v.items))) (sym c.of-run.ensures)
+    (is_run o.last o.clients _ s0 s3 (m ∷ (ss ++ cs)) c.in_ok-supply.ensures.woven none handed desks, traced)
 
-pub new-requires-2 : goal.new-requires-2
-new-requires-2 c = number_at c.args.opening.now.last c.args.opening.now.clients c.in-Ok.callers.items c.in-Ok.ensures.desks
+pub new-requires-3 : goal.new-requires-3
+new-requires-3 c = number_at c.args.opening.now.last c.args.opening.now.clients c.in-Ok.callers.items c.in-Ok.ensures.desks

@@ -2,9 +2,9 @@ use Rattle.std.proofs.Common.{◌≡◌, ◌+◌, ◌-◌, ◌∷◌, suc, lengt
 use Rattle.zprotocol.specs.declared.limits.TheConstants.{MAX_SERVERS}
 use Rattle.zcaller.specs.Callers.{caller_desk}
 use Rattle.zrun.specs.Origins.{client_desks}
-use Rattle.zrun.specs.Runs.{AreDesks}
+use Rattle.zrun.specs.Runs.{AreDesks, AreTraced}
 use Rattle.zrun.specs.Supplies.{HandsOut}
-use Rattle.zrun.proofs.Desks.{client_process, clients_pushed, hands_more, more_desks}
+use Rattle.zrun.proofs.Desks.{client_process, clients_pushed, hands_more, more_desks, more_traced}
 use Rattle.zrun.proofs.posts.prepare_clients.Goals as goal
 
 pub loop-done-preserved : goal.loop-done-preserved
@@ -35,4 +35,5 @@ loop-done-preserved c =
       refl,
       subst (λ l. HandsOut c.args.supply.now c.next.new.self l) (sym seen) handed,
       subst (λ l. AreDesks o.last o.clients k l) (sym seen) all,
+      subst (λ l. AreTraced o.is_traced l) (sym seen) (more_traced o.is_traced d before c.caller-caller.ensures.traced i.6),
     )

@@ -1,7 +1,7 @@
 use Rattle.std.proofs.Common.{◌≡◌, ◌+◌, ◌-◌, length, reverse}
 use Rattle.zprotocol.specs.declared.limits.TheConstants.{MAX_SERVERS}
 use Rattle.zrun.specs.Origins.{client_desks}
-use Rattle.zrun.specs.Runs.{AreDesks}
+use Rattle.zrun.specs.Runs.{AreDesks, AreTraced}
 use Rattle.zrun.specs.Supplies.{HandsOut, left}
 use Rattle.zrun.proofs.posts.prepare_clients.Given as goal
 
@@ -12,3 +12,4 @@ invariant-loop-done l =
     × (l.opening ≡ opening) × (l.done-end ≡ opening.clients)
     × HandsOut l.initial.supply l.supply (client_desks (reverse l.clients.items))
     × AreDesks opening.last opening.clients (MAX_SERVERS + 1 + (opening.clients - l.done)) (client_desks (reverse l.clients.items))
+    × AreTraced opening.is_traced (client_desks (reverse l.clients.items))

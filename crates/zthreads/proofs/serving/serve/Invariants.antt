@@ -1,10 +1,6 @@
-use Rattle.std.proofs.Common.{◌≡◌}
 use Rattle.zwords.specs.HaltSeats.{IsSeatOf}
-use Rattle.zdesks.specs.Desks.{SameDesk, link_count}
+use Rattle.zdesks.specs.Desks.{SameDesk}
 use Rattle.zthreads.proofs.serving.serve.Given as goal
 
-abbrev pub invariant-loop-link : goal.invariant-loop-link
-invariant-loop-link g l = SameDesk l.fn.member.desk l.member.desk × IsSeatOf l.halt l.seat × (link_count l.member.desk ≡ l.links)
-
 abbrev pub invariant-loop : goal.invariant-loop
-invariant-loop g l = SameDesk l.fn.member.desk l.member.desk × IsSeatOf l.halt l.seat × (link_count l.member.desk ≡ l.links)
+invariant-loop g l = SameDesk l.fn.member.desk l.member.desk × IsSeatOf l.halt l.seat

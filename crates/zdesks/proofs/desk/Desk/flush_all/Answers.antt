@@ -18,34 +18,35 @@ loop-link-preserved c =
     let lt : k < length d.outs.items = let a = i.2 in let b = c.loop-link-test.true in omega arith in
     let at = at_index d.outs.items k old lt c.index_mut-out.ensures.value in
     let r = i.1 in (
-      (λ s t waits h cut. ∥∥₁_map (i.0 s t waits h cut) (λ a. (a.0, out_same (self_of d) (books_of d) s a.0 t waits k old c.flush.new.self a.1 at c.flush.ensures.put))),
+      (λ s t waits h cut. ∥∥₁_map (i.0 s t waits h cut) (λ a. (a.0, out_same (self_of d) (books_of d) s a.0 t waits k old c.flush-is_moved.new.self a.1 at c.flush-is_moved.ensures.put))),
       record {
         desk = record {
           me = r.desk.me;
           last = r.desk.last;
           clients = r.desk.clients;
+          traced = r.desk.traced;
           links = r.desk.links;
           ins = r.desk.ins;
-          outs = map_same ring_of_tx d.outs.items k old c.flush.new.self lt c.index_mut-out.ensures.value c.flush.ensures.ends ∙ r.desk.outs;
+          outs = map_same ring_of_tx d.outs.items k old c.flush-is_moved.new.self lt c.index_mut-out.ensures.value c.flush-is_moved.ensures.ends ∙ r.desk.outs;
         };
-        books = record { trace = r.books.trace; told = r.books.told; stamp = r.books.stamp; is_cut = r.books.is_cut; room = r.books.room };
+        books = record { trace = r.books.trace; told = r.books.told; stamp = r.books.stamp; is_cut = r.books.is_cut; lost = r.books.lost; room = r.books.room };
         held = r.held;
         out = r.out;
       },
-      (let a = i.2 in omega (arith, length-set d.outs.items k c.flush.new.self)),
+      (let a = i.2 in omega (arith, length-set d.outs.items k c.flush-is_moved.new.self)),
       i.3,
       (λ none.
           let each = neither c.loop-link.waits c.has_waiting-waits.result none in
-          below_set IsEmpty d.outs.items k c.flush.new.self (i.4 each.0) (c.has_waiting-waits.ensures.none each.1)),
-      below_set IsFlushed d.outs.items k c.flush.new.self i.5 c.flush.ensures.flushed,
+          below_set IsEmpty d.outs.items k c.flush-is_moved.new.self (i.4 each.0) (c.has_waiting-waits.ensures.none each.1)),
+      below_set IsFlushed d.outs.items k c.flush-is_moved.new.self i.5 c.flush-is_moved.ensures.flushed,
     )
 
 pub loop-link-init : goal.loop-link-init
 loop-link-init c = (
   (λ s t waits h. h),
   record {
-    desk = record { me = refl; last = refl; clients = refl; links = refl; ins = refl; outs = refl };
-    books = record { trace = refl; told = refl; stamp = refl; is_cut = refl; room = λ r. r };
+    desk = record { me = refl; last = refl; clients = refl; traced = refl; links = refl; ins = refl; outs = refl };
+    books = record { trace = refl; told = refl; stamp = refl; is_cut = refl; lost = refl; room = λ r. r };
     held = refl;
     out = refl;
   },

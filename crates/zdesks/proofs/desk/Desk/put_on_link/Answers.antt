@@ -4,16 +4,21 @@ use Rattle.zrings.specs.Ends.{ring_of_tx}
 use Rattle.zdesks.specs.Desks.{self_of, books_of, Accounts, TreePost}
 use Rattle.atomic_table.proofs.Lists.{at_index}
 use Rattle.zdesks.proofs.Wires.{map_same, out_lost, out_more, out_same}
-use Rattle.zdesks.proofs.Waiting.{nothing_more}
+use Rattle.zdesks.proofs.Waiting.{nothing_more, nothing_noticed}
 use Rattle.zdesks.proofs.desk.Desk.put_on_link.Goals as goal
+
+pub invariant_of-self-clause-noticed : goal.invariant_of-self-clause-noticed
+invariant_of-self-clause-noticed c =
+    let d = c.args.self.now in
+    nothing_noticed d.outs.items c.place-place.result c.put.new.self d.waits c.has_waiting.result d.noticed c.has_waiting.ensures.none
 
 pub invariant_of-self-in-Err-clause-noticed : goal.invariant_of-self-in-Err-clause-noticed
 invariant_of-self-in-Err-clause-noticed c none =
     let d = c.args.self.now in
     let k = c.place-place.result in
-    let old = c.index_mut.result.now in
+    let old = c.index_mut-out.result.now in
     let lt : k < length d.outs.items = let n = c.if-place-len.false in let m = c.len.ensures in let o = d.outs.ok in omega arith in
-    nothing_more d.outs.items k old c.put.new.self (at_index d.outs.items k old lt c.index_mut.ensures.value) c.in-Err.ensures.waits (d.noticed none)
+    nothing_more d.outs.items k old c.put.new.self (at_index d.outs.items k old lt c.index_mut-out.ensures.value) c.in-Err.ensures.waits (d.noticed none)
 
 pub returns-then-place-len-clause-stands : goal.returns-then-place-len-clause-stands
 returns-then-place-len-clause-stands c s t h cut =
@@ -29,9 +34,9 @@ pub returns-in-Ok-clause-stands : goal.returns-in-Ok-clause-stands
 returns-in-Ok-clause-stands c s t h cut =
     let d = c.args.self.now in
     let k = c.place-place.result in
-    let old = c.index_mut.result.now in
+    let old = c.index_mut-out.result.now in
     let lt : k < length d.outs.items = let n = c.if-place-len.false in let m = c.len.ensures in let o = d.outs.ok in omega arith in
-    let at = at_index d.outs.items k old lt c.index_mut.ensures.value in
+    let at = at_index d.outs.items k old lt c.index_mut-out.ensures.value in
     ∥∥₁_map (h cut) (λ a.
     let more = out_more (self_of d) (books_of d) s a.0 t c.args.to c.args.message d.out.posts k old c.put.new.self a.1 at c.place-place.ensures.back c.in-Ok.ensures.ok in
     (a.0, subst (λ (w : Option TreePost). Accounts (self_of d) (record (books_of d) { outs = set d.outs.items k c.put.new.self }) s t (option_to_list w ++ d.out.posts) a.0) (sym c.requires) more))
@@ -41,15 +46,15 @@ returns-in-Ok-clause-same c =
     let d = c.args.self.now in
     let k = c.place-place.result in
     let lt : k < length d.outs.items = let n = c.if-place-len.false in let m = c.len.ensures in let o = d.outs.ok in omega arith in
-    record { me = refl; last = refl; clients = refl; links = refl; ins = refl; outs = map_same ring_of_tx d.outs.items k c.index_mut.result.now c.put.new.self lt c.index_mut.ensures.value c.put.ensures.ends }
+    record { me = refl; last = refl; clients = refl; traced = refl; links = refl; ins = refl; outs = map_same ring_of_tx d.outs.items k c.index_mut-out.result.now c.put.new.self lt c.index_mut-out.ensures.value c.put.ensures.ends }
 
 pub returns-in-Err-clause-stands : goal.returns-in-Err-clause-stands
 returns-in-Err-clause-stands c s t h cut =
     let d = c.args.self.now in
     let k = c.place-place.result in
-    let old = c.index_mut.result.now in
+    let old = c.index_mut-out.result.now in
     let lt : k < length d.outs.items = let n = c.if-place-len.false in let m = c.len.ensures in let o = d.outs.ok in omega arith in
-    let at = at_index d.outs.items k old lt c.index_mut.ensures.value in
+    let at = at_index d.outs.items k old lt c.index_mut-out.ensures.value in
     let e = c.in-Err.ensures.err in
     ∥∥₁_map (h cut) (λ a. (
       a.0,
@@ -63,4 +68,4 @@ returns-in-Err-clause-same c =
     let d = c.args.self.now in
     let k = c.place-place.result in
     let lt : k < length d.outs.items = let n = c.if-place-len.false in let m = c.len.ensures in let o = d.outs.ok in omega arith in
-    record { me = refl; last = refl; clients = refl; links = refl; ins = refl; outs = map_same ring_of_tx d.outs.items k c.index_mut.result.now c.put.new.self lt c.index_mut.ensures.value c.put.ensures.ends }
+    record { me = refl; last = refl; clients = refl; traced = refl; links = refl; ins = refl; outs = map_same ring_of_tx d.outs.items k c.index_mut-out.result.now c.put.new.self lt c.index_mut-out.ensures.value c.put.ensures.ends }

@@ -17,8 +17,8 @@ pub returns-in_default-take-clause-same : goal.returns-in_default-take-clause-sa
 returns-in_default-take-clause-same c =
     let d = c.args.self.now in
     record {
-      desk = record { me = refl; last = refl; clients = refl; links = length-set d.ins.items c.args.link c.take.new.self; ins = map_same ring_of_rx d.ins.items c.args.link c.index_mut.result.now c.take.new.self c.requires c.index_mut.ensures.value c.take.ensures.ends; outs = refl };
-      books = record { trace = refl; told = refl; stamp = refl; is_cut = refl; room = λ r. r };
+      desk = record { me = refl; last = refl; clients = refl; traced = refl; links = length-set d.ins.items c.args.link c.take.new.self; ins = map_same ring_of_rx d.ins.items c.args.link c.index_mut.result.now c.take.new.self c.requires c.index_mut.ensures.value c.take.ensures.ends; outs = refl };
+      books = record { trace = refl; told = refl; stamp = refl; is_cut = refl; lost = refl; room = λ r. r };
       held = refl;
       out = refl;
     }
@@ -37,8 +37,8 @@ pub returns-clause-same : goal.returns-clause-same
 returns-clause-same c =
     let d = c.args.self.now in
     record {
-      desk = record { me = refl; last = refl; clients = refl; links = length-set d.ins.items c.args.link c.take.new.self; ins = map_same ring_of_rx d.ins.items c.args.link c.index_mut.result.now c.take.new.self c.requires c.index_mut.ensures.value c.take.ensures.ends; outs = refl };
-      books = record { trace = refl; told = refl; stamp = refl; is_cut = refl; room = λ r. r };
+      desk = record { me = refl; last = refl; clients = refl; traced = refl; links = length-set d.ins.items c.args.link c.take.new.self; ins = map_same ring_of_rx d.ins.items c.args.link c.index_mut.result.now c.take.new.self c.requires c.index_mut.ensures.value c.take.ensures.ends; outs = refl };
+      books = record { trace = refl; told = refl; stamp = refl; is_cut = refl; lost = refl; room = λ r. r };
       held = refl;
       out = refl;
     }

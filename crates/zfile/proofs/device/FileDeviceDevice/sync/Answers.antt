@@ -4,7 +4,8 @@ use Rattle.zfile.proofs.Seen.{sync_leaves}
 use Rattle.zfile.proofs.device.FileDeviceDevice.sync.Goals as goal
 
 pub returns-then-sync-clause-crash : goal.returns-then-sync-clause-crash
-returns-then-sync-clause-crash c =
+returns-then-sync-clause-crash g c =
     let is : c.note.new.self.events ≡ synced true ∷ c.args.self.now.log.events = search rules in
     let sound : (replay c.args.self.now.log.events).has_failed ≡ false = search rules in
-    sync_leaves c.args.self.now.log.events c.note.new.self.events is sound
+    let named : (replay c.args.self.now.log.events).is_moved ≡ false = search rules in
+    sync_leaves c.args.self.now.log.events c.note.new.self.events is sound named

@@ -14,8 +14,7 @@ returns c =
     (record {
       did = c.in_ok-did.did;
       asker = c.chain.new.self;
-      happened = c.in_ok-did.ensures.happened;
-      cause = c.in_ok-did.ensures.cause;
+      gives = c.in_ok-did.ensures.given;
       same = c.in_ok-did.ensures.same;
       tells = c.in_ok-did.ensures.told;
       told = told ∙ ap (λ text. told_operator text ordered) c.did_text.ensures;

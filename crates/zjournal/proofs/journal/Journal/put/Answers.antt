@@ -1,4 +1,4 @@
-use Rattle.std.proofs.Common.{sym, ◌∙◌, ◌++◌, ◌∷◌, [], rules}
+use Rattle.std.proofs.Common.{refl, sym, ◌∙◌, ◌++◌, ◌∷◌, [], rules}
 use Rattle.zjournal.proofs.Puts.{stays, leaves, rests, tested_zero}
 use Rattle.zjournal.proofs.journal.Journal.put.Goals as goal
 
@@ -33,7 +33,7 @@ pub returns-clause-kept : goal.returns-clause-kept
 returns-clause-kept g c servers batches is_open rest =
     rests g.D.Device.seen g.D.Device.may_leave g.D.Device.moment g.D.Device.left_since c.args.self.now servers batches rest
     c.args.batch.now c.as_slice-block.result.now (sym c.contains.ensures.value ∙ c.if-contains.false) (c.as_slice-block.ensures.value ∙ c.in_ok-block.ensures)
-    _ c.in_ok-add_block.ensures.added (search rules) c.in_ok-add_block.ensures.durable
+    _ refl c.in_ok-add_block.ensures.added (search rules) c.in_ok-add_block.ensures.durable
 
 pub returns-clause-sound : goal.returns-clause-sound
 returns-clause-sound g c is_open =
@@ -42,7 +42,7 @@ returns-clause-sound g c is_open =
       was.1 ++ c.args.batch.now ∷ [],
       rests g.D.Device.seen g.D.Device.may_leave g.D.Device.moment g.D.Device.left_since c.args.self.now was.0 was.1 was.2
           c.args.batch.now c.as_slice-block.result.now (sym c.contains.ensures.value ∙ c.if-contains.false) (c.as_slice-block.ensures.value ∙ c.in_ok-block.ensures)
-          _ c.in_ok-add_block.ensures.added (search rules) c.in_ok-add_block.ensures.durable,
+          _ refl c.in_ok-add_block.ensures.added (search rules) c.in_ok-add_block.ensures.durable,
     )
 
 pub returns-in_err-add_block-clause-sound : goal.returns-in_err-add_block-clause-sound

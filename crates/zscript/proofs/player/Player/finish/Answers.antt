@@ -4,7 +4,8 @@ use Rattle.std.proofs.lemmas.Bool.Decides.{nat_tests}
 use Rattle.std.proofs.lemmas.Result.{err_from_is_err_and}
 use Rattle.zdevices.specs.Device.{Between}
 use Rattle.zscript.specs.support.PlayerView.{PlayerView, world_now}
-use Rattle.zscript.proofs.Stops.{line-stopped, line-cut, last_line-some, failed_after, line-told, none-told}
+use Rattle.zdevices.proofs.Beginnings.{failed_after}
+use Rattle.zscript.proofs.Stops.{line-stopped, line-cut, last_line-some, line-told, none-told}
 use Rattle.zscript.proofs.player.Player.finish.Goals as goal
 
 pub returns-then-is_empty-clause-done : goal.returns-then-is_empty-clause-done

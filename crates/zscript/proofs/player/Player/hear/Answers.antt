@@ -3,7 +3,8 @@ use Rattle.std.proofs.lemmas.Result.{err_from_is_err_and}
 use Rattle.zdevices.specs.Device.{Between}
 use Rattle.zscript.specs.support.Lines.{whole_lines_after, line_left, last_line}
 use Rattle.zscript.specs.support.PlayerView.{world_now}
-use Rattle.zscript.proofs.Stops.{stopped-longer, left-stopped, replies-stopped, replies-written, failed_after}
+use Rattle.zdevices.proofs.Beginnings.{failed_after}
+use Rattle.zscript.proofs.Stops.{stopped-longer, left-stopped, replies-stopped, replies-written}
 use Rattle.zscript.proofs.player.Player.hear.Goals as goal
 
 pub returns-in_err-rest-clause-stopped : goal.returns-in_err-rest-clause-stopped

@@ -1,14 +1,14 @@
 use Rattle.std.proofs.Common.{subst, sym, ap, ◌∙◌, [], ◌∷◌, ◌++◌, ◌≡◌, append_assoc, false, refl}
 use Rattle.std.proofs.lemmas.List.{append-nil, nil_from_length}
 use Rattle.zworld_model.proofs.Alike.{alike_itself}
-use Rattle.zworld.specs.Steps.{WorldView, IsExplainedWithPast, HasRun, world_in}
+use Rattle.zworld.specs.Steps.{WorldView, IsExplainedFromStart, HasRun, world_in}
 use Rattle.zworld.proofs.Going.{past_is_explained, lead_more, has_run, has_begun_to_run, on_err}
 use Rattle.zworld.proofs.Needs.{has_run_out}
 use Rattle.zworld.proofs.world.World.run.Goals as goal
 
 pub returns-then-self-clause-explained : goal.returns-then-self-clause-explained
 returns-then-self-clause-explained c =
-    subst IsExplainedWithPast c.self.view_is (past_is_explained _ c.self.invariant)
+    subst IsExplainedFromStart c.self.view_is (past_is_explained _ c.self.invariant)
 
 pub loop-event-init : goal.loop-event-init
 loop-event-init c = (
@@ -16,7 +16,8 @@ loop-event-init c = (
   sym c.into_iter-event-iterator.ensures.into_iter_gives.0,
   alike_itself (world_in c.args.self.now),
   subst (λ (v : WorldView). v.is_broken ≡ false) c.self.view_is c.if-self.false,
-  subst IsExplainedWithPast c.self.view_is (past_is_explained _ c.self.invariant),
+  subst IsExplainedFromStart c.self.view_is (past_is_explained _ c.self.invariant),
+  refl,
   refl,
 )
 
@@ -31,6 +32,7 @@ loop-event-preserved c =
       c.in_ok-step.ensures.sound.1,
       c.step.ensures.explained,
       c.step.ensures.past ∙ here.5,
+      c.step.ensures.start ∙ here.6,
     )
 
 pub returns-in_err-step-clause-explained : goal.returns-in_err-step-clause-explained

@@ -5,7 +5,7 @@ use Rattle.zworld.specs.declared.did.Did.TheVariants.{Idle}
 use Rattle.zworld.specs.declared.did.IdleCause.{IdleCause}
 use Rattle.zworld.specs.Held.{world_of}
 use Rattle.zworld.specs.Did.{IsCause, is_idle}
-use Rattle.zworld.specs.Steps.{WorldView, IsExplainedWithPast, HasHappened, can_want_memory, world_in}
+use Rattle.zworld.specs.Steps.{WorldView, IsExplainedFromStart, HasHappened, can_want_memory, world_in}
 use Rattle.zworld.specs.support.Stepped.{GoesBy}
 use Rattle.zworld.specs.support.Past.{HasPast}
 use Rattle.zworld.proofs.Going.{past_after_step, past_is_explained, happened, same_world, needed_anyway}
@@ -14,9 +14,9 @@ use Rattle.zworld.proofs.world.World.step.Goals as goal
 pub invariant_of-self : goal.invariant_of-self
 invariant_of-self c =
     let old = c.self.inside in
-    let had = subst (λ b. HasPast old.has_forgotten b old.processes old.history.items) c.if-self.false c.self.invariant in
-    subst (λ b. HasPast old.has_forgotten b c.step-did.new.self c.step-did.new.seen.items) (sym c.is_err-self-inside.ensures.value)
-    (past_after_step c.step-did.result old.has_forgotten old.processes c.step-did.new.self old.history.items c.step-did.new.seen.items c.args.event had
+    let had = subst (λ b. HasPast old.is_restored old.has_forgotten b old.processes old.history.items) c.if-self.false c.self.invariant in
+    subst (λ b. HasPast old.is_restored old.has_forgotten b c.step-did.new.self c.step-did.new.seen.items) (sym c.is_err-self-inside.ensures.value)
+    (past_after_step c.step-did.result old.is_restored old.has_forgotten old.processes c.step-did.new.self old.history.items c.step-did.new.seen.items c.args.event had
     c.step-did.ensures.goes c.step-did.ensures.stays)
 
 pub returns-clause-happened : goal.returns-clause-happened
@@ -43,24 +43,24 @@ pub returns-clause-same : goal.returns-clause-same
 returns-clause-same c =
     let old = c.self.inside in
     let broken = c.is_err-self-inside.result in
-    let new : WorldView = record { held = c.step-did.new.self; history = c.step-did.new.seen.items; has_forgotten = old.has_forgotten; is_broken = broken } in
+    let new : WorldView = record { held = c.step-did.new.self; history = c.step-did.new.seen.items; has_forgotten = old.has_forgotten; is_restored = old.is_restored; is_broken = broken } in
     let from : (v : WorldView) → Type 0 = λ v. IfOk c.step-did.result (λ did. is_idle did ≡ true → new ≡ v) in
     subst from c.self.view_is
-    (subst (λ b. from (record { held = old.processes; history = old.history.items; has_forgotten = old.has_forgotten; is_broken = b })) (sym c.if-self.false)
-    (same_world c.step-did.result old.processes c.step-did.new.self old.history.items c.step-did.new.seen.items c.args.event old.has_forgotten broken
+    (subst (λ b. from (record { held = old.processes; history = old.history.items; has_forgotten = old.has_forgotten; is_restored = old.is_restored; is_broken = b })) (sym c.if-self.false)
+    (same_world c.step-did.result old.processes c.step-did.new.self old.history.items c.step-did.new.seen.items c.args.event old.is_restored old.has_forgotten broken
     c.is_err-self-inside.ensures.value c.step-did.ensures.goes))
 
 pub returns-then-self-clause-explained : goal.returns-then-self-clause-explained
-returns-then-self-clause-explained c = subst IsExplainedWithPast c.self.view_is (past_is_explained _ c.self.invariant)
+returns-then-self-clause-explained c = subst IsExplainedFromStart c.self.view_is (past_is_explained _ c.self.invariant)
 
 pub returns-clause-explained : goal.returns-clause-explained
 returns-clause-explained c =
     let old = c.self.inside in
-    let had = subst (λ b. HasPast old.has_forgotten b old.processes old.history.items) c.if-self.false c.self.invariant in
+    let had = subst (λ b. HasPast old.is_restored old.has_forgotten b old.processes old.history.items) c.if-self.false c.self.invariant in
     past_is_explained
-    (record { held = c.step-did.new.self; history = c.step-did.new.seen.items; has_forgotten = old.has_forgotten; is_broken = c.is_err-self-inside.result })
-    (subst (λ b. HasPast old.has_forgotten b c.step-did.new.self c.step-did.new.seen.items) (sym c.is_err-self-inside.ensures.value)
-    (past_after_step c.step-did.result old.has_forgotten old.processes c.step-did.new.self old.history.items c.step-did.new.seen.items c.args.event had
+    (record { held = c.step-did.new.self; history = c.step-did.new.seen.items; has_forgotten = old.has_forgotten; is_restored = old.is_restored; is_broken = c.is_err-self-inside.result })
+    (subst (λ b. HasPast old.is_restored old.has_forgotten b c.step-did.new.self c.step-did.new.seen.items) (sym c.is_err-self-inside.ensures.value)
+    (past_after_step c.step-did.result old.is_restored old.has_forgotten old.processes c.step-did.new.self old.history.items c.step-did.new.seen.items c.args.event had
     c.step-did.ensures.goes c.step-did.ensures.stays))
 
 pub returns-clause-needed : goal.returns-clause-needed

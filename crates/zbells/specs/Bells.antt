@@ -1,0 +1,13 @@
+-- What a clause says of bells. No clause says who sleeps, or that a ring wakes it.
+use Rattle.std.specs.Prelude.{ℕ, length}
+use Rattle.std.specs.Arc.{arc_value}
+use Rattle.std.specs.Duration.{as_nanos}
+use Rattle.zbells.specs.declared.bells.Bells.{Bells}
+
+-- how many there are
+abbrev pub bell_count : Bells → ℕ
+bell_count b = length (arc_value b.words).items
+
+-- how long a thread sleeps at most, in nanoseconds
+abbrev pub longest_of : Bells → ℕ
+longest_of b = as_nanos b.longest

@@ -1,0 +1,8 @@
+-- What becomes of a line that is told: this project's own profile.
+use Rattle.std.specs.Prelude.{ℕ, ◌⊎◌, List, [], ◌∷◌, ◌++◌}
+use Rattle.zdevices.specs.Device.{SinkRun, Failed, TookBeginning}
+
+-- A device took the line, or it took a prefix of it and failed.
+abbrev pub IsTold : SinkRun → List ℕ → Type 0
+IsTold faults line =
+    faults.took (line ++ 10 ∷ []) ⊎ (TookBeginning faults.took (line ++ 10 ∷ []) × Failed faults.failed)

@@ -1,0 +1,126 @@
+//! A journal's file is renewed: a new file with other batches takes its place.
+
+ghost use Rattle.std.specs.Prelude.{◌≡◌, ◌<◌, ◌≤◌, ◌^◌, ◌++◌, [], ◌∷◌, List, ℕ};
+ghost use Rattle.std.specs.Prelude.{OnOk, IfErr, IsErrOf};
+ghost use Rattle.zjournal.specs.Blocks.{IsText};
+ghost use Rattle.zjournal.specs.Device.{LeavesOnly};
+ghost use Rattle.zjournal.specs.Journal.{IsAtRest, IsOpen, IsSound, Keeps, device_of};
+ghost use Rattle.zjournal.specs.Puts.{IsLeftBy};
+ghost use Rattle.zjournal.specs.Renewal.{IsInRenewal, IsOldOrNew, IsRenewing, renewed_size_of};
+
+use crate::beside::{add_open_block, begin_file, close_and_take};
+use crate::checksum::block_of;
+use crate::limits::MAX_BYTES;
+use crate::reading::HEAD_END;
+use crate::{Device, Journal, PutError};
+
+impl<D: Device> Journal<D> {
+    /// Begins a new file beside this one, for as many servers. It has no batch yet. An unfinished
+    /// one of before counts for nothing. The file of the journal is untouched, also by a crash.
+    pub fn begin_renewal(&mut self) -> Result<(), PutError>
+        requires { IsSound D.seen D.may_leave self.old }
+        ensures begun { (servers : ℕ) (batches : List (List ℕ))
+            → IsOpen self.old → IsAtRest D.seen D.may_leave servers batches self.old
+            → OnOk result (IsRenewing D.seen D.may_leave D.beside servers batches [] self.new) }
+        ensures rest { (servers : ℕ) (batches : List (List ℕ))
+            → IsAtRest D.seen D.may_leave servers batches self.old
+            → IsAtRest D.seen D.may_leave servers batches self.new }
+        ensures any_moment { (servers : ℕ) (batches : List (List ℕ))
+            → IsAtRest D.seen D.may_leave servers batches self.old
+            → LeavesOnly D.moment D.left_since (device_of self.old) (device_of self.new)
+            (Keeps servers batches) }
+        ensures renewing { OnOk result (IsInRenewal D.seen D.may_leave D.beside self.new) }
+        ensures sound { IsSound D.seen D.may_leave self.new }
+        ensures open { OnOk result (IsOpen self.old × IsOpen self.new) }
+        ensures failed { IsErrOf result PutError.Failed
+            → D.faults (device_of self.old) < D.faults (device_of self.new) }
+        ensures left { IfErr result (λ e. IsLeftBy e self.old self.new) }
+        ensures closed { (IsOpen self.old → ⊥) → IsErrOf result PutError.Closed }
+        ensures not_text { IsErrOf result PutError.NotText → ⊥ }
+        ensures full { IsErrOf result PutError.Full → ⊥ }
+    {
+        if !self.is_open {
+            return Err(PutError::Closed);
+        }
+        self.is_open = false;
+        begin_file(&mut self.device, self.servers)?;
+        self.renewed_end = HEAD_END;
+        self.is_open = true;
+        Ok(())
+    }
+
+    /// Puts a batch into the new file, behind its others. The file of the journal is untouched, also
+    /// by a crash. So a renewal takes its batches one at a time, and the whole is never in memory.
+    pub fn put_renewed(&mut self, batch: &[u8]) -> Result<(), PutError>
+        requires { IsInRenewal D.seen D.may_leave D.beside self.old }
+        ensures added { (servers : ℕ) (batches next : List (List ℕ)) → IsOpen self.old
+            → IsRenewing D.seen D.may_leave D.beside servers batches next self.old
+            → OnOk result (IsRenewing D.seen D.may_leave D.beside servers batches
+            (next ++ batch.now ∷ []) self.new) }
+        ensures rest { (servers : ℕ) (batches : List (List ℕ))
+            → IsAtRest D.seen D.may_leave servers batches self.old
+            → IsAtRest D.seen D.may_leave servers batches self.new }
+        ensures any_moment { (servers : ℕ) (batches : List (List ℕ))
+            → IsAtRest D.seen D.may_leave servers batches self.old
+            → LeavesOnly D.moment D.left_since (device_of self.old) (device_of self.new)
+            (Keeps servers batches) }
+        ensures renewing { OnOk result (IsInRenewal D.seen D.may_leave D.beside self.new) }
+        ensures sound { IsSound D.seen D.may_leave self.new }
+        ensures open { OnOk result (IsOpen self.old × IsOpen self.new) }
+        ensures failed { IsErrOf result PutError.Failed
+            → D.faults (device_of self.old) < D.faults (device_of self.new) }
+        ensures left { IfErr result (λ e. IsLeftBy e self.old self.new) }
+        ensures closed { (IsOpen self.old → ⊥) → IsErrOf result PutError.Closed }
+        ensures not_text { IsErrOf result PutError.NotText → IsText batch.now → ⊥ }
+        ensures full { IsErrOf result PutError.Full → 2 ^ 60 ≤ renewed_size_of self.old }
+    {
+        if !self.is_open {
+            return Err(PutError::Closed);
+        }
+        if batch.contains(&0) {
+            return Err(PutError::NotText);
+        }
+        if self.renewed_end >= MAX_BYTES {
+            return Err(PutError::Full);
+        }
+        let block = block_of(self.alloc, batch)?;
+        let block = block.as_slice();
+        self.is_open = false;
+        add_open_block(&mut self.device, block)?;
+        self.renewed_end += block.len();
+        self.is_open = true;
+        Ok(())
+    }
+
+    /// Closes the new file, and puts it in the place of the old one. At `Ok` it is on the disk with
+    /// its name: from then on every crash leaves its batches, and no others. A crash meanwhile
+    /// leaves the old file or the new one, whole. At a fault the journal takes nothing more; a file
+    /// that is opened again is one of the two.
+    pub fn end_renewal(&mut self) -> Result<(), PutError>
+        requires { IsInRenewal D.seen D.may_leave D.beside self.old }
+        ensures renewed { (servers : ℕ) (batches next : List (List ℕ)) → IsOpen self.old
+            → IsRenewing D.seen D.may_leave D.beside servers batches next self.old
+            → OnOk result (IsAtRest D.seen D.may_leave servers next self.new) }
+        ensures any_moment { (servers : ℕ) (batches next : List (List ℕ))
+            → IsRenewing D.seen D.may_leave D.beside servers batches next self.old
+            → LeavesOnly D.moment D.left_since (device_of self.old) (device_of self.new)
+            (IsOldOrNew servers batches next) }
+        ensures sound { IsSound D.seen D.may_leave self.new }
+        ensures open { OnOk result (IsOpen self.old × IsOpen self.new) }
+        ensures failed { IsErrOf result PutError.Failed
+            → D.faults (device_of self.old) < D.faults (device_of self.new) }
+        ensures left { IfErr result (λ e. IsLeftBy e self.old self.new) }
+        ensures closed { (IsOpen self.old → ⊥) → IsErrOf result PutError.Closed }
+        ensures not_text { IsErrOf result PutError.NotText → ⊥ }
+        ensures full { IsErrOf result PutError.Full → ⊥ }
+    {
+        if !self.is_open {
+            return Err(PutError::Closed);
+        }
+        self.is_open = false;
+        close_and_take(&mut self.device)?;
+        self.end = self.renewed_end;
+        self.is_open = true;
+        Ok(())
+    }
+}

@@ -1,0 +1,101 @@
+//! What tears in memory.
+
+ghost use Rattle.std.specs.Prelude.{◌≡◌, ◌⊎◌, ◌≤◌, ◌++◌, List, ℕ, length, take, IfOk, OnOk};
+ghost use Rattle.zjournal.specs.Device.{Cut, Holds, Torn};
+
+use std::alloc::{AllocError, Global};
+
+/// The next chance (a linear congruential generator).
+pub(crate) fn next_chance(chance: u64) -> u64 {
+    chance
+        .wrapping_mul(6364136223846793005)
+        .wrapping_add(1442695040888963407)
+}
+
+/// Of a write in this range what a power cut leaves: of each byte the old one, the new one or
+/// another, and a length between.
+pub(crate) fn torn(
+    alloc: Global,
+    disk: &[u8],
+    at: usize,
+    bytes: &[u8],
+    chance: u64,
+) -> Result<Vec<u8>, AllocError>
+    ensures { IfOk result (λ next. Torn at (length bytes.now) disk.now next.items) }
+{
+    if at > disk.len() {
+        return disk.to_vec(alloc);
+    }
+    let mut next = disk[..at].to_vec(alloc)?;
+    add_torn(&mut next, &disk[at..], bytes, chance)?;
+    if bytes.len() < disk.len() - at {
+        next.extend_from_slice(&disk[at + bytes.len()..])?;
+    }
+    Ok(next)
+}
+
+// The torn range: as long as the write, or where the file ended in it, no shorter than it was.
+fn add_torn(next: &mut Vec<u8>, old: &[u8], bytes: &[u8], chance: u64) -> Result<(), AllocError>
+    ensures { OnOk result ((range : List ℕ) × (next.new.items ≡ next.old.items ++ range)
+        × (length range ≤ length bytes.now)
+        × ((length old.now ≤ length range) ⊎ (length range ≡ length bytes.now))) }
+{
+    let mut chance = chance;
+    for i in 0..bytes.len() {
+        chance = next_chance(chance);
+        if i >= old.len() && chance / 4294967296 % 16 == 0 {
+            return Ok(());
+        }
+        let byte = match chance / 65536 % 4 {
+            0 => (chance / 1048576 % 3) as u8,
+            1 if i < old.len() => old[i],
+            _ => bytes[i],
+        };
+        next.push(byte)?;
+    }
+    Ok(())
+}
+
+/// What a power cut leaves of a cut: some length between.
+pub(crate) fn torn_cut(
+    alloc: Global,
+    disk: &[u8],
+    len: usize,
+    chance: u64,
+) -> Result<Vec<u8>, AllocError>
+    ensures { IfOk result (λ next. Cut len disk.now next.items) }
+{
+    if disk.len() <= len {
+        return disk.to_vec(alloc);
+    }
+    let more = chance / 65536 % (disk.len() - len + 1) as u64;
+    disk[..len + more as usize].to_vec(alloc)
+}
+
+/// The content after a write.
+pub(crate) fn written(
+    alloc: Global,
+    seen: &[u8],
+    at: usize,
+    bytes: &[u8],
+) -> Result<Vec<u8>, AllocError>
+    requires { at ≤ length seen.now }
+    ensures holds { IfOk result (λ next. Holds seen.now at bytes.now next.items) }
+    ensures torn { IfOk result (λ next. Torn at (length bytes.now) seen.now next.items) }
+{
+    let mut next = seen[..at].to_vec(alloc)?;
+    next.extend_from_slice(bytes)?;
+    if bytes.len() < seen.len() - at {
+        next.extend_from_slice(&seen[at + bytes.len()..])?;
+    }
+    Ok(next)
+}
+
+/// The content after a cut.
+pub(crate) fn shortened(alloc: Global, seen: &[u8], len: usize) -> Result<Vec<u8>, AllocError>
+    requires { len ≤ length seen.now }
+    ensures front { IfOk result (λ next. next.items ≡ take len seen.now) }
+    ensures cut { IfOk result (λ next. Cut len seen.now next.items) }
+{
+    seen[..len].to_vec(alloc)
+}

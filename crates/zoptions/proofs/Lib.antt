@@ -1,4 +1,0 @@
-pub mod CommandLine
-pub mod Numbers
-pub mod Given
-pub mod OnWords

@@ -1,0 +1,31 @@
+-- What a clause says of a cluster that keeps no traces.
+use Rattle.std.specs.Prelude.{◌≡◌, ℕ, false, List}
+use Rattle.zdesks.specs.declared.desk.Ending.{Ending}
+use Rattle.zdesks.specs.Desks.{Each}
+use Rattle.zdesks.specs.Endings.{LeavesNothing, SameWires}
+use Rattle.zgather.specs.Gone.{HasGone}
+use Rattle.zrun.specs.declared.untraced.Untraced.{Untraced}
+use Rattle.zrun.specs.Clusters.{client_count, cluster_desks, cluster_run, last_server}
+use Rattle.zrun.specs.Origins.{Run}
+use Rattle.zrun.specs.Runs.{AreTraced, Pairs}
+
+-- the last server of its initial chain, the number of its clients, and the run to which it belongs
+abbrev pub untraced_last : Untraced → ℕ
+untraced_last u = last_server u.cluster
+
+abbrev pub untraced_count : Untraced → ℕ
+untraced_count u = client_count u.cluster
+
+abbrev pub untraced_run : Untraced → Run
+untraced_run u = cluster_run u.cluster
+
+-- none of its processes keeps a trace or a record
+abbrev pub KeepsNoTrace : Untraced → Type 0
+KeepsNoTrace u = AreTraced false (cluster_desks u.cluster)
+
+-- its processes left their ends of its channels, with no trace and no record; and there are steps
+-- of each, by its table from the initial state, that sent and received what those ends say
+abbrev pub RanLawfully : Untraced → Type 0
+RanLawfully u =
+    (endings : List Ending) × Pairs SameWires (cluster_desks u.cluster) endings × Each (λ i e. LeavesNothing e) endings
+    × HasGone (untraced_last u) (untraced_count u) endings

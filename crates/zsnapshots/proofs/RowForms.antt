@@ -1,0 +1,74 @@
+-- Rows are forms.
+use Rattle.std.proofs.Common.{◌≡◌, ℕ, List, Result, refl, arith}
+use Rattle.std.specs.Prelude.{Ok, Err, IfOk, IfErr, OnOk}
+use Rattle.std.specs.Int.{w32}
+use Rattle.zforms.specs.Forms.{Form, number, both}
+use Rattle.zforms.specs.Laws.{IsBytes, IsForm}
+use Rattle.zforms.proofs.Numbers.{is_u32, is_u64}
+use Rattle.zforms.proofs.Parts.{is_both, is_record}
+use Rattle.zrecords.specs.Fields.{path, content, long}
+use Rattle.zrecords.proofs.Fields.{is_path, is_content}
+use Rattle.zwire.specs.declared.limits.TheConstants.{MAX_FRAME}
+use Rattle.zwire.specs.declared.fault.FrameFault.{FrameFault}
+use Rattle.zwire.specs.Fields.{call_number, log_number, client, three, four}
+use Rattle.zwire.specs.Replies.{reply}
+use Rattle.zwire.specs.Frames.{IsFaultOf}
+use Rattle.zwire.proofs.Fields.{is_call_number, is_log_number, is_client, is_three, is_four}
+use Rattle.zwire.proofs.Replies.{is_reply}
+use Rattle.zwire.proofs.Frames.{is_framed, found_in, only_in, faults_stay, beginning_is_cut}
+use Rattle.zsnapshots.specs.Rows.{clocks, totals, header_text, node, node_text, session, session_text, kept, reply_text, row, IsReadAs}
+use Rattle.zsnapshots.specs.Laws.{AreRows}
+
+is_clocks : IsForm clocks
+is_clocks = is_both log_number (both long long) is_log_number (is_both long long is_u64 is_u64)
+
+is_totals : IsForm totals
+is_totals = is_both (number w32) (both (number w32) (number w32)) is_u32 (is_both (number w32) (number w32) is_u32 is_u32)
+
+pub is_header : IsForm header_text
+unfolding header_text
+is_header = is_record _ _ _ (is_both clocks totals is_clocks is_totals) (λ f. refl) (λ h. refl)
+
+is_node : IsForm node
+unfolding node
+is_node = is_record _ _ _ (is_both three _ is_three (is_both four _ is_four (is_both three content is_three is_content))) (λ f. refl) (λ n. refl)
+
+pub is_node_text : IsForm node_text
+unfolding node_text
+is_node_text = is_both path node is_path is_node
+
+is_session : IsForm session
+unfolding session
+is_session = is_record _ _ _ (is_both client _ is_client (is_both long long is_u64 is_u64)) (λ f. refl) (λ s. refl)
+
+pub is_session_text : IsForm session_text
+unfolding session_text
+is_session_text = is_both long session is_u64 is_session
+
+is_kept : IsForm kept
+unfolding kept
+is_kept = is_record _ _ _ (is_both call_number reply is_call_number is_reply) (λ f. refl) (λ k. refl)
+
+pub is_reply_text : IsForm reply_text
+unfolding reply_text
+is_reply_text = is_both client kept is_client is_kept
+
+pub are_rows : {A : Type 0} (c : Form A) → IsForm c → AreRows c
+are_rows c is = record {
+  form = is_framed MAX_FRAME c (omega arith) is;
+  cut = λ x front back fits split some. beginning_is_cut c is x front back fits split some;
+  stays = λ bytes more fault other told. faults_stay c bytes more fault other told;
+}
+
+pub read_as_row : {A V : Type 0} (c : Form A) → IsForm c → (of : V → A × List ℕ) (bytes : List ℕ) (r : Result V FrameFault) → IsBytes bytes
+    → IfOk r (λ v. (row c).read bytes ≡ Ok (of v)) → IfErr r (IsFaultOf c bytes) → IsReadAs c of r bytes
+read_as_row c is of bytes r are read told = record {
+  found = found_in c is of bytes r are read;
+  only = only_in c is of bytes r read told;
+  fault = told;
+}
+
+-- what holds anyway
+pub on_ok : {A E : Type 0} (P : Type 0) (r : Result A E) → P → OnOk r P
+on_ok P (Ok x) here = here
+on_ok P (Err e) here = tt

@@ -1,0 +1,121 @@
+-- The rows of a snapshot: a header, and then a row for each session, node and kept reply. Each row
+-- is a frame of its own, so that a state is written and read row by row.
+use Rattle.std.specs.Prelude.{◌≡◌, ℕ, List, ◌++◌, Result, IfOk, IfErr}
+use Rattle.std.specs.Int.{w32}
+use Rattle.zforms.specs.Forms.{Form, number, both}
+use Rattle.zjute.specs.Shapes.{fields}
+use Rattle.ztree.specs.declared.node.Node.{Node}
+use Rattle.ztree.specs.declared.session.Session.{Session}
+use Rattle.ztree.specs.Tree.{Path}
+use Rattle.zcalls.specs.Kept.{Kept}
+use Rattle.zcalls.specs.declared.reply.Reply.{Reply}
+use Rattle.zrecords.specs.Fields.{path, content, long}
+use Rattle.zwire.specs.declared.limits.TheConstants.{MAX_FRAME}
+use Rattle.zwire.specs.declared.fault.FrameFault.{FrameFault}
+use Rattle.zwire.specs.declared.fault.FrameFault.TheVariants.{Memory}
+use Rattle.zwire.specs.Fields.{call_number, log_number, client, three, four}
+use Rattle.zwire.specs.Replies.{reply}
+use Rattle.zwire.specs.Frames.{framed, IsFaultOf}
+use Rattle.zsnapshots.specs.declared.header.Header.{Header}
+
+-- ---- the header
+
+-- the number of the last entry, the clock, and the last zxid
+abbrev pub clocks : Form (ℕ × (ℕ × ℕ))
+clocks = both log_number (both long long)
+
+abbrev pub clocks_of : Header → ℕ × (ℕ × ℕ)
+clocks_of h = (h.last, (h.time, h.zxid))
+
+-- how many rows of each kind follow
+abbrev pub totals : Form (ℕ × (ℕ × ℕ))
+totals = both (number w32) (both (number w32) (number w32))
+
+abbrev pub totals_of : Header → ℕ × (ℕ × ℕ)
+totals_of h = (h.sessions, (h.nodes, h.replies))
+
+abbrev pub header_of : (ℕ × (ℕ × ℕ)) × (ℕ × (ℕ × ℕ)) → Header
+header_of f = record {
+  last = f.0.0;
+  time = f.0.1.0;
+  zxid = f.0.1.1;
+  sessions = f.1.0;
+  nodes = f.1.1.0;
+  replies = f.1.1.1;
+}
+
+unfoldable pub header_text : Form Header
+header_text = fields (both clocks totals) (λ h. (clocks_of h, totals_of h)) header_of
+
+-- ---- nodes
+
+-- czxid, mzxid, pzxid
+abbrev pub zxids_of : Node → ℕ × (ℕ × ℕ)
+zxids_of n = (n.czxid, (n.mzxid, n.pzxid))
+
+-- ctime, mtime, version, cversion
+abbrev pub counts_of : Node → ℕ × (ℕ × (ℕ × ℕ))
+counts_of n = (n.ctime, (n.mtime, (n.version, n.cversion)))
+
+-- owner, seq, ttl
+abbrev pub marks_of : Node → ℕ × (ℕ × ℕ)
+marks_of n = (n.owner, (n.seq, n.ttl))
+
+abbrev pub node_of : (ℕ × (ℕ × ℕ)) × ((ℕ × (ℕ × (ℕ × ℕ))) × ((ℕ × (ℕ × ℕ)) × List ℕ)) → Node
+node_of f = record {
+  czxid = f.0.0;
+  mzxid = f.0.1.0;
+  pzxid = f.0.1.1;
+  ctime = f.1.0.0;
+  mtime = f.1.0.1.0;
+  version = f.1.0.1.1.0;
+  cversion = f.1.0.1.1.1;
+  owner = f.1.1.0.0;
+  seq = f.1.1.0.1.0;
+  ttl = f.1.1.0.1.1;
+  bytes = f.1.1.1;
+}
+
+unfoldable pub node : Form Node
+node = fields (both three (both four (both three content)))
+    (λ n. (zxids_of n, (counts_of n, (marks_of n, n.bytes)))) node_of
+
+-- a node with its path
+unfoldable pub node_text : Form (Path × Node)
+node_text = both path node
+
+-- ---- sessions and kept replies
+
+unfoldable pub session : Form Session
+session = fields (both client (both long long)) (λ s. (s.client, (s.timeout, s.deadline)))
+    (λ f. record { client = f.0; timeout = f.1.0; deadline = f.1.1 })
+
+-- a session with its id
+unfoldable pub session_text : Form (ℕ × Session)
+session_text = both long session
+
+abbrev pub kept_of : ℕ → Reply → Kept
+kept_of number reply = record { number = number; reply = reply }
+
+unfoldable pub kept : Form Kept
+kept = fields (both call_number reply) (λ k. (k.number, k.reply))
+    (λ f. kept_of f.0 f.1)
+
+-- a kept reply with its client
+unfoldable pub reply_text : Form (ℕ × Kept)
+reply_text = both client kept
+
+-- ---- rows
+
+-- what is spelled in this form, as a row
+abbrev pub row : {A : Type 0} → Form A → Form A
+row c = framed MAX_FRAME c
+
+-- What a reader of a row returned. What it found is spelled in front; what is spelled in front it
+-- found, unless memory ran out; else it is the first fault.
+pub record IsReadAs {A V : Type 0} (c : Form A) (of : V → A × List ℕ) (result : Result V FrameFault)
+    (bytes : List ℕ) : Type 0 where
+  pub found : IfOk result (λ v. (row c).Fits (of v).0 × (bytes ≡ (row c).spell (of v).0 ++ (of v).1))
+  pub only : (x : A) (rest : List ℕ) → (row c).Fits x → bytes ≡ (row c).spell x ++ rest →
+      IfOk result (λ v. ((of v).0 ≡ x) × ((of v).1 ≡ rest)) × IfErr result (λ fault. fault ≡ Memory)
+  pub fault : IfErr result (IsFaultOf c bytes)

@@ -1,0 +1,4 @@
+pub mod Samples
+pub mod Faults
+pub mod Reading
+pub mod Writing

@@ -1,0 +1,59 @@
+//! Why rows are no state.
+
+ghost use Rattle.std.specs.Prelude.{◌≡◌};
+ghost use Rattle.zsnapshots.specs.support.Faults.{of_frame, of_restoring};
+
+use thiserror::Error;
+use zforms::Fault;
+use zops::RestoreFault;
+use zwire::FrameFault;
+
+/// Why no row was taken.
+#[derive(Clone, Copy, Debug, PartialEq, Eq, Error)]
+pub enum RowFault {
+    /// The bytes end before the row does: more of them are wanted.
+    #[error("the row is cut")]
+    Cut,
+    /// The row's length is above `MAX_FRAME`.
+    #[error("the row is too long")]
+    TooLong,
+    /// The bytes behind the length are no row of the kind that comes next.
+    #[error("no such row: {0}")]
+    Contents(Fault),
+    /// The row's key isn't above those of the rows before it.
+    #[error("the row is out of order")]
+    Unordered,
+    /// The row is at its place in no state of a machine.
+    #[error("not a row of a lawful state")]
+    Unlawful,
+    /// There is no further row.
+    #[error("there is no further row")]
+    Ended,
+    /// Out of memory. It says nothing about the row.
+    #[error("memory")]
+    Memory,
+}
+
+impl From<FrameFault> for RowFault {
+    ghost from_gives = { λ fault row. row ≡ of_frame fault };
+
+    fn from(fault: FrameFault) -> RowFault {
+        match fault {
+            FrameFault::Cut => RowFault::Cut,
+            FrameFault::TooLong => RowFault::TooLong,
+            FrameFault::Contents(fault) => RowFault::Contents(fault),
+            FrameFault::Memory => RowFault::Memory,
+        }
+    }
+}
+
+impl From<RestoreFault> for RowFault {
+    ghost from_gives = { λ fault row. row ≡ of_restoring fault };
+
+    fn from(fault: RestoreFault) -> RowFault {
+        match fault {
+            RestoreFault::Unlawful => RowFault::Unlawful,
+            RestoreFault::Memory => RowFault::Memory,
+        }
+    }
+}

@@ -1,0 +1,17 @@
+//! Laws of the definitions. Each function's contract is a law; its body does nothing.
+
+ghost use Rattle.zsnapshots.specs.Laws.{AreRows, RowsAreShort};
+ghost use Rattle.zsnapshots.specs.Rows.{header_text, session_text, node_text, reply_text};
+
+/// Rows are read again, told apart, and cut only where more bytes may make one.
+pub fn rows_are_read_again()
+    ensures header { AreRows header_text }
+    ensures session { AreRows session_text }
+    ensures node { AreRows node_text }
+    ensures reply { AreRows reply_text }
+{}
+
+/// Each row of a state is short.
+pub fn rows_are_short()
+    ensures { RowsAreShort }
+{}

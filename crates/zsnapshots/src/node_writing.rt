@@ -1,0 +1,71 @@
+//! Nodes, written at the end of bytes. Each function says too that what it writes fits.
+
+ghost use Rattle.std.specs.Prelude.{◌≡◌, ◌++◌, OnOk};
+ghost use Rattle.zwire.specs.Fields.{three, four};
+ghost use Rattle.zsnapshots.specs.Rows.{zxids_of, counts_of, marks_of, node as node_form};
+ghost use Rattle.zsnapshots.specs.Rows.{node_text};
+
+use std::alloc::{AllocError, Global};
+use zforms::put_u64;
+use zpath::Path;
+use zrecords::{put_content, put_path};
+use ztree::Node;
+
+/// Writes a node with its path.
+#[tactic(auto, unfolding(crate::specs::Rows::node_text))]
+pub(crate) fn put_node_text(
+    alloc: Global,
+    out: &mut Vec<u8>,
+    path: &Path,
+    node: &Node,
+) -> Result<(), AllocError>
+    ensures text { OnOk result
+        (out.new.items ≡ out.old.items ++ node_text.spell (path.now, node.now)) }
+    ensures fits { OnOk result (node_text.Fits (path.now, node.now)) }
+{
+    put_path(alloc, out, path)?;
+    put_node(out, node)
+}
+
+// Writes a node.
+#[tactic(auto, unfolding(crate::specs::Rows::node))]
+fn put_node(out: &mut Vec<u8>, node: &Node) -> Result<(), AllocError>
+    ensures text { OnOk result (out.new.items ≡ out.old.items ++ node_form.spell node.now) }
+    ensures fits { OnOk result (node_form.Fits node.now) }
+{
+    put_zxids(out, node)?;
+    put_counts(out, node)?;
+    put_marks(out, node)?;
+    put_content(out, &node.bytes)
+}
+
+// Writes its three zxids.
+fn put_zxids(out: &mut Vec<u8>, node: &Node) -> Result<(), AllocError>
+    ensures text { OnOk result (out.new.items ≡ out.old.items ++ three.spell (zxids_of node.now)) }
+    ensures fits { OnOk result (three.Fits (zxids_of node.now)) }
+{
+    put_u64(out, node.czxid.number())?;
+    put_u64(out, node.mzxid.number())?;
+    put_u64(out, node.pzxid.number())
+}
+
+// Writes its two times and its two versions.
+fn put_counts(out: &mut Vec<u8>, node: &Node) -> Result<(), AllocError>
+    ensures text { OnOk result (out.new.items ≡ out.old.items ++ four.spell (counts_of node.now)) }
+    ensures fits { OnOk result (four.Fits (counts_of node.now)) }
+{
+    put_u64(out, node.ctime)?;
+    put_u64(out, node.mtime)?;
+    put_u64(out, node.version)?;
+    put_u64(out, node.cversion)
+}
+
+// Writes its owner, its counter and its TTL.
+fn put_marks(out: &mut Vec<u8>, node: &Node) -> Result<(), AllocError>
+    ensures text { OnOk result (out.new.items ≡ out.old.items ++ three.spell (marks_of node.now)) }
+    ensures fits { OnOk result (three.Fits (marks_of node.now)) }
+{
+    put_u64(out, node.owner)?;
+    put_u64(out, node.seq)?;
+    put_u64(out, node.ttl)
+}

@@ -1,0 +1,96 @@
+//! Headers, sessions and kept replies, read from the front of bytes with what follows them.
+
+ghost use Rattle.zforms.specs.Readers.{Reads, Gives};
+ghost use Rattle.zsnapshots.specs.Rows.{totals, header_text, session, session_text, kept_of};
+ghost use Rattle.zsnapshots.specs.Rows.{reply_text};
+
+use crate::header::Header;
+use std::alloc::Global;
+use zcalls::{CallNumber, Reply};
+use zforms::{Fault, ReadError, u32_at, u64_at};
+use ztree::{ClientId, Session, SessionId, Zxid};
+use zwire::{call_number_at, client_at, log_number_at, reply_of};
+
+/// Reads a header.
+#[tactic(auto, unfolding(crate::specs::Rows::header_text))]
+pub(crate) fn header_text_at(bytes: &[u8]) -> Result<(Header, &[u8]), Fault>
+    ensures { Reads (λ x. (x.0, x.1.now)) result (header_text.read bytes.now) }
+{
+    let (last, rest) = match log_number_at(bytes) {
+        Ok(read) => read,
+        Err(fault) => return Err(fault),
+    };
+    let (time, rest) = u64_at(rest)?;
+    let (zxid, rest) = u64_at(rest)?;
+    let (sessions, nodes, replies, rest) = totals_at(rest)?;
+    let header = Header {
+        last,
+        time,
+        zxid: Zxid::new(zxid),
+        sessions,
+        nodes,
+        replies,
+    };
+    Ok((header, rest))
+}
+
+// Reads how many rows of each kind follow.
+fn totals_at(bytes: &[u8]) -> Result<(u32, u32, u32, &[u8]), Fault>
+    ensures { Reads (λ x. ((x.0, (x.1, x.2)), x.3.now)) result (totals.read bytes.now) }
+{
+    let (sessions, rest) = u32_at(bytes)?;
+    let (nodes, rest) = u32_at(rest)?;
+    let (replies, rest) = u32_at(rest)?;
+    Ok((sessions, nodes, replies, rest))
+}
+
+/// Reads a session with its id.
+#[tactic(auto, unfolding(crate::specs::Rows::session_text))]
+pub(crate) fn session_text_at(bytes: &[u8]) -> Result<(SessionId, Session, &[u8]), Fault>
+    ensures { Reads (λ x. ((x.0, x.1), x.2.now)) result (session_text.read bytes.now) }
+{
+    let (id, rest) = u64_at(bytes)?;
+    match session_at(rest) {
+        Ok((session, rest)) => Ok((SessionId::new(id), session, rest)),
+        Err(fault) => Err(fault),
+    }
+}
+
+// Reads a session.
+#[tactic(auto, unfolding(crate::specs::Rows::session))]
+fn session_at(bytes: &[u8]) -> Result<(Session, &[u8]), Fault>
+    ensures { Reads (λ x. (x.0, x.1.now)) result (session.read bytes.now) }
+{
+    let (client, rest) = match client_at(bytes) {
+        Ok(read) => read,
+        Err(fault) => return Err(fault),
+    };
+    let (timeout, rest) = u64_at(rest)?;
+    let (deadline, rest) = u64_at(rest)?;
+    let session = Session {
+        client,
+        timeout,
+        deadline,
+    };
+    Ok((session, rest))
+}
+
+/// Reads a kept reply, behind its client and the number of the client's call.
+#[tactic(auto, unfolding(crate::specs::Rows::reply_text, crate::specs::Rows::kept))]
+pub(crate) fn reply_text_of(
+    alloc: Global,
+    bytes: &[u8],
+) -> Result<(ClientId, CallNumber, Reply, &[u8]), ReadError>
+    ensures { Gives (λ x. ((x.0, kept_of x.1 x.2), x.3.now)) result (reply_text.read bytes.now) }
+{
+    let (client, rest) = match client_at(bytes) {
+        Ok(read) => read,
+        Err(fault) => return Err(ReadError::Fault(fault)),
+    };
+    let (number, rest) = match call_number_at(rest) {
+        Ok(read) => read,
+        Err(fault) => return Err(ReadError::Fault(fault)),
+    };
+    let (reply, rest) = reply_of(alloc, rest)?;
+    Ok((client, number, reply, rest))
+}
