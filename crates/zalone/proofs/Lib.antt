@@ -1,11 +1,11 @@
 mod Past
-mod Keeping
+pub mod Keeping
 mod Runs
 mod Coming
-mod Telling
+pub mod Telling
 mod Views
-mod InTurn
-mod FromInitial
+pub mod InTurn
+pub mod Earlier
 mod Sessions
 mod Lists
 mod Served

@@ -1,19 +1,18 @@
 -- The replies to calls that are made one after the other are those of the tree that the log left.
-use Rattle.std.proofs.Common.{◌≡◌, ℕ, ◌≤◌, suc, List, [], ◌∷◌, ◌++◌, length, take, drop, Option, None, Some, refl, sym, ap, ◌∙◌, inl, inr, arith}
+use Rattle.std.proofs.Common.{◌≡◌, ℕ, ◌≤◌, suc, List, [], ◌∷◌, ◌++◌, length, take, drop, None, Some, refl, sym, ap, ◌∙◌, inl, inr, arith}
 use Rattle.std.proofs.Math.Seq.{take-nil}
 use Rattle.std.specs.Prelude.{zip}
-use Rattle.ztree.specs.Tree.{Tree, opening_tree}
+use Rattle.ztree.specs.Tree.{Tree}
 use Rattle.zcalls.specs.declared.call.Call.{Call}
 use Rattle.zcalls.specs.declared.reply.Reply.{Reply}
 use Rattle.zworld_model.specs.PlainTree.{serve}
 use Rattle.zturns.specs.Turns.{Log, calls_of, replies_of, served, tree_after}
 use Rattle.zturns.specs.FromTree.{IsOneTreesFrom}
-use Rattle.zturns.proofs.Lives.{is_one_trees_from}
 use Rattle.zalone.specs.Alone.{AloneView}
 use Rattle.zalone.specs.Laws.{RepliesAreTheTrees, RepliesAreTheTreesFrom}
 use Rattle.zalone.specs.Told.{HasToldFrom, StopsBefore}
 use Rattle.zalone.proofs.InTurn.{all_asked_tell}
-use Rattle.zalone.proofs.FromInitial.{from_initial}
+use Rattle.zalone.proofs.Earlier.{its_log, leaves, left_by}
 
 one_less : (n m : ℕ) → suc n ≤ suc m → n ≤ m
 one_less n m few = omega arith
@@ -32,10 +31,6 @@ calls_zip (call ∷ calls) (reply ∷ told) = ap (λ cs. call ∷ cs) (calls_zip
 
 rest_of : (r s : Reply) (rs ss : List Reply) → r ∷ rs ≡ s ∷ ss → rs ≡ ss
 rest_of r s rs ss e = cc e
-
--- the log of a client is one tree's
-pub its_log : (t : Tree) (v : AloneView) (log : Log) (waiting : Option Call) → HasToldFrom t v log waiting → IsOneTreesFrom t log
-its_log t v log waiting h = is_one_trees_from t (record { lawful = h.lawful; granted = h.bounded.sessions }) h.servers h.events log waiting h.turns.told
 
 -- what a log goes on with is served by the tree that it left
 served_behind : (log : Log) (t : Tree) (calls : List Call) (told : List Reply) → length told ≤ length calls
@@ -58,4 +53,6 @@ replies_are_the_trees_from t old new log calls told has asked =
 
 -- from the initial tree
 pub replies_are_the_trees : RepliesAreTheTrees
-replies_are_the_trees old new log calls told has asked = replies_are_the_trees_from opening_tree old new log calls told (from_initial old log None has) asked
+replies_are_the_trees old new log calls told has asked =
+    replies_are_the_trees_from (left_by has.earlier) old new has.since calls told has.told asked
+    ∙ ap (λ (t : Tree). served t (take (length told) calls)) (sym (leaves old log None has))

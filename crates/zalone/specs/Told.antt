@@ -10,43 +10,48 @@ use Rattle.zcalls.specs.declared.reply.Reply.{Reply}
 use Rattle.zworld_model.specs.declared.event.Event.{Event}
 use Rattle.zworld_model.specs.Alike.{IsAlike}
 use Rattle.zworld_model.specs.FromTree.{world_after_from}
-use Rattle.zworld_model.specs.Laws.{world_after}
 use Rattle.zworld.specs.Held.{world_of}
 use Rattle.zknown.specs.Known.{known_of}
-use Rattle.zturns.specs.Turns.{Log, calls_of, history_of, tree_after}
+use Rattle.zturns.specs.Turns.{Log, calls_of, history_of, tree_after, IsOneTrees}
 use Rattle.zturns.specs.World.{TakesTurns}
 use Rattle.zalone.specs.Changes.{Keeps}
 use Rattle.zalone.specs.Alone.{AloneView}
 
--- the client made the calls of this log and got their replies, and this call waits. That is: a run
--- from an initial world with one client has this log, and the client's world is where it ends
-pub record HasTold (v : AloneView) (log : Log) (waiting : Option Call) : Type 0 where
-  pub servers : ℕ
-  pub events : List Event
-  pub turns : TakesTurns (world_after servers 1 events) log waiting
-  -- of the history the world has forgotten that of an earlier log: all but the last call
-  pub before : Log
-  pub stands : IsAlike (world_after servers 1 events) (world_of v.world.held (history_of before None ++ v.world.history))
-  pub fresh : (call : Call) → waiting ≡ Some call → before ≡ log
-  pub waits : v.is_waiting ≡ is_some waiting
-  -- and what it knows is that of the tree that the calls of the log leave
-  pub known : v.known ≡ known_of (tree_after opening_tree (calls_of log))
-  -- what is kept of its updates is what of the log isn't taken yet
-  pub made : Keeps log v.changes
-
--- the same of a client whose chain began with this tree
+-- the client of a chain that began with this tree made the calls of this log and got their replies,
+-- and this call waits. That is: a run from the chain's initial world with one client has this log,
+-- and the client's world is where it ends
 pub record HasToldFrom (t : Tree) (v : AloneView) (log : Log) (waiting : Option Call) : Type 0 where
   pub lawful : IsLawful t
   pub bounded : IsBounded t
   pub servers : ℕ
   pub events : List Event
   pub turns : TakesTurns (world_after_from t servers 1 events) log waiting
+  -- of the history the world has forgotten that of an earlier log: all but the last call
   pub before : Log
   pub stands : IsAlike (world_after_from t servers 1 events) (world_of v.world.held (history_of before None ++ v.world.history))
   pub fresh : (call : Call) → waiting ≡ Some call → before ≡ log
   pub waits : v.is_waiting ≡ is_some waiting
+  -- and what it knows is that of the tree that the calls of the log leave
   pub known : v.known ≡ known_of (tree_after t (calls_of log))
+  -- what is kept of its updates is what of the log isn't taken yet
   pub made : Keeps log v.changes
+
+-- the same of a log from the initial tree on: it is an earlier log of one tree, and behind it what
+-- the client told since its chain began with the tree that the earlier one left
+pub record HasTold (v : AloneView) (log : Log) (waiting : Option Call) : Type 0 where
+  pub earlier : Log
+  pub since : Log
+  pub parts : log ≡ earlier ++ since
+  pub one : IsOneTrees earlier
+  pub told : HasToldFrom (tree_after opening_tree (calls_of earlier)) v since waiting
+
+-- a log of one tree that leaves this tree
+abbrev pub Leaves : Log → Tree → Type 0
+Leaves log t = IsOneTrees log × (tree_after opening_tree (calls_of log) ≡ t)
+
+-- a client that made no call yet stands behind every log that left this tree
+abbrev pub StandsBehind : Tree → AloneView → Type 0
+StandsBehind t v = (log : Log) → Leaves log t → HasTold v log None
 
 -- how the log goes on at a call: while another one waits, it stays. Else the call is answered, or
 -- it waits, or its client has no number left

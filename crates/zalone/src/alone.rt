@@ -13,7 +13,8 @@ ghost use Rattle.zalone.specs.Changes.{all_taken, no_changes};
 ghost use Rattle.zalone.specs.Alone.{Asks, AsksAll, Begins, Gives, is_refused};
 ghost use Rattle.zalone.specs.Alone.{SameCall, Settles, Waits};
 ghost use Rattle.zalone.specs.Told.{HasTold, TellsAsked, TellsAskedAll, TellsOrdered, TellsSettled};
-ghost use Rattle.zalone.specs.Told.{HasToldFrom, TellsAskedFrom, TellsAskedAllFrom};
+ghost use Rattle.zalone.specs.Told.{HasToldFrom, StandsBehind};
+ghost use Rattle.zalone.specs.Told.{TellsAskedFrom, TellsAskedAllFrom};
 ghost use Rattle.zalone.specs.Told.{TellsOrderedFrom, TellsSettledFrom};
 
 use crate::changes::Changes;
@@ -72,6 +73,8 @@ impl Alone {
         ensures made { IfOk result (λ a. a.changes ≡ no_changes keeps) }
         ensures sound { IfOk result (λ a. a.is_broken ≡ false) }
         ensures told { IfOk result (λ a. HasTold a [] None) }
+        ensures told_from { IfOk result (λ a. HasToldFrom opening_tree a [] None) }
+        ensures behind { IfOk result (λ a. StandsBehind opening_tree a) }
     {
         Ok(Alone {
             world: World::new(alloc, last, 1)?,
@@ -96,6 +99,7 @@ impl Alone {
         ensures made { IfOk result (λ a. a.changes ≡ no_changes keeps) }
         ensures sound { IfOk result (λ a. a.is_broken ≡ false) }
         ensures told { IfOk result (λ a. HasToldFrom snapshot.now.machine.plain a [] None) }
+        ensures behind { IfOk result (λ a. StandsBehind snapshot.now.machine.plain a) }
     {
         snapshot.keeps_lawful();
         let known = known_from(alloc, snapshot.machine())?;

@@ -34,6 +34,7 @@ use Rattle.zfront.specs.Greeting.{opening, opened, Opens, GreetsIf, GreetsUnless
 use Rattle.zfront.specs.Reading.{HandlesIn, HandlesUnless, Handles, HandlesAll}
 use Rattle.zfront_laws.specs.Runs.{IsLog}
 use Rattle.zfront_laws.proofs.Calling as laws
+use Rattle.zalone.proofs.Earlier.{known_tree}
 use Rattle.zfront_laws.proofs.GoingOn.{asks_log}
 use Rattle.zfront_laws.proofs.Steps.{none_late}
 use Rattle.zfront_frames.specs.Talk.{Talk, Quiet, Tells, Answers, Closes, pieces_of, is_closed, IsWelcome, tree_behind, Answered, Greeted}
@@ -238,7 +239,7 @@ module _ (c : ℕ) where
       greets_if true greeting password reads fresh has = opens greeting password reads (same_int greeting.session_id (pos 0) fresh) has
       greets_if false greeting password reads fresh is =
           becomes (returned old.clock.tick old.asker.known greeting greeting.session_id c old.tables) old new log waiting is told
-          (met_returned (tree_behind opening_tree log) old.clock greeting reads old.asker.known greeting.session_id old.tables told.told.known refl silent free)
+          (met_returned (tree_behind opening_tree log) old.clock greeting reads old.asker.known greeting.session_id old.tables (known_tree old.asker log waiting told.told) refl silent free)
 
       greets_unless : (ahead : Bool) (greeting : ConnectRequest) (password : List ℕ) → whole connect_request bytes ≡ Ok greeting
           → GreetsUnless ahead greeting password c old new → Meeting c bytes log old new

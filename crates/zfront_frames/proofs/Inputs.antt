@@ -10,7 +10,7 @@ use Rattle.zpieces.specs.Outbox.{PieceView}
 use Rattle.zpieces.specs.Streams.{StreamRows, StreamView, phase_of}
 use Rattle.zwatches.specs.Watches.{Watches, watch_cmp}
 use Rattle.zturns.specs.Turns.{Log}
-use Rattle.zturns.proofs.OneTree.{is_one_trees}
+use Rattle.zalone.proofs.Earlier.{is_one_tree}
 use Rattle.ztables.specs.Tables.{TablesView, may_send}
 use Rattle.zfront.specs.Front.{FrontView}
 use Rattle.zfront_laws.specs.Runs.{Input, Does, Runs, IsLog, KeepsFew}
@@ -97,6 +97,6 @@ every_connection_is_answered last c times entries password before behind first o
       done.0,
       done.1,
       done.2,
-      is_one_trees told.servers told.events done.0 done.1 told.turns.told,
+      is_one_tree v.asker done.0 done.1 told,
       shows c (came_on c behind opened v later) (went_on c behind opened v later) done.0 (phase_of v.tables.streams c) (bytes_in (finite.get v.tables.streams c)) done.3,
     )

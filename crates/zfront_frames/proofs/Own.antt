@@ -32,6 +32,7 @@ use Rattle.zfront.specs.Reading.{HandlesIn, HandlesUnless, Handles, HandlesAll}
 use Rattle.zfront.specs.Requests.{touched_by, EndsIf, Acts, Requests, Serves}
 use Rattle.zfront_laws.specs.Runs.{IsLog}
 use Rattle.zfront_laws.proofs.Calling as laws
+use Rattle.zalone.proofs.Earlier.{known_tree}
 use Rattle.zfront_laws.proofs.GoingOn.{asks_log}
 use Rattle.zfront_laws.proofs.Steps.{none_late}
 use Rattle.zfront_frames.specs.Talk.{Talk, Quiet, Answers, Closes, is_closed, Says, IsAnswer, tree_behind, Answered}
@@ -133,7 +134,7 @@ module _ (c : ℕ) where
           let t = answered middle.clock middle.asker.known c asked calls told middle.tables in
           let after = with_tables t middle in
           let tree = tree_behind opening_tree log in
-          let knows = has.told.known ∙ ap known_of (sym (behind-both opening_tree log (zip calls told))) in
+          let knows = known_tree middle.asker (log ++ zip calls told) waiting has.told ∙ ap known_of (sym (behind-both opening_tree log (zip calls told))) in
           let one = answers_all calls told tree middle knows (ap (λ (k : Clock). calls_in k.tick session asked.asked) clock ∙ means) (all_calls calls told none)
           (all_replies calls told few) (ap (λ (u : TablesView). speaks (phase_of u.streams c)) tables ∙ speaking) (subst (Free c) (sym tables) free) in
           let first : Serving c session (bytes ∷ []) log old after = (
@@ -164,7 +165,7 @@ module _ (c : ℕ) where
             waiting,
             retold (replied known c asked.xid answer old.tables) old new log waiting is has,
             Answers (answer_frame known asked.xid answer) told.0,
-            answers_one tree [] (answer_frame known asked.xid answer) told.0 (says_so old.clock known tree [] answer (Err (Refused code)) has.told.known means (refl, refl)) told.1,
+            answers_one tree [] (answer_frame known asked.xid answer) told.0 (says_so old.clock known tree [] answer (Err (Refused code)) (known_tree old.asker log waiting has.told) means (refl, refl)) told.1,
             ap (λ (v : FrontView). view c v.tables) is ∙ told.2,
             subst (λ (v : FrontView). Free c v.tables) (sym is) (told.3 free),
           )

@@ -1,6 +1,6 @@
 -- Whoever speaks for a session speaks for one that lives, whatever the inputs were.
 use Rattle.std.proofs.Common.{◌≡◌, ◌≢◌, ◌⊎◌, inl, inr, ◌∙◌, ◌+◌, ℕ, Bool, true, false, List, [], ◌∷◌, ◌++◌, Option, None, Some, Result, Ok, Err, refl, sym, ap, subst}
-use Rattle.std.specs.Prelude.{is_some, pos, nat_le, if◌then◌else◌}
+use Rattle.std.specs.Prelude.{is_some, pos, nat_le, zip, if◌then◌else◌}
 use Rattle.std.specs.Cmp.{nat_cmp_total}
 use Rattle.std.specs.FinMap as finite
 use Rattle.std.specs.FinMap.{get, insert, contains_key, nat_cmp-IsAntisymmetric}
@@ -30,7 +30,7 @@ use Rattle.zsittings.specs.declared.sitting.Sitting.{Sitting}
 use Rattle.zsittings.specs.Sittings.{new_sitting}
 use Rattle.zturns.specs.Turns.{Log, calls_of, tree_after}
 use Rattle.zalone.specs.Told.{HasTold}
-use Rattle.zturns.proofs.OneTree.{is_one_trees}
+use Rattle.zalone.proofs.Earlier.{is_one_tree, known_tree}
 use Rattle.ztables.specs.Tables.{closed, sitting}
 use Rattle.zserving.specs.Answering.{answered}
 use Rattle.zserving.specs.Greeting.{is_ahead, returned}
@@ -102,23 +102,28 @@ module _ (old middle : FrontView) (ticks : ℕ) (told : Log) (before : HasTold o
   known_then : (first : Reply) (rest : List Reply) → Asks old calls_made middle (first ∷ rest) → middle.asker.known ≡ known_of (step t 0 (Open ticks)).0
   known_then first rest asked =
       let tells = asked.tells told None before in
-      (one_answered (HasTold middle.asker) told (Update (Open ticks)) first rest tells.0 tells.1).known
+      known_tree middle.asker (told ++ (Update (Open ticks), first) ∷ []) None
+      (one_answered (HasTold middle.asker) told (Update (Open ticks)) first rest tells.0 tells.1)
       ∙ ap known_of (after_more opening_tree told ((Update (Open ticks), first) ∷ []))
 
   grows : (replies : List Reply) (id : ℕ) → Asks old calls_made middle replies → contains_key old.asker.known.sessions id ≡ true
       → contains_key middle.asker.known.sessions id ≡ true
   grows [] id asked has =
-      let after = (log.asks_with old.asker calls_made middle.asker [] asked.tells told before).1 in
-      ap (λ (k : KnownView). contains_key k.sessions id) (after.known ∙ ap known_of (after_more opening_tree told []) ∙ sym before.known) ∙ has
+      let after = log.asks_with old.asker calls_made middle.asker [] asked.tells told before in
+      ap (λ (k : KnownView). contains_key k.sessions id)
+      (known_tree middle.asker (told ++ zip calls_made []) after.0 after.1
+      ∙ ap known_of (after_more opening_tree told [])
+      ∙ sym (known_tree old.asker told None before))
+      ∙ has
   grows (first ∷ rest) id asked has =
       ap (λ (k : KnownView). contains_key k.sessions id) (known_then first rest asked)
-      ∙ step_grows t ticks id (sym (ap (λ (k : KnownView). contains_key k.sessions id) before.known) ∙ has)
+      ∙ step_grows t ticks id (sym (ap (λ (k : KnownView). contains_key k.sessions id) (known_tree old.asker told None before)) ∙ has)
 
   adds : (id timeout : ℕ) (rest : List Reply) → Asks old calls_made middle (reply.Opened id timeout ∷ rest) → contains_key middle.asker.known.sessions id ≡ true
   adds id timeout rest asked =
       let tells = asked.tells told None before in
       let has = one_answered (HasTold middle.asker) told (Update (Open ticks)) (reply.Opened id timeout) rest tells.0 tells.1 in
-      let one = is_one_trees has.servers has.events (told ++ (Update (Open ticks), reply.Opened id timeout) ∷ []) None has.turns.told in
+      let one = is_one_tree middle.asker (told ++ (Update (Open ticks), reply.Opened id timeout) ∷ []) None has in
       let is : reply.Opened id timeout ≡ (step t 0 (Open ticks)).1 = placed opening_tree told [] (Update (Open ticks)) (reply.Opened id timeout) one in
       ap (λ (k : KnownView). contains_key k.sessions id) (known_then (reply.Opened id timeout) rest asked) ∙ step_adds t ticks id timeout (sym is)
 

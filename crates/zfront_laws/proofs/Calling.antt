@@ -10,16 +10,15 @@ use Rattle.ztables.specs.Telling.{told_all}
 use Rattle.zserving.specs.Looking.{looks_at, seen}
 use Rattle.zserving.specs.Replying.{absorbed}
 use Rattle.zalone.specs.Alone.{AloneView, Settles}
-use Rattle.zalone.specs.Told.{TellsSettled}
 use Rattle.zfront.specs.Front.{FrontView, Asks, heard, HearsIf, LooksBy, LooksIf, Looks, IsReady, Tidies, tidied, takes_nodes}
-use Rattle.zfront_laws.proofs.GoingOn as log
+use Rattle.zfront_laws.proofs.Since as log
 use Rattle.zfront_laws.proofs.Lighter.{Lighter, lighter, unmoved, absorbs, sweeps_all, tells_all}
 use Rattle.zfront_laws.proofs.Taking.{asks_all, settles}
 use Rattle.zfront_laws.proofs.Steps.{Step, steps, both, same, same_client, free_to_look}
 
 pub asks : (old : FrontView) (calls : List Call) (new : FrontView) (replies : List Reply) → old.late ≡ None → Asks old calls new replies → Step old new
 asks old calls new replies free has =
-    steps old new (log.asks old calls new replies free (ap (λ (v : FrontView). v.late) has.rest) has.tells)
+    steps old new (log.asks old calls new replies free (ap (λ (v : FrontView). v.late) has.rest) has.asks)
     (asks_all calls old.asker new.asker replies has.asks)
     (subst (λ (v : FrontView). Lighter old.tables v.tables) (sym has.rest) (unmoved old.tables))
 
@@ -28,23 +27,23 @@ pub tidies_up : (took : Bool) (v : FrontView) → Step v (tidied took v)
 tidies_up took v = same_client v (tidied took v) (tidied took v) refl refl refl (sweeps_all (gone v.asker.known.sessions v.tables.sittings) v.tables)
 
 -- what is heard of a call
-hears_of : (call : Call) (told : Option Reply) (old : FrontView) (asker : AloneView) → Settles old.asker asker told → TellsSettled old.asker asker told
+hears_of : (call : Call) (told : Option Reply) (old : FrontView) (asker : AloneView) → Settles old.asker asker told
     → Step old (heard call told (record old { asker = asker }))
-hears_of call None old asker settled tells =
+hears_of call None old asker settled =
     let after = record old { asker = asker } in
-    steps old after (log.settles old after None (λ none. refl) tells) (settles old.asker asker None settled) (unmoved old.tables)
-hears_of call (Some reply) old asker settled tells =
+    steps old after (log.settles old after None (λ none. refl) settled) (settles old.asker asker None settled) (unmoved old.tables)
+hears_of call (Some reply) old asker settled =
     let t = absorbed call reply old.tables in
     let middle = record old { asker = asker; tables = t; late = None } in
     let after = tidied (takes_nodes reply) middle in
-    steps old after (log.settles old after (Some reply) (λ none. absurd (cc none)) tells) (settles old.asker asker (Some reply) settled)
+    steps old after (log.settles old after (Some reply) (λ none. absurd (cc none)) settled) (settles old.asker asker (Some reply) settled)
     (lighter old.tables t after.tables (absorbs call reply old.tables) (sweeps_all (gone asker.known.sessions t.sittings) t))
 
 pub hears_if : (late : Option Call) (old new : FrontView) → HearsIf late old new → Step old new
 hears_if None old new is = same old new is
 hears_if (Some call) old new has =
     let after = heard call has.1 (record old { asker = has.0 }) in
-    both old after new (hears_of call has.1 old has.0 has.2 has.3) (same after new has.4)
+    both old after new (hears_of call has.1 old has.0 has.2) (same after new has.4)
 
 looks_by : (places : List Place) (calls : List Call) (old new : FrontView) → old.late ≡ None → LooksBy places calls old new → Step old new
 looks_by places calls old new free has =

@@ -16,8 +16,8 @@ use Rattle.zfront_laws.proofs.GoingOn as log
 use Rattle.zfront_laws.proofs.Held.{held-changed}
 use Rattle.zfront_laws.proofs.Kept.{Kept, unchanged, closes_kept, bytes_kept}
 use Rattle.zfront_laws.proofs.Lighter.{closes, says}
-use Rattle.zfront_laws.proofs.Taking.{SameTaking, same_asker, taking_both}
-use Rattle.zfront_laws.proofs.Steps.{Step, Seats, seats_both, seats_kept, both, same, retabled, none_late}
+use Rattle.zfront_laws.proofs.Since.{Making}
+use Rattle.zfront_laws.proofs.Steps.{Step, Seats, seats_both, seats_kept, both, making_both, makes_none, same, retabled, none_late}
 use Rattle.zfront_laws.proofs.Calling.{is_ready}
 use Rattle.zfront_laws.proofs.Serving.{serves, greets}
 
@@ -81,10 +81,10 @@ keeps_kept false rest c v = unchanged v.tables
 
 -- so the log goes on, and few bytes are kept
 abbrev pub GoesOnWithFew : FrontView → FrontView → Type 0
-GoesOnWithFew old new = GoesOn old new × KeepsFew new × Seats old new × SameTaking old.asker new.asker
+GoesOnWithFew old new = GoesOn old new × KeepsFew new × Seats old new × Making old new
 
 pub with_few : (old new : FrontView) → KeepsFew old → Step old new → GoesOnWithFew old new
-with_few old new few step = (step.goes, omega (arith, few, step.few), step.seats, step.taking)
+with_few old new few step = (step.goes, omega (arith, few, step.few), step.seats, step.making)
 
 -- frames are read of what came, and the rest is kept
 reads : (came rest : List ℕ) (c : ℕ) (old middle new : FrontView) → Reads came c old rest middle → KeepsFew old → Keeps rest c middle new
@@ -96,12 +96,12 @@ reads came rest c old middle new has few after =
     let like = keeps rest c middle in
     let goes : GoesOn middle like =
     log.same middle like (kept_if (is_open middle.tables c) rest c middle) (late_if (is_open middle.tables c) rest c middle) in
-    let taking = same_asker middle.asker like.asker (kept_if (is_open middle.tables c) rest c middle) in
+    let making = makes_none middle like (kept_if (is_open middle.tables c) rest c middle) (late_if (is_open middle.tables c) rest c middle) in
     let seats : Seats middle like = seats_kept middle like goes (keeps_kept (is_open middle.tables c) rest c middle) in (
       log.both old middle new done.0 (subst (GoesOn middle) (sym is) goes),
       subst KeepsFew (sym is) (keeps_few (is_open middle.tables c) rest c middle done.1),
       seats_both old middle new done.0 done.2 (subst (Seats middle) (sym is) seats),
-      taking_both old.asker middle.asker new.asker done.3 (subst (λ (v : FrontView). SameTaking middle.asker v.asker) (sym is) taking),
+      making_both old middle new done.3 (subst (Making middle) (sym is) making),
     )
 
 comes_behind : (came : List ℕ) (c : ℕ) (old new : FrontView) → KeepsFew old → ComesBehind came c old new → GoesOnWithFew old new
@@ -121,7 +121,7 @@ comes_if true bytes c old new few has =
       log.both old (emptied c old) new goes done.0,
       done.1,
       seats_both old (emptied c old) new goes (seats_kept old (emptied c old) goes (bytes_kept c [] old.tables)) done.2,
-      done.3,
+      making_both old (emptied c old) new (makes_none old (emptied c old) refl refl) done.3,
     )
 
 pub comes : (bytes : List ℕ) (c : ℕ) (old new : FrontView) → KeepsFew old → Comes bytes c old new → GoesOnWithFew old new

@@ -11,7 +11,7 @@ use Rattle.zlines.specs.declared.line.Line.TheVariants as line
 use Rattle.zlines.specs.declared.request.LineFault.{LineFault}
 use Rattle.zlines.specs.Line.{line_of}
 use Rattle.zsittings.specs.Sittings.{touched_ids}
-use Rattle.zturns.proofs.OneTree.{is_one_trees}
+use Rattle.zalone.proofs.Earlier.{is_one_tree}
 use Rattle.zalone.specs.declared.order.Order.{Order}
 use Rattle.zalone.specs.declared.order.Order.TheVariants as order
 use Rattle.ztables.specs.Tables.{TablesView}
@@ -29,7 +29,9 @@ use Rattle.zfront_laws.specs.Laws.{EveryInputGoesOn, EveryRunGoesOn, EveryFrontK
 use Rattle.zfront_laws.proofs.Held.{held-insert, held-remove}
 use Rattle.zfront_laws.proofs.Lighter.{as_many, none_more, unmoved}
 use Rattle.zfront_laws.proofs.Restored.{again, is_few, is_fine, is_quiet}
-use Rattle.zfront_laws.proofs.Taking.{SameTaking, ordered, settles}
+use Rattle.zfront_laws.proofs.Since as since
+use Rattle.zfront_laws.proofs.Since.{Making, goes_on}
+use Rattle.zfront_laws.proofs.Taking.{ordered, settles}
 use Rattle.zfront_laws.proofs.Steps.{Step, Seats, seats_both, seats_kept, both, becomes, same, retabled, none_late}
 use Rattle.zfront_laws.proofs.GoingOn as log
 use Rattle.zfront_laws.proofs.Calling.{asks, hears_if, is_ready, tidies}
@@ -58,14 +60,14 @@ ticks old new has =
 is_given : (given : Order) (old new : FrontView) → IsGiven given old new → Step old new
 is_given given old new has =
     becomes old new (told_operator (did_text has.did) (record old { asker = has.asker })) has.told
-    (log.ordered old (told_operator (did_text has.did) (record old { asker = has.asker })) refl has.tells)
+    (since.ordered old (told_operator (did_text has.did) (record old { asker = has.asker })) given has.did refl has.gives has.same)
     (ordered old.asker has.asker has.same)
     (unmoved old.tables)
 
 pub settles_if : (late : Option Call) (old new : FrontView) → SettlesIf late old new → Step old new
 settles_if None old new has =
     becomes old new (record old { asker = has.0 }) has.4
-    (log.settles old (record old { asker = has.0 }) has.1 (λ none. refl) has.3) (settles old.asker has.0 has.1 has.2) (unmoved old.tables)
+    (since.settles old (record old { asker = has.0 }) has.1 (λ none. refl) has.2) (settles old.asker has.0 has.1 has.2) (unmoved old.tables)
 settles_if (Some call) old new has = hears_if (Some call) old new has
 
 settles_now : (old new : FrontView) → SettlesNow old new → Step old new
@@ -90,7 +92,7 @@ hears text old new has = both old has.0 new (is_ready old has.0 has.1) (obeys_li
 -- what an input takes: all, or nothing
 abbrev pub Taking : run.Input → FrontView → FrontView → Type 0
 Taking run.Took old new = new ≡ all_taken old
-Taking other old new = SameTaking old.asker new.asker
+Taking other old new = Making old new
 
 -- the log goes on, few bytes are kept, and so are seats
 abbrev pub InputGoes : run.Input → FrontView → FrontView → Type 0
@@ -110,7 +112,7 @@ goes_with_few run.Sent old new few is =
     with_few old new few (retabled (without_first old).tables old new is (unmoved old.tables))
 goes_with_few run.Took old new few is =
     subst (InputGoes run.Took old) (sym is)
-    (log.takes old, few, seats_kept old (all_taken old) (log.takes old) (unmoved old.tables).1, refl)
+    (goes_on old (all_taken old) (since.takes old), few, seats_kept old (all_taken old) (goes_on old (all_taken old) (since.takes old)) (unmoved old.tables).1, refl)
 
 pub every_input_goes_on : EveryInputGoesOn
 every_input_goes_on input old new few does =
@@ -142,7 +144,7 @@ every_front_is_one_tree last times entries inputs first v restored runs =
     let is = again last times entries first restored in
     let goes = (every_run_goes_on inputs first v (is_few entries first is) runs).0 is.log None (is_quiet entries first is) in
     let has = goes.2 in
-    (is.log ++ goes.0, goes.1, has, is_one_trees has.told.servers has.told.events (is.log ++ goes.0) goes.1 has.told.turns.told)
+    (is.log ++ goes.0, goes.1, has, is_one_tree v.asker (is.log ++ goes.0) goes.1 has.told)
 
 pub every_front_is_seated : EveryFrontIsSeated
 every_front_is_seated last times entries inputs first v restored runs =

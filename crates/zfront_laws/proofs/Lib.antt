@@ -7,6 +7,7 @@ pub mod Wishes
 pub mod GoingOn
 pub mod Rising
 pub mod Taking
+pub mod Since
 pub mod Steps
 pub mod Calling
 pub mod Serving

@@ -21,6 +21,7 @@ use Rattle.zalone.specs.declared.order.Order.{Order}
 use Rattle.zalone.specs.declared.order.Order.TheVariants as order
 use Rattle.zalone.specs.Alone.{AloneView}
 use Rattle.zalone.specs.Told.{TellsSettled}
+use Rattle.zalone.proofs.Earlier.{known_tree}
 use Rattle.ztables.specs.Tables.{ended, is_open}
 use Rattle.zfront.specs.Front.{FrontView}
 use Rattle.zfront.specs.Inputs.{without_first}
@@ -206,5 +207,5 @@ who_speaks_is_alive last times entries first at c d session restored stands free
     let told = no_wait at ready.0 ready.1 free ready.2 in (
       ready.0,
       log.quiet at ready.0 told,
-      sym (ap (λ (k : KnownView). contains_key k.sessions session) told.known) ∙ lives_now free session (has_seat at.tables d session ready.3.seated speaks),
+      sym (ap (λ (k : KnownView). contains_key k.sessions session) (known_tree at.asker ready.0 None told)) ∙ lives_now free session (has_seat at.tables d session ready.3.seated speaks),
     )

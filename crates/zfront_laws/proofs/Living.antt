@@ -17,6 +17,7 @@ use Rattle.zknown.specs.Known.{KnownView, known_of}
 use Rattle.zturns.specs.Turns.{Log, calls_of, tree_after}
 use Rattle.zalone.specs.Alone.{AloneView}
 use Rattle.zalone.specs.Told.{HasTold, TellsSettled}
+use Rattle.zalone.proofs.Earlier.{known_tree}
 use Rattle.zwatches.specs.declared.place.Place.{Place}
 use Rattle.ztables.specs.Sweeping.{gone, is_gone, swept, swept_all}
 use Rattle.ztables.specs.Tables.{TablesView, moved}
@@ -103,7 +104,7 @@ lives_late old new late told waiting is alive none = absurd (cc (sym (ap is_some
 
 -- the same log teaches the same
 pub same_log : (old new : AloneView) (told : Log) (one two : Option Call) → HasTold old told one → HasTold new told two → new.known ≡ old.known
-same_log old new told one two is after = after.known ∙ sym is.known
+same_log old new told one two is after = known_tree new told two after ∙ sym (known_tree old told one is)
 
 -- where no call is late, none waits
 pub no_wait : (v : FrontView) (told : Log) (waiting : Option Call) → v.late ≡ None → IsLog v told waiting → HasTold v.asker told None
@@ -150,10 +151,10 @@ looks_by places old new free has told waiting is alive = subst Alive (sym has.to
     known : middle.asker.known ≡ old.asker.known
     known =
         let before = no_wait old told waiting free is in
-        let after = (log.asks_with old.asker (looks_at places) middle.asker has.replies has.asks.tells told before).1 in
-        after.known
+        let after = log.asks_with old.asker (looks_at places) middle.asker has.replies has.asks.tells told before in
+        known_tree middle.asker (told ++ zip (looks_at places) has.replies) after.0 after.1
         ∙ ap known_of (after_more opening_tree told (zip (looks_at places) has.replies) ∙ tree_looked (tree_after opening_tree (calls_of told)) places has.replies)
-        ∙ sym before.known
+        ∙ sym (known_tree old.asker told None before)
 
     lives : Alive (record middle { tables = told_all events middle.tables; must_look = is_some middle.late })
     lives none id there =

@@ -8,19 +8,21 @@ use Rattle.zknown.specs.Known.{KnownView}
 use Rattle.zsittings.specs.declared.sitting.Sitting.{Sitting}
 use Rattle.ztree.specs.Tree.{opening_tree}
 use Rattle.zturns.specs.Turns.{Log, calls_of, tree_after}
-use Rattle.zturns.proofs.OneTree.{is_one_trees}
+use Rattle.zalone.proofs.Earlier.{is_one_tree, known_tree, left_by}
 use Rattle.zalone.specs.declared.made.Made.{Made}
 use Rattle.zalone.specs.Changes.{AreLeft, ChangesView, KeepsIf, Keeps, made_in}
 use Rattle.zalone.specs.Changes as changes
+use Rattle.zalone.specs.Told.{HasTold}
 use Rattle.zfront.specs.Front.{FrontView}
 use Rattle.zfront.specs.Inputs.{Begins}
 use Rattle.zfront.specs.Restoring.{Entry, Restores, RestoresAll, all_taken}
 use Rattle.zfront_laws.specs.Making.{ANewServerIsRestored, EveryChangeIsMade, EveryEntryIsMadeAgain, EveryInputMakesMore, EverySessionIsRestored, KeepsMade, MakesMore, WasOpened, took_at, took_in}
-use Rattle.zfront_laws.specs.Runs.{Does, GoesOn, IsLog, KeepsFew, Runs}
+use Rattle.zfront_laws.specs.Runs.{Does, IsLog, KeepsFew, Runs}
 use Rattle.zfront_laws.specs.Runs as run
 use Rattle.zfront_laws.proofs.GoingOn.{taken}
 use Rattle.zfront_laws.proofs.Inputs.{InputGoes, goes_with_few}
 use Rattle.zfront_laws.proofs.Restored.{IsAgain, again, is_few, is_quiet, made_both}
+use Rattle.zfront_laws.proofs.Since.{Making, is_behind}
 use Rattle.zfront_laws.proofs.Taking.{SameTaking, asks_all, same_asker, taking_both}
 
 drop_front : {T : Type 0} (n : ℕ) (xs ys : List T) → n ≤ length xs → drop n (xs ++ ys) ≡ drop n xs ++ ys
@@ -41,29 +43,30 @@ left_more log more old new was now same =
     ∙ ap (λ n. drop n (made_in (log ++ more))) (sym same)
     ∙ sym now.rest
 
-makes_more : (old new : FrontView) → KeepsMade old → GoesOn old new → SameTaking old.asker new.asker → MakesMore [] old new × KeepsMade new
-makes_more old new kept goes same = (more, same.0 ∙ kept)
+makes_more : (old new : FrontView) → KeepsMade old → Making old new → MakesMore [] old new × KeepsMade new
+makes_more old new kept makes = (more, makes.0.0 ∙ kept)
   where
     more : MakesMore [] old new
     more log waiting is =
-        let next = goes log waiting is in (
+        let h = is.told in
+        let next = makes.1 (left_by h.earlier) h.since waiting (record { told = h.told; late = is.late }) in (
           next.0,
           next.1,
-          next.2,
-          left_more log next.0 old.asker.changes new.asker.changes (left_of log old.asker.changes kept is.told.made)
-              (left_of (log ++ next.0) new.asker.changes (same.0 ∙ kept) next.2.told.made) same.1,
+          is_behind new h.earlier h.since next.0 log next.1 h.one h.parts next.2,
+          left_more h.since next.0 old.asker.changes new.asker.changes (left_of h.since old.asker.changes kept h.told.made)
+              (left_of (h.since ++ next.0) new.asker.changes (makes.0.0 ∙ kept) next.2.told.made) makes.0.1,
         )
 
 takes : (v : FrontView) → MakesMore v.asker.changes.made v (all_taken v)
 takes v log waiting is = ([], waiting, subst (λ (l : Log). IsLog (all_taken v) l waiting) (sym (append-nil log)) (taken v log waiting is), refl)
 
 by_input : (input : run.Input) (old new : FrontView) → KeepsMade old → InputGoes input old new → MakesMore (took_at input old) old new × KeepsMade new
-by_input (run.Opened c password) old new kept goes = makes_more old new kept goes.0 goes.3
-by_input (run.Came c bytes) old new kept goes = makes_more old new kept goes.0 goes.3
-by_input (run.Ended c) old new kept goes = makes_more old new kept goes.0 goes.3
-by_input run.Tick old new kept goes = makes_more old new kept goes.0 goes.3
-by_input (run.Line text) old new kept goes = makes_more old new kept goes.0 goes.3
-by_input run.Sent old new kept goes = makes_more old new kept goes.0 goes.3
+by_input (run.Opened c password) old new kept goes = makes_more old new kept goes.3
+by_input (run.Came c bytes) old new kept goes = makes_more old new kept goes.3
+by_input (run.Ended c) old new kept goes = makes_more old new kept goes.3
+by_input run.Tick old new kept goes = makes_more old new kept goes.3
+by_input (run.Line text) old new kept goes = makes_more old new kept goes.3
+by_input run.Sent old new kept goes = makes_more old new kept goes.3
 by_input run.Took old new kept goes =
     subst (λ (v : FrontView). MakesMore old.asker.changes.made old v × KeepsMade v) (sym goes.3) (takes old, kept)
 
@@ -117,7 +120,7 @@ every_entry_is_made_again last times entries v restored =
     let is = again last times entries v restored in (
       is.log,
       is_quiet entries v is,
-      is_one_trees is.told.servers is.told.events is.log None is.told.turns.told,
+      is_one_tree v.asker is.log None is.told,
       is.made,
       ap (λ (u : FrontView). u.asker.changes.made) restored.ready,
       λ kept.
@@ -134,7 +137,7 @@ every_session_is_restored last times entries v restored = (is.log, is_quiet entr
     each : (session : ℕ) → contains_key (tree_after opening_tree (calls_of is.log)).sessions session ≡ true
         → (s : Sitting) × (get v.tables.sittings session ≡ Some s) × (s.connection ≡ None) × WasOpened is.log entries session s.password
     each session lives =
-        let has = is.seats session (ap (λ (k : KnownView). contains_key k.sessions session) is.told.known ∙ lives) in
+        let has = is.seats session (ap (λ (k : KnownView). contains_key k.sessions session) (known_tree v.asker is.log None is.told) ∙ lives) in
         (has.0, has.1, (is.bare.apart session has.0 has.1).free, is.opened session has.0 has.1)
 
 pub every_change_is_made : EveryChangeIsMade
@@ -147,7 +150,7 @@ every_change_is_made last times entries inputs first v restored kept runs =
       done.0,
       done.1,
       done.2,
-      is_one_trees told.servers told.events (is.log ++ done.0) done.1 told.turns.told,
+      is_one_tree v.asker (is.log ++ done.0) done.1 told,
       is.made,
       ap (λ (made : List Made). made ++ made_in done.0) (sym none) ∙ done.3,
     )
@@ -162,6 +165,16 @@ none_made : (b : Bool) (c : ChangesView) → KeepsIf b [] c → c.made ≡ []
 none_made true c left = left.rest ∙ none_left c.taken
 none_made false c none = none
 
+-- no log is two parts that have nothing
+none_since : (earlier since : Log) → [] ≡ earlier ++ since → since ≡ []
+none_since [] since is = sym is
+none_since (told ∷ earlier) since is = absurd (cc is)
+
+opening_made : (v : FrontView) → HasTold v.asker [] None → v.asker.changes.made ≡ []
+opening_made v told =
+    none_made v.asker.changes.is_kept v.asker.changes
+    (subst (λ (log : Log). Keeps log v.asker.changes) (none_since told.earlier told.since told.parts) told.told.made)
+
 -- taking nothing leaves it
 no_more : (c : ChangesView) → c.made ≡ [] → c ≡ changes.all_taken c
 no_more c none = λ i. record { is_kept = c.is_kept; taken = count i; made = none i }
@@ -175,5 +188,5 @@ a_new_server_is_restored last times v begins = record {
   begins = subst (λ (t : Clock). Begins last t v) (sym begins.clock) begins;
   behind = v;
   restores = refl;
-  ready = λ i. record v { clock = begins.clock i; asker = record v.asker { changes = no_more v.asker.changes (none_made v.asker.changes.is_kept v.asker.changes begins.told.made) i } };
+  ready = λ i. record v { clock = begins.clock i; asker = record v.asker { changes = no_more v.asker.changes (opening_made v begins.told) i } };
 }

@@ -18,12 +18,12 @@ use Rattle.zfront_laws.proofs.Restored.{again, is_few}
 
 -- at one input
 keeps_alike : (input : run.Input) (old new : FrontView) → InputGoes input old new → new.asker.changes.is_kept ≡ old.asker.changes.is_kept
-keeps_alike (run.Opened c password) old new goes = goes.3.0
-keeps_alike (run.Came c bytes) old new goes = goes.3.0
-keeps_alike (run.Ended c) old new goes = goes.3.0
-keeps_alike run.Tick old new goes = goes.3.0
-keeps_alike (run.Line text) old new goes = goes.3.0
-keeps_alike run.Sent old new goes = goes.3.0
+keeps_alike (run.Opened c password) old new goes = goes.3.0.0
+keeps_alike (run.Came c bytes) old new goes = goes.3.0.0
+keeps_alike (run.Ended c) old new goes = goes.3.0.0
+keeps_alike run.Tick old new goes = goes.3.0.0
+keeps_alike (run.Line text) old new goes = goes.3.0.0
+keeps_alike run.Sent old new goes = goes.3.0.0
 keeps_alike run.Took old new goes = ap (λ (v : FrontView). v.asker.changes.is_kept) goes.3
 
 pub every_run_keeps_alike : EveryRunKeepsAlike
@@ -36,7 +36,7 @@ every_run_keeps_alike (input ∷ inputs) old new few has =
 keeps_as_first : (last : ℕ) (times : Clock) (entries : List Entry) (inputs : List run.Input) (first v ready : FrontView) (b : Bool)
     → IsRestored last times entries first → first.asker.changes.is_kept ≡ b → Runs inputs first v → IsReady v ready → ready.asker.changes.is_kept ≡ b
 keeps_as_first last times entries inputs first v ready b restored kept runs behind =
-    (is_ready v ready behind).taking.0
+    (is_ready v ready behind).making.0.0
     ∙ every_run_keeps_alike inputs first v (is_few entries first (again last times entries first restored)) runs
     ∙ kept
 

@@ -24,9 +24,9 @@ use Rattle.zpieces.specs.Streams.{held_of}
 use Rattle.zpieces.specs.declared.phase.Phase.TheVariants.{Speaking}
 use Rattle.zworld_model.specs.PlainTree.{serve}
 use Rattle.zturns.specs.Turns.{Log, calls_of, tree_after}
-use Rattle.zturns.proofs.OneTree.{is_one_trees}
 use Rattle.zalone.specs.Changes.{made_by, made_in}
 use Rattle.zalone.specs.Told.{HasTold}
+use Rattle.zalone.proofs.Earlier.{is_one_tree, known_tree}
 use Rattle.zalone.specs.declared.made.Made.{Made}
 use Rattle.ztables.specs.Sweeping.{gone, is_gone}
 use Rattle.ztables.specs.Tables.{TablesView}
@@ -78,7 +78,7 @@ begins_again last times v begins = record {
   must_look = begins.must_look;
   seats = λ id lives.
       let clash : false ≡ true =
-      sym (ap is_some (finite.get-empty nat_cmp id)) ∙ sym (ap (λ (k : KnownView). contains_key k.sessions id) begins.told.known) ∙ lives in
+      sym (ap is_some (finite.get-empty nat_cmp id)) ∙ sym (ap (λ (k : KnownView). contains_key k.sessions id) (known_tree v.asker [] None begins.told)) ∙ lives in
       absurd (cc clash);
   lives = λ id has.
       absurd (none_some has.0 (sym (finite.get-empty nat_cmp id) ∙ ap (λ (t : TablesView). get t.sittings id) (sym begins.tables) ∙ has.1));
@@ -104,11 +104,11 @@ module _ (before : List Entry) (entry : Entry) (old new : FrontView) (was : IsAg
       one_answered (HasTold has.middle.asker) was.log (Update update) has.told [] tells.0 tells.1
 
   knows : has.middle.asker.known ≡ known_of (step tree 0 update).0
-  knows = told.known ∙ ap known_of (after_more opening_tree was.log ((Update update, has.told) ∷ []))
+  knows = known_tree has.middle.asker logged None told ∙ ap known_of (after_more opening_tree was.log ((Update update, has.told) ∷ []))
 
   reply_is : has.told ≡ (step tree 0 update).1
   reply_is =
-      placed opening_tree was.log [] (Update update) has.told (is_one_trees told.servers told.events logged None told.turns.told)
+      placed opening_tree was.log [] (Update update) has.told (is_one_tree has.middle.asker logged None told)
 
   tables_same : has.middle.tables ≡ old.tables
   tables_same = ap (λ (v : FrontView). v.tables) has.asks.rest
@@ -127,7 +127,7 @@ module _ (before : List Entry) (entry : Entry) (old new : FrontView) (was : IsAg
   sat id (inl before) =
       seats_stay update has.told entry.1 has.middle.tables.sittings id
       (subst (λ (t : TablesView). Has t.sittings id) (sym tables_same)
-      (was.seats id (ap (λ (k : KnownView). contains_key k.sessions id) was.told.known ∙ before)))
+      (was.seats id (ap (λ (k : KnownView). contains_key k.sessions id) (known_tree old.asker was.log None was.told) ∙ before)))
   sat id (inr now) =
       subst (λ made. Has (seated_again made has.told entry.1 has.middle.tables.sittings) id) (sym now.2)
       (subst (λ told. Has (seated_again (Open now.0) told entry.1 has.middle.tables.sittings) id) (sym (reply_is ∙ now.3))
@@ -239,7 +239,7 @@ module _ (entries : List Entry) (v : FrontView) (is : IsAgain entries v) where
     where
       below : (id : ℕ) → Has v.tables.sittings id → id ≤ v.asker.known.zxid
       below id has =
-          let known = is.told.known in
+          let known = known_tree v.asker is.log None is.told in
           let lives = sym (ap (λ (k : KnownView). contains_key k.sessions id) known) ∙ is.lives id has in
           let s = has_some (get (tree_after opening_tree (calls_of is.log)).sessions id) lives in
           let low = (granted is.log id s.0 s.1).before in

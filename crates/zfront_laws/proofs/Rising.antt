@@ -18,7 +18,7 @@ use Rattle.zknown.specs.Known.{KnownView}
 use Rattle.zworld_model.specs.PlainTree.{serve}
 use Rattle.zturns.specs.Turns.{Log, calls_of, replies_of, served, tree_after}
 use Rattle.zalone.specs.Told.{HasTold}
-use Rattle.zturns.proofs.OneTree.{is_one_trees}
+use Rattle.zalone.proofs.Earlier.{is_one_tree, known_tree}
 use Rattle.zfront.specs.Front.{FrontView, Asks}
 use Rattle.zfront_laws.specs.Runs.{IsLog}
 use Rattle.zfront_laws.proofs.GoingOn.{asks_with}
@@ -43,8 +43,8 @@ log_steps t (told ∷ log) more call reply = log_steps (tree_after t (told.0 ∷
 pub zxid_rises : (old new : FrontView) (log more : Log) (waiting later : Option Call) → IsLog old log waiting → IsLog new (log ++ more) later
     → old.asker.known.zxid ≤ new.asker.known.zxid
 zxid_rises old new log more waiting later has after =
-    let before = ap (λ (k : KnownView). k.zxid) has.told.known in
-    let behind = ap (λ (k : KnownView). k.zxid) after.told.known in
+    let before = ap (λ (k : KnownView). k.zxid) (known_tree old.asker log waiting has.told) in
+    let behind = ap (λ (k : KnownView). k.zxid) (known_tree new.asker (log ++ more) later after.told) in
     omega (arith, log_rises opening_tree log more, before, behind)
 
 -- what an open gives
@@ -86,11 +86,11 @@ new_id old new ticks log id timeout rest told asks =
     let replies = Opened id timeout ∷ rest in
     let after = asks_with old.asker calls new.asker replies asks.tells log told in
     let has = after.1 in
-    let one = is_one_trees has.servers has.events (log ++ zip calls replies) after.0 has.turns.told in
+    let one = is_one_tree new.asker (log ++ zip calls replies) after.0 has in
     let reply : Opened id timeout ≡ (step t 0 (Open ticks)).1 = placed opening_tree log (zip [] rest) (Update (Open ticks)) (Opened id timeout) one in
     let is : id ≡ t.zxid + 1 = step_opens t ticks id timeout (sym reply) in
     let next : (step t 0 (Open ticks)).0.zxid ≡ t.zxid + 1 =
     changes_take_one_zxid t 0 (Open ticks) ∙ ap (λ r. t.zxid + (if is_change r then 1 else 0)) (sym reply) in
-    let before : old.asker.known.zxid ≡ t.zxid = ap (λ (k : KnownView). k.zxid) told.known in
-    let behind = ap (λ (k : KnownView). k.zxid) has.known in
+    let before : old.asker.known.zxid ≡ t.zxid = ap (λ (k : KnownView). k.zxid) (known_tree old.asker log None told) in
+    let behind = ap (λ (k : KnownView). k.zxid) (known_tree new.asker (log ++ zip calls replies) after.0 has) in
     (omega (arith, is, before), omega (arith, is, next, behind, log_steps opening_tree log (zip [] rest) (Update (Open ticks)) (Opened id timeout)))

@@ -42,7 +42,7 @@ use Rattle.zfront_laws.proofs.GoingOn as log
 use Rattle.zfront_laws.proofs.Lighter.{Lighter, as_many, carries_lighter, closes, replies_to}
 use Rattle.zfront_laws.proofs.Lighter as tables
 use Rattle.zfront_laws.proofs.Wishes.{answers}
-use Rattle.zfront_laws.proofs.Steps.{Step, Fine, both, retabled}
+use Rattle.zfront_laws.proofs.Steps.{Step, Fine, both, making_both, makes_none, retabled}
 use Rattle.zfront_laws.proofs.Calling.{asks, tidies}
 
 ends_if : (late : Bool) (c : ℕ) (asked : Request) (calls : List Call) (replies : List Reply) (old new : FrontView)
@@ -140,7 +140,7 @@ opens greeting password c old new free has =
       goes = log.both old middle like first.goes (log.same middle like refl refl);
       few = omega (arith, first.few, tables.opens middle.clock.tick greeting password c has.1 middle.tables);
       seats = λ told waiting is fine. opened_fine greeting password c old middle has.1 told waiting free has.2 first.goes is fine;
-      taking = first.taking;
+      making = making_both old middle like first.making (makes_none middle like refl refl);
     } in
     subst (λ (v : FrontView). Step old v) (sym has.3) step
 

@@ -14,6 +14,8 @@ use Rattle.zfront_laws.proofs.Kept.{Kept}
 use Rattle.zfront_laws.proofs.Rising.{zxid_rises}
 use Rattle.zfront_laws.proofs.GoingOn as log
 use Rattle.zfront_laws.proofs.Lighter.{Lighter, unmoved}
+use Rattle.zfront_laws.proofs.Since as since
+use Rattle.zfront_laws.proofs.Since.{GoesOnSince, Making, goes_on}
 use Rattle.zfront_laws.proofs.Taking.{SameTaking, same_asker, taking_both}
 
 -- each connection that speaks for a session has its seat, and no session is newer than the tree
@@ -40,11 +42,17 @@ pub record Step (old new : FrontView) : Type 0 where
   pub goes : GoesOn old new
   pub few : held_of new.tables.streams ≤ held_of old.tables.streams
   pub seats : Seats old new
-  pub taking : SameTaking old.asker new.asker
+  pub making : Making old new
 
 -- a step by what it does to the log and to the tables
-pub steps : (old new : FrontView) → GoesOn old new → SameTaking old.asker new.asker → Lighter old.tables new.tables → Step old new
-steps old new goes taking light = record { goes = goes; few = light.0; seats = seats_kept old new goes light.1; taking = taking }
+pub steps : (old new : FrontView) → GoesOnSince old new → SameTaking old.asker new.asker → Lighter old.tables new.tables → Step old new
+steps old new more taking light =
+    let goes = goes_on old new more in
+    record { goes = goes; few = light.0; seats = seats_kept old new goes light.1; making = (taking, more) }
+
+pub making_both : (old middle new : FrontView) → Making old middle → Making middle new → Making old new
+making_both old middle new one two =
+    (taking_both old.asker middle.asker new.asker one.0 two.0, since.both old middle new one.1 two.1)
 
 -- one step behind another
 pub both : (old middle new : FrontView) → Step old middle → Step middle new → Step old new
@@ -52,17 +60,21 @@ both old middle new one two = record {
   goes = log.both old middle new one.goes two.goes;
   few = omega (arith, one.few, two.few);
   seats = seats_both old middle new one.goes one.seats two.seats;
-  taking = taking_both old.asker middle.asker new.asker one.taking two.taking;
+  making = making_both old middle new one.making two.making;
 }
 
 -- what a server became
-pub becomes : (old new like : FrontView) → new ≡ like → GoesOn old like → SameTaking old.asker like.asker → Lighter old.tables like.tables → Step old new
+pub becomes : (old new like : FrontView) → new ≡ like → GoesOnSince old like → SameTaking old.asker like.asker → Lighter old.tables like.tables → Step old new
 becomes old new like is goes taking light = subst (λ (v : FrontView). Step old v) (sym is) (steps old like goes taking light)
+
+-- nothing is made, and nothing taken
+pub makes_none : (old new : FrontView) → new.asker ≡ old.asker → new.late ≡ old.late → Making old new
+makes_none old new asker late = (same_asker old.asker new.asker asker, since.same old new asker late)
 
 -- nothing happens to its client
 pub same_client : (old new like : FrontView) → new ≡ like → like.asker ≡ old.asker → like.late ≡ old.late → Lighter old.tables like.tables
     → Step old new
-same_client old new like is kept late light = becomes old new like is (log.same old like kept late) (same_asker old.asker like.asker kept) light
+same_client old new like is kept late light = becomes old new like is (since.same old like kept late) (same_asker old.asker like.asker kept) light
 
 -- nothing at all
 pub same : (old new : FrontView) → new ≡ old → Step old new

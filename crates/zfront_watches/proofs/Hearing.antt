@@ -12,9 +12,9 @@ use Rattle.zcalls.specs.Step.{step}
 use Rattle.zevents.specs.Laws.{takes_away}
 use Rattle.zworld_model.specs.PlainTree.{serve}
 use Rattle.zturns.specs.Turns.{Log, calls_of, replies_of, served, tree_after}
-use Rattle.zturns.proofs.OneTree.{is_one_trees}
 use Rattle.zalone.specs.Alone.{AloneView}
 use Rattle.zalone.specs.Told.{HasTold, TellsSettled}
+use Rattle.zalone.proofs.Earlier.{is_one_tree}
 use Rattle.zalone.specs.Laws.{RepliesAreTheTrees}
 use Rattle.ztables.specs.Sweeping.{gone, some_made_one}
 use Rattle.zserving.specs.Replying.{absorbed}
@@ -42,7 +42,7 @@ last_right t [] call told is = head_same _ _ _ _ is
 last_right t (first ∷ log) call told is = last_right (serve t 0 first.0).0 log call told (tail_same _ _ _ _ is)
 
 one_tree : (a : AloneView) (log : Log) (call : Call) (told : Reply) → HasTold a (log ++ (call, told) ∷ []) None → told ≡ (serve (tree_after opening_tree (calls_of log)) 0 call).1
-one_tree a log call told has = last_right opening_tree log call told (is_one_trees has.servers has.events (log ++ (call, told) ∷ []) None has.turns.told)
+one_tree a log call told has = last_right opening_tree log call told (is_one_tree a (log ++ (call, told) ∷ []) None has)
 
 still_due : (must took some : Bool) → must ≡ true → (must || (took || some)) ≡ true
 still_due true took some is = refl

@@ -12,6 +12,7 @@ use Rattle.zknown.specs.Known.{known_of}
 use Rattle.zanswering.specs.declared.answer.Answer.{Answer}
 use Rattle.zsittings.specs.Sittings.{SittingsView}
 use Rattle.ztables.specs.Tables.{TablesView, sent, closed}
+use Rattle.zalone.proofs.Earlier.{known_tree}
 use Rattle.zserving.specs.Frames.{answer_frame, ends_connection}
 use Rattle.zserving.specs.Replying.{replied}
 use Rattle.zfront.specs.Front.{FrontView, with_tables}
@@ -79,7 +80,7 @@ precede n w s t hs has rest = record {
 
 -- what is known is the scene's tree
 pub knows : (must : Bool) (v : FrontView) (s : Scene) → AtIf must v s → v.asker.known ≡ known_of (tree_of s)
-knows must v s there = there.log.told.known
+knows must v s there = known_tree v.asker s.log there.waiting there.log.told
 
 call_known : (m n : SittingsView) → Keeps m n → (call : Call) → CallNames (Known m) call → CallNames (Known n) call
 call_known m n kept (Update update) names = update_known update names

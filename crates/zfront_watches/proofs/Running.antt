@@ -22,6 +22,7 @@ use Rattle.zfront.specs.Restoring.{Entry, all_taken}
 use Rattle.zfront_laws.specs.Runs.{KeepsFew, Does, Runs}
 use Rattle.zfront_laws.specs.Runs as run
 use Rattle.zfront_laws.proofs.Bare.{IsBare}
+use Rattle.zalone.proofs.Earlier.{known_tree}
 use Rattle.zfront_laws.proofs.GoingOn.{taken}
 use Rattle.zfront_laws.proofs.Inputs.{goes_with_few}
 use Rattle.zfront_laws.proofs.Restored.{IsAgain, again, is_few, is_fine, is_quiet}
@@ -116,7 +117,7 @@ restored_owners entries v is path n found = by ((is_lawful (opening_scene is.log
     by : IsOwner t.sessions n.owner → Marked v.tables.sittings n.owner
     by (inl nobody) = inl nobody
     by (inr some) =
-        inr (marks (is.seats n.owner (ap (λ (k : KnownView). contains_key k.sessions n.owner) is.told.known ∙ some)))
+        inr (marks (is.seats n.owner (ap (λ (k : KnownView). contains_key k.sessions n.owner) (known_tree v.asker is.log None is.told) ∙ some)))
 
 restored_at : (entries : List Entry) (v : FrontView) (is : IsAgain entries v) → At v (opening_scene is.log v.tables)
 restored_at entries v is = record {

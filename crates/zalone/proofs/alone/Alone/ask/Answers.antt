@@ -1,7 +1,7 @@
 use Rattle.std.proofs.lemmas.Result.{IfOk-weaker}
 use Rattle.zalone.specs.Told.{TellsAsked, TellsAskedFrom}
 use Rattle.zalone.specs.contracts.alone.Alone.{the_view}
-use Rattle.zalone.proofs.FromInitial.{asked_initial}
+use Rattle.zalone.proofs.Earlier.{asked_tells}
 use Rattle.zalone.proofs.Telling.{asks_tell}
 use Rattle.zalone.proofs.Views.{marked, asked_view}
 use Rattle.zalone.proofs.alone.Alone.ask.Goals as goal
@@ -22,7 +22,7 @@ returns-clause-told c =
     let b = c.is_err-self-inside.result in
     IfOk-weaker c.begin-told.result _ (TellsAsked c.args.self.now c.args.call (marked after b))
     (λ told began.
-    asked_initial c.args.self.now (marked after b) c.args.call told
+    asked_tells c.args.self.now (marked after b) c.args.call told
     (λ t. asks_tell t c.args.self.now c.args.call (marked after b) told
     (asked_view c.args.self.now (the_view c.self.inside) c.begin-told.new.self after b c.args.call told c.self.view_is c.if-self-2.false c.self-2.view_is began)))
     c.begin-told.ensures.began

@@ -4,7 +4,7 @@ use Rattle.zworld.specs.Steps.{HasDone}
 use Rattle.zalone.specs.Alone.{AloneView}
 use Rattle.zalone.specs.Told.{TellsOrdered, TellsOrderedFrom}
 use Rattle.zalone.specs.contracts.alone.Alone.{the_view}
-use Rattle.zalone.proofs.FromInitial.{ordered_initial}
+use Rattle.zalone.proofs.Earlier.{ordered_tells}
 use Rattle.zalone.proofs.Telling.{orders_tell}
 use Rattle.zalone.proofs.alone.Alone.chain.Goals as goal
 
@@ -26,7 +26,7 @@ returns-clause-told c =
     IfOk-weaker c.step-did.result _ (λ did. TellsOrdered c.args.self.now new)
     (λ did has.
     subst (λ v. TellsOrdered v new) c.self.view_is
-    (ordered_initial (the_view old) new
+    (ordered_tells (the_view old) new
     (λ t. orders_tell t (the_view old) new c.args.order did (subst (λ e. HasDone old.world c.step-did.new.self e did) c.event_of.ensures has)
     (record { known = refl; made = refl; waits = refl }))))
     c.step-did.ensures.happened

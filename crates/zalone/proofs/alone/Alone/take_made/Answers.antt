@@ -3,7 +3,7 @@ use Rattle.zalone.specs.Alone.{AloneView}
 use Rattle.zalone.specs.Changes.{ChangesView}
 use Rattle.zalone.specs.Told.{TellsOrdered, TellsOrderedFrom}
 use Rattle.zalone.specs.contracts.alone.Alone.{the_view}
-use Rattle.zalone.proofs.FromInitial.{ordered_initial, if_some}
+use Rattle.zalone.proofs.Earlier.{ordered_tells, if_some}
 use Rattle.zalone.proofs.Telling.{taken_tells}
 use Rattle.zalone.proofs.alone.Alone.take_made.Goals as goal
 
@@ -24,5 +24,5 @@ returns-clause-told c =
     if_some c.take.result _ (λ made. TellsOrdered c.args.self.now (new c.take.new.self))
     (λ made is.
     subst (λ (v : AloneView). TellsOrdered v (new c.take.new.self)) c.self.view_is
-    (subst (λ (changes : ChangesView). TellsOrdered old (new changes)) (sym is) (ordered_initial old _ (λ t. taken_tells t old))))
+    (subst (λ (changes : ChangesView). TellsOrdered old (new changes)) (sym is) (ordered_tells old _ (λ t. taken_tells t old))))
     c.take.ensures.taken
