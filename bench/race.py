@@ -1,83 +1,95 @@
 #!/usr/bin/env python3
 """Measures races of the built program, and prints how many calls a second it answers.
 
-    bench/race.py [NAME=PROGRAM ..]
+    bench/race.py [TIMES] [NAME=PROGRAM ..]
 
-A race is run over chains of 1 and 3 servers with 1 and 4 clients: 1,000 rounds of three calls, nine times. Its calls are over
-when its threads have ended, which is looked for every half millisecond; what comes after that, the audit and the lines, is told
-apart, in milliseconds. What a race of one round takes (its threads start and end) is taken off. Each further word names a program without proofs that races in the same way, called as `PROGRAM --kind ring
---servers N --clients C --rounds 1000 --idle 6 --nap 100`, which prints `X calls/s` of itself; they run in turns. The best
-and the median of the nine are printed, since a neighbour on the machine only makes a race slower.
+A race is run over chains of 1 and 3 servers with 1, 4 and 31 clients: 1,000 rounds of three calls,
+TIMES times, or nine. Its time goes from the start of the first client's thread to the end of the
+last one's, as bench/race_threads.c tells it from within. So the other threads' start and end isn't
+in it. What comes behind the last thread, the audit and the lines, is told apart, in milliseconds.
+
+Each further word names another build of zk_race, or a program without proofs that races in the same
+way. That one is called as `PROGRAM --kind ring --servers N --clients C --rounds 1000 --repeat 1
+--idle I --nap 100`: of the threads of a race I are idle. All run in turns. The best, the mean of
+the best tenth and the median are printed, since a neighbour on the machine only makes a race
+slower.
 """
 import os
-import re
 import statistics
 import subprocess
 import sys
-import time
+import tempfile
 
 HERE = os.path.dirname(os.path.abspath(__file__))
 PROVE = [f"{HERE}/../zk", "prove", "race"]
-# (the proved program's path is all that this prints)
-ZK = subprocess.run(PROVE, stdout=subprocess.PIPE, text=True, check=True).stdout.strip()
-TIMES, ROUNDS, CALLS = 9, 1000, 3
+TIMES, ROUNDS, CALLS, LIMIT = 9, 1000, 3, 20
+# The threads of a run beside its clients': sixteen servers and the master.
+OTHERS = 17
+HEAD = ["Servers", "Clients", "Program", "Calls a second, best", "Best tenth", "Median"]
+HEAD.append("Audit and lines, ms")
 
 
-def race(servers, clients, rounds):
-    """The seconds of one race until its threads had ended, those after it, and whether all of it went well."""
-    words = [ZK, "race", "--servers", str(servers), "--clients", str(clients), "--rounds", str(rounds)]
-    began = time.monotonic()
-    with subprocess.Popen(words, stdout=subprocess.PIPE, text=True) as ran:
-        raced = threads_end(ran)
-        said = ran.stdout.read()
-    ended = time.monotonic()
-    return raced - began, ended - raced, ran.returncode == 0 and said.endswith("audit ok\n")
+class Racer:
+    """A program that races: a build of zk_race, or one without proofs."""
+
+    def __init__(self, name, program, loaded):
+        self.name, self.program, self.loaded = name, program, loaded
+        words = [program, "race", "--servers", "1", "--clients", "1", "--rounds", "1"]
+        ran = subprocess.run(words, capture_output=True, text=True, timeout=60, check=False)
+        self.is_audited = ran.stdout.endswith("audit ok\n")
+
+    def words(self, servers, clients):
+        """The words of a race."""
+        of_all = ["--servers", str(servers), "--clients", str(clients), "--rounds", str(ROUNDS)]
+        if self.is_audited:
+            return [self.program, "race", *of_all]
+        idle = ["--idle", str(OTHERS - servers), "--nap", "100"]
+        return [self.program, "--kind", "ring", *of_all, "--repeat", "1", *idle]
+
+    def race(self, servers, clients):
+        """The calls a second of one race, and the milliseconds behind it."""
+        told = {"RACE_OTHERS": str(OTHERS), "RACE_CLIENTS": str(clients)}
+        env = {**os.environ, "LD_PRELOAD": self.loaded, **told}
+        how = {"capture_output": True, "text": True, "timeout": LIMIT, "check": True}
+        ran = subprocess.run(self.words(servers, clients), env=env, **how)
+        if self.is_audited and not ran.stdout.endswith("audit ok\n"):
+            raise SystemExit(f"{self.name}: a race did not end well")
+        _, raced, after = ran.stderr.split()
+        return CALLS * ROUNDS / float(raced), 1000 * float(after)
 
 
-def threads_end(ran):
-    """When the process had more than one thread for the last time."""
-    last = time.monotonic()
-    while ran.poll() is None:
-        try:
-            if len(os.listdir(f"/proc/{ran.pid}/task")) > 1:
-                last = time.monotonic()
-        except FileNotFoundError:
-            break
-        time.sleep(0.0005)
-    return last
-
-
-def other(program, servers, clients):
-    """The calls a second that the program says of itself."""
-    words = [program, "--kind", "ring", "--servers", str(servers), "--clients", str(clients), "--rounds", str(ROUNDS)]
-    said = subprocess.run([*words, "--idle", "6", "--nap", "100"], stdout=subprocess.PIPE, text=True).stdout
-    return float(re.findall(r"([0-9.]+) calls/s", said)[-1])
-
-
-def line(servers, clients, name, rates, after):
-    audit = f"{1000 * statistics.median(after):.1f}" if after else ""
-    print(f"| {servers} | {clients} | {name} | {max(rates):,.0f} | {statistics.median(rates):,.0f} | {audit} |")
+def measure(racers, servers, clients, times):
+    """Races all programs in turns, and prints a line for each."""
+    told = {it.name: [] for it in racers}
+    for _ in range(times):
+        for it in racers:
+            told[it.name].append(it.race(servers, clients))
+    for it in racers:
+        rates = sorted((rate for rate, _ in told[it.name]), reverse=True)
+        tenth = statistics.mean(rates[: max(1, times // 10)])
+        after = f"{statistics.median(ms for _, ms in told[it.name]):.1f}" if it.is_audited else ""
+        figures = [f"{rate:,.0f}" for rate in (rates[0], tenth, statistics.median(rates))]
+        words = [str(servers), str(clients), it.name, *figures, after]
+        print(f"| {' | '.join(words)} |", flush=True)
 
 
 def main():
-    others, well = dict(it.split("=", 1) for it in sys.argv[1:]), True
-    print("| Servers | Clients | Program | calls a second, best | median | audit and lines, ms |\n|---|---|---|---|---|---|")
-    for servers in (1, 3):
-        for clients in (1, 4):
-            idle = min(race(servers, clients, 1)[0] for _ in range(TIMES))
-            rates, after = {name: [] for name in ["zk", *others]}, []
-            for _ in range(TIMES):
-                taken, audited, is_well = race(servers, clients, ROUNDS)
-                well &= is_well
-                after.append(audited)
-                rates["zk"].append(CALLS * (ROUNDS - 1) / max(taken - idle, 1e-6))
-                for name, program in others.items():
-                    rates[name].append(other(program, servers, clients))
-            for name, given in rates.items():
-                line(servers, clients, name, given, after if name == "zk" else [])
-    if not well:
-        print("a race did not end well")
-    return 0 if well else 1
+    # (the proved program's path is all that this prints)
+    built = subprocess.run(PROVE, stdout=subprocess.PIPE, text=True, check=True).stdout.strip()
+    words = sys.argv[1:]
+    times = int(words.pop(0)) if words and words[0].isdigit() else TIMES
+    programs = {"zk": built, **dict(it.split("=", 1) for it in words)}
+    with tempfile.TemporaryDirectory() as folder:
+        loaded = f"{folder}/race_threads.so"
+        source = f"{HERE}/race_threads.c"
+        subprocess.run(["cc", "-O2", "-shared", "-fPIC", "-o", loaded, source], check=True)
+        racers = [Racer(*it, loaded) for it in programs.items()]
+        print(f"| {' | '.join(HEAD)} |\n{'|---' * len(HEAD)}|")
+        for servers in (1, 3):
+            for clients in (1, 4, 31):
+                measure(racers, servers, clients, times)
+    print(f"load {os.getloadavg()[0]:.1f}")
+    return 0
 
 
 if __name__ == "__main__":

@@ -1,18 +1,16 @@
 -- Steps of a client, seen from where its desk was before it was made ready.
-use Rattle.std.proofs.Common.{◌≡◌, ◌<◌, ℕ, [], ◌∷◌, ◌++◌, Option, List, refl, sym, ap, ◌∙◌, subst, max, length, arith}
+use Rattle.std.proofs.Common.{◌≡◌, ◌<◌, ℕ, Option, List, sym, ◌∙◌, subst, max, length, arith}
 use Rattle.std.proofs.Math.Nat.{le-max_left, le-max_right, max-le, max-zero}
 use Rattle.zcalls.specs.declared.call.Call.{Call}
 use Rattle.zcalls.specs.declared.reply.Reply.{Reply}
 use Rattle.zprotocol.specs.declared.process.Process.{Process}
 use Rattle.zprotocol.specs.client.View.{ClientView}
-use Rattle.zworld_model.specs.History.{History}
 use Rattle.ztraces.specs.declared.stamp.TheConstants.{MAX_STAMP}
-use Rattle.ztraces.specs.declared.trace.Act.{Act}
 use Rattle.ztraces.specs.declared.trace.TraceEvent.{TraceEvent}
 use Rattle.ztraces.specs.Stamps.{next_stamp}
 use Rattle.zdesks.specs.declared.desk.Desk.{Desk}
 use Rattle.zdesks.specs.declared.limits.TheConstants.{MAX_EVENTS}
-use Rattle.zdesks.specs.Desks.{HasEntered, IsCutForNeed, IsEntered, IsLostForNeed, SameBooks, SameRest, TreeStamped}
+use Rattle.zdesks.specs.Desks.{IsCutForNeed, IsLostForNeed, SameBooks, SameRest, TreeStamped}
 use Rattle.zdesks.proofs.Entered.{entered_too}
 use Rattle.zdesks.proofs.Pending.{is_next}
 use Rattle.zdesks.proofs.Wires.{same_books, same_desk}

@@ -1,5 +1,6 @@
 -- What is said of a result, and follows from what is said of it.
-use Rattle.std.proofs.Common.{◌≡◌, Option, Some, None, is_some, refl}
+use Rattle.std.proofs.Common.{◌≡◌, Option, Some, None, is_some, false, refl}
+use mathlib.Core.Bool.{true≢false}
 use Rattle.std.specs.Prelude.{Result, Ok, Err, IfOk, OnOk, OnErr}
 use Rattle.std.specs.Option.{option_map}
 
@@ -19,3 +20,7 @@ module _ {A E : Type 0} where
 pub some_of_map : {A B : Type 0} (f : A → B) (o : Option A) → is_some (option_map f o) ≡ is_some o
 some_of_map f None = refl
 some_of_map f (Some x) = refl
+
+pub none_if : {A : Type 0} (o : Option A) → is_some o ≡ false → o ≡ None
+none_if None e = refl
+none_if (Some x) e = absurd (true≢false e)

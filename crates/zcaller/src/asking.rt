@@ -6,8 +6,9 @@ ghost use Rattle.zprotocol.specs.declared.process.Process.TheVariants.{Client};
 ghost use Rattle.zworld_model.specs.declared.history.CallEvent.TheVariants as call_event;
 ghost use Rattle.ztraces.specs.declared.stamp.TheConstants.{MAX_STAMP};
 ghost use Rattle.ztraces.specs.declared.trace.Act.TheVariants as act;
-ghost use Rattle.zdesks.specs.Desks.{HasRoom, IsCutForNeed, IsLostForNeed, IsSettled, process_of};
-ghost use Rattle.zdesks.specs.Desks.{SameBooks, SameDesk, stamp_of_desk, TreeTaken};
+ghost use Rattle.zdesks.specs.Desks.{HasRoom, IsCutForNeed, IsLostForNeed, IsSettled};
+ghost use Rattle.zdesks.specs.Desks.{is_traced_of, process_of, SameBooks, SameDesk, stamp_of_desk};
+ghost use Rattle.zdesks.specs.Desks.{TreeTaken};
 ghost use Rattle.zcaller.specs.Callers.{MayRefuse};
 ghost use Rattle.zcaller.specs.Steps.{Begins, Moves, SendsAgain};
 
@@ -43,6 +44,9 @@ pub(crate) fn begin_at(
     ensures books { OnErr result (SameBooks desk.old desk.new) }
     ensures same { SameDesk desk.old desk.new }
 {
+    if !desk.is_traced() {
+        return begin_untraced(id, desk, core, call, next);
+    }
     let Ok(traced) = call.copied(alloc) else {
         drop(call);
         return Err(BeginFault::Memory);
@@ -62,6 +66,38 @@ pub(crate) fn begin_at(
             drop(told);
             Err(fault)
         }
+    }
+}
+
+// The same for a client that isn't traced. The call isn't copied for a trace and a record.
+fn begin_untraced(
+    id: ClientId,
+    desk: &mut Desk,
+    core: &mut ClientCore,
+    call: Call,
+    next: Stamp,
+) -> Result<CallNumber, BeginFault>
+    requires me { process_of desk.old ≡ Client id }
+    requires untraced { is_traced_of desk.old ≡ false }
+    requires settled { IsSettled desk.old }
+    requires next { next < MAX_STAMP → max (stamp_of_desk desk.old) 0 < next }
+    requires free { is_some core.old.outstanding ≡ false }
+    ensures at { (t : TreeTaken) → Moves desk.old core.old desk.new core.new t t }
+    ensures begun { IfOk result (Begins id desk.old core.old desk.new core.new call) }
+    ensures fault { IfErr result (MayRefuse core.old) }
+    ensures stamp { OnOk result (stamp_of_desk desk.new ≡ next) }
+    ensures whole { OnOk result (IsCutForNeed desk.old desk.new (stamp_of_desk desk.new)) }
+    ensures unlost { OnOk result (IsLostForNeed desk.old desk.new (stamp_of_desk desk.new)) }
+    ensures kept { OnErr result (core.new ≡ core.old) }
+    ensures books { OnErr result (SameBooks desk.old desk.new) }
+    ensures same { SameDesk desk.old desk.new }
+{
+    match core.begin(call, &mut desk.out) {
+        Ok(number) => {
+            desk.enter_untraced(next);
+            Ok(number)
+        }
+        Err(fault) => Err(fault),
     }
 }
 

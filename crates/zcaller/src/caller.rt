@@ -15,7 +15,7 @@ use zcalls::{Call, CallNumber, ClientId, Reply};
 use zclient::{BeginFault, ClientCore};
 use zdesks::{Desk, Ending, Stamped};
 use zpath::Memory;
-use zprotocol::Process;
+use zprotocol::{Process, ServerId};
 use ztraces::Stamp;
 
 /// A client with its desk. It went by the client table from its opening view, through its trace if
@@ -66,6 +66,20 @@ impl Caller {
     {
         let Caller { id, .. } = self;
         *id
+    }
+
+    /// The head of the chain, as the master last told it.
+    pub fn head(&self) -> Option<ServerId>
+        ensures { result ≡ (caller_view self.now).head }
+    {
+        self.core.head()
+    }
+
+    /// The tail of the chain, as the master last told it.
+    pub fn tail(&self) -> Option<ServerId>
+        ensures { result ≡ (caller_view self.now).tail }
+    {
+        self.core.tail()
     }
 
     /// The last stamp of its events, or a later one that it was told of.
@@ -159,8 +173,7 @@ impl Caller {
         if !self.desk.reserve() {
             return None;
         }
-        let front = self.front.take();
-        let Some((from, stamped)) = front_of(&mut self.desk, &mut self.link, front) else {
+        let Some((from, stamped)) = front_of(&mut self.desk, &mut self.link, &mut self.front) else {
             return None;
         };
         let (stamp, message) = stamped;

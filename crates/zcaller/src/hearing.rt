@@ -1,13 +1,14 @@
 //! A client hears a message.
 
 ghost use Rattle.std.specs.Prelude.{◌≡◌, ◌+◌, ◌<◌, [], None, Some, IfErr, IfOk, OnErr, OnOk, max, if◌then◌else◌};
+ghost use Rattle.std.specs.Prelude.{IsTrue, false};
 ghost use Rattle.zprotocol.specs.declared.process.Process.TheVariants.{Client};
 ghost use Rattle.zworld_model.specs.declared.outcome.Outcome.TheVariants.{Acted};
 ghost use Rattle.ztraces.specs.declared.stamp.TheConstants.{MAX_STAMP};
 ghost use Rattle.ztraces.specs.declared.trace.Act.TheVariants.{Took};
 ghost use Rattle.zdesks.specs.Desks.{HasRoom, HasTaken, IsCutForNeed, IsLostForNeed, IsSettled};
-ghost use Rattle.zdesks.specs.Desks.{Keeps, pending, process_of, SameBooks, SameDesk, SameRest};
-ghost use Rattle.zdesks.specs.Desks.{stamp_of_desk};
+ghost use Rattle.zdesks.specs.Desks.{is_traced_of, Keeps, pending, process_of, SameBooks, SameDesk};
+ghost use Rattle.zdesks.specs.Desks.{link_count, SameRest, stamp_of_desk};
 ghost use Rattle.zcaller.specs.Steps.{answer_event, Heard, MayHear, Moves, MovesAt};
 
 use std::alloc::Global;
@@ -16,38 +17,44 @@ use zcalls::{ClientId, Reply};
 use zclient::ClientCore;
 use zdesks::{Desk, Stamped};
 use zpath::Memory;
-use zprotocol::{Message, Process};
+use zprotocol::{MAX_SERVERS, Message, Process};
 use zserver::Snapshot;
 use ztraces::{Act, Stamp};
 use zworld_model::{CallEvent, Outcome};
+
+// So many links are from the master and the servers. They come first, and no client sends to
+// another.
+const SENDERS: usize = MAX_SERVERS as usize + 1;
 
 // What counts as still in its ring, or else the next message.
 pub(crate) fn front_of(
     desk: &mut Desk,
     last: &mut usize,
-    front: Option<(Process, Stamped)>,
+    front: &mut Option<(Process, Stamped)>,
 ) -> Option<(Process, Stamped)>
-    ensures taken { HasTaken desk.old desk.new front result }
+    ensures taken { HasTaken desk.old desk.new front.old result }
+    ensures front { front.new ≡ None }
     ensures same { SameRest desk.old desk.new }
 {
-    match front {
-        Some(front) => Some(front),
-        None => look(desk, last),
+    if front.is_some() {
+        return front.take();
     }
+    look(desk, last)
 }
 
-// The next message of its links, each in turn. It begins behind the link that it took from last,
-// and comes to that one at the end.
+// The next message of the links from its senders, each in turn. It begins behind the link that it
+// took from last, and comes to that one at the end. A link without a message costs a look: no
+// message is moved.
 fn look(desk: &mut Desk, last: &mut usize) -> Option<(Process, Stamped)>
     ensures taken { HasTaken desk.old desk.new None result }
     ensures same { SameRest desk.old desk.new }
 {
-    for _ in 0..desk.links() {
-        let link = behind(*last, desk.links());
+    let links = desk.links().min(SENDERS);
+    for _ in 0..links {
+        let link = behind(*last, links);
         *last = link;
-        match take_at(desk, link) {
-            Some(taken) => return Some(taken),
-            None => {}
+        if has_message(desk, link) {
+            return desk.take(link);
         }
     }
     None
@@ -65,18 +72,16 @@ fn behind(link: usize, links: usize) -> usize
     }
 }
 
-// The next message of that link, where there is one.
-fn take_at(desk: &mut Desk, link: usize) -> Option<(Process, Stamped)>
-    ensures taken { HasTaken desk.old desk.new None result }
+// Whether that link is there, and has a message.
+fn has_message(desk: &mut Desk, link: usize) -> bool
+    ensures there { IsTrue result → link < link_count desk.new }
+    ensures keeps { Keeps desk.old desk.new }
     ensures same { SameRest desk.old desk.new }
 {
     if link >= desk.links() {
-        return None;
+        return false;
     }
-    if desk.is_empty(link) {
-        return None;
-    }
-    desk.take(link)
+    !desk.is_empty(link)
 }
 
 // A client hears a message, or keeps it where there is no memory.
@@ -150,6 +155,9 @@ fn hear(
     ensures pending { OnErr result (pending desk.new ≡ []) }
     ensures same { SameDesk desk.old desk.new }
 {
+    if !desk.is_traced() {
+        return hear_untraced(id, desk, core, from, stamp, message, next);
+    }
     let Ok(told) = told_of(alloc, id, &message) else {
         return Err((stamp, message));
     };
@@ -164,6 +172,43 @@ fn hear(
             drop(told);
             Err((stamp, message))
         }
+    }
+}
+
+// The same for a client that isn't traced. The reply isn't copied for a record.
+fn hear_untraced(
+    id: ClientId,
+    desk: &mut Desk,
+    core: &mut ClientCore,
+    from: Process,
+    stamp: Stamp,
+    message: Message<Snapshot>,
+    next: Stamp,
+) -> Result<Option<Reply>, Stamped>
+    requires me { process_of desk.old ≡ Client id }
+    requires untraced { is_traced_of desk.old ≡ false }
+    requires settled { IsSettled desk.old }
+    requires next { next < MAX_STAMP → max (stamp_of_desk desk.old) stamp < next }
+    ensures at { OnOk result
+        (MovesAt desk.old core.old desk.new core.new from (stamp, message)) }
+    ensures heard { IfOk result
+        (Heard id desk.old core.old desk.new core.new from (stamp, message)) }
+    ensures stamp { OnOk result (stamp_of_desk desk.new ≡ next) }
+    ensures whole { IsCutForNeed desk.old desk.new (stamp_of_desk desk.new) }
+    ensures unlost { IsLostForNeed desk.old desk.new (stamp_of_desk desk.new) }
+    ensures back { IfErr result (λ back. back ≡ (stamp, message)) }
+    ensures kept { OnErr result (core.new ≡ core.old) }
+    ensures keeps { OnErr result (Keeps desk.old desk.new) }
+    ensures books { OnErr result (SameBooks desk.old desk.new) }
+    ensures pending { OnErr result (pending desk.new ≡ []) }
+    ensures same { SameDesk desk.old desk.new }
+{
+    match core.take(from, message, &mut desk.out) {
+        Ok(reply) => {
+            desk.enter_untraced(next);
+            Ok(reply)
+        }
+        Err(message) => Err((stamp, message)),
     }
 }
 

@@ -78,6 +78,22 @@ impl ClientCore {
         Some(*number)
     }
 
+    /// Returns the head of the chain, as the master last told this client.
+    pub fn head(&self) -> Option<ServerId>
+        ensures { result ≡ self.now.head }
+    {
+        let ClientCore { head, .. } = self;
+        *head
+    }
+
+    /// Returns the tail of the chain, as the master last told this client.
+    pub fn tail(&self) -> Option<ServerId>
+        ensures { result ≡ self.now.tail }
+    {
+        let ClientCore { tail, .. } = self;
+        *tail
+    }
+
     /// Returns why no call can be invoked now: `Busy` (one is outstanding) or `Exhausted` (no call
     /// number is left).
     #[tactic(auto, unfolding(zprotocol::specs::client::Table::begin_fault))]

@@ -1,10 +1,12 @@
 //! The trace of an endpoint.
 
 ghost use Rattle.std.specs.Prelude.{◌≡◌, true, false, IsFalse, IsTrue, max, option_to_list};
+ghost use Rattle.zworld_model.specs.History.{History};
+ghost use Rattle.ztraces.specs.declared.trace.Act.{Act};
 ghost use Rattle.ztraces.specs.Stamps.{next_stamp};
 ghost use Rattle.zdesks.specs.Desks.{HasRoom, HasSeen, HasSeenRoom, HasTold, IsCutForNeed};
 ghost use Rattle.zdesks.specs.Desks.{IsEntered, IsLostForNeed, Keeps, SameDesk, SameRest};
-ghost use Rattle.zdesks.specs.Desks.{is_lost_of, stamp_of_desk};
+ghost use Rattle.zdesks.specs.Desks.{is_cut_of, is_lost_of, is_traced_of, stamp_of_desk};
 ghost use Rattle.zdesks.specs.Desks.{StandsAfter, StandsBeside};
 
 use crate::desk::Desk;
@@ -85,6 +87,34 @@ impl Desk {
                 self.is_cut = true;
             }
         }
+    }
+
+    /// Returns whether it keeps a trace and a record.
+    pub fn is_traced(&self) -> bool
+        ensures { result ≡ is_traced_of self.now }
+    {
+        self.is_traced
+    }
+
+    /// Notes the timestamp of an event, if it keeps no trace and no record. So whoever calls it
+    /// makes no copy of what was done and seen.
+    pub fn enter_untraced(&mut self, stamp: Stamp)
+        requires { is_traced_of self.old ≡ false }
+        ensures stands { (act : Act) (told : History)
+            → StandsAfter self.old self.new act stamp told }
+        ensures beside { (act : Act) (told : History)
+            → StandsBeside self.old self.new act stamp told }
+        ensures whole { (is_cut_of self.old ≡ true) × (is_cut_of self.new ≡ true) }
+        ensures kept { IsLostForNeed self.old self.new stamp }
+        ensures stamp { self.new.stamp ≡ stamp }
+        ensures rest { (self.new.held ≡ self.old.held) × (self.new.out ≡ self.old.out) }
+        ensures same { SameDesk self.old self.new }
+    {
+        self.stamp = stamp;
+        if stamp.number() < MAX_STAMP {
+            return;
+        }
+        self.is_lost = true;
     }
 
     // Appends what the caller saw to the record.

@@ -13,15 +13,23 @@ use Rattle.zrun.specs.Asked.{CalledPatientlyUntil}
 use Rattle.zrun.specs.Clients.{BelongsTo, SameClient}
 use Rattle.zrun.specs.Origins.{Run}
 
+-- it is the path of this node
+abbrev pub IsPathOf : ℕ → List (List ℕ) → Type 0
+IsPathOf node path = text_of path ≡ codes "/n" ++ decimal node
+
 -- the call asks whether this node exists
 abbrev pub AsksFor : ℕ → Call → Type 0
-AsksFor node call = (path : List (List ℕ)) × (text_of path ≡ codes "/n" ++ decimal node) × (call ≡ Query (query.Exists path))
+AsksFor node call = (path : List (List ℕ)) × IsPathOf node path × (call ≡ Query (query.Exists path))
 
 -- from the one state to the other the client asked for the node, and received this version
 abbrev pub WasTold : ℕ → ℕ → Client → Client → Type 0
 WasTold node version a b =
     (patience : Patience) × (call : Call) × (stat : Stat)
     × AsksFor node call × CalledPatientlyUntil patience call a b (reply.Exists stat) × (stat.version ≡ version)
+
+-- the same, of the node with this path
+abbrev pub IsToldOf : List (List ℕ) → ℕ → Client → Client → Type 0
+IsToldOf path version a b = (node : ℕ) → IsPathOf node path → WasTold node version a b
 
 -- it did so after any other calls
 abbrev pub WasToldSince : ℕ → Client → Client → ℕ → Type 0

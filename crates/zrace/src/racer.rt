@@ -1,10 +1,10 @@
 //! A racing client: its calls, and the versions that it received.
 
-ghost use Rattle.std.specs.Prelude.{◌≡◌, ◌++◌, [], All, IfSome, codes};
-ghost use Rattle.std.specs.Fmt.{decimal};
-ghost use Rattle.zpath.specs.Grammar.{text_of};
+ghost use Rattle.std.specs.Prelude.{◌≡◌, [], All, IfSome};
+ghost use Rattle.zcalls.specs.declared.call.Call.TheVariants as call;
+ghost use Rattle.zcalls.specs.declared.call.Query.TheVariants as query;
 ghost use Rattle.zrun.specs.Clients.{SameClient};
-ghost use Rattle.zrace.specs.Seen.{AsksFor, HasSeen, WasTold, WasToldSince};
+ghost use Rattle.zrace.specs.Seen.{HasSeen, IsPathOf, IsToldOf, WasToldSince};
 
 use crate::keeping::keep;
 use std::alloc::Global;
@@ -61,7 +61,8 @@ impl Racer {
     }
 }
 
-// Creates a node, sets it once, and asks for its version. The server is halted after the set.
+// Creates a node, sets it once, and asks for its version. The server is halted after the set. The
+// three calls share the node's path.
 fn call_thrice(
     client: &mut Client,
     alloc: Global,
@@ -71,12 +72,13 @@ fn call_thrice(
     ensures same { SameClient client.old client.new }
     ensures told { IfSome result (WasToldSince node client.old client.new) }
 {
-    let created = client.ask(create(alloc, node)?, PATIENCE).ok()?;
+    let path = path_of(alloc, node)?;
+    let created = client.ask(create(alloc, &path)?, PATIENCE).ok()?;
     drop(created);
-    let set = client.ask(set(alloc, node)?, PATIENCE).ok()?;
+    let set = client.ask(set(alloc, &path)?, PATIENCE).ok()?;
     drop(set);
     halt_one(client, halted);
-    version_of(client, alloc, node)
+    version_of(client, path)
 }
 
 // Halts this server, if any.
@@ -88,13 +90,12 @@ fn halt_one(client: &mut Client, halted: Option<ServerId>)
     }
 }
 
-// Asks for the version of a node.
-fn version_of(client: &mut Client, alloc: Global, node: u64) -> Option<u64>
+// Asks for the version of the node with this path.
+fn version_of(client: &mut Client, path: Path) -> Option<u64>
     ensures same { SameClient client.old client.new }
-    ensures told { IfSome result (λ version. WasTold node version client.old client.new) }
+    ensures told { IfSome result (λ version. IsToldOf path version client.old client.new) }
 {
-    let call = exists(alloc, node)?;
-    let Ok(reply) = client.ask(call, PATIENCE) else {
+    let Ok(reply) = client.ask(exists(path), PATIENCE) else {
         return None;
     };
     match reply {
@@ -106,8 +107,8 @@ fn version_of(client: &mut Client, alloc: Global, node: u64) -> Option<u64>
     }
 }
 
-fn create(alloc: Global, node: u64) -> Option<Call> {
-    let path = path_of(alloc, node)?;
+fn create(alloc: Global, path: &Path) -> Option<Call> {
+    let path = path.copied(alloc).ok()?;
     let bytes = Data::empty(alloc);
     Some(Call::Update(Update::Create(Create {
         path,
@@ -116,8 +117,8 @@ fn create(alloc: Global, node: u64) -> Option<Call> {
     })))
 }
 
-fn set(alloc: Global, node: u64) -> Option<Call> {
-    let path = path_of(alloc, node)?;
+fn set(alloc: Global, path: &Path) -> Option<Call> {
+    let path = path.copied(alloc).ok()?;
     let bytes = Data::empty(alloc);
     Some(Call::Update(Update::SetData(SetData {
         path,
@@ -126,14 +127,14 @@ fn set(alloc: Global, node: u64) -> Option<Call> {
     })))
 }
 
-fn exists(alloc: Global, node: u64) -> Option<Call>
-    ensures { IfSome result (AsksFor node) }
+fn exists(path: Path) -> Call
+    ensures { result ≡ call.Query (query.Exists path) }
 {
-    Some(Call::Query(Query::Exists(path_of(alloc, node)?)))
+    Call::Query(Query::Exists(path))
 }
 
 fn path_of(alloc: Global, node: u64) -> Option<Path>
-    ensures { IfSome result (λ path. text_of path ≡ codes "/n" ++ decimal node) }
+    ensures { IfSome result (IsPathOf node) }
 {
     let text = format!(in alloc; "/n{node}").ok()?;
     Path::parse(alloc, text.as_str()).ok()

@@ -5,3 +5,4 @@ pub mod Still
 pub mod Pairs
 pub mod Places
 pub mod Left
+mod Calls

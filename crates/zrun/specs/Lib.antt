@@ -11,3 +11,5 @@ pub mod Members
 pub mod Faults
 pub mod Asked
 pub mod Untraced
+pub mod Ticks
+pub mod Tickers

@@ -1,5 +1,5 @@
 -- What a clause says of a cluster that keeps no traces.
-use Rattle.std.specs.Prelude.{◌≡◌, ℕ, false, List}
+use Rattle.std.specs.Prelude.{ℕ, false, List}
 use Rattle.zdesks.specs.declared.desk.Ending.{Ending}
 use Rattle.zdesks.specs.Desks.{Each}
 use Rattle.zdesks.specs.Endings.{LeavesNothing, SameWires}

@@ -88,6 +88,21 @@ impl Client {
         self.caller.id()
     }
 
+    /// Returns the head of the chain, as the master last told this client. None if it told that no
+    /// server is left. The client hears what the master tells at a turn.
+    pub fn head(&self) -> Option<ServerId>
+        ensures { result ≡ (caller_view (caller_of self.now)).head }
+    {
+        self.caller.head()
+    }
+
+    /// Returns the tail of the chain, as the master last told this client.
+    pub fn tail(&self) -> Option<ServerId>
+        ensures { result ≡ (caller_view (caller_of self.now)).tail }
+    {
+        self.caller.tail()
+    }
+
     /// Returns the last Lamport timestamp that it knows.
     pub fn stamp(&self) -> Stamp
         ensures { result ≡ caller_stamp (caller_of self.now) }

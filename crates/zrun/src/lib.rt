@@ -21,6 +21,8 @@ mod posts;
 mod promises;
 mod starting;
 mod supply;
+mod ticker;
+mod ticks;
 mod untraced;
 
 pub use asking::TURNS;
@@ -32,6 +34,8 @@ pub use faults::{StartFault, Unanswered};
 pub use gates::open_gates;
 pub use patience::Patience;
 pub use promises::HandsBack;
+pub use ticker::Ticker;
+pub use ticks::Ticks;
 pub use untraced::Untraced;
 pub use zcalls::{
     Call, Check, ClientId, Create, Data, DataFault, Delete, Expected, Kind, Multi, Part, PartReply,
@@ -39,7 +43,8 @@ pub use zcalls::{
 };
 pub use zclient::BeginFault;
 pub use zconsole::ends::{Closed, Console};
+pub use zconsole::outcome::OrderOutcome;
 pub use zpath::{Memory, Path, PathFault};
-pub use zprotocol::ServerId;
+pub use zprotocol::{JoinFault, RetireFault, ServerId};
 pub use zthreads::{Gate, Open};
 pub use ztraces::Stamp;

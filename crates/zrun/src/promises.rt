@@ -4,8 +4,10 @@ ghost use Rattle.std.specs.Prelude.{◌≡◌};
 ghost use Rattle.zdesks.specs.Desks.{SameDesk};
 ghost use Rattle.zthreads.specs.Owned.{master_desk, server_desk};
 ghost use Rattle.zrun.specs.Clients.{SameClient};
+ghost use Rattle.zrun.specs.Ticks.{CountsTicks};
 
 use crate::client::Client;
+use crate::ticks::Ticks;
 use std::snapshot::Snapshot;
 use std::thread::Promise;
 use zconsole::ends::Inbox;
@@ -45,4 +47,13 @@ impl HandsBack {
 
 impl<T> Promise<(Client, T)> for HandsBack {
     ghost kept_by = { λ p r. SameClient p.0.value r.0 };
+}
+
+/// The client that comes back from a ticker is the one that went, and began as many calls as ticks
+/// are counted, or more.
+#[derive(Drop)]
+pub(crate) struct KeepsTicking(pub(crate) Snapshot<Client>);
+
+impl Promise<(Client, Ticks)> for KeepsTicking {
+    ghost kept_by = { λ p r. SameClient p.0.value r.0 × CountsTicks p.0.value r.0 r.1 };
 }

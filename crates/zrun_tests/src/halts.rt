@@ -86,8 +86,8 @@ fn halted(rt: HostRuntime) -> Result<(), Fail> {
     Ok(())
 }
 
-// Halts the first server, and takes turns until the master tells of the new chain. Whether it did.
-fn halt_and_hear(client: &mut Client) -> bool
+/// Halts the first server, and takes turns until the master tells of the new chain. Whether it did.
+pub fn halt_and_hear(client: &mut Client) -> bool
     ensures { SameClient client.old client.new }
 {
     client.halt(server(1));

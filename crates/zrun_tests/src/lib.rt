@@ -1,6 +1,7 @@
 //! Tests of the service in threads: threads that meet, a server that joins late, one that leaves,
 //! halted servers, a ring that is full, turns that are all taken, stamps that are learnt, a client
-//! that is not put back, and what the audit says of the traces of a cluster that was joined.
+//! that is not put back, what the master says to orders, what a client knows of the chain, a
+//! ticker, and what the audit says of the traces of a cluster that was joined.
 #![tactic(auto)]
 
 #[cfg(test)]
@@ -18,17 +19,23 @@ mod halts;
 #[cfg(test)]
 mod joins;
 #[cfg(test)]
+mod known;
+#[cfg(test)]
 mod leavings;
 #[cfg(test)]
 mod meetings;
 #[cfg(test)]
 mod missing;
 #[cfg(test)]
+mod orders;
+#[cfg(test)]
 mod retries;
 #[cfg(test)]
 mod runs;
 #[cfg(test)]
 mod stamps;
+#[cfg(test)]
+mod tickers;
 #[cfg(test)]
 mod traces;
 #[cfg(test)]

@@ -1,6 +1,5 @@
 -- Which orders the master has followed, after what it did.
-use Rattle.std.proofs.Common.{◌≡◌, ℕ, Bool, true, false, List, [], ◌∷◌, ◌++◌, Option, None, IsTrue, IsFalse, refl, sym, ap, ◌∙◌, option_to_list, append-nil, append_assoc}
-use Rattle.zprotocol.specs.declared.process.Process.{Process}
+use Rattle.std.proofs.Common.{◌≡◌, Bool, true, false, List, [], ◌∷◌, ◌++◌, Option, IsTrue, IsFalse, refl, sym, ap, ◌∙◌, option_to_list, append-nil, append_assoc}
 use Rattle.zworld_model.specs.declared.outcome.Outcome.TheVariants.{Acted}
 use Rattle.ztraces.specs.declared.trace.Act.{Act}
 use Rattle.ztraces.specs.declared.trace.Act.TheVariants.{Took}

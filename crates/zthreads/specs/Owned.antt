@@ -1,5 +1,6 @@
 -- What a thread owns, and when it may take a message.
 use Rattle.std.specs.Prelude.{◌≡◌, ℕ, Bool}
+use Rattle.zprotocol.specs.master.View.{MasterView}
 use Rattle.zwords.specs.declared.looks.Look.{Look}
 use Rattle.zwords.specs.HaltSeats.{Found}
 use Rattle.zdesks.specs.declared.desk.Desk.{Desk}
@@ -13,6 +14,10 @@ server_desk t = t.desk
 
 abbrev pub master_desk : MasterThread → Desk
 master_desk t = t.desk
+
+-- what the master knows
+abbrev pub master_view : MasterThread → MasterView
+master_view t = t.master
 
 -- whether it is over: it was halted, it left, or it stopped
 abbrev pub is_over_of : ServerThread → Bool

@@ -5,7 +5,7 @@ use std::thread;
 use zdesks::Desk;
 
 // so many rounds it only lets other threads go first; then it sleeps until it is woken
-const EAGER_ROUNDS: u32 = 200;
+const EAGER_ROUNDS: u32 = 50;
 
 /// How long a thread has found nothing to do.
 #[derive(Drop)]

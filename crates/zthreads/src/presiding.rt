@@ -1,15 +1,21 @@
 //! The body of the master's thread.
 
-ghost use Rattle.std.specs.Prelude.{◌≡◌, ◌++◌, List, None, Option, option_to_list};
+ghost use Rattle.std.specs.Prelude.{◌≡◌, ◌≤◌, ◌++◌, [], length, List, map, None, Option};
+ghost use Rattle.std.specs.Prelude.{option_to_list};
 ghost use Rattle.zwords.specs.HaltSeats.{IsSeatOf};
-ghost use Rattle.zconsole.specs.Ends.{IsSameInbox, taken_of};
+ghost use Rattle.zconsole.specs.Ends.{IsSameInbox, said, taken_of};
+ghost use Rattle.zconsole.specs.Outcomes.{AreSaid, order_of};
 ghost use Rattle.zconsole.specs.declared.order.Order.{Order};
+ghost use Rattle.zconsole.specs.declared.outcome.OrderOutcome.{OrderOutcome};
 ghost use Rattle.zdesks.specs.Desks.{SameDesk};
 ghost use Rattle.zthreads.specs.Acts.{HasFollowed};
+ghost use Rattle.zthreads.specs.Outcomes.{unfollowed, unsaid};
+ghost use Rattle.zthreads.specs.Said.{GoesOn, spoken, WereSaid};
 ghost use Rattle.zthreads.specs.Owned.{master_desk};
 
 use crate::idle::Idle;
 use crate::master_thread::MasterThread;
+use crate::owed::Owed;
 use std::sync::Wait;
 use zconsole::ends::Inbox;
 use zconsole::order::Order;
@@ -17,8 +23,8 @@ use zwords::halts::{Halt, HaltSeat};
 
 /// Goes over the links in turn, and takes the console's orders, until bit 0 is set. It sends what
 /// waits, and looks at the bit, once a round and before each message. Of a link without a message
-/// it only asks whether it has one. It follows the orders in turn, each once. One for which there
-/// is no memory is tried again, before any other is received.
+/// it only asks whether it has one. It follows the orders in turn, each once, and says what became
+/// of each. What there is no memory for is tried again, before another order is received.
 pub fn preside<R: Wait>(
     rt: &R,
     mut chief: MasterThread,
@@ -32,18 +38,25 @@ pub fn preside<R: Wait>(
     ensures orders { HasFollowed (master_desk chief) (taken_of inbox) None
         → (waiting : Option Order)
         × HasFollowed (master_desk result.0) (taken_of result.1) waiting }
+    ensures outcomes { AreSaid inbox []
+        → (unsaid : List Order) × (length unsaid ≤ 1) × AreSaid result.1 unsaid }
+    ensures said { HasFollowed (master_desk chief) (taken_of inbox) None → AreSaid inbox []
+        → WereSaid (master_desk chief) [] (said inbox)
+        → WereSaid (master_desk result.0) [] (said result.1) }
 {
     let mut idle = Idle::new();
-    let mut asked: Option<Order> = None;
+    let mut owed = Owed::Nothing;
     for _ in rt.forever() {
         idle.begin_round(&chief.desk);
         let Some(has_heard) = go_round(&mut chief, halt, &mut seat) else {
             return (chief, inbox);
         };
-        asked = next_order(rt, &mut inbox, asked);
-        let was_asked = asked.is_some();
-        asked = obey(&mut chief, asked);
-        let is_busy = has_heard | (was_asked & asked.is_none());
+        inbox.flush();
+        owed = next_order(rt, &mut inbox, owed);
+        let has_owed = owed.is_some();
+        owed = obey(&mut chief, owed);
+        owed = say(&mut inbox, owed);
+        let is_busy = has_heard | (has_owed & !owed.is_some());
         idle.end_round(rt, &chief.desk, is_busy);
     }
     unreachable!()
@@ -57,6 +70,7 @@ fn go_round(chief: &mut MasterThread, halt: &Halt, seat: &mut HaltSeat) -> Optio
     ensures orders { (received : List Order) (waiting : Option Order)
         → HasFollowed (master_desk chief.old) received waiting
         → HasFollowed (master_desk chief.new) received waiting }
+    ensures goes { GoesOn (master_desk chief.old) (master_desk chief.new) }
 {
     chief.flush();
     if halt.is_set(seat, 0) {
@@ -78,31 +92,58 @@ fn go_round(chief: &mut MasterThread, halt: &Halt, seat: &mut HaltSeat) -> Optio
     Some(is_busy)
 }
 
-// Receives an order, unless one waits to be followed.
-fn next_order<R: Wait>(rt: &R, inbox: &mut Inbox, asked: Option<Order>) -> Option<Order>
+// Receives an order, unless something is owed for the last one.
+fn next_order<R: Wait>(rt: &R, inbox: &mut Inbox, owed: Owed) -> Owed
     ensures ends { IsSameInbox inbox.old inbox.new }
-    ensures taken { (before : List Order) → taken_of inbox.old ≡ before ++ option_to_list asked
-        → taken_of inbox.new ≡ before ++ option_to_list result }
+    ensures taken { (before : List Order)
+        → taken_of inbox.old ≡ before ++ option_to_list (unfollowed owed)
+        → taken_of inbox.new ≡ before ++ option_to_list (unfollowed result) }
+    ensures said { AreSaid inbox.old (unsaid owed) → AreSaid inbox.new (unsaid result) }
+    ensures words { spoken (said inbox.new) result ≡ spoken (said inbox.old) owed }
 {
-    match asked {
-        Some(order) => Some(order),
-        None => inbox.take(rt),
+    match owed {
+        Owed::Nothing => match inbox.take(rt) {
+            Some(order) => Owed::Deed(order),
+            None => Owed::Nothing,
+        },
+        _ => owed,
     }
 }
 
-// Follows the order that waits. Returns it where it has to be tried again, for memory.
-fn obey(chief: &mut MasterThread, asked: Option<Order>) -> Option<Order>
+// Follows the order that waits. Where there is no memory it waits on.
+fn obey(chief: &mut MasterThread, owed: Owed) -> Owed
     ensures same { SameDesk (master_desk chief.old) (master_desk chief.new) }
     ensures followed { (received : List Order)
-        → HasFollowed (master_desk chief.old) received asked
-        → HasFollowed (master_desk chief.new) received result }
+        → HasFollowed (master_desk chief.old) received (unfollowed owed)
+        → HasFollowed (master_desk chief.new) received (unfollowed result) }
+    ensures unsaid { unsaid result ≡ unsaid owed }
+    ensures said { (before : List OrderOutcome)
+        → HasFollowed (master_desk chief.old) (map order_of before ++ unsaid owed) (unfollowed owed)
+        → WereSaid (master_desk chief.old) [] (spoken before owed)
+        → WereSaid (master_desk chief.new) [] (spoken before result) }
 {
-    let Some(order) = asked else {
-        return None;
+    let Owed::Deed(order) = owed else {
+        return owed;
     };
-    if chief.follow(&order) {
-        None
-    } else {
-        Some(order)
+    match chief.follow(&order) {
+        Some(outcome) => Owed::Word(outcome),
+        None => Owed::Deed(order),
+    }
+}
+
+// Says the outcome that waits. Where there is no memory it waits on.
+fn say(inbox: &mut Inbox, owed: Owed) -> Owed
+    ensures ends { IsSameInbox inbox.old inbox.new }
+    ensures taken { taken_of inbox.new ≡ taken_of inbox.old }
+    ensures followed { unfollowed result ≡ unfollowed owed }
+    ensures said { AreSaid inbox.old (unsaid owed) → AreSaid inbox.new (unsaid result) }
+    ensures words { spoken (said inbox.new) result ≡ spoken (said inbox.old) owed }
+{
+    let Owed::Word(outcome) = owed else {
+        return owed;
+    };
+    match inbox.say(outcome) {
+        Ok(()) => Owed::Nothing,
+        Err(outcome) => Owed::Word(outcome),
     }
 }

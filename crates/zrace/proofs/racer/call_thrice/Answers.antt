@@ -9,4 +9,4 @@ returns-clause-told c =
     let last = c.halt_one.new.client in
     let both = same_through first c.ask.new.self c.ask-2.new.self c.ask.ensures.same c.ask-2.ensures.same in
     IfSome_then c.version_of.result c.version_of.ensures.told
-    (λ version told. (last, same_through first c.ask-2.new.self last both c.halt_one.ensures, told))
+    (λ version told. (last, same_through first c.ask-2.new.self last both c.halt_one.ensures, told c.args.node c.in_ok-path.ensures))

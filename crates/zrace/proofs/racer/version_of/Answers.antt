@@ -5,11 +5,11 @@ use Rattle.zrun.specs.Asked.{CalledPatientlyUntil}
 use Rattle.zrace.proofs.racer.version_of.Goals as goal
 
 pub returns-in-Exists-clause-told : goal.returns-in-Exists-clause-told
-returns-in-Exists-clause-told c = (
+returns-in-Exists-clause-told c = λ node is. (
   PATIENCE,
-  c.in_ok-call.call,
+  c.exists.result,
   c.in-Exists.stat,
-  c.in_ok-call.ensures,
-  subst (λ (reply : Reply). CalledPatientlyUntil PATIENCE c.in_ok-call.call c.args.client.now c.ask.new.self reply) c.in-Exists.is c.in-Ok.ensures.reply,
+  (c.args.path, is, c.exists.ensures),
+  subst (λ (reply : Reply). CalledPatientlyUntil PATIENCE c.exists.result c.args.client.now c.ask.new.self reply) c.in-Exists.is c.in-Ok.ensures.reply,
   refl,
 )

@@ -34,6 +34,6 @@ returns-in-Err-clause-at c h cut =
     let rest = c.enter-in-Err.ensures.rest in
     let pend : pending b ≡ [] = pending_none b (rest.0 ∙ c.requires.settled.0) ∙ ap (λ o. o.posts) rest.1 ∙ ap (λ o. o.posts) c.in-Err.ensures.silent ∙ c.requires.settled.1 in
     let stands = c.enter-in-Err.ensures.stands (AtMaster v) (AtMaster v) None [] h
-    (λ below. master_refuses d.me d.stamp v c.requires.me s c.next_stamp-next.result c.in-Err.field-0 c.in-Err.ensures.fault
+    (λ below. master_refuses d.me d.stamp v c.requires.me s c.next_stamp-next.result c.in-Err.fault c.in-Err.ensures.fault
     (is_next_idle c.next_stamp-next.result d.stamp c.zero.result c.zero.ensures c.next_stamp-next.ensures below)) in
     subst (λ (w : List TreePost). Stands b (AtMaster c.join.new.self) None w) (sym pend) (subst (λ (x : MasterView). Stands b (AtMaster x) None []) (sym c.in-Err.ensures.same) stands) cut

@@ -33,9 +33,9 @@ invariant_of-self-in_default-clause-at c =
     let same = c.reserve.ensures.same in
     let fsame = c.flush.ensures.same in
     let esame = c.front_of.ensures.same in
-    subst (λ (x : TreeTaken). Stands e s x (pending e)) (sym c.take-front.ensures.after) (subst (λ (w : List TreePost). Stands e s None w) (sym (pending_same b e esame.held esame.out ∙ pending_same f b same.held same.out ∙ pending_same a f fsame.held fsame.out))
-    (c.in_default.ensures.taken s (pending a) (subst (λ (x : TreeTaken). Stands b s x (pending a)) (sym c.take-front.ensures.value)
-    (c.reserve.ensures.keeps s t.front (pending a) (c.flush.ensures.keeps s t.front (pending a) (c.settle.ensures.stands s t.front t.at))))))
+    subst (λ (x : TreeTaken). Stands e s x (pending e)) (sym c.front_of.ensures.front) (subst (λ (w : List TreePost). Stands e s None w) (sym (pending_same b e esame.held esame.out ∙ pending_same f b same.held same.out ∙ pending_same a f fsame.held fsame.out))
+    (c.in_default.ensures.taken s (pending a)
+    (c.reserve.ensures.keeps s t.front (pending a) (c.flush.ensures.keeps s t.front (pending a) (c.settle.ensures.stands s t.front t.at)))))
 
 pub invariant_of-self-2-clause-is_client : goal.invariant_of-self-2-clause-is_client
 invariant_of-self-2-clause-is_client c = c.hear_or_keep.ensures.same.me ∙ c.front_of.ensures.same.desk.me ∙ c.reserve.ensures.same.desk.me ∙ c.flush.ensures.same.desk.me ∙ c.settle.ensures.same.me ∙ c.args.self.now.is_client
@@ -48,5 +48,5 @@ invariant_of-self-2-clause-at c =
     let b = c.reserve.new.self in
     let all : IsSettled a = c.settle.ensures.all c.if-not-settle.false in
     let settled : Stands a s t.front [] = subst (λ (w : List TreePost). Stands a s t.front w) (nothing_waits a all) (c.settle.ensures.stands s t.front t.at) in
-    let fronted : Stands b s c.take-front.result [] = subst (λ (x : TreeTaken). Stands b s x []) (sym c.take-front.ensures.value) (c.reserve.ensures.keeps s t.front [] (c.flush.ensures.keeps s t.front [] settled)) in
-    c.hear_or_keep.ensures.at (c.in-Some.ensures.taken s [] fronted)
+    let ready : Stands b s t.front [] = c.reserve.ensures.keeps s t.front [] (c.flush.ensures.keeps s t.front [] settled) in
+    c.hear_or_keep.ensures.at (c.in-Some.ensures.taken s [] ready)

@@ -1,4 +1,4 @@
-use Rattle.std.proofs.Common.{map, sym, ap, subst}
+use Rattle.std.proofs.Common.{map, subst}
 use Rattle.zthreads.specs.Owned.{master_desk}
 use Rattle.zrun.specs.Origins.{client_desks}
 use Rattle.zrun.specs.Handles.{given_master, given_server}

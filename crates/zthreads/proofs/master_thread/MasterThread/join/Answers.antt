@@ -21,7 +21,7 @@ invariant_of-self-then-is_err-clause-at c =
     subst (λ (p : List TreePost). Stands a s None (option_to_list a.held ++ p)) (sym c.reserve.ensures.posts) (c.settle.ensures.stands s None t.at)
 
 pub invariant_of-self-3-clause-is_master : goal.invariant_of-self-3-clause-is_master
-invariant_of-self-3-clause-is_master c = c.admit.ensures.same.me ∙ c.settle.ensures.same.me ∙ c.args.self.now.is_master
+invariant_of-self-3-clause-is_master c = c.admit-said.ensures.same.me ∙ c.settle.ensures.same.me ∙ c.args.self.now.is_master
 
 pub invariant_of-self-3-clause-at : goal.invariant_of-self-3-clause-at
 invariant_of-self-3-clause-at c =
@@ -30,4 +30,4 @@ invariant_of-self-3-clause-at c =
     let s = AtMaster t.master in
     let all : IsSettled a = c.settle.ensures.all c.if-not-settle.false in
     let settled : Stands a s None [] = subst (λ (w : List TreePost). Stands a s None w) (nothing_waits a all) (c.settle.ensures.stands s None t.at) in
-    c.admit.ensures.at settled
+    c.admit-said.ensures.at settled

@@ -1,0 +1,56 @@
+-- Which orders have their outcome said, after what the master did.
+use Rattle.std.proofs.Common.{◌≡◌, ◌≤◌, ℕ, List, [], ◌∷◌, ◌++◌, Option, None, Some, length, map, refl, sym, ap, ◌∙◌, arith}
+use Rattle.std.proofs.lemmas.List.{append-nil, map-append}
+use Rattle.zprotocol.specs.declared.master.join_fault.JoinFault.{JoinFault}
+use Rattle.zprotocol.specs.declared.master.retire_fault.RetireFault.{RetireFault}
+use Rattle.zprotocol.specs.master.View.{MasterView}
+use Rattle.zprotocol.specs.master.Table.{join_fault, retire_fault}
+use Rattle.zconsole.specs.declared.order.Order.{Order}
+use Rattle.zconsole.specs.declared.order.Order.TheVariants.{Join, Retire}
+use Rattle.zconsole.specs.declared.outcome.OrderOutcome.{OrderOutcome}
+use Rattle.zconsole.specs.declared.ends.Inbox.{Inbox}
+use Rattle.zconsole.specs.Ends.{said, taken_of}
+use Rattle.zconsole.specs.Outcomes.{AreSaid, order_of}
+use Rattle.zthreads.specs.declared.owed.Owed.{Owed}
+use Rattle.zthreads.specs.declared.owed.Owed.TheVariants.{Nothing, Deed, Word}
+use Rattle.zthreads.specs.Outcomes.{joined_or, left_or, outcome_at, unsaid}
+
+order_of-joined_or : (s : ℕ) (fault : Option JoinFault) → order_of (joined_or s fault) ≡ Join s
+order_of-joined_or s None = refl
+order_of-joined_or s (Some fault) = refl
+
+order_of-left_or : (s : ℕ) (fault : Option RetireFault) → order_of (left_or s fault) ≡ Retire s
+order_of-left_or s None = refl
+order_of-left_or s (Some fault) = refl
+
+-- what the master says to an order is the outcome of that order
+pub order_of-outcome_at : (v : MasterView) (order : Order) → order_of (outcome_at v order) ≡ order
+order_of-outcome_at v (Join s) = order_of-joined_or s (join_fault v s)
+order_of-outcome_at v (Retire s) = order_of-left_or s (retire_fault v s)
+
+-- of one order at most the outcome isn't said
+pub few_unsaid : (owed : Owed) → length (unsaid owed) ≤ 1
+few_unsaid Nothing = omega arith
+few_unsaid (Deed order) = omega arith
+few_unsaid (Word outcome) = omega arith
+
+module _ (a b : Inbox) where
+  -- nothing more was said or received
+  pub said_same : (orders : List Order) → taken_of b ≡ taken_of a → said b ≡ said a → AreSaid a orders → AreSaid b orders
+  said_same orders taken same are = taken ∙ are ∙ ap (λ (l : List OrderOutcome). map order_of l ++ orders) (sym same)
+
+  -- one more order was received
+  pub said_next : (order : Order) → taken_of b ≡ taken_of a ++ order ∷ [] → said b ≡ said a → AreSaid a [] → AreSaid b (order ∷ [])
+  said_next order taken same are =
+      taken
+      ∙ ap (λ l. l ++ order ∷ []) (are ∙ append-nil (map order_of (said a)) ∙ ap (λ (l : List OrderOutcome). map order_of l) (sym same))
+
+  -- the outcome of the last one was said
+  pub said_more : (outcome : OrderOutcome) → taken_of b ≡ taken_of a → said b ≡ said a ++ outcome ∷ []
+      → AreSaid a (order_of outcome ∷ []) → AreSaid b []
+  said_more outcome taken more are =
+      taken
+      ∙ are
+      ∙ sym (map-append order_of (said a) (outcome ∷ []))
+      ∙ ap (λ (l : List OrderOutcome). map order_of l) (sym more)
+      ∙ sym (append-nil (map order_of (said b)))
