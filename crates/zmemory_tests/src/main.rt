@@ -11,6 +11,7 @@ mod joining;
 mod machines;
 mod marking;
 mod parsing;
+mod restoring;
 mod serving;
 mod sharing;
 mod stories;

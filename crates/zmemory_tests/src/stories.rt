@@ -8,6 +8,7 @@ use crate::calling::{call_is_retried, config_is_taken, query_begins, update_begi
 use crate::joining::snapshot_is_taken;
 use crate::marking::mark_is_set;
 use crate::parsing::path_is_parsed;
+use crate::restoring::{rows_are_loaded, rows_are_written};
 use crate::serving::query_is_taken;
 use crate::sharing::data_is_made;
 use crate::story::{Taking, Word, told};
@@ -29,6 +30,8 @@ enum Story {
     ApplyRemoval,
     AskChildren,
     Copy,
+    WriteRows,
+    LoadRows,
     Take(Taking),
     TakeQuery,
     TakeSnapshot,
@@ -50,6 +53,8 @@ const STORIES: &[(&str, Story)] = &[
     ("a machine removes a node at a tick", Story::ApplyRemoval),
     ("a machine is asked for children", Story::AskChildren),
     ("a machine is copied", Story::Copy),
+    ("a machine's rows are written", Story::WriteRows),
+    ("a machine is loaded from rows", Story::LoadRows),
     (
         "the head takes a submit",
         Story::Take((0, 2, None, Word::Submit)),
@@ -114,6 +119,8 @@ fn ended(alloc: Global, story: Story) -> Ended {
         Story::ApplyRemoval => removal_is_applied(alloc),
         Story::AskChildren => children_are_told(alloc),
         Story::Copy => machine_is_copied(alloc),
+        Story::WriteRows => rows_are_written(alloc),
+        Story::LoadRows => rows_are_loaded(alloc),
         Story::Take(taking) => told(alloc, &taking),
         Story::TakeQuery => query_is_taken(alloc),
         Story::TakeSnapshot => snapshot_is_taken(alloc),

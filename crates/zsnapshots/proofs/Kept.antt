@@ -1,5 +1,5 @@
 -- What a reader keeps: each row that is put goes behind those before it.
-use Rattle.std.proofs.Common.{◌≡◌, ℕ, ◌+◌, ◌-◌, ◌<◌, Bool, true, false, ltb, List, [], ◌∷◌, ◌++◌, length, length-append, take, drop, Option, Some, None, refl, sym, ap, subst, ◌∙◌, arith}
+use Rattle.std.proofs.Common.{◌≡◌, ℕ, ◌-◌, ◌<◌, true, false, List, [], ◌∷◌, ◌++◌, length, length-append, drop, Option, Some, sym, ap, ◌∙◌, arith}
 use Rattle.std.proofs.lemmas.Bool.{ltb-true, ltb-false}
 use Rattle.std.specs.Ordering.{nat_cmp}
 use Rattle.std.specs.Cmp.{nat_cmp_total}
@@ -8,14 +8,15 @@ use Rattle.ztree.specs.declared.node.Node.{Node}
 use Rattle.ztree.specs.declared.session.Session.{Session}
 use Rattle.ztree.specs.Tree.{Path}
 use Rattle.zcalls.specs.declared.reply.Reply.{Reply}
+use Rattle.zcalls.proofs.Bounds.{all_insert}
 use Rattle.zstore.specs.Restored.{with_row, with_session_row}
 use Rattle.zops.specs.Machine.{MachineState}
-use Rattle.zops.specs.Restored.{with_plain, with_reply}
+use Rattle.zops.specs.Restored.{with_plain, with_reply, IsDated}
 use Rattle.zsnapshots.specs.declared.header.Header.{Header}
 use Rattle.zsnapshots.specs.Rows.{kept_of}
-use Rattle.zsnapshots.specs.States.{StateRow, ReadingView, Fits, spelled, sessions_of, nodes_of, replies_of, below_of, wants_session, wants_node, wants_reply, rows_so_far, IsAbove, IsTaken}
+use Rattle.zsnapshots.specs.States.{ReadingView, Fits, spelled, sessions_of, nodes_of, replies_of, below_of, wants_session, wants_node, wants_reply, IsAbove, IsTaken}
 use Rattle.zsnapshots.specs.States.StateRow.{OfHeader, OfSession, OfNode, OfReply}
-use Rattle.zsnapshots.specs.support.Reading.{HasRoot, IsReading, last_key}
+use Rattle.zsnapshots.specs.support.Reading.{IsReading, last_key}
 use Rattle.zsnapshots.proofs.Keys.{entries-insert_above, last_key-push}
 use Rattle.zsnapshots.proofs.Taken.{nodes-push, body-session, body-node, body-reply}
 
@@ -53,12 +54,6 @@ module _ (h : Header) (u : MachineState) (sessions nodes replies : ℕ) (session
       let left = is.replies_left in
       omega (arith, less, left)
 
-  pub replies_none : wants_reply (view h u) ≡ false → replies ≡ 0
-  replies_none wanted =
-      let less = ltb-false (length (replies_of u)) h.replies wanted in
-      let left = is.replies_left in
-      omega (arith, less, left)
-
   module _ (id : ℕ) (x : Session) (above : IsAbove nat_cmp (sessions_of u) id) (wanted : wants_session (view h u) ≡ true) where
     pub session_kept : IsReading h (with_plain u (with_session_row u.service.plain id x)) (sessions - 1) nodes replies (Some id) path client
     session_kept =
@@ -70,6 +65,7 @@ module _ (h : Header) (u : MachineState) (sessions nodes replies : ℕ) (session
           last = is.last;
           time = is.time;
           zxid = is.zxid;
+          dated = is.dated;
           root = is.root;
           sessions_left = omega (arith, long, left, some);
           nodes_left = is.nodes_left;
@@ -97,8 +93,8 @@ module _ (h : Header) (u : MachineState) (sessions nodes replies : ℕ) (session
     no_replies : replies_of u ≡ []
     no_replies = let some = nodes_some wanted in is.replies_wait (omega (arith, some))
 
-    pub node_kept : IsReading h (with_plain u (with_row u.service.plain p n)) sessions (nodes - 1) replies session p client
-    node_kept =
+    pub node_kept : IsDated u.service.plain.zxid u.service.plain.time n → IsReading h (with_plain u (with_row u.service.plain p n)) sessions (nodes - 1) replies session p client
+    node_kept dated =
         let some = nodes_some wanted in
         let full = sessions_none none in
         let pushed = nodes-push u p n above in
@@ -110,6 +106,7 @@ module _ (h : Header) (u : MachineState) (sessions nodes replies : ℕ) (session
           last = is.last;
           time = is.time;
           zxid = is.zxid;
+          dated = all_insert (IsDated u.service.plain.zxid u.service.plain.time) u.service.plain.nodes p n is.dated dated;
           root = (is.root.0, is.root.1 ++ (p, n) ∷ [], all);
           sessions_left = is.sessions_left;
           nodes_left = omega (arith, new_long, old_long, left, some);
@@ -144,6 +141,7 @@ module _ (h : Header) (u : MachineState) (sessions nodes replies : ℕ) (session
           last = is.last;
           time = is.time;
           zxid = is.zxid;
+          dated = is.dated;
           root = is.root;
           sessions_left = is.sessions_left;
           nodes_left = is.nodes_left;

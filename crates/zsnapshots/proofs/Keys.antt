@@ -1,17 +1,22 @@
 -- Keys in order: one above those before it goes to the end.
-use Rattle.std.proofs.Common.{◌≡◌, ℕ, Bool, true, false, List, [], ◌∷◌, ◌++◌, Option, Some, None, refl, sym, ap, subst, ◌∙◌}
+use Rattle.std.proofs.Common.{◌≡◌, true, false, List, [], ◌∷◌, ◌++◌, Option, Some, None, refl, sym, ap, subst, ◌∙◌}
 use lib.Dec.{T}
+use Rattle.std.proofs.lemmas.List.{nil_from_length}
 use Rattle.std.specs.declared.cmp.Ordering.{Ordering}
 use Rattle.std.specs.declared.cmp.Ordering.TheVariants.{Less, Equal, Greater}
 use Rattle.std.specs.Ordering.{is_lt, ordering_reverse}
 use Rattle.std.specs.Cmp.{IsTotalOrder}
 use Rattle.std.specs.FinMap as finite
-use Rattle.std.specs.FinMap.{FinMap, put, is_sorted, entries_sorted, entries-insert}
+use Rattle.std.specs.FinMap.{FinMap, put, is_sorted, entries_sorted, entries-insert, len-entries, len-empty}
 use Rattle.std.specs.FinMap.Entries.{below_all}
 use Rattle.ztree.proofs.Sorted.{both_parts, is_less}
 use Rattle.ztree.proofs.Maps.{same_some, none_some}
 use Rattle.zsnapshots.specs.States.{IsAbove}
 use Rattle.zsnapshots.specs.support.Reading.{last_key, is_above}
+
+-- an empty map has no entry
+pub entries-empty : {K X : Type 0} (R : K → K → Ordering) → finite.entries (finite.empty {X = X} {R = R}) ≡ []
+entries-empty {X = X} R = nil_from_length _ (sym (len-entries (finite.empty {X = X} {R = R})) ∙ len-empty R X)
 
 less_is : (r : Ordering) → is_lt r ≡ true → r ≡ Less
 less_is Less is = refl

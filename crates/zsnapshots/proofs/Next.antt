@@ -1,6 +1,6 @@
 -- The row of a readable state that comes behind the rows before it: of which kind it is, that it is in
 -- order, and that it can be put.
-use Rattle.std.proofs.Common.{◌≡◌, ℕ, ◌+◌, ◌<◌, ◌≤◌, Bool, true, false, List, [], ◌∷◌, ◌++◌, length, length-append, map, take, drop, append_assoc, append-nil, Option, Some, None, refl, sym, ap, subst, ◌∙◌, arith}
+use Rattle.std.proofs.Common.{◌≡◌, ℕ, ◌<◌, true, List, [], ◌∷◌, ◌++◌, length, length-append, map, take, drop, append_assoc, append-nil, Option, Some, None, refl, sym, ap, subst, ◌∙◌, arith}
 use lib.Dec.{T}
 use Rattle.std.proofs.lemmas.List.{map-append, length-map, append_cancel_left, nil_from_length, take-append-drop}
 use Rattle.std.specs.Prelude.{is_some}
@@ -19,7 +19,7 @@ use Rattle.zops.specs.Machine.{MachineState}
 use Rattle.zops.specs.Restored.{CanPutGranted, CanPutNode}
 use Rattle.zops.proofs.RestoredLaws.{granted_can, bounded_can}
 use Rattle.zsnapshots.specs.declared.header.Header.{Header}
-use Rattle.zsnapshots.specs.States.{StateRow, ReadingView, head_of, sessions_of, nodes_of, replies_of, below_of, body_of, rows_of, rows_so_far, IsReadable, IsAbove}
+use Rattle.zsnapshots.specs.States.{StateRow, head_of, sessions_of, nodes_of, replies_of, below_of, body_of, rows_of, IsReadable, IsAbove}
 use Rattle.zsnapshots.specs.States.StateRow.{OfHeader, OfSession, OfNode, OfReply}
 use Rattle.zsnapshots.specs.support.Reading.{HasRoot}
 use Rattle.zsnapshots.proofs.Keys.{next_above}

@@ -1,34 +1,29 @@
 -- The root, behind a header.
-use Rattle.std.proofs.Common.{◌≡◌, ℕ, ◌+◌, List, [], ◌∷◌, ◌++◌, length, take, drop, map, Option, Some, None, Result, Ok, Err, refl, sym, ap, subst, ◌∙◌, arith, zero-add}
-use Rattle.std.proofs.lemmas.List.{nil_from_length}
+use Rattle.std.proofs.Common.{◌≡◌, ℕ, ◌+◌, List, [], ◌∷◌, ◌++◌, length, take, drop, map, Some, None, Result, Ok, Err, refl, sym, ap, subst, ◌∙◌, zero-add}
 use Rattle.std.specs.Prelude.{IfOk, IfErr}
-use Rattle.std.specs.declared.cmp.Ordering.{Ordering}
 use Rattle.std.specs.Ordering.{nat_cmp}
 use Rattle.std.specs.FinMap as finite
-use Rattle.std.specs.FinMap.{FinMap, put, entries-insert, len-entries, len-empty}
+use Rattle.std.specs.FinMap.{put, entries-insert}
 use Rattle.zpath.specs.Grammar.{path_cmp}
 use Rattle.ztree.specs.declared.node.Node.{Node}
-use Rattle.ztree.specs.declared.session.Session.{Session}
 use Rattle.ztree.specs.Tree.{Path}
 use Rattle.ztree.proofs.Sorted.{paths_total}
-use Rattle.zcalls.specs.Kept.{Kept}
+use Rattle.zcalls.proofs.Bounds.{all_insert, no_nodes}
 use Rattle.zops.specs.Machine.{MachineState}
-use Rattle.zops.specs.Restored.{rooted_machine, CanBegin}
+use Rattle.zops.specs.Restored.{rooted_machine, CanBegin, IsDated}
 use Rattle.zops.proofs.RestoredLaws.{restored}
 use Rattle.zsnapshots.specs.declared.header.Header.{Header}
 use Rattle.zsnapshots.specs.declared.fault.RowFault.{RowFault}
 use Rattle.zsnapshots.specs.declared.fault.RowFault.TheVariants.{Memory}
-use Rattle.zsnapshots.specs.Rows.{node_text, row}
-use Rattle.zsnapshots.specs.States.{StateRow, ReadingView, Fits, spelled, head_of, sessions_of, nodes_of, replies_of, below_of, body_of, rows_of, rows_so_far, IsReadable, IsRootTaken, IsRootFault, NeverRefuses}
+use Rattle.zsnapshots.specs.Rows.{node_text}
+use Rattle.zsnapshots.specs.States.{StateRow, ReadingView, Fits, spelled, sessions_of, nodes_of, replies_of, body_of, rows_of, rows_so_far, IsReadable, IsRootTaken, IsRootFault, NeverRefuses}
 use Rattle.zsnapshots.specs.States.StateRow.{OfHeader, OfSession, OfNode, OfReply}
 use Rattle.zsnapshots.specs.support.Reading.{IsReading, last_key}
 use Rattle.zsnapshots.proofs.RowForms.{is_node_text}
+use Rattle.zsnapshots.proofs.Keys.{entries-empty}
 use Rattle.zsnapshots.proofs.Kept.{view}
 use Rattle.zsnapshots.proofs.Next.{same_header, same_body}
 use Rattle.zsnapshots.proofs.Told.{one_row, only_memory, all_at}
-
-pub entries-empty : {K X : Type 0} (R : K → K → Ordering) → finite.entries (finite.empty {X = X} {R = R}) ≡ []
-entries-empty {X = X} R = nil_from_length _ (sym (len-entries (finite.empty {X = X} {R = R})) ∙ len-empty R X)
 
 module _ (h : Header) (root : Node) where
   abbrev begun : MachineState
@@ -43,11 +38,12 @@ module _ (h : Header) (root : Node) where
   replies_is : replies_of begun ≡ []
   replies_is = entries-empty nat_cmp
 
-  pub root_kept : (path : Path) → path ≡ [] → IsReading h begun h.sessions h.nodes h.replies None path None
-  root_kept path is = record {
+  pub root_kept : (path : Path) → path ≡ [] → CanBegin root h.time h.zxid h.last → IsReading h begun h.sessions h.nodes h.replies None path None
+  root_kept path is can = record {
     last = refl;
     time = refl;
     zxid = refl;
+    dated = all_insert (IsDated h.zxid h.time) finite.empty [] root (no_nodes (IsDated h.zxid h.time)) can.dated;
     root = (root, [], nodes_is);
     sessions_left = ap (λ es. length es + h.sessions) sessions_is ∙ zero-add h.sessions;
     nodes_left = ap (λ nodes. length (drop 1 nodes) + h.nodes) nodes_is ∙ zero-add h.nodes;

@@ -1,7 +1,6 @@
 -- No row of a state is long.
-use Rattle.std.proofs.Common.{◌≡◌, ℕ, ◌+◌, ◌*◌, ◌≤◌, List, [], ◌∷◌, ◌++◌, length, length-append, refl, arith}
+use Rattle.std.proofs.Common.{ℕ, ◌*◌, ◌≤◌, List, [], ◌∷◌, length, length-append, arith}
 use Rattle.std.specs.List.{AllByRecursion, flat_map}
-use Rattle.zpath.specs.Grammar.{text_of}
 use Rattle.ztree.specs.declared.node.Node.{Node}
 use Rattle.ztree.specs.declared.node.Stat.{Stat}
 use Rattle.ztree.specs.declared.session.Session.{Session}
@@ -21,7 +20,6 @@ use Rattle.zsnapshots.specs.declared.header.Header.{Header}
 use Rattle.zsnapshots.specs.declared.limits.TheConstants.{MAX_ROW}
 use Rattle.zsnapshots.specs.Rows.{header_text, session, session_text, node, node_text, kept, reply_text}
 use Rattle.zsnapshots.specs.Laws.{RowsAreShort}
-use Rattle.zsnapshots.specs.States.{StateRow, Fits, spelled}
 use Rattle.zsnapshots.specs.States.StateRow.{OfHeader, OfSession, OfNode, OfReply}
 
 pub header-short : (h : Header) → length (header_text.spell h) ≤ MAX_ROW

@@ -1,5 +1,5 @@
 -- One more row of a state stands behind the rows before it.
-use Rattle.std.proofs.Common.{◌≡◌, ℕ, List, [], ◌∷◌, ◌++◌, take, drop, map, append_assoc, append-nil, refl, sym, ap, ◌∙◌}
+use Rattle.std.proofs.Common.{◌≡◌, ℕ, List, [], ◌∷◌, ◌++◌, take, drop, map, append_assoc, append-nil, sym, ap, ◌∙◌}
 use Rattle.std.proofs.lemmas.List.{map-append}
 use Rattle.std.specs.Ordering.{nat_cmp}
 use Rattle.std.specs.Cmp.{nat_cmp_total}
@@ -10,7 +10,6 @@ use Rattle.ztree.specs.declared.session.Session.{Session}
 use Rattle.ztree.specs.Tree.{Path}
 use Rattle.ztree.proofs.Sorted.{paths_total}
 use Rattle.zcalls.specs.declared.reply.Reply.{Reply}
-use Rattle.zcalls.specs.Kept.{Kept}
 use Rattle.zstore.specs.Restored.{with_row, with_session_row}
 use Rattle.zops.specs.Machine.{MachineState}
 use Rattle.zops.specs.Restored.{with_plain, with_reply}

@@ -3,7 +3,6 @@ use Rattle.std.proofs.Common.{◌≡◌, ℕ, ◌<◌, Bool, true, false, List, 
 use Rattle.std.proofs.lemmas.Bool.{ltb-true, lt-ltb}
 use Rattle.std.specs.Prelude.{IfOk, IfErr}
 use Rattle.std.specs.List.{AllByRecursion}
-use Rattle.zforms.specs.declared.fault.Fault.{Fault}
 use Rattle.zforms.specs.Forms.{Form}
 use Rattle.zforms.specs.Laws.{IsForm}
 use Rattle.zforms.proofs.Bytes.{ok_is}
@@ -21,9 +20,9 @@ use Rattle.zwire.specs.Frames.{IsFaultOf}
 use Rattle.zwire.proofs.Frames.{is_framed, only_in}
 use Rattle.zsnapshots.specs.declared.header.Header.{Header}
 use Rattle.zsnapshots.specs.declared.fault.RowFault.{RowFault}
-use Rattle.zsnapshots.specs.declared.fault.RowFault.TheVariants.{Cut, TooLong, Contents, Unordered, Unlawful, Ended, Memory}
-use Rattle.zsnapshots.specs.Rows.{header_text, session_text, node_text, reply_text, row, IsReadAs}
-use Rattle.zsnapshots.specs.States.{StateRow, ReadingView, Fits, spelled, head_of, sessions_of, nodes_of, replies_of, below_of, body_of, rows_of, rows_so_far, wants_session, wants_node, wants_reply, IsReadable, IsWanted, IsTaken, IsRowFault, IsSessionFault, IsNodeFault, IsReplyFault, IsNextFault, NeverRefuses, either}
+use Rattle.zsnapshots.specs.declared.fault.RowFault.TheVariants.{Cut, TooLong, Contents, Unordered, Unlawful, Trailing, Ended, Memory}
+use Rattle.zsnapshots.specs.Rows.{session_text, node_text, reply_text, row}
+use Rattle.zsnapshots.specs.States.{StateRow, ReadingView, Fits, spelled, head_of, sessions_of, replies_of, below_of, body_of, rows_of, rows_so_far, wants_session, wants_node, wants_reply, IsReadable, IsWanted, IsTaken, IsRowFault, IsSessionFault, IsNodeFault, IsReplyFault, IsNextFault, NeverRefuses, either}
 use Rattle.zsnapshots.specs.States.StateRow.{OfHeader, OfSession, OfNode, OfReply}
 use Rattle.zsnapshots.specs.support.Faults.{of_frame, of_restoring}
 use Rattle.zsnapshots.specs.support.Reading.{IsReading}
@@ -32,7 +31,7 @@ use Rattle.zsnapshots.proofs.Kept.{view, sessions_some, sessions_none, nodes_som
 use Rattle.zsnapshots.proofs.Next.{next_session, next_node, next_reply, more_replies, same_sessions, session_next, node_next, reply_next, same_header, same_body}
 
 module _ {A : Type 0} (c : Form A) (is : IsForm c) where
-  framed_is : IsForm (row c)
+  pub framed_is : IsForm (row c)
   framed_is = is_framed 8388608 c (omega arith) is
 
   -- what was found stands in front
@@ -43,7 +42,7 @@ module _ {A : Type 0} (c : Form A) (is : IsForm c) where
   pub one_row : (x y : A) (after behind bytes : List ℕ) → (row c).Fits x → (row c).Fits y → bytes ≡ (row c).spell x ++ after → bytes ≡ (row c).spell y ++ behind → (x ≡ y) × (after ≡ behind)
   one_row x y after behind bytes fits also front same = one_value (row c) framed_is x y after behind fits also (sym front ∙ same)
 
-  frame_memory : (x : A) (rest bytes : List ℕ) → (row c).Fits x → bytes ≡ (row c).spell x ++ rest → (fault : FrameFault) → IsFaultOf c bytes fault → fault ≡ frame.Memory
+  pub frame_memory : (x : A) (rest bytes : List ℕ) → (row c).Fits x → bytes ≡ (row c).spell x ++ rest → (fault : FrameFault) → IsFaultOf c bytes fault → fault ≡ frame.Memory
   frame_memory x rest bytes fits front fault told =
       (only_in c is {V = A × List ℕ} (λ v. v) bytes (Err fault) tt told x rest fits front).1
 
@@ -68,6 +67,7 @@ module _ {A : Type 0} (c : Form A) (is : IsForm c) where
     only_memory x rest fits front ordered able Unlawful told =
         let same = ok_is (x, rest) (told.0, told.1) (sym (read_is x rest bytes fits front) ∙ told.2) in
         absurd (told.4 (subst can (ap (λ (p : A × List ℕ). p.0) same) able))
+    only_memory x rest fits front ordered able Trailing told = absurd told
     only_memory x rest fits front ordered able Ended told = absurd told
     only_memory x rest fits front ordered able Memory told = refl
 

@@ -1,7 +1,8 @@
 -- Which row of a state has which number.
-use Rattle.std.proofs.Common.{◌≡◌, ℕ, ◌+◌, ◌<◌, List, [], ◌∷◌, ◌++◌, length, map, take, drop, Bool, false, Option, Some, None, Result, Ok, Err, refl, sym, ap, subst, ◌∙◌, arith}
+use Rattle.std.proofs.Common.{◌≡◌, ℕ, ◌+◌, ◌<◌, ◌≤◌, List, [], ◌∷◌, ◌++◌, length, map, take, drop, Bool, true, false, Option, Some, None, Result, Ok, Err, refl, sym, ap, subst, ◌∙◌, arith}
 use Rattle.std.proofs.lemmas.List.{length-map}
 use Rattle.std.specs.Prelude.{OnOk, is_some}
+use Rattle.std.specs.Ordering.{nat_cmp}
 use Rattle.std.specs.FinMap as finite
 use Rattle.zpath.specs.Grammar.{path_cmp}
 use Rattle.ztree.specs.declared.node.Node.{Node}
@@ -11,9 +12,11 @@ use Rattle.ztree.specs.Lawful.{IsLawful}
 use Rattle.ztree.proofs.Maps.{none_some}
 use Rattle.zcalls.specs.Kept.{Kept}
 use Rattle.zops.specs.Machine.{MachineState}
-use Rattle.zsnapshots.specs.States.{StateRow, Fits, spelled, head_of, sessions_of, nodes_of, replies_of, below_of, body_of, rows_of}
+use Rattle.zops.specs.declared.limits.TheConstants.{MAX_APPLIED}
+use Rattle.zsnapshots.specs.States.{StateRow, Fits, spelled, head_of, sessions_of, nodes_of, replies_of, below_of, body_of, rows_of, written_of}
 use Rattle.zsnapshots.specs.States.StateRow.{OfHeader, OfSession, OfNode, OfReply}
 use Rattle.zsnapshots.specs.support.Writing.{IsItem, IsRow}
+use Rattle.zsnapshots.proofs.Keys.{entries-empty}
 use Rattle.zsnapshots.proofs.Places.{At, at_left, at_right, at_below, at_map}
 
 -- an item is a row, by the place of the row
@@ -97,6 +100,16 @@ both_ok P Q (Err e) p q = tt
 pub none_there : {A : Type 0} (o : Option A) → false ≡ is_some o → o ≡ None
 none_there None no_one = refl
 none_there (Some x) no_one = cc
+
+-- where a kept reply is written, all are
+pub kept_is : (is_alone : Bool) (s : MachineState) (i : ℕ) → i < length (replies_of (written_of is_alone s)) → (written_of is_alone s).service.kept ≡ s.service.kept
+kept_is true s i within = let none = ap length (entries-empty {X = Kept} nat_cmp) in absurd (omega (arith, within, none))
+kept_is false s i within = refl
+
+-- no more entries are counted than were applied
+pub few_applied : (is_alone : Bool) (s : MachineState) → s.applied ≤ MAX_APPLIED → (written_of is_alone s).applied ≤ MAX_APPLIED
+few_applied true s few = omega arith
+few_applied false s few = few
 
 -- a lawful tree has a root
 pub nodes_some : (t : Tree) → IsLawful t → 0 < length (finite.entries t.nodes)

@@ -1,4 +1,5 @@
 pub mod Rows
 pub mod States
+pub mod Loading
 pub mod Laws
 pub mod support

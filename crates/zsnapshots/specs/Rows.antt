@@ -115,7 +115,8 @@ row c = framed MAX_FRAME c
 -- found, unless memory ran out; else it is the first fault.
 pub record IsReadAs {A V : Type 0} (c : Form A) (of : V → A × List ℕ) (result : Result V FrameFault)
     (bytes : List ℕ) : Type 0 where
-  pub found : IfOk result (λ v. (row c).Fits (of v).0 × (bytes ≡ (row c).spell (of v).0 ++ (of v).1))
+  pub found : IfOk result (λ v.
+      (row c).Fits (of v).0 × (bytes ≡ (row c).spell (of v).0 ++ (of v).1))
   pub only : (x : A) (rest : List ℕ) → (row c).Fits x → bytes ≡ (row c).spell x ++ rest →
       IfOk result (λ v. ((of v).0 ≡ x) × ((of v).1 ≡ rest)) × IfErr result (λ fault. fault ≡ Memory)
   pub fault : IfErr result (IsFaultOf c bytes)

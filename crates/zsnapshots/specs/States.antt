@@ -1,18 +1,18 @@
 -- The rows of a whole state: a header, the root, the sessions in the order of their ids, the other
--- nodes in the order of their paths, and the kept replies in the order of their clients. A state has
--- these rows and no others. The rows are this project's profile.
+-- nodes in the order of their paths, and the kept replies in the order of their clients. A state
+-- has these rows and no others. The rows are this project's profile.
 use Rattle.std.specs.Prelude.{◌≡◌, ℕ, ◌+◌, ◌≤◌, nat_lt, Bool, true, false, List, [], ◌∷◌, ◌++◌, map, length, take, drop, Result, Ok, IfOk, IfErr, if◌then◌else◌}
-use Rattle.std.specs.List.{AllByRecursion}
+use Rattle.std.specs.List.{AllByRecursion, flat_map}
 use Rattle.std.specs.Ordering.{nat_cmp}
 use Rattle.std.specs.declared.cmp.Ordering.{Ordering}
 use Rattle.std.specs.declared.cmp.Ordering.TheVariants.{Less}
-use Rattle.std.specs.FinMap.{entries}
+use Rattle.std.specs.FinMap.{entries, empty}
 use Rattle.zforms.specs.Forms.{Form}
 use Rattle.zpath.specs.Grammar.{path_cmp}
 use Rattle.ztree.specs.declared.node.Node.{Node}
 use Rattle.ztree.specs.declared.session.Session.{Session}
 use Rattle.ztree.specs.Tree.{Path}
-use Rattle.zcalls.specs.Kept.{Kept}
+use Rattle.zcalls.specs.Kept.{Kept, nothing_kept}
 use Rattle.zops.specs.declared.limits.TheConstants.{MAX_APPLIED}
 use Rattle.zops.specs.Machine.{MachineState}
 use Rattle.zops.specs.Restored.{IsOfUpdate, CanBegin, CanPutGranted, CanPutNode}
@@ -21,7 +21,7 @@ use Rattle.zwire.specs.declared.fault.FrameFault.TheVariants as frame
 use Rattle.zwire.specs.Frames.{IsFaultOf}
 use Rattle.zsnapshots.specs.declared.header.Header.{Header}
 use Rattle.zsnapshots.specs.declared.fault.RowFault.{RowFault}
-use Rattle.zsnapshots.specs.declared.fault.RowFault.TheVariants.{Cut, TooLong, Contents, Unordered, Unlawful, Ended, Memory}
+use Rattle.zsnapshots.specs.declared.fault.RowFault.TheVariants.{Cut, TooLong, Contents, Unordered, Unlawful, Trailing, Ended, Memory}
 use Rattle.zsnapshots.specs.Rows.{header_text, session_text, node_text, reply_text, row}
 
 -- ---- the rows of a state
@@ -77,6 +77,10 @@ spelled (OfSession e) = (row session_text).spell e
 spelled (OfNode e) = (row node_text).spell e
 spelled (OfReply e) = (row reply_text).spell e
 
+-- the bytes of all of its rows
+abbrev pub text_of : MachineState → List ℕ
+text_of s = flat_map spelled (rows_of s)
+
 -- the row has bytes that are read again, and a reply is one to an update
 abbrev pub Fits : StateRow → Type 0
 Fits (OfHeader h) = (row header_text).Fits h
@@ -91,6 +95,20 @@ pub record IsReadable (s : MachineState) : Type 0 where
   pub fit : AllByRecursion Fits (rows_of s)
 
 -- ---- writing
+
+-- the tree of a state alone: no reply is cached, and no entry was applied
+abbrev pub tree_alone : MachineState → MachineState
+tree_alone s = record { service = nothing_kept s.service.plain; applied = 0 }
+
+-- what is written of a state: its tree alone, or all of it
+abbrev pub written_of : Bool → MachineState → MachineState
+written_of is_alone s = record {
+  service = record {
+    plain = s.service.plain;
+    kept = if is_alone then empty else s.service.kept;
+  };
+  applied = if is_alone then 0 else s.applied;
+}
 
 -- the state that is written, and how many of its rows were written
 pub record WritingView : Type 0 where
@@ -137,7 +155,8 @@ abbrev pub IsWanted : ReadingView → StateRow → Type 0
 IsWanted r (OfHeader h) = ⊥
 IsWanted r (OfSession e) = wants_session r ≡ true
 IsWanted r (OfNode e) = (wants_session r ≡ false) × (wants_node r ≡ true)
-IsWanted r (OfReply e) = (wants_session r ≡ false) × ((wants_node r ≡ false) × (wants_reply r ≡ true))
+IsWanted r (OfReply e) =
+    (wants_session r ≡ false) × ((wants_node r ≡ false) × (wants_reply r ≡ true))
 
 -- one row was read: it stands in front of the bytes, and comes behind the rows so far
 pub record IsTaken (old new : ReadingView) (bytes rest : List ℕ) : Type 0 where
@@ -156,7 +175,8 @@ pub record IsRootTaken (header : Header) (new : ReadingView) (bytes rest : List 
 
 -- The row of a readable state that comes behind these rows is taken wherever it stands in front,
 -- unless memory runs out.
-abbrev pub NeverRefuses : {V : Type 0} → List StateRow → (V → List StateRow × List ℕ) → Result V RowFault → List ℕ → Type 0
+abbrev pub NeverRefuses : {V : Type 0} → List StateRow → (V → List StateRow × List ℕ) →
+    Result V RowFault → List ℕ → Type 0
 NeverRefuses before of result bytes =
     (s : MachineState) (x : StateRow) (after : List StateRow) (rest : List ℕ) → IsReadable s →
     rows_of s ≡ before ++ x ∷ after → bytes ≡ spelled x ++ rest →
@@ -166,9 +186,10 @@ NeverRefuses before of result bytes =
 abbrev pub IsAbove : {K X : Type 0} → (K → K → Ordering) → List (K × X) → K → Type 0
 IsAbove R before key = AllByRecursion (λ e. R e.0 key ≡ Less) before
 
--- Which fault it is: that of a row of this form; or the row isn't in order; or it is at its place in
--- no settled state. The first of them that holds is told.
-abbrev pub IsRowFault : {A : Type 0} → Form A → (A → Type 0) → (A → Type 0) → List ℕ → RowFault → Type 0
+-- Which fault it is: that of a row of this form; or the row isn't in order; or it is at its place
+-- in no settled state. The first of them that holds is told.
+abbrev pub IsRowFault : {A : Type 0} → Form A → (A → Type 0) → (A → Type 0) → List ℕ →
+    RowFault → Type 0
 IsRowFault c in_order can bytes Cut = IsFaultOf c bytes frame.Cut
 IsRowFault c in_order can bytes TooLong = IsFaultOf c bytes frame.TooLong
 IsRowFault c in_order can bytes (Contents fault) = IsFaultOf c bytes (frame.Contents fault)
@@ -176,6 +197,7 @@ IsRowFault {A} c in_order can bytes Unordered =
     (x : A) × (rest : List ℕ) × ((row c).read bytes ≡ Ok (x, rest)) × (in_order x → ⊥)
 IsRowFault {A} c in_order can bytes Unlawful =
     (x : A) × (rest : List ℕ) × ((row c).read bytes ≡ Ok (x, rest)) × in_order x × (can x → ⊥)
+IsRowFault c in_order can bytes Trailing = ⊥
 IsRowFault c in_order can bytes Ended = ⊥
 IsRowFault c in_order can bytes Memory = Unit {0}
 

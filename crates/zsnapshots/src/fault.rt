@@ -26,6 +26,9 @@ pub enum RowFault {
     /// The row is at its place in no state of a machine.
     #[error("not a row of a lawful state")]
     Unlawful,
+    /// Bytes follow the row, where it has to stand alone.
+    #[error("bytes follow the row")]
+    Trailing,
     /// There is no further row.
     #[error("there is no further row")]
     Ended,

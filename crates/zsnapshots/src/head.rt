@@ -1,5 +1,8 @@
 //! The header that a reader keeps.
 
+ghost use Rattle.std.specs.Prelude.{◌≡◌};
+
+use crate::header::Header;
 use std::marker::Model;
 use zprotocol::LogNumber;
 use ztree::Zxid;
@@ -31,4 +34,34 @@ impl Model for Head {
       nodes = h.nodes;
       replies = h.replies;
     } };
+}
+
+impl Head {
+    /// Keeps a header.
+    pub(crate) fn of(header: Header) -> Head
+        ensures { result ≡ header }
+    {
+        Head {
+            last: header.last,
+            time: header.time,
+            zxid: header.zxid,
+            sessions: header.sessions,
+            nodes: header.nodes,
+            replies: header.replies,
+        }
+    }
+
+    /// Returns the header.
+    pub(crate) fn header(&self) -> Header
+        ensures { result ≡ self.now }
+    {
+        Header {
+            last: self.last,
+            time: self.time,
+            zxid: self.zxid,
+            sessions: self.sessions,
+            nodes: self.nodes,
+            replies: self.replies,
+        }
+    }
 }

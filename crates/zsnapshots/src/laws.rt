@@ -1,6 +1,7 @@
 //! Laws of the definitions. Each function's contract is a law; its body does nothing.
 
-ghost use Rattle.zsnapshots.specs.Laws.{AreRows, RowsAreShort};
+ghost use Rattle.zsnapshots.specs.Laws.{AreRows, RowsAreShort, RowsAreOfOneState, RowsTellApart};
+ghost use Rattle.zsnapshots.specs.Laws.{OneStateInFront, OneStateInFrontOfText, NoneIsMissing};
 ghost use Rattle.zsnapshots.specs.Rows.{header_text, session_text, node_text, reply_text};
 
 /// Rows are read again, told apart, and cut only where more bytes may make one.
@@ -14,4 +15,17 @@ pub fn rows_are_read_again()
 /// Each row of a state is short.
 pub fn rows_are_short()
     ensures { RowsAreShort }
+{}
+
+/// Rows tell which state they are of, by their bytes alone, whatever follows them.
+pub fn rows_tell_apart()
+    ensures one { RowsAreOfOneState }
+    ensures rows { RowsTellApart }
+    ensures front { OneStateInFront }
+    ensures text { OneStateInFrontOfText }
+{}
+
+/// A header tells how many rows a state has.
+pub fn headers_tell_the_end()
+    ensures { NoneIsMissing }
 {}

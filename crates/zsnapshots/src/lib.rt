@@ -1,11 +1,12 @@
 //! The rows of a snapshot: the whole state of a machine as bytes, row by row.
 //!
-//! They are a header, the root, the sessions in the order of their ids, the other nodes in the order
-//! of their paths, and the cached replies in the order of their clients. A row is a frame of its own
-//! (`zwire`), so that no buffer has to hold a state, which is up to 268 MB.
+//! They are a header, the root, the sessions in the order of their ids, the other nodes in the
+//! order of their paths, and the cached replies in the order of their clients. A row is a frame of
+//! its own (`zwire`), so that no buffer has to hold a state, which is up to 268 MB.
 //!
-//! `Writing` hands out the rows of a machine one after the other. `Reading` takes one row at a time,
-//! and gives the machine at the end, or says which row has which fault.
+//! `Writing` hands out the rows of a machine one after the other, or those of its tree alone.
+//! `Reading` takes one row at a time, and gives the machine at the end, or says which row has which
+//! fault. `Loading` does so where each row stands in bytes of its own.
 //!
 //! The next row of a state that a machine wrote is never refused, unless memory runs out. Whatever
 //! the bytes are, what is read in the end is a machine whose own rows they are.
@@ -19,6 +20,7 @@ mod head;
 mod header;
 pub mod laws;
 mod limits;
+mod loading;
 mod node_reading;
 mod node_writing;
 mod order;
@@ -33,6 +35,7 @@ mod writing;
 pub use fault::RowFault;
 pub use header::Header;
 pub use limits::MAX_ROW;
+pub use loading::Loading;
 pub use reading::Reading;
 pub use row_reading::{read_header_row, read_node_row, read_reply_row, read_session_row};
 pub use row_writing::{write_header_row, write_node_row, write_reply_row, write_session_row};

@@ -1,12 +1,16 @@
 //! A machine, read row by row.
 
-ghost use Rattle.std.specs.Prelude.{◌≡◌, [], ◌∷◌, true, false, IfOk, IfErr, IfSome, IfNone, OnOk, OnErr};
+ghost use Rattle.std.specs.Prelude.{◌≡◌, [], ◌∷◌, true, false, IfOk, IfErr, IfSome, IfNone};
+ghost use Rattle.std.specs.Prelude.{OnOk, OnErr};
 ghost use Rattle.zstore.specs.declared.restore_fault.RestoreFault.TheVariants.{Memory as OfMemory};
 ghost use Rattle.zops.specs.Restored.{rooted_machine, CanBegin};
+ghost use Rattle.zops.specs.RestoredLaws.{IsSettled};
 ghost use Rattle.zsnapshots.specs.States.{NeverRefuses};
 ghost use Rattle.zsnapshots.specs.support.Reading.{HasBegun};
 ghost use Rattle.zsnapshots.specs.States.StateRow.{OfHeader};
-ghost use Rattle.zsnapshots.specs.States.{rows_of, rows_so_far, IsTaken, IsRootTaken, IsRootFault, IsNextFault, wants_session, wants_node, wants_reply, is_done};
+ghost use Rattle.zsnapshots.specs.States.{rows_of, rows_so_far, IsTaken, IsRootTaken};
+ghost use Rattle.zsnapshots.specs.States.{wants_session, wants_node, wants_reply, is_done};
+ghost use Rattle.zsnapshots.specs.States.{IsRootFault, IsNextFault};
 ghost use Rattle.zsnapshots.specs.States.{IsSessionFault, IsNodeFault, IsReplyFault};
 
 use crate::fault::RowFault;
@@ -54,8 +58,8 @@ impl Model for Reading {
 }
 
 impl Reading {
-    /// Begins behind this header with the root, whose row stands in front of the bytes. Returns what
-    /// follows it too.
+    /// Begins behind this header with the root, whose row stands in front of the bytes. Returns
+    /// what follows it too.
     pub fn new(alloc: Global, header: Header, bytes: &[u8]) -> Result<(Reading, &[u8]), RowFault>
         ensures taken { IfOk result (λ x. IsRootTaken header x.0 bytes.now x.1.now) }
         // The root of a state that can be read is never refused.
@@ -116,21 +120,14 @@ impl Reading {
         requires { HasBegun header path restoring }
         ensures { result ≡ record { header = header; state = restoring } }
     {
-        let kept = Head {
-            last: header.last,
-            time: header.time,
-            zxid: header.zxid,
-            sessions: header.sessions,
-            nodes: header.nodes,
-            replies: header.replies,
-        };
+        let (sessions, nodes, replies) = (header.sessions, header.nodes, header.replies);
         Reading {
             alloc,
-            header: kept,
+            header: Head::of(header),
             restoring,
-            sessions: header.sessions,
-            nodes: header.nodes,
-            replies: header.replies,
+            sessions,
+            nodes,
+            replies,
             session: None,
             path,
             client: None,
@@ -256,6 +253,7 @@ impl Reading {
     /// Returns the machine, once all rows were taken: these are its rows.
     pub fn finish(self) -> Option<Machine>
         ensures machine { IfSome result (λ m. rows_of m.state ≡ rows_so_far self) }
+        ensures settled { IfSome result (λ m. IsSettled m.state.service.plain) }
         ensures whole { IfSome result (λ m. m.is_broken ≡ false) }
         ensures none { IfNone result (is_done self ≡ false) }
     {

@@ -125,7 +125,8 @@ fn reply_row_in(
     alloc: Global,
     bytes: &[u8],
 ) -> Result<(ClientId, CallNumber, Reply, &[u8]), FrameFault>
-    ensures read { IfOk result (λ x. (row reply_text).read bytes.now ≡ Ok ((x.0, kept_of x.1 x.2), x.3.now)) }
+    ensures read { IfOk result (λ x. (row reply_text).read bytes.now
+        ≡ Ok ((x.0, kept_of x.1 x.2), x.3.now)) }
     ensures fault { IfErr result (IsFaultOf reply_text bytes.now) }
 {
     let (text, rest) = cut_frame(bytes)?;

@@ -32,7 +32,8 @@ pub fn write_session_row(
     id: SessionId,
     session: Session,
 ) -> Result<(), AllocError>
-    ensures ok { OnOk result (out.new.items ≡ out.old.items ++ (row session_text).spell (id, session)) }
+    ensures ok { OnOk result
+        (out.new.items ≡ out.old.items ++ (row session_text).spell (id, session)) }
     ensures fits { OnOk result ((row session_text).Fits (id, session)) }
     ensures err { OnErr result (out.new.items ≡ out.old.items) }
 {
@@ -48,7 +49,8 @@ pub fn write_node_row(
     path: &Path,
     node: &Node,
 ) -> Result<(), AllocError>
-    ensures ok { OnOk result (out.new.items ≡ out.old.items ++ (row node_text).spell (path.now, node.now)) }
+    ensures ok { OnOk result
+        (out.new.items ≡ out.old.items ++ (row node_text).spell (path.now, node.now)) }
     ensures fits { OnOk result ((row node_text).Fits (path.now, node.now)) }
     ensures err { OnErr result (out.new.items ≡ out.old.items) }
 {
@@ -66,7 +68,8 @@ pub fn write_reply_row(
     reply: &Reply,
 ) -> Result<(), AllocError>
     requires { IsOfUpdate reply.now }
-    ensures ok { OnOk result (out.new.items ≡ out.old.items ++ (row reply_text).spell (client, kept_of number reply.now)) }
+    ensures ok { OnOk result (out.new.items
+        ≡ out.old.items ++ (row reply_text).spell (client, kept_of number reply.now)) }
     ensures fits { OnOk result ((row reply_text).Fits (client, kept_of number reply.now)) }
     ensures err { OnErr result (out.new.items ≡ out.old.items) }
 {

@@ -1,10 +1,16 @@
 //! Worked examples of the definitions. Each function's contract has some; its body does nothing.
 
-ghost use Rattle.std.specs.Prelude.{◌≡◌, [], ◌∷◌, Ok};
+ghost use Rattle.std.specs.Prelude.{◌≡◌, [], ◌∷◌, Some, Ok};
 ghost use Rattle.zforms.specs.declared.fault.Fault.TheVariants.{Short, Invalid, Trailing};
 ghost use Rattle.zwire.specs.declared.fault.FrameFault.TheVariants.{Cut, TooLong, Contents};
 ghost use Rattle.zwire.specs.Frames.{IsFaultOf};
 ghost use Rattle.zsnapshots.specs.Rows.{header_text, session_text, node_text, reply_text, row};
+ghost use Rattle.zcalls.specs.declared.reply.Reply.TheVariants.{Deleted};
+ghost use Rattle.zops.specs.Machine.{opening_machine};
+ghost use Rattle.zops.specs.Restored.{with_reply};
+ghost use Rattle.zsnapshots.specs.States.{tree_alone};
+ghost use Rattle.zsnapshots.specs.States.StateRow.{OfHeader};
+ghost use Rattle.zsnapshots.specs.Loading.{nothing_loaded, rows_loaded, IsFollowed};
 ghost use Rattle.zsnapshots.specs.support.Samples.{header, session, node, reply};
 
 /// The bytes of a row of each kind.
@@ -27,8 +33,30 @@ pub fn rows_have_bytes()
 
 /// A row is read, and what follows it is left.
 pub fn rows_are_read()
-    ensures read { (row reply_text).read (0 ∷ 0 ∷ 0 ∷ 10 ∷ 2 ∷ 0 ∷ 0 ∷ 0 ∷ 0 ∷ 0 ∷ 0 ∷ 0 ∷ 7 ∷ 1 ∷ 9 ∷ [])
+    ensures read { (row reply_text).read
+        (0 ∷ 0 ∷ 0 ∷ 10 ∷ 2 ∷ 0 ∷ 0 ∷ 0 ∷ 0 ∷ 0 ∷ 0 ∷ 0 ∷ 7 ∷ 1 ∷ 9 ∷ [])
         ≡ Ok (reply, 9 ∷ []) }
+{}
+
+/// The tree of a state alone: no reply is cached, and no entry was applied.
+pub fn trees_stand_alone()
+    ensures { tree_alone (with_reply (record opening_machine { applied = 7 }) 3 5 Deleted)
+        ≡ opening_machine }
+{}
+
+/// What was loaded: no row, or the header.
+pub fn rows_are_loaded()
+    ensures nothing { rows_loaded nothing_loaded ≡ [] }
+    ensures header { rows_loaded (record nothing_loaded { header = Some header })
+        ≡ OfHeader header ∷ [] }
+{}
+
+/// Whether more follows a whole frame.
+pub fn frames_are_followed()
+    ensures more { IsFollowed (0 ∷ 0 ∷ 0 ∷ 1 ∷ 7 ∷ 9 ∷ []) }
+    ensures same { IsFollowed (0 ∷ 0 ∷ 0 ∷ 1 ∷ 7 ∷ 7 ∷ []) }
+    ensures none { IsFollowed (0 ∷ 0 ∷ 0 ∷ 1 ∷ 7 ∷ []) → ⊥ }
+    ensures cut { IsFollowed (0 ∷ 0 ∷ 0 ∷ 2 ∷ 7 ∷ []) → ⊥ }
 {}
 
 /// Bytes with no row in front.

@@ -28,7 +28,8 @@ pub(crate) fn put_header_text(out: &mut Vec<u8>, header: Header) -> Result<(), A
 
 // Writes the last entry's number, the time and the zxid.
 fn put_clocks(out: &mut Vec<u8>, last: LogNumber, time: u64, zxid: Zxid) -> Result<(), AllocError>
-    ensures text { OnOk result (out.new.items ≡ out.old.items ++ clocks.spell (last, (time, zxid))) }
+    ensures text { OnOk result
+        (out.new.items ≡ out.old.items ++ clocks.spell (last, (time, zxid))) }
     ensures fits { OnOk result (clocks.Fits (last, (time, zxid))) }
 {
     put_log_number(out, last)?;

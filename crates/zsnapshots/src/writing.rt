@@ -1,8 +1,10 @@
 //! A machine, written row by row.
 
-ghost use Rattle.std.specs.Prelude.{◌≡◌, ◌<◌, ◌≤◌, ◌++◌, true, false, length, IfOk, OnOk, OnErr};
+ghost use Rattle.std.specs.Prelude.{◌≡◌, ◌<◌, ◌≤◌, ◌++◌, true, false, length, map, IfOk};
+ghost use Rattle.std.specs.Prelude.{OnOk, OnErr};
 ghost use Rattle.zsnapshots.specs.States.{rows_of, head_of, sessions_of, nodes_of, replies_of};
-ghost use Rattle.zsnapshots.specs.States.{spelled, Fits, IsWritten};
+ghost use Rattle.zsnapshots.specs.States.{spelled, Fits, IsWritten, tree_alone, written_of};
+ghost use Rattle.ztree.specs.declared.limits.TheConstants.{MAX_CLIENTS};
 ghost use Rattle.zsnapshots.specs.States.StateRow.{OfHeader, OfSession, OfNode, OfReply};
 ghost use Rattle.zops.specs.declared.limits.TheConstants.{MAX_APPLIED};
 ghost use Rattle.zops.specs.RestoredLaws.{IsSettled};
@@ -25,21 +27,26 @@ pub struct Writing<'a> {
     sessions: Vec<SessionId>,
     paths: Vec<Path>,
     clients: Vec<ClientId>,
+    // Whether the tree alone is written.
+    is_alone: bool,
     // How many rows were written.
     written: usize,
 }
 
 impl<'a> Model for Writing<'a> {
-    ghost use Rattle.zsnapshots.specs.States.{WritingView};
+    ghost use Rattle.zsnapshots.specs.States.{WritingView, written_of};
     ghost use Rattle.zsnapshots.specs.support.Writing.{coded_writing, IsWriting};
 
     ghost Value = { WritingView };
 
     ghost coded = { coded_writing };
 
-    ghost view = { λ w. record { state = w.machine.now.state; written = w.written } };
+    ghost view = { λ w. record {
+      state = written_of w.is_alone w.machine.now.state;
+      written = w.written;
+    } };
 
-    ghost invariant = { λ w. IsWriting w.machine.now w.sessions.items w.paths.items
+    ghost invariant = { λ w. IsWriting w.machine.now w.is_alone w.sessions.items w.paths.items
         w.clients.items };
 }
 
@@ -52,9 +59,39 @@ impl<'a> Writing<'a> {
         ensures settled { IfOk result (λ w. IsSettled w.state.service.plain) }
         ensures few { IfOk result (λ w. w.state.applied ≤ MAX_APPLIED) }
     {
+        let clients = machine.clients()?;
+        Writing::begun(alloc, machine, clients, false)
+    }
+
+    /// Begins to write the tree alone, as that of a machine with no cached reply that applied no
+    /// entry.
+    pub fn of_tree(alloc: Global, machine: &'a Machine) -> Result<Writing<'a>, Memory>
+        requires whole { machine.now.is_broken ≡ false }
+        ensures state { IfOk result (λ w. w.state ≡ tree_alone machine.now.state) }
+        ensures none { IfOk result (λ w. w.written ≡ 0) }
+        ensures settled { IfOk result (λ w. IsSettled w.state.service.plain) }
+    {
+        Writing::begun(alloc, machine, Vec::new(alloc), true)
+    }
+
+    // Begins with the kept replies of these clients.
+    fn begun(
+        alloc: Global,
+        machine: &'a Machine,
+        clients: Vec<ClientId>,
+        is_alone: bool,
+    ) -> Result<Writing<'a>, Memory>
+        requires whole { machine.now.is_broken ≡ false }
+        requires clients { clients.items
+            ≡ map (λ e. e.0) (replies_of (written_of is_alone machine.now.state)) }
+        requires few { length clients.items ≤ MAX_CLIENTS }
+        ensures state { IfOk result (λ w. w.state ≡ written_of is_alone machine.now.state) }
+        ensures none { IfOk result (λ w. w.written ≡ 0) }
+        ensures settled { IfOk result (λ w. IsSettled w.state.service.plain) }
+        ensures few { IfOk result (λ w. w.state.applied ≤ MAX_APPLIED) }
+    {
         let _ = machine.applied();
         let sessions = machine.session_ids()?;
-        let clients = machine.clients()?;
         let paths = machine.paths()?;
         Ok(Writing {
             alloc,
@@ -62,6 +99,7 @@ impl<'a> Writing<'a> {
             sessions,
             paths,
             clients,
+            is_alone,
             written: 0,
         })
     }
@@ -130,11 +168,8 @@ impl<'a> Writing<'a> {
         ensures fits { OnOk result (Fits (OfHeader (head_of self.now.state))) }
         ensures err { OnErr result (out.new.items ≡ out.old.items) }
     {
-        let Some(last) = LogNumber::new(self.machine.applied()) else {
-            unreachable!()
-        };
         let header = Header {
-            last,
+            last: self.last(),
             time: self.machine.time(),
             zxid: self.machine.zxid(),
             sessions: self.sessions.len() as u32,
@@ -142,6 +177,21 @@ impl<'a> Writing<'a> {
             replies: self.clients.len() as u32,
         };
         write_header_row(self.alloc, out, header)
+    }
+
+    // Returns the number of the last entry that was applied.
+    fn last(&self) -> LogNumber
+        ensures { result ≡ self.now.state.applied }
+    {
+        let applied = if self.is_alone {
+            0
+        } else {
+            self.machine.applied()
+        };
+        match LogNumber::new(applied) {
+            Some(last) => last,
+            None => unreachable!(),
+        }
     }
 
     // Appends the session with this place among all.

@@ -6,7 +6,7 @@ use Rattle.std.specs.Coded.{Coded, code_by, coded×}
 use Rattle.ztree.specs.declared.node.Node.{Node}
 use Rattle.ztree.specs.Tree.{Path}
 use Rattle.zops.specs.Machine.{MachineState}
-use Rattle.zops.specs.Restored.{rooted_machine}
+use Rattle.zops.specs.Restored.{rooted_machine, AllDated, CanBegin}
 use Rattle.zops.specs.support.Codes.{coded_machine_state}
 use Rattle.zsnapshots.specs.declared.header.Header.{Header}
 use Rattle.zsnapshots.specs.contracts.header.Header as header
@@ -15,7 +15,8 @@ use Rattle.zsnapshots.specs.States.{ReadingView, sessions_of, nodes_of, replies_
 -- how what was read so far is stored
 abbrev pub coded_reading : Coded ReadingView
 coded_reading =
-    code_by (Header × MachineState) (coded× header.the_row.coded coded_machine_state) (λ r. (r.header, r.state))
+    code_by (Header × MachineState) (coded× header.the_row.coded coded_machine_state)
+    (λ r. (r.header, r.state))
     (λ p. record { header = p.0; state = p.1 }) (λ _. refl)
 
 -- the key of the last entry, if there is one
@@ -34,10 +35,12 @@ abbrev pub HasRoot : MachineState → Type 0
 HasRoot s = (root : Node) × (rest : List (Path × Node)) × (nodes_of s ≡ ([], root) ∷ rest)
 
 -- the numbers of rows that are still to come, and the last keys
-pub record IsReading (h : Header) (s : MachineState) (sessions nodes replies : ℕ) (session : Option ℕ) (path : Path) (client : Option ℕ) : Type 0 where
+pub record IsReading (h : Header) (s : MachineState) (sessions nodes replies : ℕ)
+    (session : Option ℕ) (path : Path) (client : Option ℕ) : Type 0 where
   pub last : s.applied ≡ h.last
   pub time : s.service.plain.time ≡ h.time
   pub zxid : s.service.plain.zxid ≡ h.zxid
+  pub dated : AllDated s.service.plain
   pub root : HasRoot s
   pub sessions_left : length (sessions_of s) + sessions ≡ h.sessions
   pub nodes_left : length (below_of s) + nodes ≡ h.nodes
@@ -52,4 +55,5 @@ pub record IsReading (h : Header) (s : MachineState) (sessions nodes replies : �
 pub record HasBegun (h : Header) (path : Path) (s : MachineState) : Type 0 where
   pub at_root : path ≡ []
   pub node : Node
+  pub can : CanBegin node h.time h.zxid h.last
   pub state : s ≡ rooted_machine node h.time h.zxid h.last

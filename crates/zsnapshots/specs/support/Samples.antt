@@ -1,5 +1,5 @@
 -- The rows of the worked examples.
-use Rattle.std.specs.Prelude.{ℕ, List, [], ◌∷◌}
+use Rattle.std.specs.Prelude.{ℕ, [], ◌∷◌}
 use Rattle.ztree.specs.declared.node.Node.{Node}
 use Rattle.ztree.specs.declared.session.Session.{Session}
 use Rattle.ztree.specs.Tree.{Path}

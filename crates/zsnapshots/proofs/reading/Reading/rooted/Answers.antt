@@ -1,5 +1,5 @@
-use Rattle.std.proofs.Common.{◌≡◌, ap, ◌∙◌}
-use Rattle.zops.specs.Restored.{rooted_machine}
+use Rattle.std.proofs.Common.{ap, subst, ◌∙◌}
+use Rattle.zops.specs.Restored.{rooted_machine, CanBegin}
 use Rattle.zsnapshots.proofs.reading.Reading.rooted.Goals as goal
 
 pub of-requires : goal.of-requires
@@ -8,5 +8,6 @@ of-requires c =
     record {
       at_root = c.requires;
       node = c.args.root;
+      can = subst (λ last. CanBegin c.args.root h.time h.zxid last) c.number.ensures.same c.in-Ok.ensures.can;
       state = c.in-Ok.ensures.state ∙ ap (λ last. rooted_machine c.args.root h.time h.zxid last) c.number.ensures.same;
     }

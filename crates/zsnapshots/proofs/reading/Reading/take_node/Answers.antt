@@ -1,4 +1,4 @@
-use Rattle.std.proofs.Common.{◌≡◌, ℕ, ◌-◌, Some, true, false, ◌∙◌, ap, refl, sym, subst}
+use Rattle.std.proofs.Common.{◌≡◌, ◌-◌, Some, true, false, ◌∙◌, sym, subst}
 use Rattle.zpath.specs.Grammar.{path_cmp}
 use Rattle.ztree.specs.declared.node.Node.{Node}
 use Rattle.ztree.specs.Tree.{Path}
@@ -6,7 +6,7 @@ use Rattle.ztree.proofs.Sorted.{paths_total}
 use Rattle.zops.specs.Machine.{MachineState}
 use Rattle.zsnapshots.specs.Rows.{node_text}
 use Rattle.zsnapshots.specs.States.{ReadingView, IsNodeFault, IsAbove, IsTaken, nodes_of, wants_session, wants_node}
-use Rattle.zsnapshots.specs.support.Reading.{IsReading, is_above}
+use Rattle.zsnapshots.specs.support.Reading.{IsReading}
 use Rattle.zsnapshots.proofs.RowForms.{is_node_text}
 use Rattle.zsnapshots.proofs.Keys.{map_above, not_above}
 use Rattle.zsnapshots.proofs.Kept.{view, node_kept, node_taken}
@@ -43,7 +43,7 @@ invariant_of-self-2 c =
     let above = map_above paths_total i.restoring.service.plain.nodes (Some i.path) c.in-Ok.read.0 c.self.invariant.last_path (sym c.is_path_above.ensures ∙ c.if-not-is_path_above.false) in
     subst (λ (p : Path). IsReading i.header c.put_node.new.self i.sessions (i.nodes - 1) i.replies i.session p i.client) (sym c.in-Ok-copied.ensures)
     (subst (λ (u : MachineState). IsReading i.header u i.sessions (i.nodes - 1) i.replies i.session c.in-Ok.read.0 i.client) (sym c.in_default-put_node.ensures.state)
-    (node_kept i.header i.restoring i.sessions i.nodes i.replies i.session i.path i.client c.self.invariant c.in-Ok.read.0 c.in-Ok.read.1 above none wanted))
+    (node_kept i.header i.restoring i.sessions i.nodes i.replies i.session i.path i.client c.self.invariant c.in-Ok.read.0 c.in-Ok.read.1 above none wanted c.in_default-put_node.ensures.can.dated))
 
 pub returns-clause-taken : goal.returns-clause-taken
 returns-clause-taken c =

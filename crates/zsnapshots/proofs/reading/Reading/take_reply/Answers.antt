@@ -1,10 +1,10 @@
-use Rattle.std.proofs.Common.{◌≡◌, ℕ, ◌-◌, nat_cmp, Some, true, false, ◌∙◌, ap, refl, sym, subst}
+use Rattle.std.proofs.Common.{◌≡◌, ℕ, ◌-◌, nat_cmp, Some, true, false, ◌∙◌, sym, subst}
 use Rattle.std.specs.Cmp.{nat_cmp_total}
 use Rattle.zcalls.specs.Kept.{Kept}
 use Rattle.zops.specs.Machine.{MachineState}
 use Rattle.zsnapshots.specs.Rows.{reply_text, kept_of}
 use Rattle.zsnapshots.specs.States.{ReadingView, IsReplyFault, IsAbove, IsTaken, replies_of, wants_session, wants_node, wants_reply}
-use Rattle.zsnapshots.specs.support.Reading.{IsReading, is_above}
+use Rattle.zsnapshots.specs.support.Reading.{IsReading}
 use Rattle.zsnapshots.proofs.RowForms.{is_reply_text}
 use Rattle.zsnapshots.proofs.Keys.{map_above, not_above}
 use Rattle.zsnapshots.proofs.Kept.{view, reply_kept, reply_taken}

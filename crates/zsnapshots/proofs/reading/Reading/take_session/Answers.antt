@@ -1,10 +1,10 @@
-use Rattle.std.proofs.Common.{◌≡◌, ℕ, ◌-◌, nat_cmp, Some, true, false, ◌∙◌, ap, refl, sym, subst}
+use Rattle.std.proofs.Common.{◌≡◌, ℕ, ◌-◌, nat_cmp, Some, true, ◌∙◌, sym, subst}
 use Rattle.std.specs.Cmp.{nat_cmp_total}
 use Rattle.ztree.specs.declared.session.Session.{Session}
 use Rattle.zops.specs.Machine.{MachineState}
 use Rattle.zsnapshots.specs.Rows.{session_text}
 use Rattle.zsnapshots.specs.States.{ReadingView, IsSessionFault, IsAbove, IsTaken, sessions_of, wants_session}
-use Rattle.zsnapshots.specs.support.Reading.{IsReading, is_above}
+use Rattle.zsnapshots.specs.support.Reading.{IsReading}
 use Rattle.zsnapshots.proofs.RowForms.{is_session_text}
 use Rattle.zsnapshots.proofs.Keys.{map_above, not_above}
 use Rattle.zsnapshots.proofs.Kept.{view, session_kept, session_taken}

@@ -1,7 +1,6 @@
 use Rattle.std.proofs.Common.{ap, ◌∙◌, length, arith}
 use Rattle.std.proofs.lemmas.List.{length-map}
 use Rattle.std.specs.FinMap as finite
-use Rattle.zsnapshots.specs.States.{sessions_of, nodes_of}
 use Rattle.zsnapshots.proofs.Written.{nodes_some}
 use Rattle.zsnapshots.proofs.writing.Writing.write_header.Goals as goal
 

@@ -1,6 +1,6 @@
-use Rattle.std.proofs.Common.{◌≡◌, ℕ, ◌+◌, ◌-◌, ◌<◌, length, length-drop, ap, sym, subst, ◌∙◌, arith}
+use Rattle.std.proofs.Common.{◌≡◌, ◌+◌, ◌-◌, ◌<◌, length, length-drop, ap, sym, subst, ◌∙◌, arith}
 use Rattle.std.proofs.lemmas.List.{length-map}
-use Rattle.zsnapshots.specs.States.{WritingView, sessions_of, nodes_of, replies_of, below_of}
+use Rattle.zsnapshots.specs.States.{WritingView, sessions_of, nodes_of, replies_of, below_of, written_of}
 use Rattle.zsnapshots.specs.States.StateRow.{OfSession, OfNode, OfReply}
 use Rattle.zsnapshots.specs.support.Writing.{IsItem, IsRow}
 use Rattle.zsnapshots.proofs.Written.{row_of, header_row, root_place, session_place, node_place, reply_place, nodes_some}
@@ -8,7 +8,7 @@ use Rattle.zsnapshots.proofs.writing.Writing.write_row.Goals as goal
 
 pub overflow_sub-below : goal.overflow_sub-below
 overflow_sub-below c =
-    let s = c.self.inside.machine.now.state in
+    let s = written_of c.self.inside.is_alone c.self.inside.machine.now.state in
     let some = nodes_some s.service.plain c.self.invariant.settled.lawful in
     let long_paths = ap length c.self.invariant.paths ∙ length-map (nodes_of s) (λ e. e.0) in
     omega (arith, c.len-below.ensures, long_paths, some)
@@ -30,7 +30,7 @@ returns-then-number-eq1-clause-row c = λ yes_more.
 
 pub returns-then-behind-sessions-clause-row : goal.returns-then-behind-sessions-clause-row
 returns-then-behind-sessions-clause-row c = λ yes_more.
-    let s = c.self.inside.machine.now.state in
+    let s = written_of c.self.inside.is_alone c.self.inside.machine.now.state in
     let n = c.args.number in
     let some = nodes_some s.service.plain c.self.invariant.settled.lawful in
     let long_sessions = ap length c.self.invariant.sessions ∙ length-map (sessions_of s) (λ e. e.0) in
@@ -43,7 +43,7 @@ returns-then-behind-sessions-clause-row c = λ yes_more.
 
 pub returns-then-behind-below-clause-row : goal.returns-then-behind-below-clause-row
 returns-then-behind-below-clause-row c = λ yes_more.
-    let s = c.self.inside.machine.now.state in
+    let s = written_of c.self.inside.is_alone c.self.inside.machine.now.state in
     let n = c.args.number in
     let some = nodes_some s.service.plain c.self.invariant.settled.lawful in
     let long_sessions = ap length c.self.invariant.sessions ∙ length-map (sessions_of s) (λ e. e.0) in
@@ -60,7 +60,7 @@ returns-then-behind-below-clause-row c = λ yes_more.
 
 pub returns-then-behind-replies-clause-row : goal.returns-then-behind-replies-clause-row
 returns-then-behind-replies-clause-row c = λ yes_more.
-    let s = c.self.inside.machine.now.state in
+    let s = written_of c.self.inside.is_alone c.self.inside.machine.now.state in
     let n = c.args.number in
     let some = nodes_some s.service.plain c.self.invariant.settled.lawful in
     let long_sessions = ap length c.self.invariant.sessions ∙ length-map (sessions_of s) (λ e. e.0) in

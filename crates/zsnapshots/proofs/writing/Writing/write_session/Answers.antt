@@ -1,11 +1,11 @@
-use Rattle.std.proofs.Common.{◌≡◌, ◌<◌, length, sym, subst, ◌∙◌}
+use Rattle.std.proofs.Common.{◌<◌, length, sym, subst, ◌∙◌}
 use Rattle.std.specs.Cmp.{nat_cmp_total}
 use Rattle.std.specs.Prelude.{OnOk}
 use Rattle.zsnapshots.specs.States.{WritingView, sessions_of}
 use Rattle.zsnapshots.specs.States.StateRow.{OfSession}
 use Rattle.zsnapshots.specs.support.Writing.{IsItem}
 use Rattle.zsnapshots.proofs.Places.{entry_at, entry_there_at}
-use Rattle.zsnapshots.proofs.Written.{item_ok, both_ok, none_there}
+use Rattle.zsnapshots.proofs.Written.{item_ok}
 use Rattle.zsnapshots.proofs.writing.Writing.write_session.Goals as goal
 
 pub unreachable-requires : goal.unreachable-requires
