@@ -29,6 +29,7 @@ enum { PASSWORD = 16, MOST_CAME = 65536, MOST_LINE = 524289 };
 const bool is_kept = true;
 
 static const char *program, *folder, *mode;
+static long journal;
 static int signals;
 static pid_t child;
 static int to_child, from_child;
@@ -45,6 +46,7 @@ static size_t length;
 void prepare(const struct words *words, int ending) {
     if (!words->data || !words->keeper) stop(2, "--data and --keeper are missing");
     program = words->keeper, folder = words->data, mode = words->sync, signals = ending;
+    journal = words->journal;
 }
 
 void say_what_is_left(void) {
@@ -208,13 +210,12 @@ size_t jellqupas_front_tell(jellqupas_front *front, uint8_t *to, size_t left) {
 /* ---- its beginning and its end */
 
 /* Becomes the child. */
-static _Noreturn void become(int in, int out, const char *servers, const char *tick,
-                             const char *now, pid_t parent) {
+static _Noreturn void become(int in, int out, char words[4][24], pid_t parent) {
     prctl(PR_SET_PDEATHSIG, SIGKILL);
     if (getppid() != parent) _exit(1);
     dup2(in, STDIN_FILENO);
     dup2(out, STDOUT_FILENO);
-    execl(program, program, folder, mode, servers, tick, now, (char *)NULL);
+    execl(program, program, folder, mode, words[0], words[1], words[2], words[3], (char *)NULL);
     fprintf(stderr, "zk: %s: %s\n", program, strerror(errno));
     _exit(3);
 }
@@ -234,15 +235,16 @@ uint32_t jellqupas_front_open(uint8_t servers, uint32_t tick_ms, uint64_t starte
                               jellqupas_front *front) {
     (void)front;
     int in[2], out[2];
-    char words[3][24];
+    char words[4][24];
     snprintf(words[0], sizeof words[0], "%u", servers);
     snprintf(words[1], sizeof words[1], "%lu", (unsigned long)tick_ms);
     snprintf(words[2], sizeof words[2], "%llu", (unsigned long long)started_ms);
+    snprintf(words[3], sizeof words[3], "%ld", journal);
     if (pipe2(in, O_CLOEXEC) || pipe2(out, O_CLOEXEC)) stop(3, "no pipes: %s", strerror(errno));
     pid_t parent = getpid();
     child = fork();
     if (child < 0) stop(3, "no process: %s", strerror(errno));
-    if (!child) become(in[0], out[1], words[0], words[1], words[2], parent);
+    if (!child) become(in[0], out[1], words, parent);
     close(in[0]), close(out[1]);
     to_child = in[1], from_child = out[0];
     wait_for_child();

@@ -105,6 +105,7 @@ static const char USAGE[] =
     "  --tick MS                the milliseconds of a tick, 10 to 3600000 (2000)\n"
     "  --data DIR               keeps what it tells in this folder\n"
     "  --sync batch|never       whether it waits for the disk (batch)\n"
+    "  --journal MIB            from which size on its journal is shortened, 1 to 1048576 (64)\n"
     "  --keeper PROGRAM         what keeps the folder\n"
     "  --version, --help\n\n"
     "Lines on standard input let servers join, fail and leave: join s4, fail s1, retire s2.\n";
@@ -124,11 +125,13 @@ static bool is_put(const struct place *place, const char *value) {
 
 struct words understood(char **words) {
     struct words found = {
-        .listen = "127.0.0.1:2181", .sync = "batch", .servers = 3, .tick = 2000};
+        .listen = "127.0.0.1:2181", .sync = "batch", .servers = 3, .tick = 2000,
+        .journal = 64};
     const struct place places[] = {
         {.name = "--listen", .text = &found.listen}, {.name = "--data", .text = &found.data},
         {.name = "--sync", .text = &found.sync}, {.name = "--keeper", .text = &found.keeper},
         {.name = "--servers", .number = &found.servers, .least = 1, .most = 16},
+        {.name = "--journal", .number = &found.journal, .least = 1, .most = 1048576},
         {.name = "--tick", .number = &found.tick, .least = 10, .most = 3600000}};
     const struct place *const end = places + sizeof places / sizeof *places;
     for (; *words; words++) {

@@ -9,7 +9,7 @@ _Noreturn void stop(int status, const char *format, ...);
    keeps it. */
 struct words {
     const char *listen, *data, *sync, *keeper;
-    long servers, tick;
+    long servers, tick, journal;
 };
 
 /* Reads the words behind the program's name. It tells what is asked for, and ends. */

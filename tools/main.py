@@ -95,6 +95,13 @@ def keeper(mode):
     return programs.proved(name) or proving.prove(name, tell)
 
 
+def compact(mode, words):
+    """Shortens the journal of a server's folder, on which no server runs."""
+    folder = words_of.read("compact", words)["data"]
+    servers = serving.servers_of(folder)
+    become(keeper(mode), [folder, "compact", str(servers)])
+
+
 def prove(words):
     """Proves what the word names, a script's program where there is none, and prints its path."""
     what = words[0] if words else "script"
@@ -131,10 +138,12 @@ def do(is_folder, words):
             refuse(wrong)
         if command == "serve":
             serve(mode, words, is_folder)
+        elif command == "compact":
+            compact(mode, words)
         else:
             run(mode, command, words, is_folder)
     elif mode:
-        refuse(f"{mode} wants script, race or serve behind it, not '{command}'")
+        refuse(f"{mode} wants script, race, serve or compact behind it, not '{command}'")
     elif command == "prove":
         prove(words)
     elif command == "clean":

@@ -88,6 +88,16 @@ def build(tell):
     return compile_to(place(os.path.dirname(os.path.dirname(front))), (MEMORY, front))
 
 
+def servers_of(folder):
+    """How many servers the journal of a folder is for; 1 where its program is to say what is wrong."""
+    path = f"{folder}/journal"
+    if not os.path.isfile(path):
+        raise Stopped(f"data: {path}: there is no journal")
+    with open(path, "rb") as file:
+        head = file.read(21)
+    return head[20] if len(head) == 21 and 1 <= head[20] <= 16 else 1
+
+
 def build_kept():
     """The host of a server that keeps a folder, which is compiled where it isn't there."""
     path = place_of_kept()

@@ -26,8 +26,11 @@ A coordination service with ZooKeeper's data model and chain replication.
 ./zk serve [--listen ADDRESS:PORT] [--servers N] [--tick MS]
                               serves ZooKeeper's clients at 127.0.0.1:2181, in
                               memory: N is 1 to 16 (3), MS 10 to 3600000 (2000)
-./zk serve --data DIR [--sync batch|never] ..
-                              keeps what it told in DIR, as a script does
+./zk serve --data DIR [--sync batch|never] [--journal MIB] ..
+                              keeps what it told in DIR, as a script does; its
+                              journal is shortened from MIB on, 1 to 1048576 (64)
+./zk compact --data DIR       shortens the journal of a server's folder, while no
+                              server runs on it
 The first script or race builds its program without proof, in about a minute,
 and each says that it isn't proved. Once it is proved, the proved program runs.
 

@@ -17,7 +17,9 @@ OPTIONS = {
     "race": {"servers": (1, 16), "clients": (1, 31), "rounds": (1, 1000), "halt": (0, 16)},
     "serve": {
         "servers": (1, 16), "tick": (10, 3600000), "listen": ADDRESS, "data": FOLDER, "sync": SYNC,
+        "journal": (1, 1048576),
     },
+    "compact": {"data": FOLDER},
 }
 # The servers of a race that doesn't name them.
 RACE_SERVERS = 3
@@ -68,8 +70,11 @@ def wrong(command, words):
     given = read(command, words)
     if isinstance(given, str):
         return given
-    if "sync" in given and "data" not in given:
-        return "--sync wants --data beside it"
+    if command == "compact" and not given:
+        return "compact wants --data DIR behind it"
+    for it in ("sync", "journal"):
+        if it in given and "data" not in given:
+            return f"--{it} wants --data beside it"
     return wrong_halt(given) if command == "race" else None
 
 

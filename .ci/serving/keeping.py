@@ -16,6 +16,8 @@ REFUSED = (0, 0, bytes(16), b"\0")
 # The lives of a folder, before another one is begun.
 LIVES = 20
 LIMIT = 65536
+# A journal that is shortened as soon as it may be, and bytes by which a change makes it longer.
+SHORT, PAD = ("--journal", "1"), b" " * 20000
 
 
 class Place:
@@ -164,9 +166,9 @@ def test_last(place):
 class Writer(threading.Thread):
     """Sets a node of its own to 1, 2, 3, .., many at once, until the server ends."""
 
-    def __init__(self, client, path, many):
+    def __init__(self, client, path, many, pad=b""):
         super().__init__()
-        self.client, self.path, self.many = client, path, many
+        self.client, self.path, self.many, self.pad = client, path, many, pad
         self.sent = self.told = int(client.get(path)[0])
         self.start()
 
@@ -175,7 +177,8 @@ class Writer(threading.Thread):
             while True:
                 numbers = range(self.sent + 1, self.sent + 1 + self.many)
                 self.sent = numbers[-1]
-                asked = [self.client.post(SET, set_body(self.path, b"%d" % it)) for it in numbers]
+                data = [b"%d" % it + self.pad for it in numbers]
+                asked = [self.client.post(SET, set_body(self.path, it)) for it in data]
                 for number, xid in zip(numbers, asked):
                     want_same(self.client.answer(xid).code, OK, f"{self.path} is set")
                     self.told = number
@@ -183,9 +186,9 @@ class Writer(threading.Thread):
             self.client.drop()
 
 
-def live(place, folder, clients, chance):
-    """A life that is killed. Gives the writers, and whether what keeps the folder was killed."""
-    server = place.start(folder)
+def live(place, folder, clients, chance, words):
+    """A life that is killed. Gives the writers."""
+    server = place.start(folder, words)
     found = []
     for number, many in enumerate((1, 1, 1, 4, 16, 60)):
         path = f"/w{number}"
@@ -197,7 +200,7 @@ def live(place, folder, clients, chance):
         else:
             it.create(path, b"0")
             it.create(f"/e{number}", flags=EPHEMERAL)
-        found.append(Writer(it, path, many))
+        found.append(Writer(it, path, many, PAD if words and many > 1 else b""))
     time.sleep(chance.random() * 0.15)
     of_child = chance.random() < 0.3
     status = kill(server, of_child)
@@ -208,12 +211,16 @@ def live(place, folder, clients, chance):
 
 
 def test_kills(place):
-    """Lives that end by SIGKILL beneath load, of the host or of what keeps its folder."""
+    """Lives that end by SIGKILL beneath load, of the host or of what keeps its folder.
+
+    Every second folder is shortened all the time.
+    """
     told = 0
     for begin in range(0, place.kills, LIVES):
         chance, folder, clients, writers = random.Random(begin), place.folder(), {}, []
+        words = SHORT if begin // LIVES % 2 else ()
         for number in range(begin, min(begin + LIVES, place.kills)):
-            writers = live(place, folder, clients, chance)
+            writers = live(place, folder, clients, chance, words)
             look(place, folder, writers, f"life {number}")
         told += sum(it.told for it in writers)
     say(f"keeping: {place.kills} lives were killed, {told} changes told")
@@ -227,6 +234,52 @@ def look(place, folder, writers, what):
             number = int(data)
             holds = writer.told <= number <= writer.sent and stat.version == number
             want(holds, f"{what}: {number} of {writer.told} to {writer.sent}, {stat.version}")
+
+
+def size_of(folder):
+    """The bytes of a journal's blocks; behind them stands a gate of one byte."""
+    return os.path.getsize(f"{folder}/journal") - 1
+
+
+def compact(place, folder):
+    """What is told where the journal of a folder is shortened."""
+    words = [place.keeper, folder, "compact", "3"]
+    ran = subprocess.run(words, capture_output=True, text=True, timeout=60)
+    return ran.returncode, ran.stdout, ran.stderr
+
+
+def test_shortening(place):
+    """A journal is shortened while clients go on, and keeps all that it kept."""
+    folder, most, longest = place.folder(), 200, 0
+    with place.start(folder, SHORT) as server:
+        it = server.client(timeout=40000)
+        it.create("/a")
+        it.create("/a/e", b"mine", EPHEMERAL)
+        it.create("/a/s-", flags=SEQUENTIAL)
+        for number in range(most):
+            it.set("/a", b"%d" % number + PAD)
+            longest = max(longest, size_of(folder))
+        before = it.get("/a"), it.get("/a/e"), it.zxid
+        said = "zk: data: the folder is in use\n"
+        want_same(compact(place, folder), (3, "", said), "a folder in use")
+    want(1000000 < longest < 1100000, f"it had {longest} bytes at most")
+    before_it, told = size_of(folder), compact(place, folder)
+    want_same(told, (0, f"{size_of(folder)} bytes, before {before_it}\n", ""), "it is shortened")
+    want(size_of(folder) < 60000, f"to {size_of(folder)} bytes")
+    want(not os.path.exists(f"{folder}/journal.new"), "no file is left beside it")
+    with place.start(folder, SHORT) as server:
+        again = server.client(of=it)
+        want_same(again.session, it.session, "the session")
+        (data, stat), (mine, owner), zxid = before
+        seen_data, seen_stat = again.get("/a")
+        want_same(seen_data, data, "the node")
+        same = [(it.version, it.mzxid, it.czxid) for it in (stat, seen_stat)]
+        want_same(same[1], same[0], "and its stat")
+        want_same(again.exists("/a/e").owner, it.session, "the session's node")
+        want_same(again.create("/a/s-", flags=SEQUENTIAL), "/a/s-0000000001", "the next name")
+        want(again.exists("/a/s-0000000001").czxid > zxid, "zxids go on")
+        want_same((mine, owner.owner), (b"mine", it.session), "as it was")
+    it.drop()
 
 
 def test_refused(place):
@@ -314,5 +367,5 @@ def test_full_disk(place):
 
 KEPT = (
     test_restart, test_last, test_expiry, test_refused, test_stop, test_limited_file,
-    test_full_disk, test_kills,
+    test_full_disk, test_shortening, test_kills,
 )

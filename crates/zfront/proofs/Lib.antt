@@ -2,4 +2,4 @@ mod Results
 mod Frames
 mod Late
 mod Lines
-mod Replayed
+mod Seating

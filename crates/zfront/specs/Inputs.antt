@@ -1,16 +1,12 @@
 -- The inputs of a server for ZooKeeper's clients, and what it does at each.
-use Rattle.std.specs.Prelude.{◌≡◌, ℕ, Bool, false, List, [], drop, None}
+use Rattle.std.specs.Prelude.{◌≡◌, ℕ, Bool, false, List, [], drop}
 use Rattle.std.specs.FinMap as finite
-use Rattle.std.specs.FinSet as sets
-use Rattle.zprotocol.specs.server.Machine.{kept_tree}
-use Rattle.zworld_model.specs.World.{opening_world}
-use Rattle.zworld.specs.Steps.{world_in}
+use Rattle.ztree.specs.Tree.{opening_tree}
 use Rattle.zanswering.specs.declared.clock.Clock.{Clock}
 use Rattle.zpieces.specs.Streams as streams
-use Rattle.zalone.specs.Told.{HasTold}
-use Rattle.ztables.specs.Tables.{TablesView}
 use Rattle.ztables.specs.Tables as tables
 use Rattle.zfront.specs.Front.{FrontView, with_tables}
+use Rattle.zfront.specs.Restoring.{IsRestored}
 
 -- a server, and whether it ran out of memory
 pub record ServerView : Type 0 where
@@ -21,22 +17,9 @@ pub record ServerView : Type 0 where
 abbrev pub IsSound : ServerView → ServerView → Type 0
 IsSound old new = (old.is_broken ≡ false) × (new.is_broken ≡ false)
 
--- tables without connections
-abbrev pub no_tables : TablesView
-no_tables = record { streams = finite.empty; sittings = finite.empty; watches = sets.empty; unsent = [] }
-
--- a server whose service made no call yet
-pub record Begins (last : ℕ) (times : Clock) (v : FrontView) : Type 0 where
-  pub world : world_in v.asker.world ≡ opening_world kept_tree last 1
-  pub told : HasTold v.asker [] None
-  pub tables : v.tables ≡ no_tables
-  pub late : v.late ≡ None
-  pub must_look : v.must_look ≡ false
-  pub clock : v.clock ≡ times
-
--- and that has memory
+-- a new server: it has memory, and begins with the initial tree and no seats
 abbrev pub IsNew : ℕ → Clock → ServerView → Type 0
-IsNew last clock v = Begins last clock v.front × (v.is_broken ≡ false)
+IsNew last clock v = IsRestored last clock opening_tree [] v.front × (v.is_broken ≡ false)
 
 -- a connection was opened, with the password of a session that is opened on it
 abbrev pub Opens : ℕ → List ℕ → FrontView → FrontView → Type 0

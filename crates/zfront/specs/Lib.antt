@@ -5,6 +5,6 @@ pub mod Words
 pub mod Reading
 pub mod Ticking
 pub mod Orders
-pub mod Inputs
 pub mod Restoring
+pub mod Inputs
 pub mod support

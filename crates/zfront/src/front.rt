@@ -2,14 +2,15 @@
 
 ghost use Rattle.std.specs.Prelude.{◌≡◌, ◌≤◌, ◌+◌, ◌^◌, true, false, length};
 ghost use Rattle.std.specs.Prelude.{IfNone, IfOk, IfSome, IsErr, OnErr, OnOk};
-ghost use Rattle.std.specs.FinMap.{get};
+ghost use Rattle.std.specs.FinMap.{get, keys};
 ghost use Rattle.std.specs.Option.{option_copied, option_map};
+ghost use Rattle.zserver.specs.Server.{IsFresh};
 ghost use Rattle.zalone.specs.Changes.{no_changes};
 ghost use Rattle.zpieces.specs.Outbox.{first_of};
 ghost use Rattle.zfront.specs.Inputs as input;
 ghost use Rattle.zfront.specs.Orders.{Hears};
 ghost use Rattle.zfront.specs.Reading.{Comes};
-ghost use Rattle.zfront.specs.Restoring.{all_taken};
+ghost use Rattle.zfront.specs.Restoring.{all_taken, IsRestored, sessions_of};
 ghost use Rattle.zfront.specs.Ticking.{Ticks};
 
 use crate::inner::Inner;
@@ -20,6 +21,7 @@ use zanswering::Clock;
 use zpath::Memory;
 use zpieces::Piece;
 use zprotocol::ServerId;
+use zserver::Snapshot;
 use zsittings::Password;
 use ztree::SessionId;
 
@@ -50,10 +52,36 @@ impl Front {
         ensures new { IfOk result (input.IsNew last clock) }
         ensures keeps { IfOk result (λ f. f.front.asker.changes ≡ no_changes false) }
     {
-        Ok(Front {
-            inner: Inner::new(alloc, last, clock, false)?,
+        Ok(Front::of(Inner::new(alloc, last, clock)?))
+    }
+
+    /// Returns a server that begins with the snapshot's tree. Each session of the tree has its
+    /// password, and no connection. What the server makes is kept until it is taken.
+    pub fn restored(
+        alloc: Global,
+        last: ServerId,
+        clock: Clock,
+        snapshot: &Snapshot,
+        seats: &[(SessionId, Password)],
+    ) -> Result<Front, Memory>
+        requires fresh { IsFresh snapshot.now }
+        requires seated { sessions_of seats.now ≡ keys snapshot.now.machine.plain.sessions }
+        ensures restored { IfOk result
+            (λ f. IsRestored last clock snapshot.now.machine.plain seats.now f.front) }
+        ensures keeps { IfOk result (λ f. f.front.asker.changes ≡ no_changes true) }
+        ensures sound { IfOk result (λ f. f.is_broken ≡ false) }
+    {
+        Ok(Front::of(Inner::restored(alloc, last, clock, snapshot, seats)?))
+    }
+
+    // Returns a server that has memory.
+    fn of(inner: Inner) -> Front
+        ensures { result ≡ record { front = inner; is_broken = false } }
+    {
+        Front {
+            inner,
             is_broken: false,
-        })
+        }
     }
 
     /// A connection was opened. A session that is opened on it will have this password, which

@@ -1,9 +1,14 @@
 //! The state of a server that has memory.
 
-ghost use Rattle.std.specs.Prelude.{◌≡◌, IfOk, OnOk};
+ghost use Rattle.std.specs.Prelude.{◌≡◌, [], false, true, IfOk, OnOk};
+ghost use Rattle.std.specs.FinMap.{keys};
+ghost use Rattle.ztree.specs.Tree.{opening_tree};
+ghost use Rattle.zserver.specs.Server.{IsFresh};
 ghost use Rattle.zalone.specs.Changes.{no_changes};
 ghost use Rattle.zfront.specs.Inputs as input;
+ghost use Rattle.zfront.specs.Restoring.{IsRestored, sessions_of};
 
+use crate::seats::tables_of;
 use std::alloc::Global;
 use std::marker::Model;
 use zalone::Alone;
@@ -11,8 +16,10 @@ use zanswering::Clock;
 use zcalls::Call;
 use zpath::Memory;
 use zprotocol::ServerId;
+use zserver::Snapshot;
 use zsittings::Password;
 use ztables::Tables;
+use ztree::SessionId;
 
 // The client of the service, the tables, and what is left to be done. After a call ran out of memory
 // nothing is promised of it.
@@ -46,20 +53,41 @@ impl Model for Inner {
 }
 
 impl Inner {
-    // Returns a server with an empty tree. What it makes is kept until it is taken, or not at all.
-    pub(crate) fn new(
-        alloc: Global,
-        last: ServerId,
-        clock: Clock,
-        keeps: bool,
-    ) -> Result<Inner, Memory>
-        ensures new { IfOk result (λ v. input.Begins last clock v) }
-        ensures keeps { IfOk result (λ v. v.asker.changes ≡ no_changes keeps) }
+    // Returns a server with an empty tree. Nothing that it makes is kept.
+    pub(crate) fn new(alloc: Global, last: ServerId, clock: Clock) -> Result<Inner, Memory>
+        ensures new { IfOk result (IsRestored last clock opening_tree []) }
+        ensures keeps { IfOk result (λ v. v.asker.changes ≡ no_changes false) }
     {
         Ok(Inner {
             alloc,
-            alone: Alone::new(alloc, last, keeps)?,
+            alone: Alone::new(alloc, last, false)?,
             tables: Tables::new(alloc),
+            late: None,
+            must_look: false,
+            clock,
+        })
+    }
+
+    // Returns a server that begins with the snapshot's tree and these seats. What it makes is kept
+    // until it is taken.
+    pub(crate) fn restored(
+        alloc: Global,
+        last: ServerId,
+        clock: Clock,
+        snapshot: &Snapshot,
+        seats: &[(SessionId, Password)],
+    ) -> Result<Inner, Memory>
+        requires fresh { IsFresh snapshot.now }
+        requires seated { sessions_of seats.now ≡ keys snapshot.now.machine.plain.sessions }
+        ensures restored { IfOk result
+            (IsRestored last clock snapshot.now.machine.plain seats.now) }
+        ensures keeps { IfOk result (λ v. v.asker.changes ≡ no_changes true) }
+    {
+        let tables = tables_of(alloc, seats)?;
+        Ok(Inner {
+            alloc,
+            alone: Alone::restored(alloc, last, snapshot, true)?,
+            tables,
             late: None,
             must_look: false,
             clock,

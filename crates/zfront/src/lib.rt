@@ -5,7 +5,7 @@
 //! all connections are made by one client of the service, one after the other.
 //!
 //! `specs/` says exactly what each input does, for whatever the service replies. A server whose
-//! updates are kept is made anew by `Restoring`.
+//! updates are kept begins with the tree that the kept ones left (`Front::restored`).
 #![tactic(auto)]
 
 mod asking;
@@ -16,20 +16,19 @@ mod inner;
 pub mod limits;
 mod orders;
 mod reading;
-mod replaying;
 mod requests;
-mod restoring;
 mod rows;
+mod seats;
 mod ticking;
 mod word;
 mod words;
 
 pub use front::Front;
-pub use restoring::Restoring;
 pub use zalone::Made;
 pub use zanswering::Clock;
 pub use zasking::TickLength;
 pub use zpath::Memory;
 pub use zpieces::Piece;
 pub use zprotocol::ServerId;
+pub use zserver::Snapshot;
 pub use zsittings::Password;

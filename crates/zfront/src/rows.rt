@@ -1,12 +1,11 @@
 //! Worked examples of the definitions. The functions do nothing.
 
 ghost use Rattle.std.specs.Prelude.{◌≡◌, ℕ, negsuc, true, false, List, [], ◌∷◌, codes, None, Some};
-ghost use Rattle.std.specs.FinMap.{insert};
+ghost use Rattle.std.specs.FinMap.{empty, insert};
 ghost use Rattle.zprotocol.specs.declared.master.join_fault.JoinFault.TheVariants as join;
 ghost use Rattle.zprotocol.specs.declared.master.retire_fault.RetireFault.TheVariants as retire;
 ghost use Rattle.zcalls.specs.declared.call.Call.{Call};
 ghost use Rattle.zcalls.specs.declared.call.Call.TheVariants.{Update};
-ghost use Rattle.zcalls.specs.declared.call.Update as update;
 ghost use Rattle.zcalls.specs.declared.call.Update.TheVariants.{Open, Ping, Tick};
 ghost use Rattle.zcalls.specs.declared.refusal.Refusal.{Refusal};
 ghost use Rattle.zcalls.specs.declared.reply.Reply.{Reply};
@@ -18,8 +17,7 @@ ghost use Rattle.zworld.specs.declared.did.Did.TheVariants as became;
 ghost use Rattle.zworld.specs.declared.did.IdleCause.TheVariants as cause;
 ghost use Rattle.zpieces.specs.declared.phase.Phase.TheVariants.{Closing, Silent, Speaking};
 ghost use Rattle.zalone.specs.declared.order.Order.TheVariants as order;
-ghost use Rattle.zsittings.specs.Sittings.{SittingsView, restored_sitting};
-ghost use Rattle.ztables.specs.Sweeping.{gone, swept};
+ghost use Rattle.zsittings.specs.Sittings.{restored_sitting};
 ghost use Rattle.ztables.specs.Tables.{TablesView, closed, is_open};
 ghost use Rattle.zserving.specs.Greeting.{welcomed};
 ghost use Rattle.zserving.specs.support.Samples.{greeting, some_password};
@@ -29,7 +27,7 @@ ghost use Rattle.zfront.specs.Front.{FrontView, heard, takes_nodes};
 ghost use Rattle.zfront.specs.Greeting.{opened, opening};
 ghost use Rattle.zfront.specs.Orders.{did_text, wanted_of};
 ghost use Rattle.zfront.specs.Reading.{is_too_long, keeps, word_asked};
-ghost use Rattle.zfront.specs.Restoring.{all_taken, made_again, RestoresAll, seated_again};
+ghost use Rattle.zfront.specs.Restoring.{all_taken, no_tables, sessions_of, tables_of};
 ghost use Rattle.zfront.specs.Ticking.{tick_calls};
 ghost use Rattle.zfront.specs.Words.{text_of_word, word_in};
 
@@ -108,20 +106,15 @@ pub fn rests()
     ensures late { (call : Call) (v : FrontView) → heard call None v ≡ v }
 {}
 
-/// What is done with a reply to an update that is made again. Session 9 is opened again, and gets
-/// its password. Session 7 ended. Nothing else seats a session.
+/// The tables with which a server begins. Sessions 7 and 9 have their passwords, and no connection.
 pub fn sessions_are_restored()
-    ensures opened { (m : SittingsView)
-        → seated_again (Open 6) (reply.Opened 9 5) some_password m
-        ≡ insert m 9 (restored_sitting some_password) }
-    ensures refused { (why : Refusal) (m : SittingsView)
-        → seated_again (Open 6) (reply.Refused why) some_password m ≡ m }
-    ensures renewed { (m : SittingsView)
-        → seated_again (Ping 9) reply.Pinged some_password m ≡ m }
-    ensures not_looked { (u : update.Update) (told : Reply) (v : FrontView)
-        → (made_again u told some_password v).must_look ≡ false }
-    ensures nothing { (v : FrontView) → RestoresAll [] v v }
-    ensures ended { (v : FrontView) → gone v.asker.known.sessions v.tables.sittings ≡ 7 ∷ []
-        → (made_again Tick (reply.Ticked 5 1 0) some_password v).tables ≡ swept 7 v.tables }
+    ensures none { tables_of [] ≡ no_tables }
+    ensures one { tables_of ((9, some_password) ∷ []) ≡ record no_tables {
+      sittings = insert empty 9 (restored_sitting some_password);
+    } }
+    ensures two { (p : List ℕ) → tables_of ((7, p) ∷ (9, some_password) ∷ []) ≡ record no_tables {
+      sittings = insert (insert empty 7 (restored_sitting p)) 9 (restored_sitting some_password);
+    } }
+    ensures sessions { (p : List ℕ) → sessions_of ((7, p) ∷ (9, some_password) ∷ []) ≡ 7 ∷ 9 ∷ [] }
     ensures taken { (v : FrontView) → (all_taken v).asker.changes.made ≡ [] }
 {}

@@ -17,7 +17,7 @@ use Rattle.zfront_laws.specs.Runs.{Input, Does, Runs, IsLog, KeepsFew}
 use Rattle.zfront_laws.specs.Runs as it
 use Rattle.zfront_laws.proofs.Bare.{IsBare, unseated}
 use Rattle.zfront_laws.proofs.Inputs.{every_input_goes_on}
-use Rattle.zfront_laws.proofs.Restored.{again, is_few, is_quiet}
+use Rattle.zfront_laws.proofs.Restored.{is_bare, is_few, is_quiet}
 use Rattle.zfront_frames.specs.Talk.{Quiet}
 use Rattle.zfront_frames.specs.Laws.{on, came_on, went_on, Talks, EveryConnectionIsAnswered}
 use Rattle.zfront_frames.proofs.Free.{Free}
@@ -82,12 +82,11 @@ away_where c log v (inl there) none =
 away_where c log v (inr away) none = away
 
 pub every_connection_is_answered : EveryConnectionIsAnswered
-every_connection_is_answered last c times entries password before behind first old opened v connection restored earlier once none opening stays later =
-    let is = again last times entries first restored in
-    let few = is_few entries first is in
-    let quiet = is_quiet entries first is in
-    let new = bare_away c first.tables is.bare in
-    let begun = runs_before c connection before is.log None first old few quiet new.1 (inr new.0) earlier once in
+every_connection_is_answered last c times tree seats past password before behind first old opened v connection restored left earlier once none opening stays later =
+    let few = is_few last times tree seats first restored in
+    let quiet = is_quiet last times tree seats first restored past left in
+    let new = bare_away c first.tables (is_bare last times tree seats first restored) in
+    let begun = runs_before c connection before past None first old few quiet new.1 (inr new.0) earlier once in
     let away = away_where c begun.0 old begun.3 none in
     let next = every_input_goes_on (it.Opened c password) old opened begun.5 opening in
     let logged = next.0 begun.0 begun.1 begun.2 in

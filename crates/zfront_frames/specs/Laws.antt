@@ -1,17 +1,19 @@
 -- What goes on each connection, whatever the inputs are. The functions of `src/laws.rt` promise it.
 use Rattle.std.specs.Prelude.{◌≡◌, ◌≢◌, ℕ, Bool, true, not, ◌&&◌, List, [], ◌∷◌, ◌++◌, take, nat_eq, Option, None, if◌then◌else◌}
 use Rattle.std.specs.List.{filter, AllByRecursion}
+use Rattle.ztree.specs.Tree.{Tree}
 use Rattle.zcalls.specs.declared.call.Call.{Call}
 use Rattle.zjute.specs.Frames.{IsEnd}
 use Rattle.zanswering.specs.declared.clock.Clock.{Clock}
 use Rattle.zpieces.specs.Outbox.{PieceView}
 use Rattle.zpieces.specs.Streams.{phase_of}
 use Rattle.zturns.specs.Turns.{Log, IsOneTrees}
+use Rattle.zalone.specs.Told.{Leaves}
 use Rattle.ztables.specs.Tables.{is_open}
 use Rattle.zfront.specs.Front.{FrontView}
 use Rattle.zfront.specs.Inputs.{Opens}
 use Rattle.zfront.specs.Reading.{Cuts}
-use Rattle.zfront.specs.Restoring.{Entry, IsRestored}
+use Rattle.zfront.specs.Restoring.{Seat, IsRestored}
 use Rattle.zfront_laws.specs.Runs.{Input, Opened, Came, Ended, Sent, Runs, IsLog}
 use Rattle.zfront_frames.specs.Talk.{Talk, pieces_of, is_closed, IsTalk}
 
@@ -67,11 +69,11 @@ pub record Talks (c : ℕ) (log : Log) (came : List ℕ) (went : List PieceView)
   pub closes : is_closed talk ≡ not on_now
 
 -- so it is on each connection, from its opening on, whatever the inputs of a server were, new or
--- restored. The number 0 is the operator's
+-- restored with a tree that an earlier log left. The number 0 is the operator's
 abbrev pub EveryConnectionIsAnswered : Type 0
 EveryConnectionIsAnswered =
-    (last c : ℕ) (times : Clock) (entries : List Entry) (password : List ℕ) (before behind : List Input) (first old opened v : FrontView)
-    → c ≢ 0 → IsRestored last times entries first → (earlier : Runs before first old) → GivesOnce c before first old earlier
+    (last c : ℕ) (times : Clock) (tree : Tree) (seats : List Seat) (past : Log) (password : List ℕ) (before behind : List Input) (first old opened v : FrontView)
+    → c ≢ 0 → IsRestored last times tree seats first → Leaves past tree → (earlier : Runs before first old) → GivesOnce c before first old earlier
     → phase_of old.tables.streams c ≡ None → Opens c password old opened → AllByRecursion (Stays c) behind → (later : Runs behind opened v)
     → (log : Log) × (waiting : Option Call) × IsLog v log waiting × IsOneTrees log
     × Talks c log (came_on c behind opened v later) (went_on c behind opened v later) (is_open v.tables c)

@@ -97,10 +97,10 @@ reads came rest c old middle new has few after =
     let goes : GoesOn middle like =
     log.same middle like (kept_if (is_open middle.tables c) rest c middle) (late_if (is_open middle.tables c) rest c middle) in
     let making = makes_none middle like (kept_if (is_open middle.tables c) rest c middle) (late_if (is_open middle.tables c) rest c middle) in
-    let seats : Seats middle like = seats_kept middle like goes (keeps_kept (is_open middle.tables c) rest c middle) in (
+    let seats : Seats middle like = seats_kept middle like making.1 (keeps_kept (is_open middle.tables c) rest c middle) in (
       log.both old middle new done.0 (subst (GoesOn middle) (sym is) goes),
       subst KeepsFew (sym is) (keeps_few (is_open middle.tables c) rest c middle done.1),
-      seats_both old middle new done.0 done.2 (subst (Seats middle) (sym is) seats),
+      seats_both old middle new done.3.1 done.2 (subst (Seats middle) (sym is) seats),
       making_both old middle new done.3 (subst (Making middle) (sym is) making),
     )
 
@@ -117,11 +117,12 @@ comes_if : (on : Bool) (bytes : List ℕ) (c : ℕ) (old new : FrontView) → Ke
 comes_if false bytes c old new few is = with_few old new few (same old new is)
 comes_if true bytes c old new few has =
     let done = comes_behind (bytes_of old.tables.streams c ++ bytes) c (emptied c old) new (emptied_few c old few) has in
-    let goes : GoesOn old (emptied c old) = log.same old (emptied c old) refl refl in (
+    let goes : GoesOn old (emptied c old) = log.same old (emptied c old) refl refl in
+    let making = makes_none old (emptied c old) refl refl in (
       log.both old (emptied c old) new goes done.0,
       done.1,
-      seats_both old (emptied c old) new goes (seats_kept old (emptied c old) goes (bytes_kept c [] old.tables)) done.2,
-      making_both old (emptied c old) new (makes_none old (emptied c old) refl refl) done.3,
+      seats_both old (emptied c old) new making.1 (seats_kept old (emptied c old) making.1 (bytes_kept c [] old.tables)) done.2,
+      making_both old (emptied c old) new making done.3,
     )
 
 pub comes : (bytes : List ℕ) (c : ℕ) (old new : FrontView) → KeepsFew old → Comes bytes c old new → GoesOnWithFew old new

@@ -18,6 +18,8 @@ use Rattle.zfront.specs.Reading.{is_too_long, kept, keeps, emptied}
 use Rattle.zfront_laws.specs.Runs.{GoesOn, Input, Opened, Came, Ended}
 use Rattle.zfront_laws.specs.Given.{Since, since_input, IsNoOpening, HasPassword}
 use Rattle.zfront_laws.proofs.GoingOn as log
+use Rattle.zfront_laws.proofs.Since as chain
+use Rattle.zfront_laws.proofs.Since.{GoesOnSince}
 use Rattle.zfront_laws.proofs.Greeted.{GainsBy, IsShut, shuts, silent_on, speaks_on}
 use Rattle.zfront_laws.proofs.Welcomed.{Sound}
 use Rattle.zfront_laws.proofs.Kept.{bytes_kept}
@@ -93,9 +95,9 @@ keeps_goes rest c v = elim (is_open v.tables c) as (λ b. GoesOn v (if b then wi
 
 pub empties_sound : (c : ℕ) (v : FrontView) → Sound v → Sound (emptied c v)
 empties_sound c v sound =
-    let goes : GoesOn v (emptied c v) = log.same v (emptied c v) refl refl in
-    let next = goes sound.0 sound.1 sound.2 in
-    (sound.0 ++ next.0, next.1, next.2, seats_kept v (emptied c v) goes (bytes_kept c [] v.tables) sound.0 sound.1 sound.2 sound.3)
+    let goes : GoesOnSince v (emptied c v) = chain.same v (emptied c v) refl refl in
+    let next = goes sound.0 sound.1 sound.2 sound.3 in
+    (sound.0, sound.1 ++ next.0, next.1, next.2, seats_kept v (emptied c v) goes (bytes_kept c [] v.tables) sound.0 sound.1 sound.2 sound.3 sound.4)
 
 -- ---- what an input gives
 

@@ -3,12 +3,14 @@ use Rattle.std.proofs.Common.{◌≡◌, ◌⊎◌, inl, inr, ◌∙◌, ℕ, Li
 use Rattle.std.proofs.lemmas.Bool.{eq-eqb}
 use Rattle.std.proofs.lemmas.List.{append-nil}
 use Rattle.std.specs.List.{AllByRecursion}
+use Rattle.ztree.specs.Tree.{Tree}
+use Rattle.zanswering.specs.declared.clock.Clock.{Clock}
 use Rattle.zpieces.specs.declared.phase.Phase.TheVariants.{Silent, Speaking}
 use Rattle.zpieces.specs.Streams.{bytes_of, phase_of}
 use Rattle.ztables.specs.Tables.{is_open}
 use Rattle.zfront.specs.Front.{FrontView}
 use Rattle.zfront.specs.Inputs.{without_first}
-use Rattle.zfront.specs.Restoring.{Entry, all_taken}
+use Rattle.zfront.specs.Restoring.{Seat, IsRestored, all_taken}
 use Rattle.zfront_laws.specs.Runs.{Input, Opened, Came, Ended, Tick, Line, Sent, Took, KeepsFew, Does, Runs}
 use Rattle.zfront_laws.specs.Given.{Since, since_input, since_opened, IsNoOpening, HasGot, EverySessionIsGot}
 use Rattle.zfront_laws.proofs.Working as working
@@ -16,8 +18,8 @@ use Rattle.zfront_laws.proofs.Given.{Gives, GotBy, Spoke, ends_gives, gives_noth
 use Rattle.zfront_laws.proofs.Welcomed.{Sound, has_seat}
 use Rattle.zfront_laws.proofs.Handled.{key_goes_on}
 use Rattle.zfront_laws.proofs.Bare.{no_phase}
-use Rattle.zfront_laws.proofs.Inputs.{goes_with_few}
-use Rattle.zfront_laws.proofs.Restored.{IsAgain, again, is_few, is_fine, is_quiet}
+use Rattle.zfront_laws.proofs.Inputs.{goes_with_few, input_since}
+use Rattle.zfront_laws.proofs.Restored.{is_bare, is_few, is_fine, is_since}
 use Rattle.zfront_laws.proofs.Quiet.{Quiet, carries_quiet}
 use Rattle.zfront_laws.proofs.Heard.{comes_if}
 
@@ -82,7 +84,7 @@ got_before done input first old new c session does sound speaks spoke got = reco
   password = got.password;
   gains = got.gains;
   then_had = got.then_had;
-  now_has = key_goes_on old.tables.sittings new.tables.sittings session got.password spoke.2 (has_seat new.tables c session sound.3.seated speaks) got.now_has;
+  now_has = key_goes_on old.tables.sittings new.tables.sittings session got.password spoke.2 (has_seat new.tables c session sound.4.seated speaks) got.now_has;
 }
 
 -- who speaks since this input
@@ -139,23 +141,26 @@ all_stand done [] first old v ran few sound stood is =
     subst (λ (u : FrontView). Stands (done ++ []) first u) (sym is) (subst (λ all. Stands all first old) (sym (append-nil done)) stood)
 all_stand done (input ∷ inputs) first old v ran few sound stood has =
     let goes = goes_with_few input old has.0 few has.1 in
-    let next = goes.0 sound.0 sound.1 sound.2 in
-    let sound_next : Sound has.0 = (sound.0 ++ next.0, next.1, next.2, goes.2 sound.0 sound.1 sound.2 sound.3) in
+    let next = input_since input old has.0 goes sound.0 sound.1 sound.2 sound.3 in
+    let sound_next : Sound has.0 = (sound.0, sound.1 ++ next.0, next.1, next.2, goes.2 sound.0 sound.1 sound.2 sound.3 sound.4) in
     let stands = stands_on done input first old has.0 ran has.1 sound_next (gives_by input old has.0 few sound sound_next has.1) stood in
     subst (λ all. Stands all first v) (append_assoc done (input ∷ []) inputs)
     (all_stand (done ++ input ∷ []) inputs first has.0 v (runs_more done input first old has.0 ran has.1) goes.1 sound_next stands has.2)
 
 -- a server that was restored has no connections
-pub restored_sound : (entries : List Entry) (v : FrontView) → IsAgain entries v → Sound v
-restored_sound entries v is = (is.log, None, is_quiet entries v is, is_fine entries v is)
+module _ (last : ℕ) (times : Clock) (tree : Tree) (seats : List Seat) (v : FrontView) (is : IsRestored last times tree seats v) where
+  restored_sound : Sound v
+  restored_sound = (tree, [], None, is_since last times tree seats v is, is_fine last times tree seats v is)
 
-restored_stands : (entries : List Entry) (v : FrontView) → IsAgain entries v → Stands [] v v
-restored_stands entries v is = record {
-  silent = λ c own silent. absurd (no_phase v.tables is.bare c (Silent own) silent);
-  speaks = λ c session speaks. absurd (no_phase v.tables is.bare c (Speaking session) speaks);
-}
+  restored_stands : Stands [] v v
+  restored_stands =
+      let bare = is_bare last times tree seats v is in
+      record {
+        silent = λ c own silent. absurd (no_phase v.tables bare c (Silent own) silent);
+        speaks = λ c session speaks. absurd (no_phase v.tables bare c (Speaking session) speaks);
+      }
 
 pub every_session_is_got : EverySessionIsGot
-every_session_is_got last times entries inputs first v c session restored runs speaks =
-    let is = again last times entries first restored in
-    (all_stand [] inputs first first v refl (is_few entries first is) (restored_sound entries first is) (restored_stands entries first is) runs).speaks c session speaks
+every_session_is_got last times tree seats inputs first v c session restored runs speaks =
+    (all_stand [] inputs first first v refl (is_few last times tree seats first restored) (restored_sound last times tree seats first restored)
+    (restored_stands last times tree seats first restored) runs).speaks c session speaks

@@ -31,8 +31,8 @@ use Rattle.zfront_laws.proofs.Steps.{Step, none_late}
 -- a step leaves a sound server
 pub sound_on : (old new : FrontView) → Step old new → Sound old → Sound new
 sound_on old new step sound =
-    let next = step.goes sound.0 sound.1 sound.2 in
-    (sound.0 ++ next.0, next.1, next.2, step.seats sound.0 sound.1 sound.2 sound.3)
+    let next = step.making.1 sound.0 sound.1 sound.2 sound.3 in
+    (sound.0, sound.1 ++ next.0, next.1, next.2, step.seats sound.0 sound.1 sound.2 sound.3 sound.4)
 
 -- who isn't silent isn't afterwards
 stays_loud : (c : ℕ) (t u : TablesView) → Quiet t u → NotSilent c t → NotSilent c u
@@ -130,7 +130,7 @@ becomes_wider frame c own first old new last calm before still behind sound has 
           got.2,
           gains_wider session got.0 own got.1 first old new last before behind got.3,
           key_goes_on new.tables.sittings last.tables.sittings session got.1 (still.keys session)
-              (has_seat last.tables c session sound.3.seated speaks) got.4,
+              (has_seat last.tables c session sound.4.seated speaks) got.4,
         )
 
 -- the first of the frames is a greeting

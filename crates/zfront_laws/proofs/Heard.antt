@@ -147,7 +147,7 @@ module _ (c : ℕ) (bytes rest : List ℕ) (old middle new : FrontView) (few : K
           got.2,
           gains_wider session got.0 greeted.own got.1 old v middle new before goes_last got.3,
           key_goes_on middle.tables.sittings new.tables.sittings session got.1 (rests.keys session)
-              (has_seat new.tables c session sound_new.3.seated speaks) got.4,
+              (has_seat new.tables c session sound_new.4.seated speaks) got.4,
         );
       })
 

@@ -11,7 +11,7 @@ use Rattle.zlines.specs.declared.line.Line.TheVariants as line
 use Rattle.zlines.specs.declared.request.LineFault.{LineFault}
 use Rattle.zlines.specs.Line.{line_of}
 use Rattle.zsittings.specs.Sittings.{touched_ids}
-use Rattle.zalone.proofs.Earlier.{is_one_tree}
+use Rattle.zalone.proofs.Earlier.{is_one_tree, its_log}
 use Rattle.zalone.specs.declared.order.Order.{Order}
 use Rattle.zalone.specs.declared.order.Order.TheVariants as order
 use Rattle.ztables.specs.Tables.{TablesView}
@@ -25,12 +25,12 @@ use Rattle.zfront_laws.specs.Runs.{GoesOn, KeepsFew, Does, Runs}
 use Rattle.zfront_laws.specs.Seats.{EveryFrontIsSeated}
 use Rattle.zfront_laws.proofs.Kept.{ends_kept, opens_kept, rests_kept}
 use Rattle.zfront_laws.specs.Runs as run
-use Rattle.zfront_laws.specs.Laws.{EveryInputGoesOn, EveryRunGoesOn, EveryFrontKeepsFew, EveryFrontIsOneTree}
+use Rattle.zfront_laws.specs.Laws.{EveryInputGoesOn, EveryRunGoesOn, EveryFrontKeepsFew, EveryFrontIsItsTrees, EveryFrontIsOneTree}
 use Rattle.zfront_laws.proofs.Held.{held-insert, held-remove}
 use Rattle.zfront_laws.proofs.Lighter.{as_many, none_more, unmoved}
-use Rattle.zfront_laws.proofs.Restored.{again, is_few, is_fine, is_quiet}
+use Rattle.zfront_laws.proofs.Restored.{is_few, is_fine, is_quiet, is_since}
 use Rattle.zfront_laws.proofs.Since as since
-use Rattle.zfront_laws.proofs.Since.{Making, goes_on}
+use Rattle.zfront_laws.proofs.Since.{GoesOnSince, Making, goes_on}
 use Rattle.zfront_laws.proofs.Taking.{ordered, settles}
 use Rattle.zfront_laws.proofs.Steps.{Step, Seats, seats_both, seats_kept, both, becomes, same, retabled, none_late}
 use Rattle.zfront_laws.proofs.GoingOn as log
@@ -112,7 +112,17 @@ goes_with_few run.Sent old new few is =
     with_few old new few (retabled (without_first old).tables old new is (unmoved old.tables))
 goes_with_few run.Took old new few is =
     subst (InputGoes run.Took old) (sym is)
-    (goes_on old (all_taken old) (since.takes old), few, seats_kept old (all_taken old) (goes_on old (all_taken old) (since.takes old)) (unmoved old.tables).1, refl)
+    (goes_on old (all_taken old) (since.takes old), few, seats_kept old (all_taken old) (since.takes old) (unmoved old.tables).1, refl)
+
+-- so the log since the chain began goes on too
+pub input_since : (input : run.Input) (old new : FrontView) → InputGoes input old new → GoesOnSince old new
+input_since (run.Opened c password) old new goes = goes.3.1
+input_since (run.Came c bytes) old new goes = goes.3.1
+input_since (run.Ended c) old new goes = goes.3.1
+input_since run.Tick old new goes = goes.3.1
+input_since (run.Line text) old new goes = goes.3.1
+input_since run.Sent old new goes = goes.3.1
+input_since run.Took old new goes = subst (GoesOnSince old) (sym goes.3) (since.takes old)
 
 pub every_input_goes_on : EveryInputGoesOn
 every_input_goes_on input old new few does =
@@ -126,7 +136,7 @@ run_with_few [] old new few is =
 run_with_few (input ∷ inputs) old new few has =
     let first = goes_with_few input old has.0 few has.1 in
     let rest = run_with_few inputs has.0 new first.1 has.2 in
-    (log.both old has.0 new first.0 rest.0, rest.1, seats_both old has.0 new first.0 first.2 rest.2)
+    (log.both old has.0 new first.0 rest.0, rest.1, seats_both old has.0 new (input_since input old has.0 first) first.2 rest.2)
 
 pub every_run_goes_on : EveryRunGoesOn
 every_run_goes_on inputs old new few runs =
@@ -136,18 +146,28 @@ every_run_goes_on inputs old new few runs =
 -- ---- from a server that was restored
 
 pub every_front_keeps_few : EveryFrontKeepsFew
-every_front_keeps_few last times entries inputs first v restored runs =
-    (every_run_goes_on inputs first v (is_few entries first (again last times entries first restored)) runs).1
+every_front_keeps_few last times tree seats inputs first v restored runs =
+    (every_run_goes_on inputs first v (is_few last times tree seats first restored) runs).1
 
 pub every_front_is_one_tree : EveryFrontIsOneTree
-every_front_is_one_tree last times entries inputs first v restored runs =
-    let is = again last times entries first restored in
-    let goes = (every_run_goes_on inputs first v (is_few entries first is) runs).0 is.log None (is_quiet entries first is) in
-    let has = goes.2 in
-    (is.log ++ goes.0, goes.1, has, is_one_tree v.asker (is.log ++ goes.0) goes.1 has.told)
+every_front_is_one_tree last times tree seats before inputs first v restored left runs =
+    let goes = (every_run_goes_on inputs first v (is_few last times tree seats first restored) runs).0 in
+    let has = goes before None (is_quiet last times tree seats first restored before left) in
+    (has.0, has.1, has.2, is_one_tree v.asker (before ++ has.0) has.1 has.2.told)
+
+runs_since : (inputs : List run.Input) (old new : FrontView) → KeepsFew old → Runs inputs old new → GoesOnSince old new
+runs_since [] old new few is = (same old new is).making.1
+runs_since (input ∷ inputs) old new few has =
+    let first = goes_with_few input old has.0 few has.1 in
+    since.both old has.0 new (input_since input old has.0 first) (runs_since inputs has.0 new first.1 has.2)
+
+pub every_front_is_its_trees : EveryFrontIsItsTrees
+every_front_is_its_trees last times tree seats inputs first v restored runs =
+    let goes = runs_since inputs first v (is_few last times tree seats first restored) runs in
+    let has = goes tree [] None (is_since last times tree seats first restored) in
+    (has.0, has.1, has.2.told, its_log tree v.asker has.0 has.1 has.2.told)
 
 pub every_front_is_seated : EveryFrontIsSeated
-every_front_is_seated last times entries inputs first v restored runs =
-    let is = again last times entries first restored in
-    let done = (run_with_few inputs first v (is_few entries first is) runs).2 is.log None (is_quiet entries first is) (is_fine entries first is) in
-    done.seated
+every_front_is_seated last times tree seats inputs first v restored runs =
+    let seated = (run_with_few inputs first v (is_few last times tree seats first restored) runs).2 in
+    (seated tree [] None (is_since last times tree seats first restored) (is_fine last times tree seats first restored)).seated

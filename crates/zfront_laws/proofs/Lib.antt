@@ -17,9 +17,7 @@ mod Quiet
 mod Greeted
 mod Welcomed
 mod Living
-mod Growing
 pub mod Bare
-mod Opening
 pub mod Restored
 pub mod Inputs
 pub mod Made

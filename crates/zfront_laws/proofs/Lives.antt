@@ -25,7 +25,7 @@ use Rattle.zalone.proofs.Earlier.{known_tree}
 use Rattle.ztables.specs.Tables.{ended, is_open}
 use Rattle.zfront.specs.Front.{FrontView}
 use Rattle.zfront.specs.Inputs.{without_first}
-use Rattle.zfront.specs.Restoring.{Entry, all_taken}
+use Rattle.zfront.specs.Restoring.{all_taken}
 use Rattle.zfront.specs.Orders.{told_operator, IsGiven, SettlesIf, SettlesNow, wanted_of, Obeys, ObeysLine, Hears}
 use Rattle.zfront.specs.Reading.{HandlesIn, HandlesUnless, Handles, HandlesAll, word_asked, ComesBy, ComesIf, emptied, keeps}
 use Rattle.zfront.specs.Ticking.{tick_calls, rested, TicksIf, TicksBy, TicksUnless, Ticks}
@@ -35,18 +35,17 @@ use Rattle.zfront_laws.specs.Runs.{Input, Opened, Came, Ended, Tick, Line as Ope
 use Rattle.zfront_laws.proofs.Acting.{closes, greets_by, requests}
 use Rattle.zfront_laws.proofs.Calling as calls
 use Rattle.zfront_laws.proofs.Coming as coming
-use Rattle.zfront_laws.proofs.Given.{empties_sound, keeps_rest}
+use Rattle.zfront_laws.proofs.Given.{keeps_rest}
 use Rattle.zfront_laws.proofs.GoingOn as log
-use Rattle.zfront_laws.proofs.Got.{restored_sound}
 use Rattle.zfront_laws.proofs.Heard.{keeps_now}
-use Rattle.zfront_laws.proofs.Welcomed.{Sound, has_seat}
-use Rattle.zfront_laws.proofs.Handled.{sound_on}
+use Rattle.zfront_laws.proofs.Since as chain
+use Rattle.zfront_laws.proofs.Welcomed.{has_seat}
 use Rattle.zfront_laws.proofs.Inputs.{goes_with_few, settles_if as settled}
-use Rattle.zfront_laws.proofs.Restored.{IsAgain, again, is_alive, is_few}
+use Rattle.zfront_laws.proofs.Restored.{is_alive, is_few, is_fine, is_quiet}
 use Rattle.zfront_laws.proofs.Kept.{bytes_kept, ends_kept, opens_kept}
 use Rattle.zfront_laws.proofs.Lighter as tables
 use Rattle.zfront_laws.proofs.Living.{Alive, LivesOn, hears_if, is_ready, lives_both, lives_kept, no_wait, retables, same, same_log, tidies_alive}
-use Rattle.zfront_laws.proofs.Steps.{none_late}
+use Rattle.zfront_laws.proofs.Steps.{Fine, none_late, seats_kept, seats_on}
 
 -- ---- frames
 
@@ -175,37 +174,47 @@ lives (OperatorLine text) old new few has = hears text old new has
 lives Sent old new few is = retables (without_first old).tables old new is (tables.unmoved old.tables).1
 lives Took old new few is = subst (LivesOn old) (sym is) (lives_kept old (all_taken old) refl refl (λ id has. has))
 
--- a server that is sound keeps few bytes, and each sitting is of a session that lives
+-- a server that keeps few bytes, whose log and seats are in order, and each sitting of which is of
+-- a session that lives
 abbrev Lively : FrontView → Type 0
-Lively v = KeepsFew v × Sound v × Alive v
+Lively v = KeepsFew v × ((told : Log) × (waiting : Option Call) × IsLog v told waiting) × Fine v × Alive v
 
 runs_lively : (inputs : List Input) (old new : FrontView) → Lively old → Runs inputs old new → Lively new
 runs_lively [] old new all is = subst Lively (sym is) all
 runs_lively (input ∷ inputs) old new all has =
     let goes = goes_with_few input old has.0 all.0 has.1 in
-    let sound = all.1 in
-    let next = goes.0 sound.0 sound.1 sound.2 in
+    let is = all.1 in
+    let next = goes.0 is.0 is.1 is.2 in
     runs_lively inputs has.0 new (
       goes.1,
-      (sound.0 ++ next.0, next.1, next.2, goes.2 sound.0 sound.1 sound.2 sound.3),
-      lives input old has.0 all.0 has.1 sound.0 sound.1 sound.2 all.2,
+      (is.0 ++ next.0, next.1, next.2),
+      seats_on old has.0 goes.2 is.0 is.1 is.2 all.2,
+      lives input old has.0 all.0 has.1 is.0 is.1 is.2 all.3,
     ) has.2
 
-restored_lively : (entries : List Entry) (v : FrontView) → IsAgain entries v → Lively v
-restored_lively entries v is = (is_few entries v is, restored_sound entries v is, is_alive entries v is)
-
 pub who_speaks_is_alive : WhoSpeaksIsAlive
-who_speaks_is_alive last times entries first at c d session restored stands free speaks =
-    let old = runs_lively stands.inputs first stands.stood (restored_lively entries first (again last times entries first restored)) stands.ran in
+who_speaks_is_alive last times tree seats before first at c d session restored left stands free speaks =
+    let begun : Lively first =
+    (is_few last times tree seats first restored, (before, None, is_quiet last times tree seats first restored before left), is_fine last times tree seats first restored, is_alive last times tree seats first restored) in
+    let old = runs_lively stands.inputs first stands.stood begun stands.ran in
+    let is = old.1 in
     let v = emptied c stands.stood in
-    let sound = empties_sound c stands.stood old.1 in
-    let alive = empties c stands.stood old.1.0 old.1.1 old.1.2 old.2 in
-    let middle = sound_on v stands.middle (coming.handles_all stands.frames c v stands.middle stands.handled) sound in
-    let lived = handles_all stands.frames c v stands.middle stands.handled sound.0 sound.1 sound.2 alive in
-    let ready = sound_on stands.middle at (calls.is_ready stands.middle at stands.ready) middle in
-    let lives_now = is_ready stands.middle at stands.ready middle.0 middle.1 middle.2 lived in
-    let told = no_wait at ready.0 ready.1 free ready.2 in (
-      ready.0,
-      log.quiet at ready.0 told,
-      sym (ap (λ (k : KnownView). contains_key k.sessions session) (known_tree at.asker ready.0 None told)) ∙ lives_now free session (has_seat at.tables d session ready.3.seated speaks),
+    let emptying = log.same stands.stood v refl refl is.0 is.1 is.2 in
+    let fine = seats_on stands.stood v (seats_kept stands.stood v (chain.same stands.stood v refl refl) (bytes_kept c [] stands.stood.tables)) is.0 is.1 is.2 old.2 in
+    let alive = empties c stands.stood is.0 is.1 is.2 old.3 in
+    let step = coming.handles_all stands.frames c v stands.middle stands.handled in
+    let there = is.0 ++ emptying.0 in
+    let middle = step.goes there emptying.1 emptying.2 in
+    let fine_then = seats_on v stands.middle step.seats there emptying.1 emptying.2 fine in
+    let lived = handles_all stands.frames c v stands.middle stands.handled there emptying.1 emptying.2 alive in
+    let readies = calls.is_ready stands.middle at stands.ready in
+    let ready = readies.goes (there ++ middle.0) middle.1 middle.2 in
+    let fine_now = seats_on stands.middle at readies.seats (there ++ middle.0) middle.1 middle.2 fine_then in
+    let lives_now = is_ready stands.middle at stands.ready (there ++ middle.0) middle.1 middle.2 lived in
+    let whole = (there ++ middle.0) ++ ready.0 in
+    let told = no_wait at whole ready.1 free ready.2 in (
+      whole,
+      log.quiet at whole told,
+      sym (ap (λ (k : KnownView). contains_key k.sessions session) (known_tree at.asker whole None told))
+          ∙ lives_now free session (has_seat at.tables d session fine_now.seated speaks),
     )

@@ -1,29 +1,22 @@
 -- What a server makes, and what is taken of it.
-use Rattle.std.proofs.Common.{◌≡◌, ◌∙◌, ℕ, zero, suc, ◌+◌, ◌≤◌, Bool, true, false, List, [], ◌∷◌, ◌++◌, length, drop, None, Some, refl, sym, ap, subst, arith, append_assoc}
+use Rattle.std.proofs.Common.{◌≡◌, ◌∙◌, ℕ, zero, suc, ◌≤◌, true, List, [], ◌∷◌, ◌++◌, length, drop, None, refl, sym, ap, subst, arith, append_assoc}
 use Rattle.std.proofs.lemmas.List.{append-nil}
-use Rattle.std.specs.FinMap.{contains_key, get}
-use Rattle.zcalls.specs.declared.call.Call.TheVariants.{Update}
-use Rattle.zanswering.specs.declared.clock.Clock.{Clock}
-use Rattle.zknown.specs.Known.{KnownView}
-use Rattle.zsittings.specs.declared.sitting.Sitting.{Sitting}
-use Rattle.ztree.specs.Tree.{opening_tree}
-use Rattle.zturns.specs.Turns.{Log, calls_of, tree_after}
-use Rattle.zalone.proofs.Earlier.{is_one_tree, known_tree, left_by}
+use Rattle.std.specs.FinMap.{get}
+use Rattle.zturns.specs.Turns.{Log}
+use Rattle.ztables.specs.Tables.{TablesView}
+use Rattle.zalone.proofs.Earlier.{is_one_tree, left_by}
 use Rattle.zalone.specs.declared.made.Made.{Made}
 use Rattle.zalone.specs.Changes.{AreLeft, ChangesView, KeepsIf, Keeps, made_in}
-use Rattle.zalone.specs.Changes as changes
-use Rattle.zalone.specs.Told.{HasTold}
 use Rattle.zfront.specs.Front.{FrontView}
-use Rattle.zfront.specs.Inputs.{Begins}
-use Rattle.zfront.specs.Restoring.{Entry, Restores, RestoresAll, all_taken}
-use Rattle.zfront_laws.specs.Making.{ANewServerIsRestored, EveryChangeIsMade, EveryEntryIsMadeAgain, EveryInputMakesMore, EverySessionIsRestored, KeepsMade, MakesMore, WasOpened, took_at, took_in}
+use Rattle.zfront.specs.Restoring.{all_taken}
+use Rattle.zfront_laws.specs.Making.{ANewServerIsRestored, EveryChangeIsMade, EveryInputMakesMore, EverySessionIsRestored, KeepsMade, MakesMore, took_at, took_in}
 use Rattle.zfront_laws.specs.Runs.{Does, IsLog, KeepsFew, Runs}
 use Rattle.zfront_laws.specs.Runs as run
 use Rattle.zfront_laws.proofs.GoingOn.{taken}
 use Rattle.zfront_laws.proofs.Inputs.{InputGoes, goes_with_few}
-use Rattle.zfront_laws.proofs.Restored.{IsAgain, again, is_few, is_quiet, made_both}
+use Rattle.zfront_laws.proofs.Bare.{is_own}
+use Rattle.zfront_laws.proofs.Restored.{is_bare, is_few, is_quiet, made_both, sits}
 use Rattle.zfront_laws.proofs.Since.{Making, is_behind}
-use Rattle.zfront_laws.proofs.Taking.{SameTaking, asks_all, same_asker, taking_both}
 
 drop_front : {T : Type 0} (n : ℕ) (xs ys : List T) → n ≤ length xs → drop n (xs ++ ys) ≡ drop n xs ++ ys
 drop_front zero xs ys few = refl
@@ -103,90 +96,25 @@ run_makes (input ∷ inputs) old new few kept runs log waiting has =
 
 -- ---- from a server that was restored
 
--- no update that is made again is taken meanwhile
-restores_taking : (entry : Entry) (old new : FrontView) → Restores entry old new → SameTaking old.asker new.asker
-restores_taking entry old new has =
-    taking_both old.asker has.middle.asker new.asker
-    (asks_all (Update entry.0 ∷ []) old.asker has.middle.asker (has.told ∷ []) has.asks.asks)
-    (same_asker has.middle.asker new.asker (ap (λ (v : FrontView). v.asker) has.after))
-
-pub all_taking : (entries : List Entry) (old new : FrontView) → RestoresAll entries old new → SameTaking old.asker new.asker
-all_taking [] old new is = same_asker old.asker new.asker (ap (λ (v : FrontView). v.asker) is)
-all_taking (entry ∷ entries) old new has =
-    taking_both old.asker has.0.asker new.asker (restores_taking entry old has.0 has.1) (all_taking entries has.0 new has.2)
-
-pub every_entry_is_made_again : EveryEntryIsMadeAgain
-every_entry_is_made_again last times entries v restored =
-    let is = again last times entries v restored in (
-      is.log,
-      is_quiet entries v is,
-      is_one_tree v.asker is.log None is.told,
-      is.made,
-      ap (λ (u : FrontView). u.asker.changes.made) restored.ready,
-      λ kept.
-          ap (λ (u : FrontView). u.asker.changes.is_kept) restored.ready ∙ (all_taking entries restored.first restored.behind restored.restores).0 ∙ kept,
-      is.calls,
-    )
-
 pub every_session_is_restored : EverySessionIsRestored
-every_session_is_restored last times entries v restored = (is.log, is_quiet entries v is, is.calls, each)
-  where
-    is : IsAgain entries v
-    is = again last times entries v restored
-
-    each : (session : ℕ) → contains_key (tree_after opening_tree (calls_of is.log)).sessions session ≡ true
-        → (s : Sitting) × (get v.tables.sittings session ≡ Some s) × (s.connection ≡ None) × WasOpened is.log entries session s.password
-    each session lives =
-        let has = is.seats session (ap (λ (k : KnownView). contains_key k.sessions session) (known_tree v.asker is.log None is.told) ∙ lives) in
-        (has.0, has.1, (is.bare.apart session has.0 has.1).free, is.opened session has.0 has.1)
+every_session_is_restored last times tree seats v restored session lives =
+    let has = sits last times tree seats v restored session lives in
+    let there = ap (λ (t : TablesView). get t.sittings session) (sym restored.tables) ∙ has.1 in
+    (has.0, has.1, ((is_bare last times tree seats v restored).apart session has.0 has.1).free, is_own seats session has.0 there)
 
 pub every_change_is_made : EveryChangeIsMade
-every_change_is_made last times entries inputs first v restored kept runs =
-    let is = again last times entries first restored in
-    let done = run_makes inputs first v (is_few entries first is) kept runs is.log None (is_quiet entries first is) in
-    let told = done.2.told in
-    let none = ap (λ (u : FrontView). u.asker.changes.made) restored.ready in (
-      is.log,
+every_change_is_made last times tree seats before inputs first v restored left kept runs =
+    let few = is_few last times tree seats first restored in
+    let done = run_makes inputs first v few kept runs before None (is_quiet last times tree seats first restored before left) in
+    let none = ap (λ (c : ChangesView). c.made) restored.made in (
       done.0,
       done.1,
       done.2,
-      is_one_tree v.asker (is.log ++ done.0) done.1 told,
-      is.made,
+      is_one_tree v.asker (before ++ done.0) done.1 done.2.told,
       ap (λ (made : List Made). made ++ made_in done.0) (sym none) ∙ done.3,
     )
 
 -- ---- a new one
 
-none_left : {T : Type 0} (n : ℕ) → drop {A = T} n [] ≡ []
-none_left zero = refl
-none_left (suc n) = refl
-
-none_made : (b : Bool) (c : ChangesView) → KeepsIf b [] c → c.made ≡ []
-none_made true c left = left.rest ∙ none_left c.taken
-none_made false c none = none
-
--- no log is two parts that have nothing
-none_since : (earlier since : Log) → [] ≡ earlier ++ since → since ≡ []
-none_since [] since is = sym is
-none_since (told ∷ earlier) since is = absurd (cc is)
-
-opening_made : (v : FrontView) → HasTold v.asker [] None → v.asker.changes.made ≡ []
-opening_made v told =
-    none_made v.asker.changes.is_kept v.asker.changes
-    (subst (λ (log : Log). Keeps log v.asker.changes) (none_since told.earlier told.since told.parts) told.told.made)
-
--- taking nothing leaves it
-no_more : (c : ChangesView) → c.made ≡ [] → c ≡ changes.all_taken c
-no_more c none = λ i. record { is_kept = c.is_kept; taken = count i; made = none i }
-  where
-    count : c.taken ≡ c.taken + length c.made
-    count = omega (arith, ap (λ (made : List Made). length made) none)
-
 pub a_new_server_is_restored : ANewServerIsRestored
-a_new_server_is_restored last times v begins = record {
-  first = v;
-  begins = subst (λ (t : Clock). Begins last t v) (sym begins.clock) begins;
-  behind = v;
-  restores = refl;
-  ready = λ i. record v { clock = begins.clock i; asker = record v.asker { changes = no_more v.asker.changes (opening_made v begins.told) i } };
-}
+a_new_server_is_restored last times v new = (new.0, (refl, refl))

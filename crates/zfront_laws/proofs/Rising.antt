@@ -2,7 +2,7 @@
 use Rattle.std.proofs.Common.{◌≡◌, ◌∙◌, ℕ, ◌+◌, ◌≤◌, Bool, true, false, List, [], ◌∷◌, ◌++◌, Option, None, sym, ap, arith}
 use Rattle.std.specs.Prelude.{if◌then◌else◌, nat_le, zip}
 use Rattle.std.specs.FinMap as finite
-use Rattle.ztree.specs.Tree.{Tree, opening_tree, with_next_zxid}
+use Rattle.ztree.specs.Tree.{Tree, with_next_zxid}
 use Rattle.ztree.specs.Sessions.{with_session}
 use Rattle.ztree.specs.declared.limits.TheConstants.{MAX_SESSIONS}
 use Rattle.zcalls.specs.declared.call.Call.{Call}
@@ -17,11 +17,10 @@ use Rattle.zcalls.proofs.Taking.{changes_take_one_zxid}
 use Rattle.zknown.specs.Known.{KnownView}
 use Rattle.zworld_model.specs.PlainTree.{serve}
 use Rattle.zturns.specs.Turns.{Log, calls_of, replies_of, served, tree_after}
-use Rattle.zalone.specs.Told.{HasTold}
-use Rattle.zalone.proofs.Earlier.{is_one_tree, known_tree}
+use Rattle.zalone.specs.Told.{HasToldFrom}
+use Rattle.zalone.proofs.Earlier.{its_log}
 use Rattle.zfront.specs.Front.{FrontView, Asks}
-use Rattle.zfront_laws.specs.Runs.{IsLog}
-use Rattle.zfront_laws.proofs.GoingOn.{asks_with}
+use Rattle.zfront_laws.proofs.Since.{IsSince, asks_with}
 
 serve_rises : (t : Tree) (call : Call) → t.zxid ≤ (tree_after t (call ∷ [])).zxid
 serve_rises t (Update update) = omega (arith, changes_take_one_zxid t 0 update)
@@ -40,12 +39,12 @@ log_steps : (t : Tree) (log more : Log) (call : Call) (reply : Reply)
 log_steps t [] more call reply = after_rises (tree_after t (call ∷ [])) (calls_of more)
 log_steps t (told ∷ log) more call reply = log_steps (tree_after t (told.0 ∷ [])) log more call reply
 
-pub zxid_rises : (old new : FrontView) (log more : Log) (waiting later : Option Call) → IsLog old log waiting → IsLog new (log ++ more) later
+pub zxid_rises : (t : Tree) (old new : FrontView) (log more : Log) (waiting later : Option Call) → IsSince t old log waiting → IsSince t new (log ++ more) later
     → old.asker.known.zxid ≤ new.asker.known.zxid
-zxid_rises old new log more waiting later has after =
-    let before = ap (λ (k : KnownView). k.zxid) (known_tree old.asker log waiting has.told) in
-    let behind = ap (λ (k : KnownView). k.zxid) (known_tree new.asker (log ++ more) later after.told) in
-    omega (arith, log_rises opening_tree log more, before, behind)
+zxid_rises t old new log more waiting later has after =
+    let before = ap (λ (k : KnownView). k.zxid) has.told.known in
+    let behind = ap (λ (k : KnownView). k.zxid) after.told.known in
+    omega (arith, log_rises t log more, before, behind)
 
 -- what an open gives
 abbrev opened_if : Tree → Tree → ℕ → Bool → Bool → Tree × Reply
@@ -78,19 +77,19 @@ placed t [] more call reply is = first_same _ _ _ _ is
 placed t (told ∷ log) more call reply is = placed (tree_after t (told.0 ∷ [])) log more call reply (rest_same _ _ _ _ is)
 
 -- so its id is a new one
-pub new_id : (old new : FrontView) (ticks : ℕ) (log : Log) (id timeout : ℕ) (rest : List Reply) → HasTold old.asker log None
+pub new_id : (from : Tree) (old new : FrontView) (ticks : ℕ) (log : Log) (id timeout : ℕ) (rest : List Reply) → HasToldFrom from old.asker log None
     → Asks old (Update (Open ticks) ∷ []) new (Opened id timeout ∷ rest) → (id ≡ old.asker.known.zxid + 1) × (id ≤ new.asker.known.zxid)
-new_id old new ticks log id timeout rest told asks =
-    let t = tree_after opening_tree (calls_of log) in
+new_id from old new ticks log id timeout rest told asks =
+    let t = tree_after from (calls_of log) in
     let calls = Update (Open ticks) ∷ [] in
     let replies = Opened id timeout ∷ rest in
-    let after = asks_with old.asker calls new.asker replies asks.tells log told in
+    let after = asks_with from old.asker calls new.asker replies asks.asks log told in
     let has = after.1 in
-    let one = is_one_tree new.asker (log ++ zip calls replies) after.0 has in
-    let reply : Opened id timeout ≡ (step t 0 (Open ticks)).1 = placed opening_tree log (zip [] rest) (Update (Open ticks)) (Opened id timeout) one in
+    let one = its_log from new.asker (log ++ zip calls replies) after.0 has in
+    let reply : Opened id timeout ≡ (step t 0 (Open ticks)).1 = placed from log (zip [] rest) (Update (Open ticks)) (Opened id timeout) one in
     let is : id ≡ t.zxid + 1 = step_opens t ticks id timeout (sym reply) in
     let next : (step t 0 (Open ticks)).0.zxid ≡ t.zxid + 1 =
     changes_take_one_zxid t 0 (Open ticks) ∙ ap (λ r. t.zxid + (if is_change r then 1 else 0)) (sym reply) in
-    let before : old.asker.known.zxid ≡ t.zxid = ap (λ (k : KnownView). k.zxid) (known_tree old.asker log None told) in
-    let behind = ap (λ (k : KnownView). k.zxid) (known_tree new.asker (log ++ zip calls replies) after.0 has) in
-    (omega (arith, is, before), omega (arith, is, next, behind, log_steps opening_tree log (zip [] rest) (Update (Open ticks)) (Opened id timeout)))
+    let before : old.asker.known.zxid ≡ t.zxid = ap (λ (k : KnownView). k.zxid) told.known in
+    let behind = ap (λ (k : KnownView). k.zxid) has.known in
+    (omega (arith, is, before), omega (arith, is, next, behind, log_steps from log (zip [] rest) (Update (Open ticks)) (Opened id timeout)))

@@ -23,6 +23,7 @@ use Rattle.zanswering.specs.Stats.{long_of}
 use Rattle.zasking.specs.Timeouts.{millis_told, ticks_asked}
 use Rattle.zserving.specs.Frames.{response_frame}
 use Rattle.ztree.proofs.Maps.{get-inserted}
+use Rattle.ztree.specs.Tree.{Tree}
 use Rattle.std.specs.Cmp.{nat_cmp_total}
 use Rattle.std.specs.FinMap.{get, insert, nat_cmp-IsAntisymmetric}
 use Rattle.ztables.specs.Tables.{TablesView, closed, connection_of, sitting}
@@ -32,7 +33,7 @@ use Rattle.zserving.specs.Replying.{replied}
 use Rattle.zfront.specs.Front.{Asks, FrontView, with_tables}
 use Rattle.zfront.specs.Greeting.{opening, opened, Opens, GreetsIf, GreetsUnless, GreetsBy, Greets}
 use Rattle.zfront.specs.Requests.{touched_by, EndsIf, Makes, Acts, Requests, Serves}
-use Rattle.zfront_laws.specs.Runs.{GoesOn, IsLog}
+use Rattle.zfront_laws.proofs.Since.{GoesOnSince, IsSince}
 use Rattle.zfront_laws.specs.Seats.{IsSeated}
 use Rattle.zfront_laws.proofs.Seated.{Has, connection_in}
 use Rattle.zfront_laws.proofs.Seated as seat
@@ -114,21 +115,21 @@ seated_by tick greeting password c bound (Opened session ticks ∷ replies) v se
 seated_by tick greeting password c bound [] v seated below more fresh = closes_fine c bound v seated below more
 seated_by tick greeting password c bound (other ∷ replies) v seated below more fresh = closes_fine c bound v seated below more
 
-opened_fine : (greeting : ConnectRequest) (password : List ℕ) (c : ℕ) (old middle : FrontView) (replies : List Reply) (told : Log) (waiting : Option Call)
-    → old.late ≡ None → Asks old (opening old.clock.tick greeting ∷ []) middle replies → GoesOn old middle → IsLog old told waiting → Fine old
+opened_fine : (from : Tree) (greeting : ConnectRequest) (password : List ℕ) (c : ℕ) (old middle : FrontView) (replies : List Reply) (told : Log) (waiting : Option Call)
+    → old.late ≡ None → Asks old (opening old.clock.tick greeting ∷ []) middle replies → GoesOnSince old middle → IsSince from old told waiting → Fine old
     → Fine (with_tables (opened middle.clock.tick greeting password c replies middle.tables) middle)
-opened_fine greeting password c old middle replies told (Some call) free asked goes is fine =
+opened_fine from greeting password c old middle replies told (Some call) free asked goes is fine =
     let clash : None ≡ Some call = sym free ∙ is.late call refl in
     absurd (cc clash)
-opened_fine greeting password c old middle replies told None free asked goes is fine =
-    let next = goes told None is in
+opened_fine from greeting password c old middle replies told None free asked goes is fine =
+    let next = goes from told None is in
     let same : middle.tables ≡ old.tables = ap (λ (v : FrontView). v.tables) asked.rest in
     seated_by middle.clock.tick greeting password c old.asker.known.zxid replies middle (subst IsSeated (sym same) fine.seated)
     (subst (λ (t : TablesView). (id : ℕ) → Has t.sittings id → id ≤ old.asker.known.zxid) (sym same) fine.below)
-    (zxid_rises old middle told next.0 None next.1 is next.2)
-    (λ id ticks rest from.
-    new_id old middle (ticks_asked old.clock.tick greeting.timeout) told id ticks rest is.told
-    (subst (λ all. Asks old (opening old.clock.tick greeting ∷ []) middle all) from asked))
+    (zxid_rises from old middle told next.0 None next.1 is next.2)
+    (λ id ticks rest are.
+    new_id from old middle (ticks_asked old.clock.tick greeting.timeout) told id ticks rest is.told
+    (subst (λ all. Asks old (opening old.clock.tick greeting ∷ []) middle all) are asked))
 
 opens : (greeting : ConnectRequest) (password : List ℕ) (c : ℕ) (old new : FrontView) → old.late ≡ None → Opens greeting password c old new → Step old new
 opens greeting password c old new free has =
@@ -139,7 +140,7 @@ opens greeting password c old new free has =
     let step : Step old like = record {
       goes = log.both old middle like first.goes (log.same middle like refl refl);
       few = omega (arith, first.few, tables.opens middle.clock.tick greeting password c has.1 middle.tables);
-      seats = λ told waiting is fine. opened_fine greeting password c old middle has.1 told waiting free has.2 first.goes is fine;
+      seats = λ from told waiting is fine. opened_fine from greeting password c old middle has.1 told waiting free has.2 first.making.1 is fine;
       making = making_both old middle like first.making (makes_none middle like refl refl);
     } in
     subst (λ (v : FrontView). Step old v) (sym has.3) step

@@ -56,7 +56,7 @@ goes_on old new goes log waiting is =
 -- ---- steps
 
 -- no call waits
-quiet : (t : Tree) (v : FrontView) (log : Log) → HasToldFrom t v.asker log None → IsSince t v log None
+pub quiet : (t : Tree) (v : FrontView) (log : Log) → HasToldFrom t v.asker log None → IsSince t v log None
 quiet t v log has = record { told = has; late = λ call is. absurd (cc is) }
 
 -- it stays
@@ -95,6 +95,18 @@ asks old calls new told free is asked t log None has =
     let next =
     stopped t new (log ++ zip calls told) (drop (length told) calls) (λ call rest from. is ∙ at_drop calls (length told) call rest from) goes.1 in
     (zip calls told, next.0, next.1)
+
+-- the same, with the calls that were answered
+stopped_with : (t : Tree) (new : AloneView) (log : Log) (calls : List Call) → StopsBefore (HasToldFrom t new) log calls
+    → (later : Option Call) × HasToldFrom t new log later
+stopped_with t new log [] has = (None, has)
+stopped_with t new log (call ∷ calls) (inl has) = (Some call, has)
+stopped_with t new log (call ∷ calls) (inr has) = (None, has.1)
+
+pub asks_with : (t : Tree) (old : AloneView) (calls : List Call) (new : AloneView) (told : List Reply) → AsksAll old calls new told → (log : Log)
+    → HasToldFrom t old log None → (later : Option Call) × HasToldFrom t new (log ++ zip calls told) later
+asks_with t old calls new told asked log has =
+    stopped_with t new (log ++ zip calls told) (drop (length told) calls) (all_asked_tell t old calls new told asked log None has).1
 
 -- the service settles: where no reply came the late call is the same
 settled : (t : Tree) (old new : FrontView) (log : Log) (waiting : Option Call) (told : Option Reply) → (told ≡ None → new.late ≡ old.late)

@@ -2,11 +2,13 @@
 -- nothing is taken of what was made.
 use Rattle.std.proofs.Common.{◌≡◌, ℕ, ◌≤◌, ◌++◌, arith, Bool, true, false, Option, None, Some, refl, sym, subst}
 use Rattle.std.specs.Prelude.{◌&&◌, is_none, is_some}
+use Rattle.ztree.specs.Tree.{Tree}
 use Rattle.zcalls.specs.declared.call.Call.{Call}
 use Rattle.zpieces.specs.Streams.{held_of}
 use Rattle.ztables.specs.Tables.{TablesView}
 use Rattle.zfront.specs.Front.{FrontView, with_tables}
 use Rattle.zturns.specs.Turns.{Log}
+use Rattle.zalone.proofs.Earlier.{left_by}
 use Rattle.zfront_laws.specs.Runs.{GoesOn, IsLog}
 use Rattle.zfront_laws.specs.Seats.{IsSeated}
 use Rattle.zfront_laws.proofs.Seated.{Has}
@@ -15,7 +17,7 @@ use Rattle.zfront_laws.proofs.Rising.{zxid_rises}
 use Rattle.zfront_laws.proofs.GoingOn as log
 use Rattle.zfront_laws.proofs.Lighter.{Lighter, unmoved}
 use Rattle.zfront_laws.proofs.Since as since
-use Rattle.zfront_laws.proofs.Since.{GoesOnSince, Making, goes_on}
+use Rattle.zfront_laws.proofs.Since.{GoesOnSince, IsSince, Making, goes_on}
 use Rattle.zfront_laws.proofs.Taking.{SameTaking, same_asker, taking_both}
 
 -- each connection that speaks for a session has its seat, and no session is newer than the tree
@@ -25,18 +27,24 @@ pub record Fine (v : FrontView) : Type 0 where
 
 -- it stays so, where the server has a log
 abbrev pub Seats : FrontView → FrontView → Type 0
-Seats old new = (log : Log) (waiting : Option Call) → IsLog old log waiting → Fine old → Fine new
+Seats old new = (t : Tree) (log : Log) (waiting : Option Call) → IsSince t old log waiting → Fine old → Fine new
 
-pub seats_both : (old middle new : FrontView) → GoesOn old middle → Seats old middle → Seats middle new → Seats old new
-seats_both old middle new goes one two log waiting has fine =
-    let next = goes log waiting has in
-    two (log ++ next.0) next.1 next.2 (one log waiting has fine)
+pub seats_both : (old middle new : FrontView) → GoesOnSince old middle → Seats old middle → Seats middle new → Seats old new
+seats_both old middle new goes one two t log waiting has fine =
+    let next = goes t log waiting has in
+    two t (log ++ next.0) next.1 next.2 (one t log waiting has fine)
 
-pub seats_kept : (old new : FrontView) → GoesOn old new → Kept old.tables new.tables → Seats old new
-seats_kept old new goes kept log waiting has fine =
-    let next = goes log waiting has in
-    let more = zxid_rises old new log next.0 waiting next.1 has next.2 in
+pub seats_kept : (old new : FrontView) → GoesOnSince old new → Kept old.tables new.tables → Seats old new
+seats_kept old new goes kept t log waiting has fine =
+    let next = goes t log waiting has in
+    let more = zxid_rises t old new log next.0 waiting next.1 has next.2 in
     record { seated = kept.0 fine.seated; below = λ id there. omega (arith, more, fine.below id (kept.1 id there)) }
+
+-- where the log is behind an earlier one
+pub seats_on : (old new : FrontView) → Seats old new → (log : Log) (waiting : Option Call) → IsLog old log waiting → Fine old → Fine new
+seats_on old new seats log waiting is fine =
+    let h = is.told in
+    seats (left_by h.earlier) h.since waiting (record { told = h.told; late = is.late }) fine
 
 pub record Step (old new : FrontView) : Type 0 where
   pub goes : GoesOn old new
@@ -47,8 +55,7 @@ pub record Step (old new : FrontView) : Type 0 where
 -- a step by what it does to the log and to the tables
 pub steps : (old new : FrontView) → GoesOnSince old new → SameTaking old.asker new.asker → Lighter old.tables new.tables → Step old new
 steps old new more taking light =
-    let goes = goes_on old new more in
-    record { goes = goes; few = light.0; seats = seats_kept old new goes light.1; making = (taking, more) }
+    record { goes = goes_on old new more; few = light.0; seats = seats_kept old new more light.1; making = (taking, more) }
 
 pub making_both : (old middle new : FrontView) → Making old middle → Making middle new → Making old new
 making_both old middle new one two =
@@ -59,7 +66,7 @@ pub both : (old middle new : FrontView) → Step old middle → Step middle new 
 both old middle new one two = record {
   goes = log.both old middle new one.goes two.goes;
   few = omega (arith, one.few, two.few);
-  seats = seats_both old middle new one.goes one.seats two.seats;
+  seats = seats_both old middle new one.making.1 one.seats two.seats;
   making = making_both old middle new one.making two.making;
 }
 

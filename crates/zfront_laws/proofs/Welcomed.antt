@@ -21,13 +21,14 @@ use Rattle.zpieces.specs.declared.phase.Phase.TheVariants.{Silent, Speaking, Clo
 use Rattle.zpieces.specs.Streams.{phase_of}
 use Rattle.zsittings.specs.declared.sitting.Sitting.{Sitting}
 use Rattle.zsittings.specs.Sittings.{new_sitting}
+use Rattle.ztree.specs.Tree.{Tree}
 use Rattle.zturns.specs.Turns.{Log}
 use Rattle.zalone.specs.Told.{HasTold, StopsBefore}
 use Rattle.ztables.specs.Tables.{TablesView, is_open, piece, sent, with_piece, closed, sitting}
 use Rattle.zserving.specs.Greeting.{is_ahead, welcomed}
 use Rattle.zfront.specs.Front.{FrontView, with_tables, Asks}
 use Rattle.zfront.specs.Greeting.{opening, opened, GreetsIf, GreetsUnless, GreetsBy, Greets}
-use Rattle.zfront_laws.specs.Runs.{IsLog}
+use Rattle.zfront_laws.proofs.Since.{IsSince}
 use Rattle.zfront_laws.specs.Seats.{IsSeated}
 use Rattle.zfront_laws.specs.Given.{HasPassword, OpenStands}
 use Rattle.zfront_laws.proofs.Changes as changes
@@ -59,13 +60,13 @@ open_stands greeting session ticks rest old middle new free asked same log None 
     ([], ticks_asked old.clock.tick greeting.timeout, ticks, [], None, quiet new (log ++ (call, reply.Opened session ticks) ∷ []) (subst (λ a. HasTold a (log ++ (call, reply.Opened session ticks) ∷ []) None) (sym same) told))
 
 -- a session that opens is a new one
-fresh : (greeting : ConnectRequest) (session ticks : ℕ) (rest : List Reply) (old middle : FrontView) (log : Log) (waiting : Option Call) → old.late ≡ None
-    → IsLog old log waiting → Asks old (opening old.clock.tick greeting ∷ []) middle (reply.Opened session ticks ∷ rest) → session ≡ old.asker.known.zxid + 1
-fresh greeting session ticks rest old middle log (Some call) free is asked =
+fresh : (from : Tree) (greeting : ConnectRequest) (session ticks : ℕ) (rest : List Reply) (old middle : FrontView) (log : Log) (waiting : Option Call) → old.late ≡ None
+    → IsSince from old log waiting → Asks old (opening old.clock.tick greeting ∷ []) middle (reply.Opened session ticks ∷ rest) → session ≡ old.asker.known.zxid + 1
+fresh from greeting session ticks rest old middle log (Some call) free is asked =
     let clash : None ≡ Some call = sym free ∙ is.late call refl in
     absurd (cc clash)
-fresh greeting session ticks rest old middle log None free is asked =
-    (new_id old middle (ticks_asked old.clock.tick greeting.timeout) log session ticks rest is.told asked).0
+fresh from greeting session ticks rest old middle log None free is asked =
+    (new_id from old middle (ticks_asked old.clock.tick greeting.timeout) log session ticks rest is.told asked).0
 
 -- who speaks has a sitting
 pub has_seat : (t : TablesView) (c session : ℕ) → IsSeated t → phase_of t.streams c ≡ Some (Speaking session) → Has t.sittings session
@@ -133,31 +134,32 @@ shut_by frame c own old middle new same is =
     (shut_becomes frame c own old (with_tables (closed c middle.tables) middle)
     (subst (λ t. Quiet t (closed c middle.tables)) same (carries_quiet.closes c middle.tables)) (shuts c middle.tables))
 
-opens_by : (frame : List ℕ) (greeting : ConnectRequest) (c : ℕ) (own : List ℕ) (old middle new : FrontView) (replies : List Reply) (log : Log) (waiting : Option Call)
-    → whole connect_request frame ≡ Ok greeting → greeting.session_id ≡ pos 0 → old.late ≡ None → IsLog old log waiting → Fine old
+opens_by : (from : Tree) (frame : List ℕ) (greeting : ConnectRequest) (c : ℕ) (own : List ℕ) (old middle new : FrontView) (replies : List Reply) (log : Log) (waiting : Option Call)
+    → whole connect_request frame ≡ Ok greeting → greeting.session_id ≡ pos 0 → old.late ≡ None → IsSince from old log waiting → Fine old
     → Asks old (opening old.clock.tick greeting ∷ []) middle replies
     → new ≡ with_tables (opened middle.clock.tick greeting own c replies middle.tables) middle → Becomes frame c own old new
-opens_by frame greeting c own old middle new (reply.Opened session ticks ∷ rest) log waiting spelled asks_new free has fine asked is =
+opens_by from frame greeting c own old middle new (reply.Opened session ticks ∷ rest) log waiting spelled asks_new free has fine asked is =
     let same : middle.tables ≡ old.tables = ap (λ (v : FrontView). v.tables) asked.rest in
-    let id = fresh greeting session ticks rest old middle log waiting free has asked in
+    let id = fresh from greeting session ticks rest old middle log waiting free has asked in
     let like = with_tables (welcomed middle.clock.tick greeting session ticks own c middle.tables) middle in
     welcomes frame greeting session c own (response_frame greeting (millis_told middle.clock.tick ticks) (long_of session) own) old middle new spelled asks_new same (λ there. omega (arith, id, fine.below session there)) fine like refl
     (open_stands greeting session ticks rest old middle like free asked refl) is
-opens_by frame greeting c own old middle new [] log waiting spelled asks_new free has fine asked is =
+opens_by from frame greeting c own old middle new [] log waiting spelled asks_new free has fine asked is =
     shut_by frame c own old middle new (ap (λ (v : FrontView). v.tables) asked.rest) is
-opens_by frame greeting c own old middle new (other ∷ rest) log waiting spelled asks_new free has fine asked is =
+opens_by from frame greeting c own old middle new (other ∷ rest) log waiting spelled asks_new free has fine asked is =
     shut_by frame c own old middle new (ap (λ (v : FrontView). v.tables) asked.rest) is
 
 -- ---- any greeting
 
--- a server whose log and seats are in order
+-- a server whose log since its chain began, and whose seats are in order
 abbrev pub Sound : FrontView → Type 0
-Sound v = (log : Log) × (waiting : Option Call) × IsLog v log waiting × Fine v
+Sound v = (t : Tree) × (log : Log) × (waiting : Option Call) × IsSince t v log waiting × Fine v
 
 greets_if : (is_new : Bool) (frame : List ℕ) (greeting : ConnectRequest) (c : ℕ) (own : List ℕ) (old new : FrontView) → whole connect_request frame ≡ Ok greeting
     → int_eq greeting.session_id (pos 0) ≡ is_new → old.late ≡ None → Sound old → GreetsIf is_new greeting own c old new → Becomes frame c own old new
 greets_if true frame greeting c own old new spelled is_new free sound has =
-    opens_by frame greeting c own old has.0 new has.1 sound.0 sound.1 spelled ((Decides-int_eq greeting.session_id (pos 0)).0 is_new) free sound.2 sound.3 has.2 has.3
+    opens_by sound.0 frame greeting c own old has.0 new has.1 sound.1 sound.2 spelled ((Decides-int_eq greeting.session_id (pos 0)).0 is_new) free sound.3 sound.4
+    has.2 has.3
 greets_if false frame greeting c own old new spelled is_new free sound is = returns frame greeting greeting.session_id c own old new spelled refl is
 
 greets_unless : (ahead : Bool) (frame : List ℕ) (greeting : ConnectRequest) (c : ℕ) (own : List ℕ) (old new : FrontView) → whole connect_request frame ≡ Ok greeting

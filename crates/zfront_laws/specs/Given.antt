@@ -5,7 +5,7 @@ use Rattle.std.specs.Prelude.{◌≡◌, ◌⊎◌, ℕ, pos, true, false, List,
 use Rattle.std.specs.FinMap as finite
 use Rattle.std.specs.List.{AllByRecursion}
 use Rattle.std.specs.Option.{option_map}
-use Rattle.ztree.specs.Tree.{opening_tree}
+use Rattle.ztree.specs.Tree.{Tree, opening_tree}
 use Rattle.zcalls.specs.declared.call.Call.{Call}
 use Rattle.zcalls.specs.declared.call.Call.TheVariants.{Update}
 use Rattle.zcalls.specs.declared.call.Update.TheVariants.{Open}
@@ -19,11 +19,12 @@ use Rattle.zpieces.specs.declared.phase.Phase.TheVariants.{Silent, Speaking}
 use Rattle.zpieces.specs.Streams.{phase_of}
 use Rattle.zsittings.specs.declared.sitting.Sitting.{Sitting}
 use Rattle.zturns.specs.Turns.{Log, calls_of, tree_after}
+use Rattle.zalone.specs.Told.{Leaves}
 use Rattle.zsittings.specs.Sittings.{SittingsView}
 use Rattle.zserving.specs.Greeting.{given}
 use Rattle.zfront.specs.Front.{FrontView, IsReady}
 use Rattle.zfront.specs.Reading.{Comes, HandlesAll, emptied}
-use Rattle.zfront.specs.Restoring.{Entry, IsRestored}
+use Rattle.zfront.specs.Restoring.{Seat, IsRestored}
 use Rattle.zfront_laws.specs.Runs.{Input, Opened, Came, Ended, Runs, IsLog}
 
 -- a connection since it was opened: the password of a session that is opened on it, and the bytes
@@ -100,8 +101,8 @@ pub record HasGot (c session : ℕ) (inputs : List Input) (first v : FrontView) 
 -- whatever the inputs of a server were, new or restored, a connection that speaks for a session got it so
 abbrev pub EverySessionIsGot : Type 0
 EverySessionIsGot =
-    (last : ℕ) (times : Clock) (entries : List Entry) (inputs : List Input) (first v : FrontView) (c session : ℕ)
-    → IsRestored last times entries first → Runs inputs first v
+    (last : ℕ) (times : Clock) (tree : Tree) (seats : List Seat) (inputs : List Input) (first v : FrontView) (c session : ℕ)
+    → IsRestored last times tree seats first → Runs inputs first v
     → phase_of v.tables.streams c ≡ Some (Speaking session) → HasGot c session inputs first v
 
 -- a server stands before a frame of a connection: behind inputs, and behind frames of it
@@ -114,11 +115,12 @@ pub record StandsBefore (c : ℕ) (first at : FrontView) : Type 0 where
   pub handled : HandlesAll frames c (emptied c stood) middle
   pub ready : IsReady middle at
 
--- then whoever speaks for a session speaks for one that the tree has. So nobody acts for a session
--- that ended
+-- then whoever speaks for a session speaks for one that the tree has: that of a log behind any
+-- earlier one that left the tree with which the server began. So nobody acts for a session that
+-- ended
 abbrev pub WhoSpeaksIsAlive : Type 0
 WhoSpeaksIsAlive =
-    (last : ℕ) (times : Clock) (entries : List Entry) (first at : FrontView) (c d session : ℕ)
-    → IsRestored last times entries first → StandsBefore c first at → at.late ≡ None
+    (last : ℕ) (times : Clock) (tree : Tree) (seats : List Seat) (before : Log) (first at : FrontView) (c d session : ℕ)
+    → IsRestored last times tree seats first → Leaves before tree → StandsBefore c first at → at.late ≡ None
     → phase_of at.tables.streams d ≡ Some (Speaking session)
     → (log : Log) × IsLog at log None × (finite.contains_key (tree_after opening_tree (calls_of log)).sessions session ≡ true)

@@ -3,7 +3,7 @@ use Rattle.std.specs.Prelude.{◌≡◌, ◌⊎◌, ℕ, List, ◌++◌, length,
 use Rattle.std.specs.List.{AllByRecursion}
 use Rattle.zforms.specs.Readers.{whole}
 use Rattle.zforms.specs.declared.fault.Fault.{Fault}
-use Rattle.ztree.specs.Tree.{opening_tree}
+use Rattle.ztree.specs.Tree.{Tree, opening_tree}
 use Rattle.zcalls.specs.declared.call.Call.{Call}
 use Rattle.zcalls.specs.declared.reply.Reply.{Reply}
 use Rattle.zjute.specs.Asking.{request}
@@ -12,10 +12,11 @@ use Rattle.zasking.specs.Laws.{CallIsFor}
 use Rattle.zanswering.specs.declared.clock.Clock.{Clock}
 use Rattle.zturns.specs.Turns.{Log, calls_of, served, tree_after, IsOneTrees}
 use Rattle.zalone.specs.Alone.{AloneView}
-use Rattle.zalone.specs.Told.{HasTold}
+use Rattle.zturns.specs.FromTree.{IsOneTreesFrom}
+use Rattle.zalone.specs.Told.{HasTold, HasToldFrom, Leaves}
 use Rattle.ztables.specs.Tables.{closed}
 use Rattle.zfront.specs.Front.{FrontView, with_tables, Asks, heard, HearsIf}
-use Rattle.zfront.specs.Restoring.{Entry, IsRestored}
+use Rattle.zfront.specs.Restoring.{Seat, IsRestored}
 use Rattle.zfront.specs.Requests.{Serves, Makes, touched_by}
 use Rattle.zfront_laws.specs.Runs.{Input, KeepsFew, Does, Runs, IsLog, GoesOn}
 
@@ -27,18 +28,26 @@ EveryInputGoesOn = (input : Input) (old new : FrontView) → KeepsFew old → Do
 abbrev pub EveryRunGoesOn : Type 0
 EveryRunGoesOn = (inputs : List Input) (old new : FrontView) → KeepsFew old → Runs inputs old new → GoesOn old new × KeepsFew new
 
--- a server that was restored keeps few bytes. A new one was restored by no entries
+-- a server keeps few bytes, whatever tree and seats it began with
 abbrev pub EveryFrontKeepsFew : Type 0
 EveryFrontKeepsFew =
-    (last : ℕ) (times : Clock) (entries : List Entry) (inputs : List Input) (first v : FrontView)
-    → IsRestored last times entries first → Runs inputs first v → KeepsFew v
+    (last : ℕ) (times : Clock) (tree : Tree) (seats : List Seat) (inputs : List Input) (first v : FrontView)
+    → IsRestored last times tree seats first → Runs inputs first v → KeepsFew v
 
--- so all calls of all connections stand in one log, and its replies are those of one plain tree
+-- so all calls of all connections stand in one log. It begins with any earlier log that left the
+-- tree with which the server began, and its replies are those of one plain tree
 abbrev pub EveryFrontIsOneTree : Type 0
 EveryFrontIsOneTree =
-    (last : ℕ) (times : Clock) (entries : List Entry) (inputs : List Input) (first v : FrontView)
-    → IsRestored last times entries first → Runs inputs first v
-    → (log : Log) × (waiting : Option Call) × IsLog v log waiting × IsOneTrees log
+    (last : ℕ) (times : Clock) (tree : Tree) (seats : List Seat) (before : Log) (inputs : List Input) (first v : FrontView)
+    → IsRestored last times tree seats first → Leaves before tree → Runs inputs first v
+    → (more : Log) × (waiting : Option Call) × IsLog v (before ++ more) waiting × IsOneTrees (before ++ more)
+
+-- and whatever tree it began with, the log since then is that tree's
+abbrev pub EveryFrontIsItsTrees : Type 0
+EveryFrontIsItsTrees =
+    (last : ℕ) (times : Clock) (tree : Tree) (seats : List Seat) (inputs : List Input) (first v : FrontView)
+    → IsRestored last times tree seats first → Runs inputs first v
+    → (log : Log) × (waiting : Option Call) × HasToldFrom tree v.asker log waiting × IsOneTreesFrom tree log
 
 -- the replies to the calls that a server makes are those of the tree that its log left, and each
 -- call with its reply comes behind that log

@@ -1,21 +1,21 @@
--- What a server made: the updates of its log. Those that were made again when it was restored stand
--- in front. Behind them stand those that were taken of it, and last those that are left to be taken.
-use Rattle.std.specs.Prelude.{◌≡◌, ℕ, true, List, [], ◌∷◌, ◌++◌, length, map, Option, None, Some}
+-- What a server made: the updates of its log, behind an earlier one that left the tree with which
+-- the server began. First stand those that were taken of it, and last those that are left to be
+-- taken.
+use Rattle.std.specs.Prelude.{◌≡◌, ℕ, true, List, [], ◌∷◌, ◌++◌, map, Option, None, Some}
 use Rattle.std.specs.FinMap.{contains_key, get}
-use Rattle.ztree.specs.Tree.{opening_tree}
+use Rattle.ztree.specs.Tree.{Tree, opening_tree}
+use Rattle.zcalls.specs.Lists.{Among}
 use Rattle.zcalls.specs.declared.call.Call.{Call}
-use Rattle.zcalls.specs.declared.call.Call.TheVariants as call
 use Rattle.zcalls.specs.declared.call.Update.{Update}
-use Rattle.zcalls.specs.declared.call.Update.TheVariants.{Open}
-use Rattle.zcalls.specs.declared.reply.Reply.TheVariants.{Opened}
 use Rattle.zanswering.specs.declared.clock.Clock.{Clock}
 use Rattle.zsittings.specs.declared.sitting.Sitting.{Sitting}
-use Rattle.zturns.specs.Turns.{Log, IsOneTrees, calls_of, tree_after}
+use Rattle.zturns.specs.Turns.{Log, IsOneTrees}
 use Rattle.zalone.specs.declared.made.Made.{Made}
 use Rattle.zalone.specs.Changes.{made_in}
+use Rattle.zalone.specs.Told.{Leaves}
 use Rattle.zfront.specs.Front.{FrontView}
-use Rattle.zfront.specs.Inputs.{Begins}
-use Rattle.zfront.specs.Restoring.{Entry, IsRestored}
+use Rattle.zfront.specs.Inputs.{ServerView, IsNew}
+use Rattle.zfront.specs.Restoring.{Seat, IsRestored}
 use Rattle.zfront_laws.specs.Runs.{Input, Took, Does, KeepsFew, Runs, IsLog}
 
 -- the updates of what was made, in order, and of a log
@@ -24,13 +24,6 @@ updates_of made = map (λ (m : Made). m.update) made
 
 abbrev pub updates_in : Log → List Update
 updates_in log = updates_of (made_in log)
-
--- those that are made again, and the calls for that
-abbrev pub entry_updates : List Entry → List Update
-entry_updates entries = map (λ (entry : Entry). entry.0) entries
-
-abbrev pub calls_again : List Entry → List Call
-calls_again entries = map (λ (entry : Entry). call.Update entry.0) entries
 
 -- what is made is kept until it is taken
 abbrev pub KeepsMade : FrontView → Type 0
@@ -58,46 +51,25 @@ abbrev pub EveryInputMakesMore : Type 0
 EveryInputMakesMore =
     (input : Input) (old new : FrontView) → KeepsFew old → KeepsMade old → Does input old new → MakesMore (took_at input old) old new × KeepsMade new
 
--- a new server is one that was restored by no updates
+-- a new server is one that began with the initial tree and no seats. The log that has no calls
+-- leaves that tree
 abbrev pub ANewServerIsRestored : Type 0
-ANewServerIsRestored = (last : ℕ) (times : Clock) (v : FrontView) → Begins last times v → IsRestored last times [] v
+ANewServerIsRestored =
+    (last : ℕ) (times : Clock) (v : ServerView) → IsNew last times v → IsRestored last times opening_tree [] v.front × Leaves [] opening_tree
 
--- a server that was restored made the updates again, each once and in order, and no other call. None
--- of them is left to be taken. It keeps what it makes if it did so as a new server
-abbrev pub EveryEntryIsMadeAgain : Type 0
-EveryEntryIsMadeAgain =
-    (last : ℕ) (times : Clock) (entries : List Entry) (v : FrontView) → (restored : IsRestored last times entries v)
-    → (log : Log) × IsLog v log None × IsOneTrees log × (updates_in log ≡ entry_updates entries) × (v.asker.changes.made ≡ [])
-    × (KeepsMade restored.first → KeepsMade v) × (calls_of log ≡ calls_again entries)
-
--- the session was opened by the call at this place of a log. The entry at the same place has this
--- password
-pub record WasOpened (log : Log) (entries : List Entry) (session : ℕ) (password : List ℕ) : Type 0 where
-  pub front : Log
-  pub before : List Entry
-  pub place : length front ≡ length before
-  pub asked : ℕ
-  pub ticks : ℕ
-  pub rest : Log
-  pub behind : List Entry
-  pub called : log ≡ front ++ (call.Update (Open asked), Opened session ticks) ∷ rest
-  pub kept : entries ≡ before ++ (Open asked, password) ∷ behind
-
--- each session of the tree of a server that was restored has its own password again, by which a
--- client takes it up, and no connection
+-- each session of the tree with which a server begins has its own password, by which a client takes
+-- it up, and no connection
 abbrev pub EverySessionIsRestored : Type 0
 EverySessionIsRestored =
-    (last : ℕ) (times : Clock) (entries : List Entry) (v : FrontView) → IsRestored last times entries v
-    → (log : Log) × IsLog v log None × (calls_of log ≡ calls_again entries)
-    × ((session : ℕ) → contains_key (tree_after opening_tree (calls_of log)).sessions session ≡ true
-    → (s : Sitting) × (get v.tables.sittings session ≡ Some s) × (s.connection ≡ None) × WasOpened log entries session s.password)
+    (last : ℕ) (times : Clock) (tree : Tree) (seats : List Seat) (v : FrontView) → IsRestored last times tree seats v
+    → (session : ℕ) → contains_key tree.sessions session ≡ true
+    → (s : Sitting) × (get v.tables.sittings session ≡ Some s) × (s.connection ≡ None) × Among (session, s.password) seats
 
--- behind these, the updates of its log are those that were taken, and those that are left: each once,
--- in order, with its reply
+-- behind the earlier log, the updates are those that were taken, and those that are left: each
+-- once, in order, with its reply
 abbrev pub EveryChangeIsMade : Type 0
 EveryChangeIsMade =
-    (last : ℕ) (times : Clock) (entries : List Entry) (inputs : List Input) (first v : FrontView)
-    → IsRestored last times entries first → KeepsMade first → (runs : Runs inputs first v)
-    → (again : Log) × (more : Log) × (waiting : Option Call)
-    × IsLog v (again ++ more) waiting × IsOneTrees (again ++ more) × (updates_in again ≡ entry_updates entries)
+    (last : ℕ) (times : Clock) (tree : Tree) (seats : List Seat) (before : Log) (inputs : List Input) (first v : FrontView)
+    → IsRestored last times tree seats first → Leaves before tree → KeepsMade first → (runs : Runs inputs first v)
+    → (more : Log) × (waiting : Option Call) × IsLog v (before ++ more) waiting × IsOneTrees (before ++ more)
     × (made_in more ≡ took_in inputs first v runs ++ v.asker.changes.made)

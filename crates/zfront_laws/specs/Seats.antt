@@ -1,6 +1,7 @@
 -- Which connection speaks for a session: that which has the session's seat, so no two of them do.
 -- The source is the ZooKeeper Programmer's Guide, "ZooKeeper Sessions".
 use Rattle.std.specs.Prelude.{◌≡◌, ℕ, true, List, None, Some}
+use Rattle.ztree.specs.Tree.{Tree}
 use Rattle.zevents.specs.declared.event.Event.{Event}
 use Rattle.zanswering.specs.declared.clock.Clock.{Clock}
 use Rattle.zpieces.specs.declared.phase.Phase.TheVariants.{Speaking}
@@ -10,7 +11,7 @@ use Rattle.ztables.specs.Tables.{TablesView, connection_of, closed, ended, sent,
 use Rattle.ztables.specs.Sweeping.{swept_all}
 use Rattle.ztables.specs.Telling.{told_all}
 use Rattle.zfront.specs.Front.{FrontView}
-use Rattle.zfront.specs.Restoring.{Entry, IsRestored}
+use Rattle.zfront.specs.Restoring.{Seat, IsRestored}
 use Rattle.zfront_laws.specs.Runs.{Input, Runs}
 
 -- each connection that speaks for a session has the seat of this session
@@ -40,5 +41,5 @@ pub record SeatsAreKept : Type 0 where
 -- of every server, whatever its inputs were
 abbrev pub EveryFrontIsSeated : Type 0
 EveryFrontIsSeated =
-    (last : ℕ) (times : Clock) (entries : List Entry) (inputs : List Input) (first v : FrontView)
-    → IsRestored last times entries first → Runs inputs first v → IsSeated v.tables
+    (last : ℕ) (times : Clock) (tree : Tree) (seats : List Seat) (inputs : List Input) (first v : FrontView)
+    → IsRestored last times tree seats first → Runs inputs first v → IsSeated v.tables

@@ -1,33 +1,27 @@
 //! The laws. No body does anything. One calls the law of another crate from which it follows.
 
-ghost use Rattle.zfront_laws.specs.Laws.{EveryFrontIsOneTree, EveryFrontKeepsFew};
+ghost use Rattle.zfront_laws.specs.Laws.{EveryFrontIsItsTrees, EveryFrontIsOneTree};
+ghost use Rattle.zfront_laws.specs.Laws.{EveryFrontKeepsFew};
 ghost use Rattle.zfront_laws.specs.Laws.{CallsStandInTheLog, EveryInputGoesOn, EveryRunGoesOn};
 ghost use Rattle.zfront_laws.specs.Laws.{LateCallsStandInTheLog, NoRequestMakesNoCall};
 ghost use Rattle.zfront_laws.specs.Laws.{RequestsAreForTheirSession};
 ghost use Rattle.zfront_laws.specs.Given.{EverySessionIsGot, WhoSpeaksIsAlive};
 ghost use Rattle.zfront_laws.specs.Making.{ANewServerIsRestored, EveryChangeIsMade};
-ghost use Rattle.zfront_laws.specs.Making.{EveryEntryIsMadeAgain, EveryInputMakesMore};
-ghost use Rattle.zfront_laws.specs.Making.{EverySessionIsRestored};
+ghost use Rattle.zfront_laws.specs.Making.{EveryInputMakesMore, EverySessionIsRestored};
 ghost use Rattle.zfront_laws.specs.Orders.{EveryOrderIsDone, EveryRunKeepsAlike};
 ghost use Rattle.zfront_laws.specs.Orders.{NoOrderTakesTheLast};
 ghost use Rattle.zfront_laws.specs.Seats.{EveryFrontIsSeated, OneSpeaks, SeatsAreKept};
 
 use zalone::laws::replies_are_the_trees;
 
-/// A new server is one that was restored by no updates. So what holds of those that were restored
-/// holds of new ones.
+/// A new server is one that was restored with the initial tree and no seats. So what holds of those
+/// that were restored holds of new ones.
 pub fn a_new_server_is_restored()
     ensures { ANewServerIsRestored }
 {}
 
-/// A server that was restored made its updates again: each once, in order, and with the replies of
-/// one plain tree.
-pub fn every_entry_is_made_again()
-    ensures { EveryEntryIsMadeAgain }
-{}
-
-/// Each session of the tree of a server that was restored has its own password again, by which a
-/// client takes it up, and no connection.
+/// Each session of the tree with which a server begins has its own password, by which a client
+/// takes it up, and no connection.
 pub fn every_session_is_restored()
     ensures { EverySessionIsRestored }
 {}
@@ -38,8 +32,8 @@ pub fn every_input_makes_more()
     ensures { EveryInputMakesMore }
 {}
 
-/// Behind the updates that restored a server, those of its log are the ones that were taken, and
-/// the ones that are left: each once, in order, with its reply.
+/// Behind a log that left the tree with which a server began, the updates of its log are those that
+/// were taken, and those that are left: each once, in order, with its reply.
 pub fn every_change_is_made()
     ensures { EveryChangeIsMade }
 {}
@@ -77,11 +71,13 @@ pub fn every_front_keeps_few()
     ensures { EveryFrontKeepsFew }
 {}
 
-/// Whatever the inputs of a server were, new or restored, all its calls stand in one log. The
-/// replies are those of one plain tree that does these calls in their order. No connection sees
-/// another tree.
+/// Whatever the inputs of a server were, all its calls stand in one log, behind any earlier one that
+/// left the tree with which it began. The replies are those of one plain tree that does these calls
+/// in their order. No connection sees another tree. The log since the server began is that of the
+/// tree with which it began, whether an earlier log left that tree or not.
 pub fn every_front_is_one_tree()
-    ensures { EveryFrontIsOneTree }
+    ensures log { EveryFrontIsOneTree }
+    ensures since { EveryFrontIsItsTrees }
 {}
 
 /// The replies to the calls that a server makes are those of the plain tree that its log left, and

@@ -1,12 +1,10 @@
 //! Worked examples of the definitions. The functions do nothing.
 
-ghost use Rattle.std.specs.Prelude.{length};
 ghost use Rattle.std.specs.Prelude.{◌≡◌, ℕ, pos, true, false, List, [], ◌∷◌, ◌++◌, Option, None, Some};
 ghost use Rattle.zcalls.specs.declared.call.Call.{Call};
 ghost use Rattle.zcalls.specs.declared.call.Call.TheVariants.{Query, Update};
 ghost use Rattle.zcalls.specs.declared.call.Query.{Query as Asked};
 ghost use Rattle.zcalls.specs.declared.call.Update.{Update as Act};
-ghost use Rattle.zcalls.specs.declared.call.Update.TheVariants.{Open};
 ghost use Rattle.zcalls.specs.declared.reply.Reply.{Reply};
 ghost use Rattle.zpieces.specs.declared.phase.Phase.TheVariants.{Speaking};
 ghost use Rattle.zpieces.specs.Streams.{phase_of};
@@ -16,10 +14,10 @@ ghost use Rattle.zserving.specs.Greeting.{given};
 ghost use Rattle.ztables.specs.Tables.{TablesView, connection_of};
 ghost use Rattle.zalone.specs.Changes.{made_in};
 ghost use Rattle.zfront.specs.Front.{FrontView};
-ghost use Rattle.zfront.specs.Restoring.{Entry, all_taken};
+ghost use Rattle.zfront.specs.Restoring.{all_taken};
 ghost use Rattle.zfront_laws.specs.Given.{Gains, IsNoOpening, since_opened};
-ghost use Rattle.zfront_laws.specs.Making.{KeepsMade, MakesMore, calls_again, entry_updates};
-ghost use Rattle.zfront_laws.specs.Making.{WasOpened, took_at, took_in, updates_in, updates_of};
+ghost use Rattle.zfront_laws.specs.Making.{KeepsMade, MakesMore};
+ghost use Rattle.zfront_laws.specs.Making.{took_at, took_in, updates_in, updates_of};
 ghost use Rattle.zfront_laws.specs.Runs.{Input, Opened, Came, Ended, Tick, Took};
 ghost use Rattle.zfront_laws.specs.Runs.{Does, GoesOn, IsLog, Runs};
 ghost use Rattle.zfront_laws.specs.Seats.{IsSeated};
@@ -77,16 +75,12 @@ pub fn names_gain()
         → password ≡ own }
 {}
 
-/// The updates of a log, of what was made, and of entries. A query is none.
+/// The updates of a log, and of what was made. A query is none.
 pub fn updates()
     ensures made { (update : Act) (reply : Reply)
         → updates_of (record { update = update; reply = reply } ∷ []) ≡ update ∷ [] }
     ensures logged { (update : Act) (asked : Asked) (one two : Reply)
         → updates_in ((Update update, one) ∷ (Query asked, two) ∷ []) ≡ update ∷ [] }
-    ensures entries { (update : Act) (password : List ℕ)
-        → entry_updates ((update, password) ∷ []) ≡ update ∷ [] }
-    ensures again { (update : Act) (password : List ℕ)
-        → calls_again ((update, password) ∷ []) ≡ Update update ∷ [] }
 {}
 
 /// Updates are taken all at once, and by no other input.
@@ -104,13 +98,4 @@ pub fn updates_are_left()
     ensures more { (u v : FrontView) (log : Log) (waiting : Option Call) → MakesMore [] u v
         → IsLog u log waiting → (more : Log) × (later : Option Call) × IsLog v (log ++ more) later
         × (u.asker.changes.made ++ made_in more ≡ v.asker.changes.made) }
-{}
-
-/// A session that was opened again has the password of the entry at its place.
-pub fn passwords_are_restored()
-    ensures place { (log : Log) (entries : List Entry) (session : ℕ) (password : List ℕ)
-        (was : WasOpened log entries session password) → length was.front ≡ length was.before }
-    ensures kept { (log : Log) (entries : List Entry) (session : ℕ) (password : List ℕ)
-        (was : WasOpened log entries session password)
-        → entries ≡ was.before ++ (Open was.asked, password) ∷ was.behind }
 {}

@@ -15,16 +15,16 @@ use Rattle.zfront.specs.declared.limits.TheConstants.{MAX_KEPT}
 use Rattle.zfront.specs.Front.{FrontView, with_tables}
 use Rattle.zfront.specs.Reading.{HandlesIn, HandlesUnless, Handles, HandlesAll, Reads, is_too_long, kept, keeps, Keeps, word_asked, ComesBy, ComesBehind, ComesIf, Comes, emptied}
 use Rattle.zfront.specs.Words.{text_of_word}
-use Rattle.zfront_laws.specs.Runs.{GoesOn, KeepsFew}
+use Rattle.zfront_laws.specs.Runs.{KeepsFew}
 use Rattle.zfront_laws.specs.Seats.{IsSeated}
 use Rattle.zfront_laws.proofs.Calling as calling
-use Rattle.zfront_laws.proofs.GoingOn as log
+use Rattle.zfront_laws.proofs.Since as chain
 use Rattle.zfront_laws.proofs.Held.{held-changed}
 use Rattle.zfront_laws.proofs.Kept.{bytes_kept}
 use Rattle.zfront_laws.proofs.Lighter as lighter
 use Rattle.zfront_laws.proofs.Seated.{Has}
 use Rattle.zfront_laws.proofs.Serving as serving
-use Rattle.zfront_laws.proofs.Steps.{Fine, Step, both, none_late, retabled, same, seats_kept}
+use Rattle.zfront_laws.proofs.Steps.{Fine, Step, both, none_late, retabled, same, seats_kept, seats_on}
 use Rattle.zfront_watches.specs.Watching.{Scene, Said, after}
 use Rattle.zfront_watches.proofs.Calling.{Quiet}
 use Rattle.zfront_watches.proofs.Greeting.{greets}
@@ -71,7 +71,7 @@ handles_unless law false bytes c old new s free quiet fine there has =
 handles : RepliesAreTheTrees → (bytes : List ℕ) (c : ℕ) (old new : FrontView) (s : Scene) → Fine old → At old s → Handles bytes c old new → Reaches new s
 handles law bytes c old new s fine there has =
     let ready = has.0 in
-    let fine_then : Fine ready = (calling.is_ready old ready has.1).seats s.log there.waiting there.log fine in
+    let fine_then : Fine ready = seats_on old ready (calling.is_ready old ready has.1).seats s.log there.waiting there.log fine in
     behind ready.must_look new.must_look ready new s (is_ready law old ready s there has.1)
     (λ next here. handles_unless law (is_some ready.late) bytes c ready new next (none_late ready.late) (ready_quiet old ready has.1) fine_then here has.2)
 
@@ -97,7 +97,7 @@ handles_all : RepliesAreTheTrees → (frames : List (List ℕ)) (c : ℕ) (old n
 handles_all law [] c old new s fine there is = subst (λ (v : FrontView). Reaches v s) (sym is) (stays old.must_look old s there)
 handles_all law (bytes ∷ frames) c old new s fine there has =
     let middle = has.1 in
-    let fine_then : Fine middle = (step bytes c old middle has.2).seats s.log there.waiting there.log fine in
+    let fine_then : Fine middle = seats_on old middle (step bytes c old middle has.2).seats s.log there.waiting there.log fine in
     behind middle.must_look new.must_look middle new s (handles law bytes c old middle s fine there has.2)
     (λ next here. handles_all law frames c middle new next fine_then here has.3)
 
@@ -153,8 +153,8 @@ comes_if law false bytes c old new s few fine there is = subst (λ (v : FrontVie
 comes_if law true bytes c old new s few fine there has =
     let came = bytes_of old.tables.streams c ++ bytes in
     let v = emptied c old in
-    let goes : GoesOn old v = log.same old v refl refl in
-    let fine_then : Fine v = seats_kept old v goes (bytes_kept c [] old.tables) s.log there.waiting there.log fine in
+    let kept = seats_kept old v (chain.same old v refl refl) (bytes_kept c [] old.tables) in
+    let fine_then : Fine v = seats_on old v kept s.log there.waiting there.log fine in
     behind old.must_look new.must_look v new s (moves old.must_look old s v.tables there (bytes_move old.tables c []) (unchanged old.tables.sittings))
     (λ next here. comes_behind law came c v new next (emptied_few c old few) fine_then here has)
 

@@ -27,6 +27,7 @@ use Rattle.zserving.specs.Frames.{response_frame}
 use Rattle.zserving.specs.Greeting.{session_told, welcomed, turned_away, given, came_back, returned, is_ahead}
 use Rattle.zfront.specs.Front.{FrontView, with_tables, Asks}
 use Rattle.zfront.specs.Greeting.{opening, opened, Opens, GreetsIf, GreetsUnless, GreetsBy, Greets}
+use Rattle.zalone.proofs.Earlier.{left_by}
 use Rattle.zfront_laws.specs.Runs.{IsLog}
 use Rattle.zfront_laws.proofs.Rising.{new_id}
 use Rattle.zfront_laws.proofs.Seated.{Has}
@@ -104,7 +105,8 @@ opens law greeting password c old new s free calm fine there has =
 
     fresh : (told : Reply) → replies ≡ told ∷ [] → (session ticks : ℕ) → told ≡ Opened session ticks → Has middle.tables.sittings session → ⊥
     fresh told one session ticks is sits =
-        let id = new_id old middle (ticks_asked old.clock.tick greeting.timeout) s.log session ticks [] (log_free there.waiting there.log).told
+        let h = (log_free there.waiting there.log).told in
+        let id = new_id (left_by h.earlier) old middle (ticks_asked old.clock.tick greeting.timeout) h.since session ticks [] h.told
         (subst (λ rs. Asks old (opening old.clock.tick greeting ∷ []) middle rs) (one ∙ ap (λ r. r ∷ []) is) has.2) in
         too_new session old.asker.known.zxid id.0
         (fine.below session (subst (λ (t : TablesView). Has t.sittings session) (ap (λ (v : FrontView). v.tables) has.2.rest) sits))

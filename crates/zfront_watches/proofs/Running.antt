@@ -1,5 +1,5 @@
 -- A server at a scene, at any inputs.
-use Rattle.std.proofs.Common.{◌≡◌, ◌∙◌, true, false, List, [], ◌∷◌, None, refl, sym, ap, subst, inl, inr, drop}
+use Rattle.std.proofs.Common.{◌≡◌, ◌∙◌, ℕ, true, false, List, [], ◌∷◌, None, refl, sym, ap, subst, inl, inr, drop}
 use Rattle.std.specs.FinMap as finite
 use Rattle.std.specs.FinSet as sets
 use Rattle.std.specs.FinMap.{contains_key}
@@ -8,7 +8,9 @@ use Rattle.std.specs.Option.{option_map_or}
 use Rattle.ztree.specs.Lawful.{IsOwner}
 use Rattle.ztree.specs.Tree.{Tree}
 use Rattle.ztree.proofs.Maps.{none_some}
-use Rattle.zknown.specs.Known.{KnownView}
+use Rattle.zanswering.specs.declared.clock.Clock.{Clock}
+use Rattle.zturns.specs.Turns.{Log}
+use Rattle.zalone.specs.Told.{Leaves}
 use Rattle.zalone.specs.Laws.{RepliesAreTheTrees}
 use Rattle.zpieces.specs.Streams as streams
 use Rattle.zwatches.specs.declared.watch.Watch.{Watch}
@@ -18,16 +20,15 @@ use Rattle.ztables.specs.Sweeping.{made_one}
 use Rattle.ztables.specs.Tables.{TablesView}
 use Rattle.ztables.specs.Tables as tables
 use Rattle.zfront.specs.Front.{FrontView, with_tables}
-use Rattle.zfront.specs.Restoring.{Entry, all_taken}
+use Rattle.zfront.specs.Restoring.{Seat, IsRestored, all_taken}
 use Rattle.zfront_laws.specs.Runs.{KeepsFew, Does, Runs}
 use Rattle.zfront_laws.specs.Runs as run
 use Rattle.zfront_laws.proofs.Bare.{IsBare}
-use Rattle.zalone.proofs.Earlier.{known_tree}
 use Rattle.zfront_laws.proofs.GoingOn.{taken}
 use Rattle.zfront_laws.proofs.Inputs.{goes_with_few}
-use Rattle.zfront_laws.proofs.Restored.{IsAgain, again, is_few, is_fine, is_quiet}
+use Rattle.zfront_laws.proofs.Restored.{is_bare, is_few, is_fine, is_quiet, sits}
 use Rattle.zfront_laws.proofs.Seated.{Has}
-use Rattle.zfront_laws.proofs.Steps.{Fine}
+use Rattle.zfront_laws.proofs.Steps.{Fine, seats_on}
 use Rattle.zfront_watches.specs.Watching.{Scene, tree_of}
 use Rattle.zfront_watches.specs.Laws.{Brings, BringsAll, EveryWatchIsTold, opening_scene}
 use Rattle.zfront_watches.proofs.Coming.{comes}
@@ -94,7 +95,7 @@ brings_all law (input ∷ inputs) old new s few fine there has =
     let middle = has.0 in
     let did = goes_with_few input old middle few has.1 in
     let first = brings law input old middle s few fine there has.1 in
-    let rest = brings_all law inputs middle new first.0 did.1 (did.2 s.log there.waiting there.log fine) first.2 has.2 in
+    let rest = brings_all law inputs middle new first.0 did.1 (seats_on old middle did.2 s.log there.waiting there.log fine) first.2 has.2 in
     (rest.0, (first.0, first.1, rest.1), rest.2)
 
 -- ---- a server that was restored
@@ -103,44 +104,42 @@ no_watches : {P : Type 0} (t : TablesView) (w : Watch) → IsBare t → contains
 no_watches t w bare is =
     absurd (cc (sym (sets.contains-empty watch_cmp w) ∙ sym (ap (λ (table : Watches). contains table w) bare.watches) ∙ is))
 
--- each owner of a node is a session of the tree, and each of these has a sitting that is marked
-restored_owners : (entries : List Entry) (v : FrontView) (is : IsAgain entries v)
-    → OwnersAre (Marked v.tables.sittings) (tree_of (opening_scene is.log v.tables)).nodes
-restored_owners entries v is path n found = by ((is_lawful (opening_scene is.log v.tables)).owners path n found)
-  where
-    t : Tree
-    t = tree_of (opening_scene is.log v.tables)
+module _ (last : ℕ) (times : Clock) (tree : Tree) (seats : List Seat) (v : FrontView) (is : IsRestored last times tree seats v) (before : Log)
+    (left : Leaves before tree) where
+  abbrev bare : IsBare v.tables
+  bare = is_bare last times tree seats v is
 
-    marks : Has v.tables.sittings n.owner → made_one v.tables.sittings n.owner ≡ true
-    marks has = ap (λ o. option_map_or (λ (s : Sitting). s.made_ephemeral) o false) has.1 ∙ (is.bare.apart n.owner has.0 has.1).marked
+  -- each owner of a node is a session of the tree, and each of these has a sitting that is marked
+  restored_owners : OwnersAre (Marked v.tables.sittings) (tree_of (opening_scene before v.tables)).nodes
+  restored_owners path n found = by ((is_lawful (opening_scene before v.tables)).owners path n found)
+    where
+      marks : Has v.tables.sittings n.owner → made_one v.tables.sittings n.owner ≡ true
+      marks has = ap (λ o. option_map_or (λ (s : Sitting). s.made_ephemeral) o false) has.1 ∙ (bare.apart n.owner has.0 has.1).marked
 
-    by : IsOwner t.sessions n.owner → Marked v.tables.sittings n.owner
-    by (inl nobody) = inl nobody
-    by (inr some) =
-        inr (marks (is.seats n.owner (ap (λ (k : KnownView). contains_key k.sessions n.owner) (known_tree v.asker is.log None is.told) ∙ some)))
+      by : IsOwner (tree_of (opening_scene before v.tables)).sessions n.owner → Marked v.tables.sittings n.owner
+      by (inl nobody) = inl nobody
+      by (inr some) =
+          inr (marks (sits last times tree seats v is n.owner (ap (λ (t : Tree). contains_key t.sessions n.owner) (sym left.1) ∙ some)))
 
-restored_at : (entries : List Entry) (v : FrontView) (is : IsAgain entries v) → At v (opening_scene is.log v.tables)
-restored_at entries v is = record {
-  tables = refl;
-  waiting = None;
-  log = is_quiet entries v is;
-  holds = record {
-    right = λ w stands. no_watches v.tables w is.bare stands;
-    seen = λ w stands. no_watches v.tables w is.bare stands;
-    owners = restored_owners entries v is;
-  };
-  late = λ call late. absurd (none_some call (sym is.late ∙ late));
-  free = λ update late. is.must_look;
-}
+  restored_at : At v (opening_scene before v.tables)
+  restored_at = record {
+    tables = refl;
+    waiting = None;
+    log = is_quiet last times tree seats v is before left;
+    holds = record {
+      right = λ w stands. no_watches v.tables w bare stands;
+      seen = λ w stands. no_watches v.tables w bare stands;
+      owners = restored_owners;
+    };
+    late = λ call late. absurd (none_some call (sym is.late ∙ late));
+    free = λ update late. is.must_look;
+  }
 
 pub every_watch_is_told : RepliesAreTheTrees → EveryWatchIsTold
-every_watch_is_told law last times entries inputs first v restored runs =
-    let is = again last times entries first restored in
-    let done = brings_all law inputs first v (opening_scene is.log first.tables) (is_few entries first is) (is_fine entries first is) (restored_at entries first is) runs in
+every_watch_is_told law last times tree seats before inputs first v restored left runs =
+    let done = brings_all law inputs first v (opening_scene before first.tables) (is_few last times tree seats first restored)
+    (is_fine last times tree seats first restored) (restored_at last times tree seats first restored before left) runs in
     let there = done.2 in (
-      is.log,
-      is_quiet entries first is,
-      is.calls,
       done.0,
       done.1,
       there.tables,

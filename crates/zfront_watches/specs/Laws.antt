@@ -1,15 +1,16 @@
 -- What holds of the watches of every server. The functions of `src/laws.rt` promise it.
-use Rattle.std.specs.Prelude.{◌≡◌, ℕ, false, List, [], ◌∷◌, drop, Option, None}
+use Rattle.std.specs.Prelude.{◌≡◌, ℕ, false, List, [], ◌∷◌, drop, Option}
 use Rattle.std.specs.FinMap as finite
+use Rattle.ztree.specs.Tree.{Tree}
 use Rattle.zcalls.specs.declared.call.Call.{Call}
 use Rattle.zanswering.specs.declared.clock.Clock.{Clock}
 use Rattle.zpieces.specs.Streams.{opened}
 use Rattle.zwatches.specs.declared.watch.Watch.{Watch}
-use Rattle.zturns.specs.Turns.{Log, calls_of}
+use Rattle.zturns.specs.Turns.{Log}
+use Rattle.zalone.specs.Told.{Leaves}
 use Rattle.ztables.specs.Tables.{TablesView, ended}
 use Rattle.zfront.specs.Front.{FrontView}
-use Rattle.zfront.specs.Restoring.{Entry, IsRestored}
-use Rattle.zfront_laws.specs.Making.{calls_again}
+use Rattle.zfront.specs.Restoring.{Seat, IsRestored}
 use Rattle.zfront_laws.specs.Runs.{Input, Opened, Came, Ended, Tick, Line, Sent, Took, Runs, IsLog}
 use Rattle.zfront_watches.specs.Watching.{Scene, Happening, Happens, Stands, IsUnchanged}
 
@@ -33,13 +34,13 @@ abbrev pub BringsAll : List Input → Scene → Scene → Type 0
 BringsAll [] s t = t ≡ s
 BringsAll (input ∷ inputs) s t = (middle : Scene) × Brings input s middle × BringsAll inputs middle t
 
--- whatever the inputs of a server were, new or restored, its tables and its log are those of a scene
--- that they bring by what may happen, from the log of the updates that were made again; and where no
--- look is due, each watch that stands was told all
+-- whatever the inputs of a server were, new or restored, its tables and its log are those of a
+-- scene that they bring by what may happen. The scene begins with any earlier log that left the tree
+-- with which the server began. Where no look is due, each watch that stands was told all
 abbrev pub EveryWatchIsTold : Type 0
 EveryWatchIsTold =
-    (last : ℕ) (times : Clock) (entries : List Entry) (inputs : List Input) (first v : FrontView)
-    → IsRestored last times entries first → Runs inputs first v
-    → (log : Log) × IsLog first log None × (calls_of log ≡ calls_again entries) × (s : Scene) × BringsAll inputs (opening_scene log first.tables) s
+    (last : ℕ) (times : Clock) (tree : Tree) (seats : List Seat) (before : Log) (inputs : List Input) (first v : FrontView)
+    → IsRestored last times tree seats first → Leaves before tree → Runs inputs first v
+    → (s : Scene) × BringsAll inputs (opening_scene before first.tables) s
     × (s.tables ≡ v.tables) × ((waiting : Option Call) × IsLog v s.log waiting)
     × (v.must_look ≡ false → (w : Watch) → Stands s w → IsUnchanged s w)

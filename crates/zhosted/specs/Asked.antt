@@ -1,5 +1,5 @@
 -- What the words of a server that keeps a folder ask for: this project's own profile.
-use Rattle.std.specs.Prelude.{◌≡◌, ◌≤◌, ◌<◌, ◌^◌, ℕ, if◌then◌else◌, List, [], ◌∷◌, codes, Option, Some, None}
+use Rattle.std.specs.Prelude.{◌≡◌, ◌≤◌, ◌<◌, ◌*◌, ◌^◌, ℕ, if◌then◌else◌, List, [], ◌∷◌, codes, Option, Some, None}
 use Rattle.std.specs.Str.{bytes_eq}
 use Rattle.std.specs.Str.Parse.{IsNumeral, digits_value, without_leading_plus}
 use Rattle.zfile.specs.declared.mode.SyncMode.{SyncMode}
@@ -18,9 +18,13 @@ pub record Spells (bits : ℕ) (word : List ℕ) (n : ℕ) : Type 0 where
   pub value : n ≡ digits_value 10 (without_leading_plus word)
   pub fits : n < 2 ^ bits
 
+-- it is so many MiB, and these are their bytes
+abbrev pub SpellsBytes : List ℕ → ℕ → Type 0
+SpellsBytes word bytes = (n : ℕ) × Spells 32 word n × (bytes ≡ n * 2 ^ 20)
+
 -- behind the program's name a folder and a mode; how many servers, 1 to 16; the milliseconds of a
--- tick, at least 1; the time in milliseconds
+-- tick, at least 1; the time in milliseconds; the MiB from which on the journal is shortened
 abbrev pub IsAsked : List (List ℕ) → HostedSettings → Type 0
-IsAsked (name ∷ folder ∷ mode ∷ servers ∷ tick ∷ now ∷ []) asked =
-    (mode_of mode ≡ Some asked.mode) × Spells 8 servers asked.last × Spells 32 tick asked.tick × Spells 64 now asked.now
+IsAsked (name ∷ folder ∷ mode ∷ servers ∷ tick ∷ now ∷ journal ∷ []) asked =
+    (mode_of mode ≡ Some asked.mode) × Spells 8 servers asked.last × Spells 32 tick asked.tick × Spells 64 now asked.now × SpellsBytes journal asked.long
 IsAsked words asked = ⊥

@@ -25,7 +25,6 @@ file_status fault = 3
 
 abbrev pub service_status : OpenFault → ℕ
 service_status opening.Memory = 1
-service_status opening.Stopped = 1
 service_status (opening.Journal fault) = file_status fault
 service_status opening.NotRecords = 3
 

@@ -1,5 +1,5 @@
 -- What a front whose changes are kept does between two of its states, in the words of its host.
-use Rattle.std.specs.Prelude.{◌≡◌, ◌++◌, ℕ, List, [], length, None, Some}
+use Rattle.std.specs.Prelude.{◌≡◌, ℕ, List, length, None, Some}
 use Rattle.zfront.specs.Front.{FrontView}
 use Rattle.zfront.specs.Inputs.{Opens, Ends}
 use Rattle.zfront.specs.Orders.{Hears}
@@ -7,7 +7,9 @@ use Rattle.zfront.specs.Reading.{Comes}
 use Rattle.zfront.specs.Restoring.{all_taken}
 use Rattle.zfront.specs.Ticking.{Ticks}
 use Rattle.zkept.specs.declared.kept.Kept.{Kept}
-use Rattle.zkept.specs.Kept.{front_in, IsOpen, IsSameFile, IsServing, IsSound, piece_in, without_piece, with_made}
+use Rattle.zkept.specs.Kept.{front_in, state_in, IsOpen, IsSameFile, IsServing, IsSound, piece_in, without_piece}
+use Rattle.zkept.specs.Making.{entries_made}
+use Rattle.zstates.specs.States.{after}
 use Rattle.zpieces.specs.Outbox.{PieceView}
 use Rattle.zpipe.specs.Inputs.{InputView, Opened, Came, Ended, Tick, Line, Keep}
 
@@ -31,10 +33,13 @@ module _ {D : Type 0} (seen : D → List ℕ) (may_leave : D → List ℕ → Ty
     pub same : IsSameFile old new
     pub keeps : (servers : ℕ) (batches : List (List ℕ)) → IsServing seen may_leave servers batches old → IsServing seen may_leave servers batches new
 
-  -- what it made is one block more of the file, and nothing is left of it
+  -- what it made is kept, and nothing is left of it: the file keeps the state that it leaves, by one
+  -- block more, or as a new file
   pub record Keeps (old new : Kept D) : Type 0 where
     pub taken : front_in new ≡ all_taken (front_in old)
-    pub keeps : (servers : ℕ) (batches : List (List ℕ)) → IsServing seen may_leave servers batches old → IsServing seen may_leave servers (with_made (front_in old) batches) new
+    pub state : state_in new ≡ after (state_in old) (entries_made (front_in old))
+    pub keeps : (servers : ℕ) (batches : List (List ℕ)) → IsServing seen may_leave servers batches old
+        → (next : List (List ℕ)) × IsServing seen may_leave servers next new
 
 -- its next piece is told, which it has only while all that it made is kept
 abbrev pub IsTold : {D : Type 0} → PieceView → Kept D → Kept D → Type 0

@@ -37,7 +37,7 @@ impl HostedFault {
             HostedFault::Folder(FileFault::Memory) => 1,
             HostedFault::Folder(FileFault::Io) => 4,
             HostedFault::Folder(_) => 3,
-            HostedFault::Service(OpenFault::Memory | OpenFault::Stopped) => 1,
+            HostedFault::Service(OpenFault::Memory) => 1,
             HostedFault::Service(OpenFault::Journal(OpenError::Memory)) => 1,
             HostedFault::Service(OpenFault::Journal(OpenError::Failed)) => 4,
             HostedFault::Service(_) => 3,

@@ -1,6 +1,6 @@
 //! A front whose changes are kept, as its host speaks to it.
 
-ghost use Rattle.std.specs.Prelude.{◌≡◌, Err, Ok};
+ghost use Rattle.std.specs.Prelude.{◌≡◌, Err, Ok, OnOk};
 ghost use Rattle.zhosted.specs.Hosted.{HasTold, IsGood, IsTold, Keeps, Takes, pieces_left};
 
 use zjournal::Device;
@@ -11,14 +11,17 @@ use zpipe::{ServeFault, Service};
 #[derive(Drop)]
 pub struct Hosted<D: Device> {
     kept: Kept<D>,
+    // From so many bytes on its journal is shortened.
+    long: usize,
 }
 
 impl<D: Device> Hosted<D> {
-    /// Wraps a front.
-    pub fn new(kept: Kept<D>) -> Hosted<D>
+    /// Wraps a front. Its journal is shortened from so many bytes on, where it has four times those
+    /// that it had behind its last shortening.
+    pub fn new(kept: Kept<D>, long: usize) -> Hosted<D>
         ensures { result.kept ≡ kept }
     {
-        Hosted { kept }
+        Hosted { kept, long }
     }
 }
 
@@ -71,17 +74,37 @@ impl<D: Device> Service for Hosted<D> {
     }
 
     fn keep(&mut self) -> Result<(), ServeFault> {
-        match self.kept.commit() {
+        match keep(&mut self.kept, self.long) {
             Ok(()) => Ok(()),
-            Err(CommitFault::Memory) => Err(ServeFault::Memory),
-            Err(CommitFault::Failed) => Err(ServeFault::Disk),
-            Err(CommitFault::Full) => Err(ServeFault::Full),
-            Err(CommitFault::Ended) => Err(ServeFault::Ended),
+            Err(fault) => Err(unkept(fault)),
         }
     }
 
     fn next_piece(&mut self) -> Option<Piece> {
         self.kept.next_piece()
+    }
+}
+
+// Keeps what was made, and shortens a journal that has become long.
+fn keep<D: Device>(kept: &mut Kept<D>, long: usize) -> Result<(), CommitFault>
+    requires { IsGood D.seen D.may_leave kept.old }
+    ensures keeps { OnOk result (Keeps D.seen D.may_leave kept.old kept.new) }
+    ensures good { OnOk result (IsGood D.seen D.may_leave kept.new) }
+{
+    kept.commit()?;
+    if kept.is_long(long) {
+        kept.shorten()?;
+    }
+    Ok(())
+}
+
+/// Why nothing more is kept, in the words of a host.
+pub(crate) fn unkept(fault: CommitFault) -> ServeFault {
+    match fault {
+        CommitFault::Memory => ServeFault::Memory,
+        CommitFault::Failed => ServeFault::Disk,
+        CommitFault::Full => ServeFault::Full,
+        CommitFault::Ended => ServeFault::Ended,
     }
 }
 

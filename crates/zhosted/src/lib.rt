@@ -2,10 +2,12 @@
 //! process: its words, and its run without the devices.
 //!
 //! `hosted_settings` reads the words. `hosted_command` opens the folder, takes the inputs that are
-//! read, and reports a fault in one line. `Hosted` is the service as `zpipe::serve_all` has it: the
-//! inputs up to a demand are a batch, and it is kept before a piece of it is told.
+//! read, and reports a fault in one line. Or it shortens the journal of a folder. `Hosted` is the
+//! service as `zpipe::serve_all` has it: the inputs up to a demand are a batch, and it is kept before
+//! a piece of it is told.
 #![tactic(auto)]
 
+mod compacting;
 mod fault;
 mod hosted;
 mod program;

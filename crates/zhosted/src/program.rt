@@ -5,6 +5,7 @@ ghost use Rattle.zfile.specs.File.{seen_of, MayLeaveOf};
 ghost use Rattle.zhosted.specs.Hosted.{IsGood};
 ghost use Rattle.zjournal.specs.Device.{Only};
 
+use crate::compacting::{compact, compacted};
 use crate::fault::HostedFault;
 use crate::hosted::Hosted;
 use crate::words::{HostedSettings, hosted_settings};
@@ -13,7 +14,7 @@ use std::fs::{File, Files};
 use zcli::{WordsFault, tell};
 use zdevices::{Sink, Source};
 use zfile::{FileDevice, SyncMode};
-use zkept::Kept;
+use zkept::{Kept, ServerId, TickLength};
 use zpipe::serve_all;
 
 // From so many bytes on it is told that a file is opened: that may take a second.
@@ -21,6 +22,9 @@ const LONG: usize = 1_048_576;
 
 /// Does what the words ask for, reports a fault on `faults`, and returns the exit status: 0 where
 /// the source has ended, or that of the fault (`HostedFault::status`).
+///
+/// The words are those of `hosted_settings`. With `NAME FOLDER compact SERVERS` it shortens the
+/// journal of the folder, which is for so many servers, and tells on the sink how long it is.
 pub fn hosted_command<R: Files<File = File> + Copy, S: Source, K: Sink, F: Sink>(
     alloc: Global,
     files: &R,
@@ -52,11 +56,32 @@ fn run<R: Files<File = File> + Copy, S: Source, K: Sink, F: Sink>(
     let [_, folder, ..] = words else {
         return Err(HostedFault::Words(WordsFault::BadWords));
     };
+    if let Some(last) = compacted(words) {
+        return shorten(alloc, files, folder, last, sink);
+    }
     let asked = hosted_settings(words)?;
     let device = FileDevice::open(alloc, files, folder, asked.mode)?;
     tell_opening(alloc, asked.mode, device.waiting(), faults);
     let service = opened(alloc, device, asked)?;
     serve(alloc, service, source, sink)
+}
+
+// Shortens the journal of a folder.
+fn shorten<R: Files<File = File> + Copy, K: Sink>(
+    alloc: Global,
+    files: &R,
+    folder: &str,
+    last: ServerId,
+    sink: &mut K,
+) -> Result<(), HostedFault> {
+    let Some(tick) = TickLength::new(1000) else {
+        return Err(HostedFault::Words(WordsFault::BadWords));
+    };
+    let device = FileDevice::open(alloc, files, folder, SyncMode::Batch)?;
+    match Kept::open(alloc, device, last, tick, 0) {
+        Ok(kept) => compact(alloc, kept, sink),
+        Err((fault, _)) => Err(HostedFault::Service(fault)),
+    }
 }
 
 // Takes all inputs (`zpipe::serve_all`).
@@ -84,7 +109,7 @@ fn opened<R: Files<File = File> + Copy>(
     ensures good { IfOk result (λ service. IsGood seen_of MayLeaveOf service.kept) }
 {
     match Kept::open(alloc, device, asked.last, asked.tick, asked.now) {
-        Ok(kept) => Ok(Hosted::new(kept)),
+        Ok(kept) => Ok(Hosted::new(kept, asked.long)),
         Err((fault, _)) => Err(HostedFault::Service(fault)),
     }
 }

@@ -2,7 +2,7 @@
 
 ghost use Rattle.std.specs.Prelude.{◌≡◌, IfErr, IfOk, IfSome};
 ghost use Rattle.zcli.specs.Asked.{texts_of};
-ghost use Rattle.zhosted.specs.Asked.{IsAsked, mode_of, Spells};
+ghost use Rattle.zhosted.specs.Asked.{IsAsked, mode_of, Spells, SpellsBytes};
 
 use zcli::WordsFault;
 use zfile::SyncMode;
@@ -19,15 +19,18 @@ pub struct HostedSettings {
     pub tick: TickLength,
     /// The time, in milliseconds since 1970.
     pub now: u64,
+    /// From so many bytes on the journal is shortened.
+    pub long: usize,
 }
 
-/// Reads `NAME FOLDER batch|never SERVERS TICK TIME`: how many servers the chain begins with, the
-/// milliseconds of a tick, and the time. The folder may be any word. All else is `BadWords`.
+/// Reads `NAME FOLDER batch|never SERVERS TICK TIME JOURNAL`: how many servers the chain begins with,
+/// the milliseconds of a tick, the time, and from how many MiB on the journal is shortened. The folder
+/// may be any word. All else is `BadWords`.
 pub fn hosted_settings<'a>(words: &'a [&'a str]) -> Result<HostedSettings, WordsFault>
     ensures ok { IfOk result (IsAsked (texts_of words.now)) }
     ensures err { IfErr result (λ fault. fault ≡ WordsFault.BadWords) }
 {
-    let [_, _, mode, servers, tick, now] = words else {
+    let [_, _, mode, servers, tick, now, journal] = words else {
         return Err(WordsFault::BadWords);
     };
     match (
@@ -35,12 +38,14 @@ pub fn hosted_settings<'a>(words: &'a [&'a str]) -> Result<HostedSettings, Words
         last_of(servers),
         tick_of(tick),
         number_of(now),
+        bytes_of(journal),
     ) {
-        (Some(mode), Some(last), Some(tick), Some(now)) => Ok(HostedSettings {
+        (Some(mode), Some(last), Some(tick), Some(now), Some(long)) => Ok(HostedSettings {
             mode,
             last,
             tick,
             now,
+            long,
         }),
         _ => Err(WordsFault::BadWords),
     }
@@ -57,8 +62,8 @@ fn mode_of(word: &str) -> Option<SyncMode>
     }
 }
 
-// The last of so many servers.
-fn last_of(word: &str) -> Option<ServerId>
+/// The last of so many servers.
+pub(crate) fn last_of(word: &str) -> Option<ServerId>
     ensures { IfSome result (Spells 8 word.now) }
 {
     match word.parse::<u8>() {
@@ -73,6 +78,16 @@ fn tick_of(word: &str) -> Option<TickLength>
 {
     match word.parse::<u32>() {
         Ok(millis) => TickLength::new(millis),
+        Err(_) => None,
+    }
+}
+
+// The bytes of so many MiB.
+fn bytes_of(word: &str) -> Option<usize>
+    ensures { IfSome result (SpellsBytes word.now) }
+{
+    match word.parse::<u32>() {
+        Ok(count) => Some(count as usize * 1_048_576),
         Err(_) => None,
     }
 }

@@ -1,59 +1,41 @@
 -- The lives of a service, from the last one back.
-use Rattle.std.proofs.Common.{◌≡◌, ◌⊎◌, inl, inr, ℕ, List, [], ◌∷◌, ◌++◌, map, refl, sym, ap, subst, ◌∙◌, append_assoc, append-nil}
+use Rattle.std.proofs.Common.{◌≡◌, ◌⊎◌, inl, inr, ℕ, List, [], ◌∷◌, ◌++◌, refl, sym, ap, subst, ◌∙◌, append_assoc, append-nil}
 use Rattle.std.proofs.lemmas.List.{map-append}
 use Rattle.ztree.specs.Tree.{Tree, opening_tree}
 use Rattle.zturns.specs.Turns.{Log, calls_of, tree_after, IsOneTrees}
-use Rattle.zjournal.specs.Journal.{StandsFor}
 use Rattle.zjournal.specs.Scan.{joined}
 use Rattle.zjournal.proofs.Readings.{files_have_one_reading}
-use Rattle.zfront.specs.Restoring.{Entry}
-use Rattle.zfront_laws.specs.Making.{entry_updates, updates_in}
-use Rattle.zkept.specs.Entries.{AreEntries, entries_text, IsTextOf}
-use Rattle.zkept.specs.Lives.{Life, all_of, IsLeft, AreLives, IsWoven}
+use Rattle.zstates.specs.Entries.{Entry}
+use Rattle.zstates.specs.States.{State, opening_state, after}
+use Rattle.zstates.specs.Texts.{IsTextOf}
+use Rattle.zstates.proofs.Apart.{nothing_is, tell_apart}
+use Rattle.zstates.proofs.States.{go_on, trees}
+use Rattle.zfront_laws.specs.Making.{updates_in}
+use Rattle.zkept.specs.Lives.{Life, entry_updates, FileKeeps, AreLives, IsWoven}
 use Rattle.zkept.specs.Laws.{LivesAreOneTree}
-use Rattle.zkept.proofs.Texts.{text-entries, text_both, texts_tell_apart}
-use Rattle.zkept.proofs.Logs.{updates-append, goes_on, told_again, log_from, calls-log_from, updates-log_from, replies-log_from}
+use Rattle.zkept.proofs.Logs.{updates-append, goes_on, same_tree, log_from, calls-log_from, updates-log_from, replies-log_from}
 
--- ---- batches and their texts
+-- a file keeps one state
+file_keeps_one : (servers : ℕ) (file : List ℕ) (s u : State) → FileKeeps servers s file → FileKeeps servers u file → s ≡ u
+file_keeps_one servers file s u first second =
+    let same = files_have_one_reading servers file first.batches second.batches first.stands second.stands in
+    tell_apart (joined second.batches) s u (subst (λ bs. IsTextOf s (joined bs)) same first.text) second.text
 
-joined-append : (xs ys : List (List ℕ)) → joined (xs ++ ys) ≡ joined xs ++ joined ys
-joined-append [] ys = refl
-joined-append (x ∷ xs) ys = ap (λ (t : List ℕ). x ++ t) (joined-append xs ys) ∙ sym (append_assoc x (joined xs) (joined ys))
-
-joined-texts : (blocks : List (List Entry)) → joined (map entries_text blocks) ≡ entries_text (all_of blocks)
-joined-texts [] = refl
-joined-texts (block ∷ blocks) = ap (λ (t : List ℕ). entries_text block ++ t) (joined-texts blocks) ∙ sym (text-entries block (all_of blocks))
-
--- the text of what was found, with the blocks that were kept, and one more
-text_kept : (entries : List Entry) (found : List (List ℕ)) (blocks : List (List Entry)) → IsTextOf entries (joined found) → AreEntries (all_of blocks)
-    → IsTextOf (entries ++ all_of blocks) (joined (found ++ map entries_text blocks))
-text_kept entries found blocks read are =
-    subst (IsTextOf (entries ++ all_of blocks)) (sym (joined-append found (map entries_text blocks)))
-    (text_both entries (all_of blocks) (joined found) (joined (map entries_text blocks)) read (record { are = are; is = joined-texts blocks }))
-
-pub text_more : (entries block : List Entry) (batches : List (List ℕ)) → IsTextOf entries (joined batches) → AreEntries block
-    → IsTextOf (entries ++ block) (joined (batches ++ entries_text block ∷ []))
-text_more entries block batches read are =
-    subst (IsTextOf (entries ++ block)) (sym (joined-append batches (entries_text block ∷ [])))
-    (text_both entries block (joined batches) (entries_text block ++ []) read (record { are = are; is = append-nil (entries_text block) }))
-
--- ---- from a file on
-
--- what all lives told stands behind this log, of which the file has these entries
-record Stands (batches : List (List ℕ)) (so_far : Log) (entries : List Entry) (lives : List Life) : Type 0 where
+-- what all lives told stands behind this log, whose changes leave this state
+record Stands (s : State) (so_far : Log) (entries : List Entry) (lives : List Life) : Type 0 where
   pub log : Log
   pub more : List Entry
   pub woven : IsWoven lives log more
   pub one_tree : IsOneTrees (so_far ++ log)
-  pub text : IsTextOf (entries ++ more) (joined batches)
+  pub state : s ≡ after opening_state (entries ++ more)
   pub updates : updates_in log ≡ entry_updates more
 
 regroup : {X : Type 0} (a b c d : List X) → (a ++ (b ++ c)) ++ d ≡ a ++ (b ++ (c ++ d))
 regroup a b c d = append_assoc a (b ++ c) d ∙ ap (λ l. a ++ l) (append_assoc b c d)
 
 -- one life more in front
-module _ (batches : List (List ℕ)) (so_far told : Log) (entries : List Entry) (blocks : List (List Entry)) (way : List Entry) (lives : List Life)
-    (one : IsOneTrees (so_far ++ told)) (kept : updates_in told ≡ entry_updates (all_of blocks)) where
+module _ (s : State) (so_far told : Log) (entries kept way : List Entry) (lives : List Life)
+    (one : IsOneTrees (so_far ++ told)) (were : updates_in told ≡ entry_updates kept) where
   -- behind what it told these acted
   module _ (acted : List Entry) (choice : (acted ≡ []) ⊎ (acted ≡ way)) where
     abbrev tree : Tree
@@ -65,93 +47,82 @@ module _ (batches : List (List ℕ)) (so_far told : Log) (entries : List Entry) 
     one_more : IsOneTrees (so_far ++ (told ++ untold))
     one_more = subst IsOneTrees (append_assoc so_far told untold) (goes_on (so_far ++ told) untold opening_tree one (replies-log_from acted tree))
 
-    updates_more : updates_in so_far ≡ entry_updates entries → updates_in (so_far ++ (told ++ untold)) ≡ entry_updates (entries ++ (all_of blocks ++ acted))
-    updates_more were =
+    updates_more : updates_in so_far ≡ entry_updates entries → updates_in (so_far ++ (told ++ untold)) ≡ entry_updates (entries ++ (kept ++ acted))
+    updates_more earlier =
         updates-append so_far (told ++ untold)
-        ∙ (λ i. were i ++ both i)
-        ∙ sym (map-append (λ (e : Entry). e.0) entries (all_of blocks ++ acted))
+        ∙ (λ i. earlier i ++ both i)
+        ∙ sym (map-append (λ (e : Entry). e.0) entries (kept ++ acted))
       where
-        both : updates_in (told ++ untold) ≡ entry_updates (all_of blocks ++ acted)
+        both : updates_in (told ++ untold) ≡ entry_updates (kept ++ acted)
         both =
-            updates-append told untold ∙ (λ i. kept i ++ updates-log_from acted tree i) ∙ sym (map-append (λ (e : Entry). e.0) (all_of blocks) acted)
+            updates-append told untold ∙ (λ i. were i ++ updates-log_from acted tree i) ∙ sym (map-append (λ (e : Entry). e.0) kept acted)
 
-    woven_more : Stands batches (so_far ++ (told ++ untold)) (entries ++ (all_of blocks ++ acted)) lives
-        → Stands batches so_far entries (record { told = told; blocks = blocks; under_way = way } ∷ lives)
+    woven_more : Stands s (so_far ++ (told ++ untold)) (entries ++ (kept ++ acted)) lives
+        → Stands s so_far entries (record { told = told; kept = kept; under_way = way } ∷ lives)
     woven_more rest = record {
       log = told ++ (untold ++ rest.log);
-      more = all_of blocks ++ (acted ++ rest.more);
+      more = kept ++ (acted ++ rest.more);
       woven = (acted, choice, untold, calls-log_from acted tree, rest.log, rest.more, refl, refl, rest.woven);
       one_tree = subst IsOneTrees (regroup so_far told untold rest.log) rest.one_tree;
-      text = subst (λ es. IsTextOf es (joined batches)) (regroup entries (all_of blocks) acted rest.more) rest.text;
+      state = rest.state ∙ ap (λ es. after opening_state es) (regroup entries kept acted rest.more);
       updates =
           updates-append told (untold ++ rest.log)
-          ∙ (λ i. kept i ++ updates-append untold rest.log i)
-          ∙ (λ i. entry_updates (all_of blocks) ++ (updates-log_from acted tree i ++ rest.updates i))
-          ∙ ap (λ l. entry_updates (all_of blocks) ++ l) (sym (map-append (λ (e : Entry). e.0) acted rest.more))
-          ∙ sym (map-append (λ (e : Entry). e.0) (all_of blocks) (acted ++ rest.more));
+          ∙ (λ i. were i ++ updates-append untold rest.log i)
+          ∙ (λ i. entry_updates kept ++ (updates-log_from acted tree i ++ rest.updates i))
+          ∙ ap (λ l. entry_updates kept ++ l) (sym (map-append (λ (e : Entry). e.0) acted rest.more))
+          ∙ sym (map-append (λ (e : Entry). e.0) kept (acted ++ rest.more));
     }
 
 -- whatever was under way at its end
-module _ (servers : ℕ) (found batches : List (List ℕ)) (so_far told : Log) (entries : List Entry) (blocks : List (List Entry)) (lives : List Life)
-    (one : IsOneTrees (so_far ++ told)) (kept : updates_in told ≡ entry_updates (all_of blocks)) (are : AreEntries (all_of blocks))
-    (read : IsTextOf entries (joined found)) (were : updates_in so_far ≡ entry_updates entries) (left : List ℕ)
-    (then : (next : List (List ℕ)) → StandsFor servers next left → (log : Log) (more : List Entry) → IsTextOf more (joined next)
-    → updates_in log ≡ entry_updates more → IsOneTrees log → Stands batches log more lives) where
-  abbrev mid : List (List ℕ)
-  mid = found ++ map entries_text blocks
+module _ (servers : ℕ) (s : State) (log : Log) (entries : List Entry) (life : Life) (lives : List Life) (found : State) (left : List ℕ)
+    (told_one : IsOneTrees (log ++ life.told)) (kept : updates_in life.told ≡ entry_updates life.kept) (were : updates_in log ≡ entry_updates entries)
+    (behind : (more : List Entry) → after found more ≡ after opening_state (entries ++ more))
+    (rest : (next : Log) (more : List Entry) → FileKeeps servers (after opening_state more) left → updates_in next ≡ entry_updates more → IsOneTrees next → Stands s next more lives) where
+  then_acted : (acted : List Entry) → (acted ≡ []) ⊎ (acted ≡ life.under_way) → FileKeeps servers (after found (life.kept ++ acted)) left
+      → Stands s log entries (life ∷ lives)
+  then_acted acted choice leaves =
+      woven_more s log life.told entries life.kept life.under_way lives told_one kept acted choice
+      (rest _ (entries ++ (life.kept ++ acted)) (subst (λ u. FileKeeps servers u left) (behind (life.kept ++ acted)) leaves)
+      (updates_more s log life.told entries life.kept life.under_way lives told_one kept acted choice were)
+      (one_more s log life.told entries life.kept life.under_way lives told_one kept acted choice))
 
-  read_mid : IsTextOf (entries ++ all_of blocks) (joined mid)
-  read_mid = text_kept entries found blocks read are
+  stands_then : FileKeeps servers (after found life.kept) left ⊎ FileKeeps servers (after found (life.kept ++ life.under_way)) left → Stands s log entries (life ∷ lives)
+  stands_then (inl leaves) = then_acted [] (inl refl) (subst (λ es. FileKeeps servers (after found es) left) (sym (append-nil life.kept)) leaves)
+  stands_then (inr leaves) = then_acted life.under_way (inr refl) leaves
 
-  without : (way : List Entry) → StandsFor servers mid left → Stands batches so_far entries (record { told = told; blocks = blocks; under_way = way } ∷ lives)
-  without way stand =
-      woven_more batches so_far told entries blocks way lives one kept [] (inl refl)
-      (then mid stand (so_far ++ (told ++ [])) (entries ++ (all_of blocks ++ []))
-      (subst (λ es. IsTextOf es (joined mid)) (ap (λ (es : List Entry). entries ++ es) (sym (append-nil (all_of blocks)))) read_mid)
-      (updates_more batches so_far told entries blocks way lives one kept [] (inl refl) were)
-      (one_more batches so_far told entries blocks way lives one kept [] (inl refl)))
+-- the state that a life finds is the one behind the log so far
+module _ (servers : ℕ) (file : List ℕ) (log : Log) (entries : List Entry) (found : State) (finds : FileKeeps servers found file) (now : FileKeeps servers (after opening_state entries) file)
+    (were : updates_in log ≡ entry_updates entries) where
+  same : found ≡ after opening_state entries
+  same = file_keeps_one servers file found (after opening_state entries) finds now
 
-  with_it : (way : List Entry) → AreEntries way → StandsFor servers (mid ++ entries_text way ∷ []) left
-      → Stands batches so_far entries (record { told = told; blocks = blocks; under_way = way } ∷ lives)
-  with_it way are_too stand =
-      woven_more batches so_far told entries blocks way lives one kept way (inr refl)
-      (then (mid ++ entries_text way ∷ []) stand _ (entries ++ (all_of blocks ++ way))
-      (subst (λ es. IsTextOf es (joined (mid ++ entries_text way ∷ []))) (append_assoc entries (all_of blocks) way) (text_more (entries ++ all_of blocks) way mid read_mid are_too))
-      (updates_more batches so_far told entries blocks way lives one kept way (inr refl) were)
-      (one_more batches so_far told entries blocks way lives one kept way (inr refl)))
+  tree_is : tree_after opening_tree (calls_of log) ≡ found.tree
+  tree_is = same_tree log entries opening_tree were ∙ sym (trees opening_state entries) ∙ ap (λ (u : State). u.tree) (sym same)
 
-  stands_then : (way : List Entry) → AreEntries way → IsLeft servers mid way left
-      → Stands batches so_far entries (record { told = told; blocks = blocks; under_way = way } ∷ lives)
-  stands_then [] are_too leaves = without [] leaves
-  stands_then (e ∷ way) are_too (inl leaves) = without (e ∷ way) (inl leaves)
-  stands_then (e ∷ way) are_too (inr leaves) = with_it (e ∷ way) are_too (inl leaves)
+  behind_it : (more : List Entry) → after found more ≡ after opening_state (entries ++ more)
+  behind_it more = ap (λ u. after u more) same ∙ sym (go_on opening_state entries more)
 
 -- all lives
-stands : (servers : ℕ) (lives : List Life) (file last : List ℕ) (batches : List (List ℕ)) → AreLives servers file lives last → StandsFor servers batches last
-    → (found : List (List ℕ)) → StandsFor servers found file → (log : Log) (entries : List Entry) → IsTextOf entries (joined found)
-    → updates_in log ≡ entry_updates entries → IsOneTrees log → Stands batches log entries lives
-stands servers [] file last batches is stand found finds log entries read were one =
-    let same = files_have_one_reading servers file batches found (subst (StandsFor servers batches) is stand) finds in
-    record {
-      log = [];
-      more = [];
-      woven = (refl, refl);
-      one_tree = subst IsOneTrees (sym (append-nil log)) one;
-      text = subst (λ es. IsTextOf es (joined batches)) (sym (append-nil entries)) (subst (λ bs. IsTextOf entries (joined bs)) (sym same) read);
-      updates = refl;
-    }
-stands servers (life ∷ lives) file last batches (seen, sees, left, lived, rest) stand found finds log entries read were one =
-    let same = files_have_one_reading servers file seen found sees finds in
-    let alike = texts_tell_apart (joined found) lived.entries entries (subst (λ bs. IsTextOf lived.entries (joined bs)) same lived.read) read in
-    stands_then servers found batches log life.told entries life.blocks lives
-    (told_again log lived.again life.told one lived.one_tree (lived.made_again ∙ ap entry_updates alike ∙ sym were))
-    lived.kept lived.are read were left
-    (λ next stand_next log_next more read_next were_next one_next. stands servers lives left last batches rest stand next stand_next log_next more read_next were_next one_next)
-    life.under_way lived.are_too
-    (subst (λ bs. IsLeft servers (bs ++ map entries_text life.blocks) life.under_way left) same lived.leaves)
+stands : (servers : ℕ) (lives : List Life) (file last : List ℕ) (s : State) → AreLives servers file lives last → FileKeeps servers s last
+    → (log : Log) (entries : List Entry) → FileKeeps servers (after opening_state entries) file → updates_in log ≡ entry_updates entries → IsOneTrees log
+    → Stands s log entries lives
+stands servers [] file last s is holds log entries now were one = record {
+  log = [];
+  more = [];
+  woven = (refl, refl);
+  one_tree = subst IsOneTrees (sym (append-nil log)) one;
+  state =
+      file_keeps_one servers file s (after opening_state entries) (subst (FileKeeps servers s) is holds) now
+      ∙ ap (λ es. after opening_state es) (sym (append-nil entries));
+  updates = refl;
+}
+stands servers (life ∷ lives) file last s (found, finds, left, lived, rest) holds log entries now were one =
+    stands_then servers s log entries life lives found left (lived.one_tree log (one, tree_is servers file log entries found finds now were)) lived.kept were
+    (behind_it servers file log entries found finds now were)
+    (λ next more next_now next_were next_one. stands servers lives left last s rest holds next more next_now next_were next_one) lived.leaves
 
 -- from a new file on
 pub lives_are_one_tree : LivesAreOneTree
-lives_are_one_tree servers lives last batches are stand =
-    let all = stands servers lives [] last batches are stand [] (inr (inl tt, refl)) [] [] (record { are = tt; is = refl }) refl refl in
-    (all.log, all.more, all.woven, all.one_tree, all.text, all.updates)
+lives_are_one_tree servers lives last s are holds =
+    let all = stands servers lives [] last s are holds [] [] (record { batches = []; stands = inr (inl tt, refl); text = nothing_is }) refl refl in
+    (all.log, all.more, all.woven, all.one_tree, all.state, all.updates)

@@ -1,18 +1,18 @@
 -- Logs of one tree, one behind the other.
 use Rattle.std.proofs.Common.{◌≡◌, List, [], ◌∷◌, ◌++◌, refl, sym, ap, ◌∙◌, append_assoc}
 use Rattle.std.proofs.lemmas.List.{map-append}
-use Rattle.ztree.specs.Tree.{Tree, opening_tree}
+use Rattle.ztree.specs.Tree.{Tree}
 use Rattle.zcalls.specs.declared.call.Call.{Call}
 use Rattle.zcalls.specs.declared.call.Call.TheVariants as call
 use Rattle.zcalls.specs.declared.call.Update.{Update}
 use Rattle.zcalls.specs.declared.reply.Reply.{Reply}
 use Rattle.zworld_model.specs.PlainTree.{serve}
-use Rattle.zturns.specs.Turns.{Log, calls_of, replies_of, served, tree_after, IsOneTrees}
+use Rattle.zturns.specs.Turns.{Log, calls_of, replies_of, served, tree_after}
 use Rattle.zalone.specs.declared.made.Made.{Made}
 use Rattle.zalone.specs.Changes.{made_by, made_in}
-use Rattle.zfront.specs.Restoring.{Entry}
-use Rattle.zfront_laws.specs.Making.{entry_updates, updates_in, updates_of}
-use Rattle.zkept.specs.Lives.{calls_again}
+use Rattle.zstates.specs.Entries.{Entry, calls_again}
+use Rattle.zfront_laws.specs.Making.{updates_in, updates_of}
+use Rattle.zkept.specs.Lives.{entry_updates}
 
 -- ---- updates
 
@@ -36,20 +36,17 @@ tree-log [] t = refl
 tree-log ((call.Update update, reply) ∷ log) t = tree-log log (serve t 0 (call.Update update)).0
 tree-log ((call.Query query, reply) ∷ log) t = tree-log log t
 
-same_tree : (a b : Log) → updates_in a ≡ updates_in b → tree_after opening_tree (calls_of a) ≡ tree_after opening_tree (calls_of b)
-same_tree a b same = tree-log a opening_tree ∙ ap (tree_by opening_tree) same ∙ sym (tree-log b opening_tree)
+-- a log leaves the tree of entries with its updates
+tree-again : (entries : List Entry) (t : Tree) → tree_after t (calls_again entries) ≡ tree_by t (entry_updates entries)
+tree-again [] t = refl
+tree-again (e ∷ entries) t = tree-again entries (serve t 0 (call.Update e.0)).0
+
+pub same_tree : (log : Log) (entries : List Entry) (t : Tree) → updates_in log ≡ entry_updates entries → tree_after t (calls_of log) ≡ tree_after t (calls_again entries)
+same_tree log entries t same = tree-log log t ∙ ap (tree_by t) same ∙ sym (tree-again entries t)
 
 -- ---- replies
 
--- the replies behind a log are those of the tree that it leaves
-replies_behind : (log more : Log) (t : Tree) → replies_of (log ++ more) ≡ served t (calls_of (log ++ more)) → replies_of more ≡ served (tree_after t (calls_of log)) (calls_of more)
-replies_behind [] more t is = is
-replies_behind (told ∷ log) more t is = replies_behind log more (serve t 0 told.0).0 (rest_same told.1 (serve t 0 told.0).1 _ _ is)
-  where
-    rest_same : (r s : Reply) (rs ss : List Reply) → r ∷ rs ≡ s ∷ ss → rs ≡ ss
-    rest_same r s rs ss e = cc e
-
--- and a log whose replies are those of that tree goes on with it
+-- a log of one tree goes on with the replies of the tree that it leaves
 pub goes_on : (log more : Log) (t : Tree) → replies_of log ≡ served t (calls_of log) → replies_of more ≡ served (tree_after t (calls_of log)) (calls_of more)
     → replies_of (log ++ more) ≡ served t (calls_of (log ++ more))
 goes_on [] more t first second = second
@@ -59,12 +56,6 @@ goes_on (told ∷ log) more t first second =
   where
     both : (r s : Reply) (rs ss ts us : List Reply) → r ∷ rs ≡ s ∷ ss → (rs ≡ ss → ts ≡ us) → r ∷ ts ≡ s ∷ us
     both r s rs ss ts us e more = let rest : rs ≡ ss = cc e in let then = more rest in cc (e, then)
-
--- what one tree told behind some updates, it tells behind any log of these updates
-pub told_again : (log again told : Log) → IsOneTrees log → IsOneTrees (again ++ told) → updates_in again ≡ updates_in log → IsOneTrees (log ++ told)
-told_again log again told one other same =
-    goes_on log told opening_tree one
-    (replies_behind again told opening_tree other ∙ ap (λ (t : Tree). served t (calls_of told)) (same_tree again log same))
 
 -- ---- entries that are made again by a tree
 

@@ -1,53 +1,68 @@
 -- A service that is opened, and what a fault of a commit is.
-use Rattle.std.proofs.Common.{◌≡◌, ℕ, ◌+◌, List, [], length, refl, sym, ap, subst, ◌∙◌, append-nil, arith}
+use Rattle.std.proofs.Common.{◌≡◌, ℕ, ◌+◌, false, List, [], length, refl, sym, ap, subst, ◌∙◌, arith}
+use Rattle.zjournal.specs.Device.{LeavesOnly}
 use Rattle.zjournal.specs.Journal.{IsAtRest, StandsFor}
 use Rattle.zjournal.specs.Journal as journal
 use Rattle.zjournal.specs.Scan.{joined}
 use Rattle.zjournal.specs.declared.fault.PutError.{PutError}
 use Rattle.zjournal.specs.declared.fault.PutError.TheVariants as put
+use Rattle.zjournal.proofs.Moments.{joined_runs, weaker}
 use Rattle.zjournal.proofs.Readings.{files_have_one_reading}
 use Rattle.zalone.specs.declared.made.Made.{Made}
 use Rattle.zfront.specs.Front.{FrontView}
 use Rattle.zfront.specs.Restoring.{all_taken}
 use Rattle.zkept.specs.declared.kept.Kept.{Kept}
 use Rattle.zkept.specs.declared.fault.CommitFault.TheVariants as commit
-use Rattle.zkept.specs.declared.fault.OpenFault.{OpenFault}
-use Rattle.zkept.specs.declared.fault.OpenFault.TheVariants as opening
-use Rattle.zkept.specs.Entries.{IsNoText}
-use Rattle.zkept.specs.Restored.{clock_at, ticks_of, IsRestoredBy, IsSuchText}
-use Rattle.zkept.specs.Kept.{IsOpen, IsServing}
-use Rattle.zkept.specs.Faults.{commit_fault, IsLeftBy, IsSuchFile}
+use Rattle.zkept.specs.Restored.{clock_at, IsRestoredFrom}
+use Rattle.zkept.specs.Kept.{IsOpen, IsServing, state_in}
+use Rattle.zkept.specs.Faults.{commit_fault, read_fault, IsLeftBy, IsSuchFile}
+use Rattle.zstates.specs.declared.fault.ReadFault.{ReadFault}
+use Rattle.zstates.specs.declared.fault.ReadFault.TheVariants as reading
+use Rattle.zstates.specs.Faults.{IsReadFault}
+use Rattle.zstates.specs.Texts.{IsNoText, IsTextOf}
 
 -- what was read is what is opened
 pub serves : {D : Type 0} (seen : D → List ℕ) (may_leave : D → List ℕ → Type 0) (servers tick now_ms n m : ℕ) (file now text : List ℕ) (kept : Kept D)
     → n ≡ servers → m ≡ servers → now ≡ file
-    → (read : List (List ℕ)) → StandsFor n read file → text ≡ joined read → IsRestoredBy servers tick now_ms text kept.front
+    → (read : List (List ℕ)) → StandsFor n read file → text ≡ joined read → IsTextOf (state_in kept) text → kept.state.is_broken ≡ false
+    → IsRestoredFrom servers tick now_ms (state_in kept) kept.front
     → (batches : List (List ℕ)) → StandsFor m batches now → IsAtRest seen may_leave m batches kept.journal → journal.IsOpen kept.journal
-    → StandsFor servers batches file × IsServing seen may_leave servers batches kept × IsRestoredBy servers tick now_ms (joined batches) kept.front
-serves seen may_leave servers tick now_ms n m file now text kept n_is m_is same read reads text_is restored batches stands rest takes =
+    → StandsFor servers batches file × IsServing seen may_leave servers batches kept
+serves seen may_leave servers tick now_ms n m file now text kept n_is m_is same read reads text_is keeps whole restored batches stands rest takes =
     let stand : StandsFor servers batches file = subst (λ k. StandsFor k batches file) m_is (subst (StandsFor m batches) same stands) in
-    let one = files_have_one_reading servers file read batches (subst (λ k. StandsFor k read file) n_is reads) stand in
-    let again = subst (λ t. IsRestoredBy servers tick now_ms t kept.front) (text_is ∙ ap joined one) restored in (
+    let one = files_have_one_reading servers file read batches (subst (λ k. StandsFor k read file) n_is reads) stand in (
       stand,
       record {
         rest = subst (λ k. IsAtRest seen may_leave k batches kept.journal) m_is rest;
         takes = takes;
-        sound = again.sound;
-        entries = again.entries;
-        text = again.read;
+        sound = restored.sound;
+        whole = whole;
+        text = subst (IsTextOf (state_in kept)) (text_is ∙ ap joined one) keeps;
         has = record {
-          times = clock_at tick now_ms (ticks_of kept.front.front);
-          before = again.entries;
+          times = clock_at tick now_ms (state_in kept).tree.time;
+          start = state_in kept;
           first = kept.front.front;
-          restored = again.restored;
-          keeps = again.keeps;
+          restored = restored.restored;
+          keeps = restored.keeps;
           inputs = [];
           runs = refl;
-          all = sym (append-nil again.entries);
+          all = refl;
         };
       },
-      again,
     )
+
+-- a text of this fault is that of the file
+pub such_read : (fault : ReadFault) (servers n : ℕ) (file text : List ℕ) → n ≡ servers → (read : List (List ℕ)) → StandsFor n read file → text ≡ joined read → IsReadFault text fault
+    → IsSuchFile servers file (read_fault fault)
+such_read reading.Memory servers n file text n_is read reads text_is such = tt
+such_read reading.NotRecords servers n file text n_is read reads text_is such =
+    (read, subst (λ k. StandsFor k read file) n_is reads, subst IsNoText text_is such)
+
+-- ---- a file that was read is opened
+module _ {D : Type 0} (moment : D → ℕ) (left_since : D → ℕ → List ℕ → Type 0) (old mid new : D) (file : List ℕ) (read : LeavesOnly moment left_since old mid (λ c. c ≡ file)) where
+  pub read_then : (P : List ℕ → Type 0) → P file → LeavesOnly moment left_since mid new P → LeavesOnly moment left_since old new P
+  read_then P holds run =
+      joined_runs moment left_since old mid new P (weaker moment left_since old mid (λ c. c ≡ file) P read (λ c is. subst P (sym is) holds)) run
 
 -- where nothing was made, nothing is taken
 pub none_taken : (v : FrontView) → v.asker.changes.made ≡ [] → v ≡ all_taken v
@@ -77,11 +92,3 @@ full_is put.Failed is = cc
 full_is put.NotText is = cc
 full_is put.Full is = refl
 full_is put.Closed is = cc
-
--- a text of this fault is that of the file
-pub such_file : (fault : OpenFault) (servers n : ℕ) (file text : List ℕ) → n ≡ servers → (read : List (List ℕ)) → StandsFor n read file → text ≡ joined read → IsSuchText text fault
-    → IsSuchFile servers file fault
-such_file (opening.Journal e) servers n file text n_is read reads text_is such = absurd such
-such_file opening.Memory servers n file text n_is read reads text_is such = tt
-such_file opening.NotRecords servers n file text n_is read reads text_is such = (read, subst (λ k. StandsFor k read file) n_is reads, subst IsNoText text_is such)
-such_file opening.Stopped servers n file text n_is read reads text_is such = tt

@@ -9,17 +9,30 @@ use Rattle.zjournal.specs.Journal as journal
 use Rattle.zsittings.specs.Sittings.{SittingsView}
 use Rattle.zfront.specs.Front.{FrontView}
 use Rattle.zfront.specs.Inputs.{ServerView}
-use Rattle.zfront.specs.Restoring.{Entry, all_taken}
-use Rattle.zfront_laws.specs.Making.{entry_updates, took_at, took_in, updates_in, updates_of}
+use Rattle.zfront.specs.Restoring.{all_taken}
+use Rattle.zstates.specs.Entries.{Entry, AreEntries}
+use Rattle.zstates.specs.States.{State, after}
+use Rattle.zstates.specs.Texts.{IsTextOf}
+use Rattle.zstates.proofs.States.{go_on}
+use Rattle.zstates.proofs.Apart.{texts_go_on}
+use Rattle.zfront_laws.specs.Making.{took_at, took_in, updates_of}
+use Rattle.zjournal.specs.Scan.{joined}
 use Rattle.zfront_laws.specs.Runs.{Input, Opened, Came, Ended, Tick, Line, Sent, Took, Does, Runs}
 use Rattle.zfront_laws.proofs.Made.{every_change_is_made}
 use Rattle.zkept.specs.declared.kept.Kept.{Kept}
-use Rattle.zkept.specs.Entries.{AreEntries}
+use Rattle.zkept.specs.Lives.{entry_updates}
 use Rattle.zkept.specs.Making.{entry_of, made_by, entries_made, kept_at, kept_in, HasKept}
-use Rattle.zkept.specs.Kept.{IsServing, front_in, batch_of, more_if}
+use Rattle.zkept.specs.Kept.{IsServing, front_in, state_in, batch_of, more_if}
 use Rattle.zkept.specs.Laws.{WhatIsKeptStandsInALog}
-use Rattle.zkept.proofs.Logs.{updates-append}
-use Rattle.zkept.proofs.Lives.{text_more}
+
+-- ---- batches and their text
+
+pub joined-append : (xs ys : List (List ℕ)) → joined (xs ++ ys) ≡ joined xs ++ joined ys
+joined-append [] ys = refl
+joined-append (x ∷ xs) ys = ap (λ (t : List ℕ). x ++ t) (joined-append xs ys) ∙ sym (append_assoc x (joined xs) (joined ys))
+
+pub joined-more : (batches : List (List ℕ)) (batch : List ℕ) → joined (batches ++ batch ∷ []) ≡ joined batches ++ batch
+joined-more batches batch = joined-append batches (batch ∷ []) ∙ ap (λ (t : List ℕ). joined batches ++ t) (append-nil batch)
 
 -- ---- one input more
 
@@ -33,55 +46,79 @@ runs_more (next ∷ inputs) input first v w runs does =
       ap (λ es. kept_at next first ++ es) rest.1 ∙ sym (append_assoc (kept_at next first) (kept_in inputs runs.0 v runs.2) (kept_at input v)),
     )
 
-pub keeps_more : (servers : ℕ) (entries : List Entry) (input : Input) (v w : FrontView) → HasKept servers entries v → Does input v w → HasKept servers (entries ++ kept_at input v) w
-keeps_more servers entries input v w has does =
+pub keeps_more : (servers : ℕ) (s : State) (input : Input) (v w : FrontView) → HasKept servers s v → Does input v w → HasKept servers (after s (kept_at input v)) w
+keeps_more servers s input v w has does =
     let more = runs_more has.inputs input has.first v w has.runs does in
+    let so_far = kept_in has.inputs has.first v has.runs in
     record {
       times = has.times;
-      before = has.before;
+      start = has.start;
       first = has.first;
       restored = has.restored;
       keeps = has.keeps;
       inputs = has.inputs ++ input ∷ [];
       runs = more.0;
       all =
-          ap (λ es. es ++ kept_at input v) has.all
-          ∙ append_assoc has.before (kept_in has.inputs has.first v has.runs) (kept_at input v)
-          ∙ ap (λ es. has.before ++ es) (sym more.1);
+          ap (λ u. after u (kept_at input v)) has.all
+          ∙ sym (go_on has.start so_far (kept_at input v))
+          ∙ ap (λ es. after has.start es) (sym more.1);
     }
 
 -- an input that takes nothing keeps nothing
-keeps_same : (servers : ℕ) (entries : List Entry) (input : Input) (v w : FrontView) → kept_at input v ≡ [] → HasKept servers entries v → Does input v w → HasKept servers entries w
-keeps_same servers entries input v w none has does =
-    subst (λ es. HasKept servers es w) (ap (λ es. entries ++ es) none ∙ append-nil entries) (keeps_more servers entries input v w has does)
+keeps_same : (servers : ℕ) (s : State) (input : Input) (v w : FrontView) → kept_at input v ≡ [] → HasKept servers s v → Does input v w → HasKept servers s w
+keeps_same servers s input v w none has does =
+    subst (λ u. HasKept servers u w) (ap (λ es. after s es) none) (keeps_more servers s input v w has does)
 
 module _ {D : Type 0} (seen : D → List ℕ) (may_leave : D → List ℕ → Type 0) (servers : ℕ) (batches : List (List ℕ)) (old new : Kept D) (serving : IsServing seen may_leave servers batches old) where
-  pub input_serves : (input : Input) → kept_at input (front_in old) ≡ [] → new.journal ≡ old.journal → new.front.is_broken ≡ false → Does input (front_in old) (front_in new)
-      → IsServing seen may_leave servers batches new
-  input_serves input none same sound does = record {
+  pub input_serves : (input : Input) → kept_at input (front_in old) ≡ [] → new.journal ≡ old.journal → new.state ≡ old.state → new.front.is_broken ≡ false
+      → Does input (front_in old) (front_in new) → IsServing seen may_leave servers batches new
+  input_serves input none same state sound does = record {
     rest = subst (IsAtRest seen may_leave servers batches) (sym same) serving.rest;
     takes = subst journal.IsOpen (sym same) serving.takes;
     sound = sound;
-    entries = serving.entries;
-    text = serving.text;
-    has = keeps_same servers serving.entries input (front_in old) (front_in new) none serving.has does;
+    whole = ap (λ u. u.is_broken) state ∙ serving.whole;
+    text = subst (λ u. IsTextOf u (joined batches)) (ap (λ u. u.state) (sym state)) serving.text;
+    has =
+        subst (λ u. HasKept servers u (front_in new)) (ap (λ u. u.state) (sym state))
+        (keeps_same servers (state_in old) input (front_in old) (front_in new) none serving.has does);
   }
 
   -- ---- a block
 
   pub block_serves : new.front ≡ record old.front { front = all_taken (front_in old) } → AreEntries (entries_made (front_in old))
+      → state_in new ≡ after (state_in old) (entries_made (front_in old)) → new.state.is_broken ≡ false
       → IsAtRest seen may_leave servers (batches ++ batch_of (front_in old) ∷ []) new.journal → journal.IsOpen new.journal
       → IsServing seen may_leave servers (batches ++ batch_of (front_in old) ∷ []) new
-  block_serves front are rest takes =
+  block_serves front are state whole rest takes =
       let made = entries_made (front_in old) in
       record {
         rest = rest;
         takes = takes;
         sound = ap (λ (v : ServerView). v.is_broken) front ∙ serving.sound;
-        entries = serving.entries ++ made;
-        text = text_more serving.entries made batches serving.text are;
-        has = keeps_more servers serving.entries Took (front_in old) (front_in new) serving.has (ap (λ (v : ServerView). v.front) front);
+        whole = whole;
+        text =
+            subst (λ u. IsTextOf u (joined (batches ++ batch_of (front_in old) ∷ []))) (sym state)
+            (subst (IsTextOf (after (state_in old) made)) (sym (joined-more batches (batch_of (front_in old))))
+            (texts_go_on (state_in old) (joined batches) made serving.text are));
+        has =
+            subst (λ u. HasKept servers u (front_in new)) (sym state)
+            (keeps_more servers (state_in old) Took (front_in old) (front_in new) serving.has (ap (λ (v : ServerView). v.front) front));
       }
+
+  -- ---- a file that is shortened
+
+  pub shortened_serves : (next : List (List ℕ)) → new.front ≡ old.front → new.state ≡ old.state → IsAtRest seen may_leave servers next new.journal → journal.IsOpen new.journal
+      → IsTextOf (state_in old) (joined next) → IsServing seen may_leave servers next new
+  shortened_serves next front state rest takes text = record {
+    rest = rest;
+    takes = takes;
+    sound = ap (λ (v : ServerView). v.is_broken) front ∙ serving.sound;
+    whole = ap (λ u. u.is_broken) state ∙ serving.whole;
+    text = subst (λ u. IsTextOf u (joined next)) (ap (λ u. u.state) (sym state)) text;
+    has =
+        subst (λ v. HasKept servers (state_in new) v) (ap (λ (v : ServerView). v.front) (sym front))
+        (subst (λ u. HasKept servers u (front_in old)) (ap (λ u. u.state) (sym state)) serving.has);
+  }
 
 -- where something was made, it is one batch more
 pub some_made : (made : List Made) (batch : List ℕ) (batches : List (List ℕ)) → (length made == 0) ≡ false → more_if made batch batches ≡ batches ++ batch ∷ []
@@ -120,18 +157,15 @@ updates-kept (input ∷ inputs) old new runs =
     ∙ sym (map-append (λ (m : Made). m.update) (took_at input old) (took_in inputs runs.0 new runs.2))
 
 pub what_is_kept_stands_in_a_log : WhatIsKeptStandsInALog
-what_is_kept_stands_in_a_log servers entries v has =
-    let law = every_change_is_made servers has.times has.before has.inputs has.first v has.restored has.keeps has.runs in
+what_is_kept_stands_in_a_log servers s v has before leaves =
+    let law = every_change_is_made servers has.times has.start.tree has.start.seats before has.inputs has.first v has.restored leaves has.keeps has.runs in
     let took = took_in has.inputs has.first v has.runs in
-    let kept = kept_in has.inputs has.first v has.runs in
-    let behind : updates_in law.1 ≡ entry_updates kept ++ updates_of (made_by v) =
-    ap updates_of law.6 ∙ map-append (λ (m : Made). m.update) took (made_by v) ∙ ap (λ l. l ++ updates_of (made_by v)) (sym (updates-kept has.inputs has.first v has.runs)) in (
-      law.0 ++ law.1,
+    let kept = kept_in has.inputs has.first v has.runs in (
+      law.0,
+      law.1,
+      kept,
       law.2,
       law.3,
-      law.4,
-      updates-append law.0 law.1
-          ∙ (λ i. law.5 i ++ behind i)
-          ∙ sym (append_assoc (entry_updates has.before) (entry_updates kept) (updates_of (made_by v)))
-          ∙ ap (λ l. l ++ updates_of (made_by v)) (sym (map-append (λ (e : Entry). e.0) has.before kept) ∙ ap entry_updates (sym has.all)),
+      has.all,
+      ap updates_of law.4 ∙ map-append (λ (m : Made). m.update) took (made_by v) ∙ ap (λ l. l ++ updates_of (made_by v)) (sym (updates-kept has.inputs has.first v has.runs)),
     )

@@ -11,9 +11,16 @@ use Rattle.zkept.specs.declared.fault.OpenFault.TheVariants as opening
 use Rattle.zkept.specs.declared.fault.CommitFault.{CommitFault}
 use Rattle.zkept.specs.declared.fault.CommitFault.TheVariants as commit
 use Rattle.zkept.specs.declared.kept.Kept.{Kept}
-use Rattle.zkept.specs.Entries.{IsNoText}
+use Rattle.zstates.specs.declared.fault.ReadFault.{ReadFault}
+use Rattle.zstates.specs.declared.fault.ReadFault.TheVariants as read
+use Rattle.zstates.specs.Texts.{IsNoText}
 use Rattle.zkept.specs.Making.{made_by}
 use Rattle.zkept.specs.Kept.{IsOpen, front_in}
+
+-- what a fault of reading, and of a put, is to who opens, and to who commits
+abbrev pub read_fault : ReadFault → OpenFault
+read_fault read.Memory = opening.Memory
+read_fault read.NotRecords = opening.NotRecords
 
 abbrev pub commit_fault : PutError → CommitFault
 commit_fault put.Memory = commit.Memory
@@ -35,19 +42,17 @@ IsFull kept =
     (2 ^ 60 ≤ size_of kept.journal)
     ⊎ (2 ^ 64 ≤ (front_in kept).asker.changes.taken + length (made_by (front_in kept)))
 
--- the fault leaves the file untouched: it is one of the file's content, or of making its changes again
-abbrev pub IsOfMaking : OpenFault → Type 0
-IsOfMaking (opening.Journal e) = IsOfContent e
-IsOfMaking opening.Memory = Unit {0}
-IsOfMaking opening.NotRecords = Unit {0}
-IsOfMaking opening.Stopped = Unit {0}
+-- the fault leaves the file untouched: it is one of the file's content, or of reading it
+abbrev pub IsOfReading : OpenFault → Type 0
+IsOfReading (opening.Journal e) = IsOfContent e
+IsOfReading opening.Memory = Unit {0}
+IsOfReading opening.NotRecords = Unit {0}
 
--- the file is such as the fault says; memory, the chain and the disk say nothing of it
+-- the file is such as the fault says; memory and the disk say nothing of it
 abbrev pub IsSuchFile : ℕ → List ℕ → OpenFault → Type 0
 IsSuchFile servers file (opening.Journal e) = IsSuch servers file e
 IsSuchFile servers file opening.Memory = Unit {0}
 IsSuchFile servers file opening.NotRecords = (batches : List (List ℕ)) × StandsFor servers batches file × IsNoText (joined batches)
-IsSuchFile servers file opening.Stopped = Unit {0}
 
 -- the disk failed while the service was opened
 abbrev pub disk_failed : OpenFault

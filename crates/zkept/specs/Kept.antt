@@ -1,38 +1,43 @@
 -- A front whose changes are kept in a journal.
-use Rattle.std.specs.Prelude.{◌≡◌, ◌==◌, ◌&&◌, ℕ, Bool, true, false, List, [], ◌∷◌, ◌++◌, length, Option, None, if◌then◌else◌}
+use Rattle.std.specs.Prelude.{◌≡◌, ◌==◌, ◌&&◌, ◌/◌, nat_le, ℕ, Bool, true, false, List, [], ◌∷◌, ◌++◌, length, Option, None, if◌then◌else◌}
 use Rattle.zalone.specs.declared.made.Made.{Made}
-use Rattle.zjournal.specs.Journal.{IsAtRest, device_of}
+use Rattle.zjournal.specs.Journal.{IsAtRest, Keeps, device_of, size_of}
 use Rattle.zjournal.specs.Journal as journal
 use Rattle.zjournal.specs.Scan.{joined}
 use Rattle.zpieces.specs.Outbox.{PieceView, first_of}
+use Rattle.zstates.specs.Entries.{entries_text}
+use Rattle.zstates.specs.States.{State}
+use Rattle.zstates.specs.Texts.{IsTextOf}
 use Rattle.zfront.specs.Front.{FrontView}
 use Rattle.zfront.specs.Inputs.{without_first}
-use Rattle.zfront.specs.Restoring.{Entry}
 use Rattle.zkept.specs.declared.kept.Kept.{Kept}
-use Rattle.zkept.specs.Entries.{entries_text, IsTextOf}
 use Rattle.zkept.specs.Making.{made_by, entries_made, HasKept}
 
--- the device that holds its file, its front, and whether it takes inputs
+-- the device that holds its file, its front, the state that the file keeps, and whether it takes
+-- inputs
 abbrev pub disk_of : {D : Type 0} → Kept D → D
 disk_of kept = device_of kept.journal
 
 abbrev pub front_in : {D : Type 0} → Kept D → FrontView
 front_in kept = kept.front.front
 
+abbrev pub state_in : {D : Type 0} → Kept D → State
+state_in kept = kept.state.state
+
 abbrev pub IsOpen : {D : Type 0} → Kept D → Type 0
 IsOpen kept = kept.is_open ≡ true
 
 -- ---- what is on the disk
 
--- the file keeps these batches, all of it on the disk; they are the text of entries, and these are
+-- the file keeps these batches, all of it on the disk; their text is that of the state, and this is
 -- what the front has kept
 pub record IsServing {D : Type 0} (seen : D → List ℕ) (may_leave : D → List ℕ → Type 0) (servers : ℕ) (batches : List (List ℕ)) (kept : Kept D) : Type 0 where
   pub rest : IsAtRest seen may_leave servers batches kept.journal
   pub takes : journal.IsOpen kept.journal
   pub sound : kept.front.is_broken ≡ false
-  pub entries : List Entry
-  pub text : IsTextOf entries (joined batches)
-  pub has : HasKept servers entries (front_in kept)
+  pub whole : kept.state.is_broken ≡ false
+  pub text : IsTextOf (state_in kept) (joined batches)
+  pub has : HasKept servers (state_in kept) (front_in kept)
 
 -- a service that takes inputs serves some batches
 abbrev pub IsSound : {D : Type 0} → (D → List ℕ) → (D → List ℕ → Type 0) → Kept D → Type 0
@@ -49,6 +54,14 @@ more_if (m ∷ made) batch batches = batches ++ batch ∷ []
 
 abbrev pub with_made : FrontView → List (List ℕ) → List (List ℕ)
 with_made v batches = more_if (made_by v) (batch_of v) batches
+
+-- the journal is to be shortened: it has so many bytes, and four times those behind its last shortening
+abbrev pub is_long : {D : Type 0} → ℕ → Kept D → Bool
+is_long least kept = nat_le least (size_of kept.journal) && nat_le kept.shortened (size_of kept.journal / 4)
+
+-- the file keeps batches whose text is this state's
+abbrev pub KeepsState : ℕ → State → List ℕ → Type 0
+KeepsState servers s file = (batches : List (List ℕ)) × Keeps servers batches file × IsTextOf s (joined batches)
 
 -- ---- inputs
 

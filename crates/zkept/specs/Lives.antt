@@ -1,56 +1,47 @@
 -- The lives of a service, each from its opening to its crash or its end. A crash is the moment at
 -- which the power goes, the machine stops or the process is killed.
 use Rattle.std.specs.Prelude.{◌≡◌, ◌⊎◌, ℕ, List, [], ◌∷◌, ◌++◌, map}
-use Rattle.zcalls.specs.declared.call.Call.{Call}
-use Rattle.zcalls.specs.declared.call.Call.TheVariants.{Update}
+use Rattle.zcalls.specs.declared.call.Update.{Update}
 use Rattle.zturns.specs.Turns.{Log, calls_of, IsOneTrees}
-use Rattle.zjournal.specs.Journal.{StandsFor, IsWithOrWithout}
+use Rattle.zalone.specs.Told.{Leaves}
+use Rattle.zjournal.specs.Journal.{StandsFor}
 use Rattle.zjournal.specs.Scan.{joined}
-use Rattle.zfront.specs.Restoring.{Entry}
-use Rattle.zfront_laws.specs.Making.{entry_updates, updates_in}
-use Rattle.zkept.specs.Entries.{AreEntries, entries_text, IsTextOf}
+use Rattle.zstates.specs.Entries.{Entry, calls_again}
+use Rattle.zstates.specs.States.{State, after}
+use Rattle.zstates.specs.Texts.{IsTextOf}
+use Rattle.zfront_laws.specs.Making.{updates_in}
 
--- a life: the calls that it made and may have told of, with their replies, the entries of each block
--- that it kept, and those of the block that was under way when it ended, if there was one
+-- the file keeps this state: it stands for batches whose text does
+pub record FileKeeps (servers : ℕ) (s : State) (file : List ℕ) : Type 0 where
+  pub batches : List (List ℕ)
+  pub stands : StandsFor servers batches file
+  pub text : IsTextOf s (joined batches)
+
+-- the updates of entries
+abbrev pub entry_updates : List Entry → List Update
+entry_updates entries = map (λ (entry : Entry). entry.0) entries
+
+-- a life: the calls that it made and may have told of, with their replies; the entries that it kept;
+-- and those of the block that was under way when it ended, if there was one
 pub record Life : Type 0 where
   pub told : Log
-  pub blocks : List (List Entry)
+  pub kept : List Entry
   pub under_way : List Entry
 
--- all entries of blocks
-abbrev pub all_of : List (List Entry) → List Entry
-all_of [] = []
-all_of (block ∷ blocks) = block ++ all_of blocks
-
--- the file that a life left: it stands for the batches that were kept, with the one under way or
--- without it
-abbrev pub IsLeft : ℕ → List (List ℕ) → List Entry → List ℕ → Type 0
-IsLeft servers batches [] file = StandsFor servers batches file
-IsLeft servers batches (entry ∷ entries) file = IsWithOrWithout servers batches (entries_text (entry ∷ entries)) file
-
--- a life that found a file which stands for these batches, and left this file
-pub record IsLife (servers : ℕ) (found : List (List ℕ)) (life : Life) (left : List ℕ) : Type 0 where
-  -- the changes of the file were made again
-  pub entries : List Entry
-  pub read : IsTextOf entries (joined found)
-  pub again : Log
-  pub made_again : updates_in again ≡ entry_updates entries
-  -- what was called behind them was told by one tree's client, and its changes were kept
-  pub one_tree : IsOneTrees (again ++ life.told)
-  pub are : AreEntries (all_of life.blocks)
-  pub kept : updates_in life.told ≡ entry_updates (all_of life.blocks)
-  pub are_too : AreEntries life.under_way
-  pub leaves : IsLeft servers (found ++ map entries_text life.blocks) life.under_way left
+-- A life that found a file with this state, and left this file. However often it shortened the file
+-- meanwhile, the file keeps the state that its changes leave.
+pub record IsLife (servers : ℕ) (found : State) (life : Life) (left : List ℕ) : Type 0 where
+  -- behind any log that leaves the tree that was found, its calls were told by one tree's client
+  pub one_tree : (before : Log) → Leaves before found.tree → IsOneTrees (before ++ life.told)
+  -- and its changes were kept, with the block under way or without it
+  pub kept : updates_in life.told ≡ entry_updates life.kept
+  pub leaves : FileKeeps servers (after found life.kept) left ⊎ FileKeeps servers (after found (life.kept ++ life.under_way)) left
 
 -- lives one after the other, from a first file to a last one
 abbrev pub AreLives : ℕ → List ℕ → List Life → List ℕ → Type 0
 AreLives servers file [] last = last ≡ file
 AreLives servers file (life ∷ lives) last =
-    (found : List (List ℕ)) × StandsFor servers found file × (left : List ℕ) × IsLife servers found life left × AreLives servers left lives last
-
--- the calls that make entries again
-abbrev pub calls_again : List Entry → List Call
-calls_again entries = map (λ entry. Update entry.0) entries
+    (found : State) × FileKeeps servers found file × (left : List ℕ) × IsLife servers found life left × AreLives servers left lives last
 
 -- The log is what each life told, in order. Behind that stand the changes that were under way at its
 -- end, all of them or none, with replies that nobody was told. The entries are those of all changes
@@ -61,4 +52,4 @@ IsWoven (life ∷ lives) log entries =
     (acted : List Entry) × ((acted ≡ []) ⊎ (acted ≡ life.under_way))
     × (untold : Log) × (calls_of untold ≡ calls_again acted)
     × (later : Log) × (more : List Entry)
-    × (log ≡ life.told ++ (untold ++ later)) × (entries ≡ all_of life.blocks ++ (acted ++ more)) × IsWoven lives later more
+    × (log ≡ life.told ++ (untold ++ later)) × (entries ≡ life.kept ++ (acted ++ more)) × IsWoven lives later more

@@ -5,13 +5,14 @@ use Rattle.std.specs.Option.{option_map_or}
 use Rattle.zcalls.specs.declared.reply.Reply.{Reply}
 use Rattle.zcalls.specs.declared.reply.Reply.TheVariants as reply
 use Rattle.zalone.specs.declared.made.Made.{Made}
-use Rattle.zsittings.specs.Sittings.{SittingsView}
-use Rattle.zfront.specs.Front.{FrontView}
 use Rattle.zanswering.specs.declared.clock.Clock.{Clock}
-use Rattle.zfront.specs.Restoring.{Entry, IsRestored}
+use Rattle.zsittings.specs.Sittings.{SittingsView}
+use Rattle.zstates.specs.Entries.{Entry, is_open, no_password}
+use Rattle.zstates.specs.States.{State, after}
+use Rattle.zfront.specs.Front.{FrontView}
+use Rattle.zfront.specs.Restoring.{IsRestored}
 use Rattle.zfront_laws.specs.Making.{KeepsMade}
 use Rattle.zfront_laws.specs.Runs.{Input, Took, Runs}
-use Rattle.zkept.specs.Entries.{is_open, no_password}
 
 -- the password of the session that a reply names; none where it has ended meanwhile
 abbrev pub password_of : SittingsView → Reply → List ℕ
@@ -41,14 +42,14 @@ abbrev pub kept_in : (inputs : List Input) (old new : FrontView) → Runs inputs
 kept_in [] old new is = []
 kept_in (input ∷ inputs) old new has = kept_at input old ++ kept_in inputs has.0 new has.2
 
--- The front was restored by some entries, and then had inputs. These entries are those by which it
--- was restored, and behind them those that it kept since.
-pub record HasKept (servers : ℕ) (entries : List Entry) (v : FrontView) : Type 0 where
+-- The front was restored from a state, and then had inputs. This is the state that the changes leave
+-- which it kept since.
+pub record HasKept (servers : ℕ) (s : State) (v : FrontView) : Type 0 where
   pub times : Clock
-  pub before : List Entry
+  pub start : State
   pub first : FrontView
-  pub restored : IsRestored servers times before first
+  pub restored : IsRestored servers times start.tree start.seats first
   pub keeps : KeepsMade first
   pub inputs : List Input
   pub runs : Runs inputs first v
-  pub all : entries ≡ before ++ kept_in inputs first v runs
+  pub all : s ≡ after start (kept_in inputs first v runs)

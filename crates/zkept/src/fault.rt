@@ -3,6 +3,7 @@
 use thiserror::Error;
 use zjournal::{OpenError, PutError};
 use zpath::Memory;
+use zstates::ReadFault;
 
 /// Why a service isn't opened.
 #[derive(Clone, Copy, Debug, PartialEq, Eq, Error)]
@@ -10,15 +11,12 @@ pub enum OpenFault {
     /// The file or its disk, as the journal tells.
     #[error("{0}")]
     Journal(OpenError),
-    /// There is no memory to make the file's changes again. The file is untouched.
+    /// There is no memory for what the file keeps. The file is untouched.
     #[error("out of memory")]
     Memory,
-    /// The journal doesn't hold changes, each open behind its password. The file is untouched.
+    /// The journal doesn't hold changes, or a snapshot and changes behind it. The file is untouched.
     #[error("not a journal of changes")]
     NotRecords,
-    /// The chain stopped before the file's changes were made again. The file is untouched.
-    #[error("the chain has stopped")]
-    Stopped,
 }
 
 /// Why an input isn't taken.
@@ -57,6 +55,20 @@ impl From<Memory> for OpenFault {
 
     fn from(_: Memory) -> Self {
         OpenFault::Memory
+    }
+}
+
+impl From<ReadFault> for OpenFault {
+    ghost use Rattle.zkept.specs.Faults.{read_fault};
+    ghost use Rattle.std.specs.Prelude.{◌≡◌};
+
+    ghost from_gives = { λ cause e. e ≡ read_fault cause };
+
+    fn from(cause: ReadFault) -> Self {
+        match cause {
+            ReadFault::Memory => OpenFault::Memory,
+            ReadFault::NotRecords => OpenFault::NotRecords,
+        }
     }
 }
 

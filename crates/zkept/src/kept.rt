@@ -9,18 +9,20 @@ ghost use Rattle.zjournal.specs.Journal as state;
 ghost use Rattle.zjournal.specs.Puts as puts;
 ghost use Rattle.zjournal.specs.Scan.{joined};
 ghost use Rattle.zfront.specs.Restoring.{all_taken};
-ghost use Rattle.zkept.specs.Faults.{disk_failed, IsFull, IsLeftBy, IsOfMaking, IsSuchFile};
+ghost use Rattle.zkept.specs.Faults.{disk_failed, IsFull, IsLeftBy, IsOfReading, IsSuchFile};
 ghost use Rattle.zkept.specs.Kept.{batch_of, disk_of, front_in, IsOpen, IsServing, IsSound};
-ghost use Rattle.zkept.specs.Kept.{with_made};
-ghost use Rattle.zkept.specs.Making.{made_by};
-ghost use Rattle.zkept.specs.Restored.{IsRestoredBy};
+ghost use Rattle.zkept.specs.Kept.{state_in, with_made};
+ghost use Rattle.zkept.specs.Making.{entries_made, made_by};
+ghost use Rattle.zkept.specs.Restored.{IsRestoredFrom};
+ghost use Rattle.zstates.specs.States.{after};
 
 use crate::fault::{CommitFault, OpenFault};
-use crate::making::text_of;
+use crate::making::keep;
 use crate::restored::restored;
 use std::alloc::Global;
 use zfront::{Front, ServerId, TickLength};
 use zjournal::{Device, Journal, PutError, read_text};
+use zstates::State;
 
 /// A server for ZooKeeper's clients whose changes are kept.
 ///
@@ -30,14 +32,18 @@ use zjournal::{Device, Journal, PutError, read_text};
 pub struct Kept<D: Device> {
     pub(crate) alloc: Global,
     pub(crate) front: Front,
+    // What the file keeps: each change is made in it as well, so that a snapshot can be written.
+    pub(crate) state: State,
     pub(crate) journal: Journal<D>,
+    // How many bytes the file had when it was shortened last, and 0 before.
+    pub(crate) shortened: usize,
     pub(crate) is_open: bool,
 }
 
 impl<D: Device> Kept<D> {
-    /// Opens the service of a file that a crash may have left, or of a new one: it makes the file's
-    /// changes again. Where that fails, the file stays untouched. Opening may crash, too, and then
-    /// the file stands for the same changes. The chain is the servers up to `servers`. The tree's
+    /// Opens the service of a file that a crash may have left, or of a new one. A fresh chain, the
+    /// servers up to `servers`, begins with the tree that the file keeps. Where reading fails, the
+    /// file stays untouched. Opening may crash, too, and then the file keeps the same. The tree's
     /// time is `now_ms` now, in milliseconds since 1970. An `Err` hands the device back.
     pub fn open(
         alloc: Global,
@@ -51,7 +57,7 @@ impl<D: Device> Kept<D> {
         ensures serving { IfOk result (λ kept. (batches : List (List ℕ))
             × StandsFor servers batches (D.seen device)
             × IsServing D.seen D.may_leave servers batches kept
-            × IsRestoredBy servers tick now_ms (joined batches) kept.front) }
+            × IsRestoredFrom servers tick now_ms (state_in kept) kept.front) }
         ensures open { IfOk result IsOpen }
         ensures sound { IfOk result (IsSound D.seen D.may_leave) }
         ensures any_moment { (batches : List (List ℕ)) → StandsFor servers batches (D.seen device)
@@ -61,7 +67,7 @@ impl<D: Device> Kept<D> {
             → StandsFor servers batches (D.seen device)
             → IfErr result (λ e. LeavesOnly D.moment D.left_since device e.1
             (StandsFor servers batches)) }
-        ensures untouched { IfErr result (λ e. IsOfMaking e.0
+        ensures untouched { IfErr result (λ e. IsOfReading e.0
             → (D.seen e.1 ≡ D.seen device)
             × LeavesOnly D.moment D.left_since device e.1 (λ c. c ≡ D.seen device)) }
         ensures fault { IfErr result (λ e. IsSuchFile servers (D.seen device) e.0) }
@@ -72,20 +78,30 @@ impl<D: Device> Kept<D> {
             Ok(text) => text,
             Err(e) => return Err((OpenFault::Journal(e), device)),
         };
-        let front = match restored(alloc, servers, tick, now_ms, &text) {
-            Ok(front) => front,
-            Err(fault) => return Err((fault, device)),
+        let state = match State::read(alloc, &text) {
+            Ok(state) => state,
+            Err(fault) => return Err((OpenFault::from(fault), device)),
         };
         drop(text);
+        let front = match restored(alloc, servers, tick, now_ms, &state) {
+            Ok(front) => front,
+            Err(_) => {
+                drop(state);
+                return Err((OpenFault::Memory, device));
+            }
+        };
         match zjournal::open(alloc, device, servers.number()) {
             Ok((journal, _)) => Ok(Kept {
                 alloc,
                 front,
+                state,
                 journal,
+                shortened: 0,
                 is_open: true,
             }),
             Err((e, device)) => {
                 drop(front);
+                drop(state);
                 Err((OpenFault::Journal(e), device))
             }
         }
@@ -108,6 +124,8 @@ impl<D: Device> Kept<D> {
             → OnOk result (IsServing D.seen D.may_leave servers
             (with_made (front_in self.old) batches) self.new) }
         ensures taken { OnOk result (front_in self.new ≡ all_taken (front_in self.old)) }
+        ensures state { OnOk result
+            (state_in self.new ≡ after (state_in self.old) (entries_made (front_in self.old))) }
         ensures nothing { made_by (front_in self.old) ≡ [] → IsOpen self.old
             → IsOk result × (self.new ≡ self.old) }
         ensures any_moment { (servers : ℕ) (batches : List (List ℕ))
@@ -133,7 +151,7 @@ impl<D: Device> Kept<D> {
         let Some(made) = self.front.take_made() else {
             return Err(CommitFault::Full);
         };
-        let text = text_of(self.alloc, &self.front, made)?;
+        let text = keep(self.alloc, &self.front, &mut self.state, made)?;
         put(&mut self.journal, &text)?; // now they are on the disk
         self.is_open = true;
         Ok(())

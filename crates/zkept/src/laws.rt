@@ -1,18 +1,6 @@
-//! What holds of entries, and over all lives of a service. Each function's contract is a law.
+//! What holds over all lives of a service. Each function's contract is a law.
 
-ghost use Rattle.zkept.specs.Laws.{EntriesComeBack, LivesAreOneTree, RecordsComeBack};
-ghost use Rattle.zkept.specs.Laws.{TextsTellApart, TheLastServerStays, WhatIsKeptStandsInALog};
-
-/// Entries are written as records, and come back from them. No records are written so by others.
-pub fn entries_come_back()
-    ensures entries { EntriesComeBack }
-    ensures records { RecordsComeBack }
-{}
-
-/// A text is that of one list of entries.
-pub fn texts_tell_apart()
-    ensures { TextsTellApart }
-{}
+ghost use Rattle.zkept.specs.Laws.{LivesAreOneTree, TheLastServerStays, WhatIsKeptStandsInALog};
 
 /// All calls that a front made stand in one log, whose replies are those of one plain tree. Its
 /// updates are those that were kept, and those that are left to be kept.
@@ -27,8 +15,9 @@ pub fn the_last_server_stays()
 {}
 
 /// Whatever the lives of a service were, the calls that they told stand in one log, in order, each
-/// once and with its reply. That log is one plain tree's, and its changes are what the last file
-/// keeps. What was told is never undone. What was under way at a crash acted once or not at all.
+/// once and with its reply. That log is one plain tree's. The last file keeps the state that its
+/// changes leave, however often it was shortened. What was told is never undone. What was under way
+/// at a crash acted once or not at all.
 pub fn lives_are_one_tree()
     ensures { LivesAreOneTree }
 {}

@@ -14,7 +14,6 @@
 //! those of one plain tree (`laws`).
 #![tactic(auto)]
 
-mod entries;
 mod fault;
 mod inputs;
 mod kept;
@@ -23,6 +22,7 @@ mod making;
 mod pieces;
 mod restored;
 mod rows;
+mod shortening;
 
 pub use fault::{CommitFault, InputFault, OpenFault};
 pub use kept::Kept;

@@ -1,44 +1,99 @@
-//! What a front made, as records of a log.
+//! What a front made is made in its state as well, and written as records of a log.
 
-ghost use Rattle.std.specs.Prelude.{◌≡◌, map, IfOk, OnOk};
+ghost use Rattle.std.specs.Prelude.{◌≡◌, ◌++◌, false, map, IfOk, OnOk};
 ghost use Rattle.zjournal.specs.Blocks.{IsText};
-ghost use Rattle.zkept.specs.Entries.{AreEntries, entries_text, records_of};
 ghost use Rattle.zkept.specs.Making.{entry_of, password_if};
+ghost use Rattle.zstates.specs.Entries.{AreEntries, entries_text, entry_records, records_of};
+ghost use Rattle.zstates.specs.States.{after, after_entry};
 
-use crate::entries::{add_entry, is_open, no_password};
 use std::alloc::Global;
 use zalone::Made;
-use zcalls::Reply;
+use zcalls::{Reply, Update};
 use zfront::{Front, Password};
 use zpath::Memory;
 use zrecords::{Record, write_records};
+use zstates::{State, add_entry, is_open, no_password};
 
-/// Returns the text of what a front made: each update, with the password of the session that it
-/// opened.
-pub(crate) fn text_of(alloc: Global, front: &Front, made: Vec<Made>) -> Result<Vec<u8>, Memory>
+/// Makes what a front made in its state as well, and returns its text: each update, with the password
+/// of the session that it opened.
+pub(crate) fn keep(
+    alloc: Global,
+    front: &Front,
+    state: &mut State,
+    made: Vec<Made>,
+) -> Result<Vec<u8>, Memory>
+    requires whole { state.old.is_broken ≡ false }
     ensures text { IfOk result (λ text. text.items
         ≡ entries_text (map (entry_of front.now.front.tables.sittings) made.items)) }
     ensures are { OnOk result
         (AreEntries (map (entry_of front.now.front.tables.sittings) made.items)) }
     ensures no_zero { IfOk result (λ text. IsText text.items) }
+    ensures state { OnOk result (state.new.state ≡ after state.old.state
+        (map (entry_of front.now.front.tables.sittings) made.items)) }
+    ensures whole { OnOk result (state.new.is_broken ≡ false) }
 {
-    let records = records_of(alloc, front, made)?;
+    let records = apply_all(alloc, front, state, made)?;
     let mut text = Vec::new(alloc);
     write_records(alloc, &records, &mut text)?;
     Ok(text)
 }
 
-// Returns the records of what a front made.
-fn records_of(alloc: Global, front: &Front, made: Vec<Made>) -> Result<Vec<Record>, Memory>
-    ensures { IfOk result (λ records. records.items
+// Makes them in the state, one after the other, and returns their records.
+fn apply_all(
+    alloc: Global,
+    front: &Front,
+    state: &mut State,
+    made: Vec<Made>,
+) -> Result<Vec<Record>, Memory>
+    requires whole { state.old.is_broken ≡ false }
+    ensures records { IfOk result (λ records. records.items
         ≡ records_of (map (entry_of front.now.front.tables.sittings) made.items)) }
+    ensures state { OnOk result (state.new.state ≡ after state.old.state
+        (map (entry_of front.now.front.tables.sittings) made.items)) }
+    ensures whole { OnOk result (state.new.is_broken ≡ false) }
 {
     let mut records = Vec::new(alloc);
-    for Made { update, reply } in made {
-        let password = password_for(front, is_open(&update), &reply);
-        add_entry(&mut records, update, password)?;
+    for one in made {
+        apply(alloc, front, state, &mut records, one)?;
     }
     Ok(records)
+}
+
+// Makes one of them in the state, and appends its records.
+fn apply(
+    alloc: Global,
+    front: &Front,
+    state: &mut State,
+    records: &mut Vec<Record>,
+    made: Made,
+) -> Result<(), Memory>
+    ensures records { OnOk result (records.new.items ≡ records.old.items
+        ++ entry_records (entry_of front.now.front.tables.sittings made)) }
+    ensures state { OnOk result (state.new.state ≡ after_entry state.old.state
+        (entry_of front.now.front.tables.sittings made)) }
+    ensures whole { OnOk result (state.new.is_broken ≡ false) }
+{
+    let Made { update, reply } = made;
+    let password = password_for(front, is_open(&update), &reply);
+    drop(reply);
+    make_again(alloc, state, &update, password)?;
+    add_entry(records, update, password)
+}
+
+// Makes an update in the state, whose session has this password.
+fn make_again(
+    alloc: Global,
+    state: &mut State,
+    update: &Update,
+    password: Password,
+) -> Result<(), Memory>
+    ensures state { OnOk result
+        (state.new.state ≡ after_entry state.old.state (update.now, password)) }
+    ensures whole { OnOk result (state.new.is_broken ≡ false) }
+{
+    let reply = state.apply(update.copied(alloc)?, password)?;
+    drop(reply);
+    Ok(())
 }
 
 // Returns the password of the session that a reply to an open names. It has none where it has ended

@@ -4,35 +4,15 @@ ghost use Rattle.std.specs.Prelude.{◌≡◌, [], ◌∷◌, List, ℕ, None, S
 ghost use Rattle.std.specs.FinMap.{insert};
 ghost use Rattle.zcalls.specs.declared.call.Call.{Call};
 ghost use Rattle.zcalls.specs.declared.call.Call.TheVariants as call;
-ghost use Rattle.zcalls.specs.declared.call.Update.TheVariants.{Open, Tick};
+ghost use Rattle.zcalls.specs.declared.call.Update.TheVariants.{Tick};
 ghost use Rattle.zcalls.specs.declared.reply.Reply.{Reply};
 ghost use Rattle.zcalls.specs.declared.reply.Reply.TheVariants.{Opened, Pinged};
-ghost use Rattle.zrecords.specs.declared.record.Record.TheVariants.{Fail, Password, Update};
 ghost use Rattle.zsittings.specs.Sittings.{new_sitting, SittingsView};
-ghost use Rattle.zkept.specs.Entries.{entries_of, entry_records, no_password};
+ghost use Rattle.zstates.specs.Entries.{no_password};
 ghost use Rattle.zkept.specs.Kept.{more_if};
 ghost use Rattle.zkept.specs.Lives.{IsWoven};
 ghost use Rattle.zkept.specs.Making.{password_of};
 ghost use Rattle.zkept.specs.Restored.{clock_at};
-
-/// The records of an open, with its password in front, and of a tick.
-pub fn entries_are_records()
-    ensures open { (p : List ℕ) → entry_records (Open 10, p)
-        ≡ Password p ∷ Update (Open 10) ∷ [] }
-    ensures tick { (p : List ℕ) → entry_records (Tick, p) ≡ Update Tick ∷ [] }
-{}
-
-/// The entries of records, and records that are none.
-pub fn records_are_entries()
-    ensures none { entries_of [] ≡ Some [] }
-    ensures both { (p : List ℕ) → entries_of (Password p ∷ Update (Open 10) ∷ Update Tick ∷ [])
-        ≡ Some ((Open 10, p) ∷ ((Tick, no_password) ∷ [])) }
-    ensures open_alone { entries_of (Update (Open 10) ∷ []) ≡ None }
-    ensures password_alone { (p : List ℕ) → entries_of (Password p ∷ []) ≡ None }
-    ensures other_password { (p : List ℕ) → entries_of (Password p ∷ Update Tick ∷ []) ≡ None }
-    ensures order { entries_of (Fail 1 ∷ []) ≡ None }
-    ensures behind { entries_of (Update Tick ∷ Fail 1 ∷ []) ≡ None }
-{}
 
 /// The password that is kept of an open, by the reply to it.
 pub fn passwords_are_kept()
@@ -57,16 +37,16 @@ pub fn nothing_is_no_block()
 /// under way stands once or not at all.
 pub fn what_was_told_stands()
     ensures under_way { (r : Reply)
-        → IsWoven (record { told = []; blocks = []; under_way = (Tick, no_password) ∷ [] } ∷ [])
+        → IsWoven (record { told = []; kept = []; under_way = (Tick, no_password) ∷ [] } ∷ [])
         ((call.Update Tick, r) ∷ []) ((Tick, no_password) ∷ []) }
     ensures not_at_all { IsWoven (record {
       told = [];
-      blocks = [];
+      kept = [];
       under_way = (Tick, no_password) ∷ [];
     } ∷ []) [] [] }
     ensures undone { (c : Call) (r : Reply)
-        → IsWoven (record { told = (c, r) ∷ []; blocks = []; under_way = [] } ∷ []) [] [] → ⊥ }
+        → IsWoven (record { told = (c, r) ∷ []; kept = []; under_way = [] } ∷ []) [] [] → ⊥ }
     ensures twice { (c : Call) (r : Reply)
-        → IsWoven (record { told = (c, r) ∷ []; blocks = []; under_way = [] } ∷ [])
+        → IsWoven (record { told = (c, r) ∷ []; kept = []; under_way = [] } ∷ [])
         ((c, r) ∷ ((c, r) ∷ [])) [] → ⊥ }
 {}

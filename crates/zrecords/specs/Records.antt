@@ -7,13 +7,15 @@ use Rattle.base64.specs.Engines.{standard}
 use Rattle.base64.specs.GeneralPurpose.{encode_of}
 use Rattle.zforms.specs.declared.fault.Fault.{Fault}
 use Rattle.zforms.specs.Forms.{Form, number, exactly}
+use Rattle.zforms.specs.Choices.{sized}
 use Rattle.zforms.specs.Laws.{IsBytes}
 use Rattle.zjute.specs.Shapes.{Spelled, behind, read_as, by_tag}
 use Rattle.zprotocol.specs.declared.limits.TheConstants.{MAX_SERVERS}
 use Rattle.zrecords.specs.declared.fault.RecordFault.{RecordFault}
 use Rattle.zrecords.specs.declared.fault.RecordFault.TheVariants.{Line, Memory}
+use Rattle.zrecords.specs.declared.limits.TheConstants.{MAX_ROW_BYTES}
 use Rattle.zrecords.specs.declared.record.Record.{Record}
-use Rattle.zrecords.specs.declared.record.Record.TheVariants.{Password, Update, Fail, Join, Retire}
+use Rattle.zrecords.specs.declared.record.Record.TheVariants.{Password, Update, Fail, Join, Retire, Row}
 use Rattle.zrecords.specs.Sums.{at_tag, no_tag}
 use Rattle.zrecords.specs.Fields.{up_to}
 use Rattle.zrecords.specs.Calls.{update}
@@ -26,13 +28,18 @@ password = exactly 16
 unfoldable pub server : Form ℕ
 server = up_to w8 MAX_SERVERS
 
+-- a row of a snapshot
+unfoldable pub row : Form (List ℕ)
+row = sized MAX_ROW_BYTES
+
 unfoldable pub logged_at : ℕ → List ℕ → Result (Record × List ℕ) Fault
 logged_at =
     at_tag 0 (read_as password (λ bytes. Password bytes))
     (at_tag 1 (read_as update (λ change. Update change))
     (at_tag 2 (read_as server (λ id. Fail id))
     (at_tag 3 (read_as server (λ id. Join id))
-    (at_tag 4 (read_as server (λ id. Retire id)) no_tag))))
+    (at_tag 4 (read_as server (λ id. Retire id))
+    (at_tag 5 (read_as row (λ bytes. Row bytes)) no_tag)))))
 
 abbrev pub logged_spelled : Record → Spelled ℕ
 logged_spelled (Password bytes) = behind 0 password bytes
@@ -40,6 +47,7 @@ logged_spelled (Update change) = behind 1 update change
 logged_spelled (Fail id) = behind 2 server id
 logged_spelled (Join id) = behind 3 server id
 logged_spelled (Retire id) = behind 4 server id
+logged_spelled (Row bytes) = behind 5 row bytes
 
 unfoldable pub logged : Form Record
 logged = by_tag (number w8) logged_at logged_spelled

@@ -1,5 +1,6 @@
 //! What is logged.
 
+use crate::row::Row;
 use zcalls::Update;
 use zprotocol::ServerId;
 use zsittings::Password;
@@ -17,4 +18,6 @@ pub enum Record {
     Join(ServerId),
     /// A server, a member of the chain, is ordered to leave.
     Retire(ServerId),
+    /// A row of a snapshot.
+    Row(Row),
 }

@@ -2,12 +2,14 @@
 
 ghost use Rattle.std.specs.Prelude.{◌≡◌};
 ghost use Rattle.zforms.specs.Readers.{Reads, Gives, whole};
-ghost use Rattle.zrecords.specs.Records.{password, server, logged_at, logged};
+ghost use Rattle.zrecords.specs.Records.{password, server, row, logged_at, logged};
 
 use crate::call_reading::update_of;
+use crate::limits::MAX_ROW_BYTES;
 use crate::record::Record;
+use crate::row::Row;
 use std::alloc::Global;
-use zforms::{Fault, ReadError, end, u8_at};
+use zforms::{Fault, ReadError, end, sized_at, u8_at};
 use zprotocol::ServerId;
 use zsittings::Password;
 
@@ -55,6 +57,10 @@ fn record_behind(alloc: Global, tag: u8, bytes: &[u8]) -> Result<(Record, &[u8])
             Ok((server, rest)) => Ok((Record::Retire(server), rest)),
             Err(fault) => Err(ReadError::Fault(fault)),
         }
+        5 => {
+            let (row, rest) = row_of(alloc, bytes)?;
+            Ok((Record::Row(row), rest))
+        }
         _ => Err(ReadError::Fault(Fault::Invalid)),
     }
 }
@@ -67,6 +73,18 @@ fn password_at(bytes: &[u8]) -> Result<(Password, &[u8]), Fault>
     match bytes.split_first_chunk::<16>() {
         Some((front, rest)) => Ok((Password::new(*front), rest)),
         None => Err(Fault::Short),
+    }
+}
+
+// Reads a row of a snapshot.
+#[tactic(auto, unfolding(crate::specs::Records::row))]
+fn row_of(alloc: Global, bytes: &[u8]) -> Result<(Row, &[u8]), ReadError>
+    ensures { Gives (λ x. (x.0, x.1.now)) result (row.read bytes.now) }
+{
+    let (bytes, rest) = sized_at(MAX_ROW_BYTES, bytes)?;
+    match Row::new(Vec::from_slice(alloc, bytes)?) {
+        Some(row) => Ok((row, rest)),
+        None => unreachable!(),
     }
 }
 

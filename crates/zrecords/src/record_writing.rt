@@ -1,12 +1,14 @@
 //! Records, written at the end of bytes. Each function says too that what it writes fits.
 
 ghost use Rattle.std.specs.Prelude.{◌≡◌, ◌++◌, OnOk};
-ghost use Rattle.zrecords.specs.Records.{password as password_form, server as server_form, logged};
+ghost use Rattle.zrecords.specs.Records.{password as password_form, server as server_form};
+ghost use Rattle.zrecords.specs.Records.{row as row_form, logged};
 
 use crate::call_writing::put_update;
 use crate::record::Record;
+use crate::row::Row;
 use std::alloc::{AllocError, Global};
-use zforms::put_u8;
+use zforms::{put_sized, put_u8};
 use zprotocol::ServerId;
 use zsittings::Password;
 
@@ -37,6 +39,10 @@ pub(crate) fn put_record(alloc: Global, out: &mut Vec<u8>, it: &Record) -> Resul
             put_u8(out, 4)?;
             put_server(out, *server)
         }
+        Record::Row(row) => {
+            put_u8(out, 5)?;
+            put_row(out, row)
+        }
     }
 }
 
@@ -48,6 +54,15 @@ fn put_password(out: &mut Vec<u8>, password: &Password) -> Result<(), AllocError
     ensures fits { OnOk result (password_form.Fits password.now) }
 {
     out.extend_from_slice(password.as_bytes())
+}
+
+// Writes a row of a snapshot.
+#[tactic(auto, unfolding(crate::specs::Records::row))]
+fn put_row(out: &mut Vec<u8>, row: &Row) -> Result<(), AllocError>
+    ensures text { OnOk result (out.new.items ≡ out.old.items ++ row_form.spell row.now) }
+    ensures fits { OnOk result (row_form.Fits row.now) }
+{
+    put_sized(out, row.as_slice())
 }
 
 /// Writes the id of a server.

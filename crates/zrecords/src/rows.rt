@@ -3,7 +3,7 @@
 ghost use Rattle.std.specs.Prelude.{◌≡◌, [], ◌∷◌, ◌++◌, Ok, Err, codes};
 ghost use Rattle.zforms.specs.declared.fault.Fault.TheVariants.{Short, Long, Invalid, Trailing};
 ghost use Rattle.zforms.specs.Readers.{whole};
-ghost use Rattle.zrecords.specs.declared.record.Record.TheVariants.{Fail, Join, Retire};
+ghost use Rattle.zrecords.specs.declared.record.Record.TheVariants.{Fail, Join, Retire, Row};
 ghost use Rattle.zrecords.specs.Records.{logged, line_of, text_of, IsBadLine};
 ghost use Rattle.zrecords.specs.support.Samples.{password, create, create_for_7, delete, set_root};
 ghost use Rattle.zrecords.specs.support.Samples.{multi, open_for_10, ping, close, tick};
@@ -36,6 +36,7 @@ pub fn sessions_and_orders_have_bytes()
     ensures failed { logged.spell (Fail 1) ≡ 2 ∷ 1 ∷ [] }
     ensures joined { logged.spell (Join 2) ≡ 3 ∷ 2 ∷ [] }
     ensures retired { logged.spell (Retire 16) ≡ 4 ∷ 16 ∷ [] }
+    ensures row { logged.spell (Row (7 ∷ 8 ∷ [])) ≡ 5 ∷ 0 ∷ 0 ∷ 0 ∷ 2 ∷ 7 ∷ 8 ∷ [] }
 {}
 
 /// The text of a log.
@@ -51,7 +52,9 @@ pub fn logs_have_lines()
 pub fn bytes_are_records()
     ensures read { whole logged (1 ∷ 7 ∷ []) ≡ Ok tick }
     ensures no_bytes { whole logged [] ≡ Err Short }
-    ensures other_tag { whole logged (5 ∷ []) ≡ Err Invalid }
+    ensures other_tag { whole logged (6 ∷ []) ≡ Err Invalid }
+    ensures long_row { whole logged (5 ∷ 0 ∷ 1 ∷ 4 ∷ 93 ∷ []) ≡ Err Long }
+    ensures short_row { whole logged (5 ∷ 0 ∷ 0 ∷ 0 ∷ 2 ∷ 7 ∷ []) ≡ Err Short }
     ensures other_change { whole logged (1 ∷ 8 ∷ []) ≡ Err Invalid }
     ensures no_parts { whole logged (1 ∷ 3 ∷ 0 ∷ 0 ∷ 0 ∷ 0 ∷ []) ≡ Err Invalid }
     ensures many_parts { whole logged (1 ∷ 3 ∷ 0 ∷ 0 ∷ 0 ∷ 65 ∷ []) ≡ Err Long }

@@ -9,7 +9,7 @@ use zcalls::{
 };
 use zpath::Path;
 use zprotocol::ServerId;
-use zrecords::{Record, next_record, read_records, write_records};
+use zrecords::{Record, Row, next_record, read_records, write_records};
 use zsittings::Password;
 
 // A create of a node with so many bytes.
@@ -83,7 +83,9 @@ fn others(alloc: Global, records: &mut Vec<Record>) -> Option<()> {
     let server = ServerId::new(16)?;
     records.push(Record::Fail(server)).ok()?;
     records.push(Record::Join(server)).ok()?;
-    records.push(Record::Retire(server)).ok()
+    records.push(Record::Retire(server)).ok()?;
+    let bytes = vec![in alloc; 255u8; 66_652].ok()?;
+    records.push(Record::Row(Row::new(bytes)?)).ok()
 }
 
 #[test]

@@ -5,7 +5,7 @@ use Rattle.std.specs.Option.{option_map_or}
 use Rattle.ztree.proofs.Maps.{get-insert-here}
 use Rattle.zsittings.specs.Sittings.{new_sitting}
 use Rattle.zsittings.specs.declared.sitting.Sitting.{Sitting}
-use Rattle.zkept.specs.Entries.{no_password}
+use Rattle.zstates.specs.Entries.{no_password}
 use Rattle.zkept.proofs.rows.passwords_are_kept.Goals as goal
 
 pub returns-clause-opened : goal.returns-clause-opened

@@ -1,7 +1,7 @@
 use Rattle.std.proofs.Common.{refl, inl, inr, [], ◌∷◌}
 use Rattle.zcalls.specs.declared.call.Call.TheVariants as call
 use Rattle.zcalls.specs.declared.call.Update.TheVariants.{Tick}
-use Rattle.zkept.specs.Entries.{no_password}
+use Rattle.zstates.specs.Entries.{no_password}
 use Rattle.zkept.proofs.rows.what_was_told_stands.Goals as goal
 
 pub returns-clause-under_way : goal.returns-clause-under_way

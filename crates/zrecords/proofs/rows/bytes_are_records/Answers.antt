@@ -3,16 +3,18 @@ use Rattle.zforms.specs.Forms.{number_at}
 use Rattle.zpath.specs.Faults.{fault_of}
 use Rattle.zrecords.specs.Fields.{path, path_from, version, version_at}
 use Rattle.zrecords.specs.Calls.{delete, part, part_at, parts, update, update_at}
-use Rattle.zrecords.specs.Records.{password, server, logged, logged_at}
+use Rattle.zrecords.specs.Records.{password, server, row, logged, logged_at}
 use Rattle.zrecords.proofs.rows.bytes_are_records.Goals as goal
 
 pub returns : goal.returns
-unfolding logged logged_at update update_at delete part part_at parts password server path path_from version version_at number_at fault_of
+unfolding logged logged_at update update_at delete part part_at parts password server row path path_from version version_at number_at fault_of
 returns c =
     record {
       read = refl;
       no_bytes = refl;
       other_tag = refl;
+      long_row = refl;
+      short_row = refl;
       other_change = refl;
       no_parts = refl;
       many_parts = refl;

@@ -4,9 +4,10 @@ use Rattle.zjournal.specs.Journal.{IsAtRest, IsWithOrWithout, device_of}
 use Rattle.zjournal.proofs.Puts.{stays}
 use Rattle.zalone.specs.declared.made.Made.{Made}
 use Rattle.zkept.specs.declared.kept.Kept.{Kept}
-use Rattle.zkept.specs.Entries.{AreEntries, entries_text}
+use Rattle.zstates.specs.Entries.{AreEntries, entries_text}
+use Rattle.zstates.specs.States.{after}
 use Rattle.zkept.specs.Making.{entry_of, made_by, entries_made}
-use Rattle.zkept.specs.Kept.{IsServing, batch_of, disk_of, front_in}
+use Rattle.zkept.specs.Kept.{IsServing, batch_of, disk_of, front_in, state_in}
 use Rattle.zkept.proofs.Serving.{block_serves, some_made}
 use Rattle.zkept.proofs.kept.Kept.commit.Goals as goal
 
@@ -50,10 +51,18 @@ returns-clause-kept g c servers batches is_open serving =
     let same : map (entry_of c.take_made.new.self.front.tables.sittings) c.in-Some.made.items ≡ entries_made (front_in old) =
     (λ i. map (entry_of ((c.in-Some.ensures.taken) i).front.tables.sittings) ((c.in-Some.ensures.all) i)) in
     let text_is : c.deref.result.now ≡ batch_of (front_in old) = c.deref.ensures.value ∙ c.in_ok-text.ensures.text ∙ ap entries_text same in
-    let new : Kept g.row.D.Denot = record { alloc = old.alloc; front = c.take_made.new.self; journal = c.put.new.journal; is_open = true } in
+    let new : Kept g.row.D.Denot = record {
+      alloc = old.alloc;
+      front = c.take_made.new.self;
+      state = c.keep.new.state;
+      journal = c.put.new.journal;
+      shortened = old.shortened;
+      is_open = true;
+    } in
     let some : (length (made_by (front_in old)) == 0) ≡ false = sym (c.if-is_empty.ensures ∙ ap (λ (l : List Made). length l == 0) c.made.ensures) in
     subst (λ bs. IsServing g.D.Device.seen g.D.Device.may_leave servers bs new) (sym (some_made (made_by (front_in old)) (batch_of (front_in old)) batches some))
     (block_serves g.D.Device.seen g.D.Device.may_leave servers batches old new serving c.in-Some.ensures.taken (subst AreEntries same c.in_ok-text.ensures.are)
+    (c.in_ok-text.ensures.state ∙ ap (λ es. after (state_in old) es) same) c.in_ok-text.ensures.whole
     (subst (λ batch. IsAtRest g.D.Device.seen g.D.Device.may_leave servers (batches ++ batch ∷ []) c.put.new.journal) text_is (c.in_ok-put.ensures.kept servers batches serving.takes serving.rest))
     c.in_ok-put.ensures.open.1)
 
@@ -67,6 +76,7 @@ returns-clause-sound g c is_open =
       was.0,
       was.1 ++ batch_of (front_in old) ∷ [],
       block_serves g.D.Device.seen g.D.Device.may_leave was.0 was.1 old _ was.2 c.in-Some.ensures.taken (subst AreEntries same c.in_ok-text.ensures.are)
+          (c.in_ok-text.ensures.state ∙ ap (λ es. after (state_in old) es) same) c.in_ok-text.ensures.whole
           (subst (λ batch. IsAtRest g.D.Device.seen g.D.Device.may_leave was.0 (was.1 ++ batch ∷ []) c.put.new.journal) text_is (c.in_ok-put.ensures.kept was.0 was.1 was.2.takes was.2.rest))
           c.in_ok-put.ensures.open.1,
     )

@@ -1,0 +1,97 @@
+//! A journal is shortened: a new file with the state alone takes the place of the old one.
+
+ghost use Rattle.std.specs.Prelude.{◌≡◌, List, ℕ};
+ghost use Rattle.std.specs.Prelude.{OnOk, OnErr, IsErrOf};
+ghost use Rattle.zjournal.specs.Device.{LeavesOnly};
+ghost use Rattle.zjournal.specs.Journal.{IsAtRest, device_of, size_of};
+ghost use Rattle.zjournal.specs.Journal as file;
+ghost use Rattle.zjournal.specs.Scan.{joined};
+ghost use Rattle.zkept.specs.Kept.{disk_of, front_in, IsOpen, IsServing, IsSound};
+ghost use Rattle.zkept.specs.Kept.{is_long, state_in, KeepsState};
+ghost use Rattle.zkept.specs.Shortening.{IsOldOrState};
+ghost use Rattle.zstates.specs.Texts.{IsTextOf, snapshot_text};
+
+use crate::Kept;
+use crate::fault::CommitFault;
+use std::alloc::Global;
+use zjournal::{Device, Journal};
+use zstates::{Shortening, State};
+
+impl<D: Device> Kept<D> {
+    /// Returns whether the journal is to be shortened: it has so many bytes, and at least four times
+    /// those that it had behind its last shortening since the service was opened.
+    pub fn is_long(&self, least: usize) -> bool
+        ensures { result ≡ is_long least self.now }
+    {
+        let size = self.journal.size();
+        size >= least && size / 4 >= self.shortened
+    }
+
+    /// How many bytes the journal has.
+    pub fn size(&self) -> usize
+        ensures { result ≡ size_of self.now.journal }
+    {
+        self.journal.size()
+    }
+
+    /// Puts a file with the state alone in the place of the one that it keeps, which may have many
+    /// more changes. What is told stays the same, and nothing waits but for the writing. At each
+    /// moment a crash leaves a file with the same state. What was made and isn't kept yet is left to
+    /// the next `commit`. After any fault the service has ended.
+    pub fn shorten(&mut self) -> Result<(), CommitFault>
+        requires { IsSound D.seen D.may_leave self.old }
+        ensures kept { (servers : ℕ) (batches : List (List ℕ)) → IsOpen self.old
+            → IsServing D.seen D.may_leave servers batches self.old
+            → OnOk result ((next : List (List ℕ))
+            × IsServing D.seen D.may_leave servers next self.new
+            × (joined next ≡ snapshot_text (state_in self.old))) }
+        ensures same { OnOk result ((front_in self.new ≡ front_in self.old)
+            × (state_in self.new ≡ state_in self.old)) }
+        ensures any_moment { (servers : ℕ) (batches : List (List ℕ))
+            → IsServing D.seen D.may_leave servers batches self.old
+            → LeavesOnly D.moment D.left_since (disk_of self.old) (disk_of self.new)
+            (KeepsState servers (state_in self.old)) }
+        ensures sound { IsSound D.seen D.may_leave self.new }
+        ensures open { OnOk result (IsOpen self.old × IsOpen self.new) }
+        ensures left { OnErr result (IsOpen self.new → ⊥) }
+        ensures ended { (IsOpen self.old → ⊥)
+            → IsErrOf result CommitFault.Ended × (self.new ≡ self.old) }
+    {
+        if !self.is_open {
+            return Err(CommitFault::Ended);
+        }
+        self.is_open = false;
+        shorten(self.alloc, &mut self.journal, &self.state)?;
+        self.shortened = self.journal.size();
+        self.is_open = true;
+        Ok(())
+    }
+}
+
+// Writes the text of the state beside the journal's file, and puts it in its place.
+fn shorten<D: Device>(
+    alloc: Global,
+    journal: &mut Journal<D>,
+    state: &State,
+) -> Result<(), CommitFault>
+    requires { file.IsSound D.seen D.may_leave journal.old }
+    ensures kept { (servers : ℕ) (batches : List (List ℕ)) → file.IsOpen journal.old
+        → IsAtRest D.seen D.may_leave servers batches journal.old
+        → OnOk result ((next : List (List ℕ))
+        × IsAtRest D.seen D.may_leave servers next journal.new
+        × (joined next ≡ snapshot_text state.now.state)
+        × IsTextOf state.now.state (joined next)) }
+    ensures any_moment { (servers : ℕ) (batches : List (List ℕ))
+        → IsAtRest D.seen D.may_leave servers batches journal.old
+        → LeavesOnly D.moment D.left_since (device_of journal.old) (device_of journal.new)
+        (IsOldOrState servers batches state.now.state) }
+    ensures open { OnOk result (file.IsOpen journal.old × file.IsOpen journal.new) }
+{
+    let mut text = Shortening::new(state)?;
+    journal.begin_renewal()?;
+    while let Some(piece) = text.next_piece()? {
+        journal.put_renewed(&piece)?;
+    }
+    journal.end_renewal()?;
+    Ok(())
+}

@@ -1,0 +1,54 @@
+-- What holds of every state that is held.
+use Rattle.std.proofs.Common.{◌≡◌, ℕ, List, [], map, length, sym, ap, ◌∙◌, arith}
+use Rattle.std.proofs.lemmas.List.{length-map, nil_from_length}
+use Rattle.std.specs.Prelude.{OnOk, Result, Ok, Err}
+use Rattle.ztree.specs.declared.session.Session.{Session}
+use Rattle.std.specs.Ordering.{nat_cmp}
+use Rattle.std.specs.FinMap as finite
+use Rattle.std.specs.FinMap.{keys}
+use Rattle.ztree.specs.Lawful.{IsLawful}
+use Rattle.ztree.specs.Tree.{Tree, opening_tree}
+use Rattle.zcalls.specs.Bounds.{IsBounded}
+use Rattle.zcalls.specs.Kept.{Kept}
+use Rattle.zops.specs.Machine.{MachineState, MachineView}
+use Rattle.zsittings.specs.Sittings.{SittingsView}
+use Rattle.zstates.specs.States.{IsHeld, IsSeated, opening_state}
+use Rattle.zstates.specs.support.Tables.{IsBare, password_at, seat_at, state_in}
+use Rattle.zstates.proofs.States.{ids_same}
+
+pub seated : (t : Tree) (m : SittingsView) → IsSeated (state_in t m)
+seated t m = ids_same (password_at m) (keys t.sessions)
+
+pub held : (t : Tree) (m : SittingsView) → IsLawful t → IsBounded t → IsHeld (state_in t m)
+held t m lawful bounded = record { seated = seated t m; can_start = record { lawful = lawful; granted = bounded.sessions } }
+
+-- an empty map has no entries
+pub no_entries : {X : Type 0} → finite.entries (finite.empty {K = ℕ} {X = X} {R = nat_cmp}) ≡ []
+no_entries {X} =
+    nil_from_length (finite.entries (finite.empty {K = ℕ} {X = X} {R = nat_cmp}))
+    (sym (finite.len-entries (finite.empty {K = ℕ} {X = X} {R = nat_cmp})) ∙ finite.len-empty nat_cmp X)
+
+-- the initial tree has no session
+pub opening : (m : SittingsView) → state_in opening_tree m ≡ opening_state
+opening m = ap (λ (es : List (ℕ × Session)). record { tree = opening_tree; seats = map (seat_at m) (map (λ e. e.0) es) }) no_entries
+
+pub on_ok : {A E : Type 0} (P : Type 0) (r : Result A E) → P → OnOk r P
+on_ok P (Ok x) p = p
+on_ok P (Err e) p = tt
+
+-- ---- machines that did nothing
+
+-- the clients of a machine that cached no reply
+pub no_clients : (m : MachineView) (clients : List ℕ) → clients ≡ keys m.state.service.kept → IsBare m → length clients ≡ 0
+no_clients m clients is bare =
+    let none = ap (λ (s : MachineState). map (λ (e : ℕ × Kept). e.0) (finite.entries s.service.kept)) bare ∙ ap (map (λ (e : ℕ × Kept). e.0)) (no_entries {X = Kept}) in
+    ap (λ (ids : List ℕ). length ids) (is ∙ none)
+
+pub is_bare : (m : MachineView) (clients : List ℕ) → clients ≡ keys m.state.service.kept → length clients ≡ 0 → m.state.applied ≡ 0 → IsBare m
+is_bare m clients is none applied =
+    let long = length-map (finite.entries m.state.service.kept) (λ (e : ℕ × Kept). e.0) in
+    let same = ap (λ (ids : List ℕ). length ids) is in
+    let count = finite.len-entries m.state.service.kept in
+    let few : finite.len m.state.service.kept ≡ 0 = omega (arith, long, same, count, none) in
+    let kept = finite.empty_of_len m.state.service.kept few in
+    λ i. record { service = record { plain = m.state.service.plain; kept = kept i }; applied = applied i }

@@ -1,0 +1,13 @@
+pub mod Growing
+pub mod EntryTexts
+pub mod States
+pub mod Passwords
+pub mod Stepping
+pub mod Anew
+pub mod Held
+pub mod Read
+pub mod ReadSeats
+pub mod Texts
+pub mod Apart
+pub mod Starts
+pub mod Pieces

@@ -1,0 +1,10 @@
+use Rattle.std.proofs.Common.{subst}
+use Rattle.zstates.specs.States.{IsHeld, StateView}
+use Rattle.zstates.specs.support.Tables.{tree_in}
+use Rattle.zstates.proofs.Held.{held}
+use Rattle.zstates.proofs.state.State.keeps_held.Goals as goal
+
+pub returns : goal.returns
+returns c =
+    subst (λ (v : StateView). IsHeld v.state) c.self.view_is
+    (held (tree_in c.self.inside.machine) c.self.inside.sittings c.keeps_lawful.ensures.lawful c.keeps_lawful.ensures.bounded)

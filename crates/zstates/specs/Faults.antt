@@ -1,0 +1,10 @@
+-- When a text isn't read.
+use Rattle.std.specs.Prelude.{ℕ, List}
+use Rattle.zstates.specs.declared.fault.ReadFault.{ReadFault}
+use Rattle.zstates.specs.declared.fault.ReadFault.TheVariants.{Memory, NotRecords}
+use Rattle.zstates.specs.Texts.{IsNoText}
+
+-- the text is such as the fault says; memory says nothing of it
+abbrev pub IsReadFault : List ℕ → ReadFault → Type 0
+IsReadFault text NotRecords = IsNoText text
+IsReadFault text Memory = Unit {0}

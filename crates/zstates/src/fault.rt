@@ -1,0 +1,26 @@
+//! Why no state is read.
+
+ghost use Rattle.std.specs.Prelude.{◌≡◌};
+ghost use Rattle.zstates.specs.declared.fault.ReadFault.TheVariants.{Memory as OfMemory};
+
+use thiserror::Error;
+use zpath::Memory;
+
+/// Why a text gives no state.
+#[derive(Clone, Copy, Debug, PartialEq, Eq, Error)]
+pub enum ReadFault {
+    /// The text keeps no state.
+    #[error("not the text of a state")]
+    NotRecords,
+    /// Out of memory. It says nothing about the text.
+    #[error("out of memory")]
+    Memory,
+}
+
+impl From<Memory> for ReadFault {
+    ghost from_gives = { λ _ fault. fault ≡ OfMemory };
+
+    fn from(_: Memory) -> ReadFault {
+        ReadFault::Memory
+    }
+}

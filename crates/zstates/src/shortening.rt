@@ -1,0 +1,141 @@
+//! A state, written as the text of its snapshot, piece by piece.
+
+ghost use Rattle.std.specs.Prelude.{◌≡◌, ◌++◌, true, false, length, IfNone, IfOk, IfSome, OnOk};
+ghost use Rattle.zjournal.specs.Blocks.{IsText};
+ghost use Rattle.zrecords.specs.Records.{Fits as FitsLine, line_of};
+ghost use Rattle.zsnapshots.specs.States.{Fits, spelled, StateRow};
+ghost use Rattle.zstates.specs.Shortening.{IsAllWritten, IsPiece};
+ghost use Rattle.zstates.specs.support.Writing.{IsRecordWritten};
+
+use crate::state::State;
+use std::alloc::Global;
+use std::marker::Model;
+use zpath::Memory;
+use zrecords::{Record, Row, write_records};
+use zsittings::Password;
+use zsnapshots::Writing;
+use ztree::SessionId;
+
+// A piece ends with the record that reaches this length.
+const PIECE: usize = 65_536;
+
+/// A state that is being written as a snapshot, piece by piece. The pieces together are the
+/// snapshot's text.
+#[derive(Drop)]
+pub struct Shortening<'a> {
+    alloc: Global,
+    state: &'a State,
+    writing: Writing<'a>,
+    seats: Vec<(SessionId, Password)>,
+    // How many seats were written.
+    seated: usize,
+    is_broken: bool,
+}
+
+impl<'a> Model for Shortening<'a> {
+    ghost use Rattle.std.specs.Prelude.{◌+◌};
+    ghost use Rattle.zstates.specs.Shortening.{ShorteningView};
+    ghost use Rattle.zstates.specs.support.Codes.{coded_shortening};
+    ghost use Rattle.zstates.specs.support.Writing.{IsShorteningIf};
+
+    ghost Value = { ShorteningView };
+
+    ghost coded = { coded_shortening };
+
+    ghost view = { λ s. record {
+      state = s.state.now.state;
+      written = s.writing.written + s.seated;
+    } };
+
+    ghost invariant = { λ s. IsShorteningIf s.is_broken s.state.now.state s.writing
+        s.seats.items s.seated };
+}
+
+impl<'a> Shortening<'a> {
+    /// Begins with nothing written. Returns `Memory` if the state has run out of memory, too.
+    pub fn new(state: &'a State) -> Result<Shortening<'a>, Memory>
+        ensures begun { IfOk result (λ s. s
+            ≡ record { state = state.now.state; written = 0 }) }
+        ensures whole { OnOk result (state.now.is_broken ≡ false) }
+    {
+        let seats = state.seats()?;
+        let machine = state.machine()?;
+        let writing = Writing::of_tree(state.alloc, machine)?;
+        Ok(Shortening {
+            alloc: state.alloc,
+            state,
+            writing,
+            seats,
+            seated: 0,
+            is_broken: false,
+        })
+    }
+
+    /// Returns the next piece: whole records, and enough of them for 64 KiB while there are. Returns
+    /// `None` once all were handed out. After `Memory` records may be missing: begin anew.
+    pub fn next_piece(&mut self) -> Result<Option<Vec<u8>>, Memory>
+        ensures piece { IfOk result (λ next. IfSome next (λ piece.
+            IsPiece self.old self.new piece.items)) }
+        ensures text { IfOk result (λ next. IfSome next (λ piece. IsText piece.items)) }
+        ensures end { IfOk result (λ next. IfNone next (IsAllWritten self.old)) }
+        ensures ended { IfOk result (λ next. IfNone next (self.new ≡ self.old)) }
+    {
+        let mut text = Vec::new(self.alloc);
+        if !self.write_next(&mut text)? {
+            return Ok(None);
+        }
+        while text.len() < PIECE {
+            if !self.write_next(&mut text)? {
+                return Ok(Some(text));
+            }
+        }
+        Ok(Some(text))
+    }
+
+    // Appends the line of the next record, and returns true; or returns false if there is none.
+    fn write_next(&mut self, text: &mut Vec<u8>) -> Result<bool, Memory>
+        ensures next { IfOk result (λ more. more ≡ true
+            → IsRecordWritten self.old self.new text.old.items text.new.items) }
+        ensures end { IfOk result (λ more. more ≡ false → IsAllWritten self.old) }
+        ensures ended { IfOk result (λ more. more ≡ false
+            → (self.new ≡ self.old) × (text.new.items ≡ text.old.items)) }
+    {
+        if self.is_broken {
+            return Err(Memory);
+        }
+        let mut bytes = Vec::new(self.alloc);
+        if self.writing.write_next(&mut bytes)? {
+            self.is_broken = true;
+            write_line(self.alloc, Record::Row(row_of(bytes)), text)?;
+            self.is_broken = false;
+            return Ok(true);
+        }
+        if self.seated >= self.seats.len() {
+            return Ok(false);
+        }
+        let (_, password) = self.seats[self.seated];
+        write_line(self.alloc, Record::Password(password), text)?;
+        self.seated += 1;
+        Ok(true)
+    }
+}
+
+// Returns the bytes of a row of a state as a row.
+fn row_of(bytes: Vec<u8>) -> Row
+    requires { (x : StateRow) × Fits x × (bytes.items ≡ spelled x) }
+    ensures { result ≡ bytes.items }
+{
+    match Row::new(bytes) {
+        Some(row) => row,
+        None => unreachable!(),
+    }
+}
+
+// Appends the line of a record.
+fn write_line(alloc: Global, it: Record, text: &mut Vec<u8>) -> Result<(), Memory>
+    ensures line { OnOk result (text.new.items ≡ text.old.items ++ line_of it) }
+    ensures fits { OnOk result (FitsLine it) }
+{
+    let records = vec![in alloc; it]?;
+    write_records(alloc, &records, text)
+}

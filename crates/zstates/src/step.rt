@@ -1,0 +1,79 @@
+//! One update of a machine, as that of client 0.
+
+ghost use Rattle.std.specs.Prelude.{◌≡◌, ◌<◌, ◌+◌, IfOk, OnOk};
+ghost use Rattle.zops.specs.declared.limits.TheConstants.{MAX_APPLIED};
+ghost use Rattle.zcalls.specs.declared.call.Call.TheVariants.{Update as Called};
+ghost use Rattle.zworld_model.specs.PlainTree.{serve};
+ghost use Rattle.zstates.specs.support.Tables.{IsReady, tree_in};
+
+use crate::fresh::fresh;
+use std::alloc::Global;
+use zcalls::{CallNumber, Entry, Reply, Update};
+use zops::{MAX_APPLIED, Machine};
+use zpath::Memory;
+use ztree::ClientId;
+
+/// Applies an update. A machine that counted as many entries as it can is made anew before that.
+pub(crate) fn step(alloc: Global, machine: &mut Machine, update: Update) -> Result<Reply, Memory>
+    requires { IsReady machine.old }
+    ensures ok { IfOk result (λ reply.
+        (tree_in machine.new, reply) ≡ serve (tree_in machine.old) 0 (Called update)) }
+    ensures ready { OnOk result (IsReady machine.new) }
+{
+    make_room(alloc, machine)?;
+    enter(machine, update)
+}
+
+// Makes the machine anew if it counted as many entries as it can.
+fn make_room(alloc: Global, machine: &mut Machine) -> Result<(), Memory>
+    requires { IsReady machine.old }
+    ensures ready { OnOk result (IsReady machine.new) }
+    ensures room { OnOk result (machine.new.state.applied < MAX_APPLIED) }
+    ensures tree { OnOk result (tree_in machine.new ≡ tree_in machine.old) }
+{
+    if machine.applied() < MAX_APPLIED {
+        return Ok(());
+    }
+    *machine = fresh(alloc, machine)?;
+    Ok(())
+}
+
+// Applies an update, where the machine can count one more.
+fn enter(machine: &mut Machine, update: Update) -> Result<Reply, Memory>
+    requires ready { IsReady machine.old }
+    requires room { machine.old.state.applied < MAX_APPLIED }
+    ensures ok { IfOk result (λ reply.
+        (tree_in machine.new, reply) ≡ serve (tree_in machine.old) 0 (Called update)) }
+    ensures ready { OnOk result (IsReady machine.new) }
+{
+    let entry = Entry {
+        client: first_client(),
+        number: number(machine),
+        update,
+    };
+    match machine.apply(&entry)? {
+        Some(reply) => Ok(reply),
+        None => unreachable!(),
+    }
+}
+
+// Returns the client that all updates are of.
+fn first_client() -> ClientId
+    ensures { result ≡ 0 }
+{
+    match ClientId::new(0) {
+        Some(client) => client,
+        None => unreachable!(),
+    }
+}
+
+// Returns the number of the next entry.
+fn number(machine: &Machine) -> CallNumber
+    requires { machine.now.state.applied < MAX_APPLIED }
+    ensures { result ≡ machine.now.state.applied + 1 }
+{
+    match CallNumber::new(machine.applied() + 1) {
+        Some(number) => number,
+        None => unreachable!(),
+    }
+}
