@@ -27,12 +27,9 @@ A coordination service with ZooKeeper's data model and chain replication.
                               serves ZooKeeper's clients at 127.0.0.1:2181, in
                               memory: N is 1 to 16 (3), MS 10 to 3600000 (2000)
 ./zk serve --data DIR [--sync batch|never] [--journal MIB] ..
-                              keeps what it told in DIR, as a script does; its
-                              journal is shortened from MIB on, 1 to 1048576 (64)
-./zk compact --data DIR       shortens the journal of a server's folder, while no
-                              server runs on it
-The first script or race builds its program without proof, in about a minute,
-and each says that it isn't proved. Once it is proved, the proved program runs.
+                              keeps what it told in DIR, shortened from MIB on (64)
+./zk compact --data DIR       shortens a server's folder that isn't in use
+A script or race without a proved program builds one without proof, in a minute.
 
 ./zk prove [script|race|data|serve-data|serve|library]
                               proves the program of a command, the server in
