@@ -1,6 +1,6 @@
 -- The pieces of a snapshot's text.
 use Rattle.std.proofs.Common.{◌≡◌, ℕ, zero, suc, ◌+◌, ◌-◌, ◌<◌, ◌≤◌, List, [], ◌∷◌, ◌++◌, length, length-append, map, take, drop, get_or, refl, sym, ap, subst, ◌∙◌, append-nil, arith}
-use Rattle.std.proofs.lemmas.List.{drop-drop, drop_all, drop_more, length-drop, length-map, map-append, take_all, take_more}
+use Rattle.std.proofs.lemmas.List.{drop-drop, drop_all, drop_more, length-drop, length-map, map-append, take-append-drop, take_all, take_more}
 use Rattle.std.specs.List.{AllByRecursion}
 use Rattle.zops.specs.Machine.{MachineState}
 use Rattle.std.proofs.lemmas.List.Concat.{flat_map-cons}
@@ -12,7 +12,8 @@ use Rattle.zrecords.proofs.Texts.{are_lines, shorter, texts_join}
 use Rattle.zsnapshots.specs.States.{Fits, StateRow, WritingView, rows_of, spelled}
 use Rattle.zsnapshots.proofs.Places.{At, at_left, at_map, at_right}
 use Rattle.zsnapshots.proofs.WholeStates.{all-push}
-use Rattle.zstates.specs.Shortening.{IsAllWritten, IsPiece, ShorteningView}
+use Rattle.zstates.specs.Shortening.{IsAllWritten, IsPiece, ShorteningView, text_left}
+use Rattle.zstates.specs.Laws.{NothingIsLeft, PiecesAreAll, PiecesJoin}
 use Rattle.zstates.specs.States.{Seat, State}
 use Rattle.zstates.specs.Texts.{row_bytes, row_record, row_records, seat_record, snapshot_records}
 use Rattle.zstates.specs.support.Writing.{IsRecordWritten, IsShortening}
@@ -232,3 +233,21 @@ less_left old now before after written room = let more = longer old now before a
 -- what is read at a place stands there
 pub place : (seats : List Seat) (n : ℕ) (seat : Seat) → n < length seats → seat ≡ get_or seats n seat → At seats n seat
 place seats n seat within read = drop_more seats n seat within ∙ ap (λ (s : Seat). s ∷ drop (n + 1) seats) (sym read)
+
+-- ---- pieces one behind the other
+
+pub pieces_join : PiecesJoin
+pieces_join old new piece is =
+    let records = snapshot_records old.state in
+    let all = drop old.written records in
+    sym (ap text_of (take-append-drop is.count all))
+    ∙ texts_join (take is.count all) (drop is.count all)
+    ∙ ap (λ (t : List ℕ). t ++ text_of (drop is.count all)) (sym is.text)
+    ∙ ap (λ (rest : List Record). piece ++ text_of rest) (drop-drop is.count old.written records)
+    ∙ ap (λ (v : ShorteningView). piece ++ text_left v) (sym is.view)
+
+pub pieces_are_all : PiecesAreAll
+pieces_are_all s = refl
+
+pub nothing_left : NothingIsLeft
+nothing_left s is = ap text_of (drop_all s.written (snapshot_records s.state) is.all)

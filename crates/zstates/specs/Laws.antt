@@ -6,6 +6,7 @@ use Rattle.zrecords.specs.declared.record.Record.{Record}
 use Rattle.zstates.specs.Entries.{Entry, AreEntries, calls_again, entries_of, entries_text, records_of, IsEntriesText}
 use Rattle.zstates.specs.States.{State, IsSeated, opening_state, after}
 use Rattle.zstates.specs.Texts.{IsKeepable, IsTextOf, snapshot_text}
+use Rattle.zstates.specs.Shortening.{IsAllWritten, IsPiece, ShorteningView, text_left}
 
 -- ---- entries
 
@@ -47,6 +48,17 @@ NothingIsTheOpening = IsTextOf opening_state []
 
 abbrev pub SnapshotsKeepTheirs : Type 0
 SnapshotsKeepTheirs = (s : State) → IsKeepable s → IsTextOf s (snapshot_text s)
+
+-- what is left of a snapshot's text is the next piece and then the rest. At first that is all of it,
+-- and behind the last piece it is nothing
+abbrev pub PiecesJoin : Type 0
+PiecesJoin = (old new : ShorteningView) (piece : List ℕ) → IsPiece old new piece → text_left old ≡ piece ++ text_left new
+
+abbrev pub PiecesAreAll : Type 0
+PiecesAreAll = (s : State) → text_left (record { state = s; written = 0 }) ≡ snapshot_text s
+
+abbrev pub NothingIsLeft : Type 0
+NothingIsLeft = (s : ShorteningView) → IsAllWritten s → text_left s ≡ []
 
 -- with entries behind it, a text keeps the state to which they lead
 abbrev pub TextsGoOn : Type 0

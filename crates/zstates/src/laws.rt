@@ -1,7 +1,8 @@
 //! Laws of the definitions. Each function's contract is a law; its body does nothing.
 
 ghost use Rattle.zstates.specs.Laws.{EntriesComeBack, EntriesGoOn, EntriesTellApart, RecordsComeBack};
-ghost use Rattle.zstates.specs.Laws.{KeptStatesCanStart, NothingIsTheOpening, SeatsStay};
+ghost use Rattle.zstates.specs.Laws.{KeptStatesCanStart, NothingIsLeft, NothingIsTheOpening, SeatsStay};
+ghost use Rattle.zstates.specs.Laws.{PiecesAreAll, PiecesJoin};
 ghost use Rattle.zstates.specs.Laws.{SnapshotsKeepTheirs, TextsGoOn, TextsTellApart};
 ghost use Rattle.zstates.specs.Laws.{TreesAreTheirCalls};
 
@@ -31,6 +32,13 @@ pub fn texts_go_on()
     ensures nothing { NothingIsTheOpening }
     ensures snapshot { SnapshotsKeepTheirs }
     ensures on { TextsGoOn }
+{}
+
+/// Pieces, one behind the other, are a snapshot's text.
+pub fn pieces_join()
+    ensures join { PiecesJoin }
+    ensures all { PiecesAreAll }
+    ensures end { NothingIsLeft }
 {}
 
 /// A chain can begin with the tree of a state that a text keeps, and each session has its seat.

@@ -14,6 +14,7 @@ use std::alloc::Global;
 
 impl State {
     /// Reads the state that a text keeps: an optional snapshot, and entries behind it.
+    #[tactic(auto, using(crate::proofs::Texts::read_text, crate::proofs::Texts::read_fault))]
     pub fn read(alloc: Global, text: &[u8]) -> Result<State, ReadFault>
         ensures state { IfOk result (λ s. IsTextOf s.state text.now) }
         ensures whole { IfOk result (λ s. s.is_broken ≡ false) }

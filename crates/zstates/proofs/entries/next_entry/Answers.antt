@@ -16,10 +16,7 @@ returns-then-is_open-clause-none c =
     let read = rw c.in-Some.is at c.in_ok-record.ensures.some in
     open_alone c.args.text.now c.in-Some.rest.now c.in-Some.record read.0 read.1 c.in-Update.update c.in-Update.is (sym c.if-is_open.ensures)
 
-pub returns : goal.returns
-returns c =
+pub returns-clause-none : goal.returns-clause-none
+returns-clause-none c =
     let read = rw c.in-Some.is at c.in_ok-record.ensures.some in
-    record {
-      some = tt;
-      none = other_alone c.args.text.now c.in-Some.rest.now c.in-Some.record read.0 read.1 (other_no_password c.in-Some.record c.in-Fail.is) (other_no_update c.in-Some.record c.in-Fail.is);
-    }
+    other_alone c.args.text.now c.in-Some.rest.now c.in-Some.record read.0 read.1 (other_no_password c.in-Some.record c.in-Fail.is) (other_no_update c.in-Some.record c.in-Fail.is)
