@@ -1,0 +1,5 @@
+//! Tests of a folder's state: entries are applied, written as a snapshot, and read again.
+#![tactic(auto)]
+
+#[cfg(test)]
+mod texts;
