@@ -1,5 +1,6 @@
 //! A server for ZooKeeper's clients whose changes are kept. What a front makes is kept as one block
-//! of a file, and only then told. A service that is opened again makes the file's changes again.
+//! of a file, and only then told. A service that is opened again begins with what its file keeps.
+//! `shorten` puts a file with a snapshot alone in the place of one that has become long.
 //!
 //! ```text
 //! let mut kept = Kept::open(alloc, device, ServerId::first(), tick, now_ms)?;
