@@ -5,9 +5,10 @@ ghost use Rattle.zpath.specs.Grammar.{text_of};
 ghost use Rattle.zjute.specs.declared.limits.TheConstants.{MAX_FRAME};
 
 use std::alloc::Global;
+use zalloc::Memory;
 use zcalls::{Data, Names};
 use zjute::{Bytes, Texts};
-use zpath::{Memory, Path};
+use zpath::Path;
 
 /// Returns bytes of which there are few.
 pub(crate) fn bytes_of(alloc: Global, bytes: &[u8]) -> Result<Bytes, Memory>

@@ -7,7 +7,8 @@ use crate::listed::{Names, Replies};
 use crate::multi::Multi;
 use crate::reply::{PartReply, Reply};
 use std::alloc::Global;
-use zpath::{Memory, Name};
+use zalloc::Memory;
+use zpath::Name;
 
 impl Create {
     /// Returns a copy of the create.
@@ -15,9 +16,9 @@ impl Create {
         ensures { IfOk result (λ copy. copy ≡ self.now) }
     {
         Ok(Create {
-            path: self.path.copied(alloc)?,
+            path: self.path.clone()?,
             kind: self.kind,
-            bytes: self.bytes.copied(alloc)?,
+            bytes: self.bytes.clone()?,
         })
     }
 }
@@ -28,7 +29,7 @@ impl Delete {
         ensures { IfOk result (λ copy. copy ≡ self.now) }
     {
         Ok(Delete {
-            path: self.path.copied(alloc)?,
+            path: self.path.clone()?,
             version: self.version,
         })
     }
@@ -40,8 +41,8 @@ impl SetData {
         ensures { IfOk result (λ copy. copy ≡ self.now) }
     {
         Ok(SetData {
-            path: self.path.copied(alloc)?,
-            bytes: self.bytes.copied(alloc)?,
+            path: self.path.clone()?,
+            bytes: self.bytes.clone()?,
             version: self.version,
         })
     }
@@ -53,7 +54,7 @@ impl Check {
         ensures { IfOk result (λ copy. copy ≡ self.now) }
     {
         Ok(Check {
-            path: self.path.copied(alloc)?,
+            path: self.path.clone()?,
             version: self.version,
         })
     }
@@ -120,9 +121,9 @@ impl Query {
         ensures { IfOk result (λ copy. copy ≡ self.now) }
     {
         match self {
-            Query::GetData(path) => Ok(Query::GetData(path.copied(alloc)?)),
-            Query::Exists(path) => Ok(Query::Exists(path.copied(alloc)?)),
-            Query::GetChildren(path) => Ok(Query::GetChildren(path.copied(alloc)?)),
+            Query::GetData(path) => Ok(Query::GetData(path.clone()?)),
+            Query::Exists(path) => Ok(Query::Exists(path.clone()?)),
+            Query::GetChildren(path) => Ok(Query::GetChildren(path.clone()?)),
         }
     }
 }
@@ -145,7 +146,7 @@ impl PartReply {
         ensures { IfOk result (λ copy. copy ≡ self.now) }
     {
         match self {
-            PartReply::Created(path) => Ok(PartReply::Created(path.copied(alloc)?)),
+            PartReply::Created(path) => Ok(PartReply::Created(path.clone()?)),
             PartReply::Deleted => Ok(PartReply::Deleted),
             PartReply::Set(stat) => Ok(PartReply::Set(*stat)),
             PartReply::Checked => Ok(PartReply::Checked),
@@ -188,7 +189,7 @@ fn copied_names(alloc: Global, names: &[Name]) -> Result<Vec<Name>, Memory>
 {
     let mut copy = Vec::new(alloc);
     for name in names {
-        copy.push(name.copied(alloc)?)?;
+        copy.push(name.clone()?)?;
     }
     Ok(copy)
 }
@@ -199,7 +200,7 @@ impl Reply {
         ensures { IfOk result (λ copy. copy ≡ self.now) }
     {
         match self {
-            Reply::Created(path) => Ok(Reply::Created(path.copied(alloc)?)),
+            Reply::Created(path) => Ok(Reply::Created(path.clone()?)),
             Reply::Deleted => Ok(Reply::Deleted),
             Reply::Set(stat) => Ok(Reply::Set(*stat)),
             Reply::Multi(replies) => Ok(Reply::Multi(replies.copied(alloc)?)),
@@ -207,7 +208,7 @@ impl Reply {
             Reply::Pinged => Ok(Reply::Pinged),
             Reply::Closed => Ok(Reply::Closed),
             Reply::Ticked(tick, ended, removed) => Ok(Reply::Ticked(*tick, *ended, *removed)),
-            Reply::Data(bytes, stat) => Ok(Reply::Data(bytes.copied(alloc)?, *stat)),
+            Reply::Data(bytes, stat) => Ok(Reply::Data(bytes.clone()?, *stat)),
             Reply::Exists(stat) => Ok(Reply::Exists(*stat)),
             Reply::Children(names) => Ok(Reply::Children(names.copied(alloc)?)),
             Reply::Refused(refusal) => Ok(Reply::Refused(*refusal)),

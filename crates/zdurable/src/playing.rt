@@ -11,8 +11,8 @@ ghost use Rattle.zdurable.specs.Refused.{is_refused, takes_last};
 
 use memchr::memchr;
 use std::alloc::{AllocError, Global};
+use zalloc::Memory;
 use zlines::{Line, LineFault, read_line};
-use zpath::Memory;
 use zscript::{Servers, answer_line_strictly, script_world};
 use zworld::World;
 

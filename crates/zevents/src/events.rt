@@ -7,9 +7,10 @@ ghost use Rattle.zevents.specs.Events.{event, with_parent, part_events, parts_ev
 
 use crate::event::{Event, Events};
 use std::alloc::Global;
+use zalloc::Memory;
 use zcalls::{Part, PartReply, Reply, Update};
 use zjute::EventKind;
-use zpath::{Memory, Path};
+use zpath::Path;
 
 /// Returns the events of an update, by the reply to it, in the order in which they are told. The
 /// only error is out of memory.
@@ -52,7 +53,7 @@ fn add_all(
 fn add(alloc: Global, kind: EventKind, path: &Path, events: &mut Vec<Event>) -> Result<(), Memory>
     ensures { OnOk result (events.new.items ≡ events.old.items ++ event kind path.now ∷ []) }
 {
-    let path = path.copied(alloc)?;
+    let path = path.clone()?;
     events.push(Event { kind, path })?;
     Ok(())
 }

@@ -7,10 +7,10 @@ ghost use Rattle.zstates.specs.Entries.{AreEntries, entries_text, entry_records,
 ghost use Rattle.zstates.specs.States.{after, after_entry};
 
 use std::alloc::Global;
+use zalloc::Memory;
 use zalone::Made;
 use zcalls::{Reply, Update};
 use zfront::{Front, Password};
-use zpath::Memory;
 use zrecords::{Record, write_records};
 use zstates::{State, add_entry, is_open, no_password};
 

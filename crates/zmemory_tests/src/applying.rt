@@ -5,9 +5,10 @@ use crate::machines::{
 };
 use crate::values::{create_sequential, multi};
 use std::alloc::Global;
+use zalloc::Memory;
 use zcalls::{Entry, Query, Update};
 use zops::Machine;
-use zpath::{Memory, Path};
+use zpath::Path;
 use zstories::Ended;
 
 /// Applies a create, whose path is made where it is applied.

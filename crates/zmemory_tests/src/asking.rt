@@ -2,9 +2,10 @@
 
 use crate::machines::{can_be_copied, machine};
 use std::alloc::Global;
+use zalloc::Memory;
 use zcalls::{Query, Reply};
 use zops::Machine;
-use zpath::{Memory, Path};
+use zpath::Path;
 use zstories::Ended;
 
 /// Asks it for the names beneath the root.

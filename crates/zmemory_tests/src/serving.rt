@@ -5,9 +5,10 @@ ghost use Rattle.zcalls.specs.declared.limits.TheConstants.{MAX_CALL_NUMBER};
 
 use crate::taking::{acts, has_put};
 use std::alloc::Global;
+use zalloc::Memory;
 use zcalls::Query;
 use zliterals::{call_number, client};
-use zpath::{Memory, Path};
+use zpath::Path;
 use zprotocol::{Message, Out, Process};
 use zserver::{Server, Snapshot, Stopped, Taken};
 use zstories::Ended;

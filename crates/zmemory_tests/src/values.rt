@@ -1,8 +1,9 @@
 //! Paths and updates.
 
 use std::alloc::Global;
+use zalloc::Memory;
 use zcalls::{Create, Data, DataFault, Kind, Multi, Part, Ttl, Update};
-use zpath::{Memory, Path};
+use zpath::Path;
 
 /// Returns the path of this text, or that memory ran out.
 pub(crate) fn path(alloc: Global, text: &str) -> Result<Path, Memory> {

@@ -1,9 +1,10 @@
 //! A list of events that is run: an update and a query of one client, each from its beginning to its answer, at the only server.
 
 use std::alloc::Global;
+use zalloc::Memory;
 use zcalls::{Call, Create, Data, Kind, Query, Reply, Update};
 use zliterals::{client, server};
-use zpath::{Memory, Path};
+use zpath::Path;
 use zprotocol::Process;
 use zstories::Ended;
 use zworld::World;

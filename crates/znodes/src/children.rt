@@ -11,7 +11,8 @@ ghost use Rattle.znodes.specs.support.Reading.{name_at, names_at, AreNamesOf};
 use crate::nodes::Nodes;
 use crate::row::Row;
 use std::alloc::Global;
-use zpath::{Memory, Name};
+use zalloc::Memory;
+use zpath::Name;
 use zslots::{Id, List, Slots};
 
 impl Nodes {
@@ -49,7 +50,7 @@ fn push_name(alloc: Global, slots: &Slots<Row>, id: Id, names: &mut Vec<Name>) -
         (names.new.items ≡ names.old.items ++ names_at slots.now.items (id ∷ [])) }
 {
     if let Some(name) = last_name(slots, id) {
-        names.push(name.copied(alloc)?)?;
+        names.push(name.clone()?)?;
     }
     Ok(())
 }

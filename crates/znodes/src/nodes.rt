@@ -8,7 +8,8 @@ use crate::owners::Owners;
 use crate::row::Row;
 use std::alloc::Global;
 use std::marker::Model;
-use zpath::{Memory, Path};
+use zalloc::Memory;
+use zpath::Path;
 use zslots::{List, Slots};
 use ztree::Node;
 

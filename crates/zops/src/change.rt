@@ -72,7 +72,7 @@ fn made_path(
     ensures stopped { IfErr result (IsFirst (name_refusal store.now.tree kind path.now)) }
 {
     if !kind.is_sequential() {
-        return Ok(path.copied(alloc)?);
+        return Ok(path.clone()?);
     }
     let Some(counter) = store.seq(parent) else {
         unreachable!();
@@ -123,11 +123,11 @@ pub(crate) fn create(
         drop(made);
         return Err(Stop::Refused(Refusal::Full));
     }
-    let Ok(path) = made.copied(alloc) else {
+    let Ok(path) = made.clone() else {
         drop(made);
         return Err(Stop::Memory);
     };
-    let Ok(bytes) = create.bytes.copied(alloc) else {
+    let Ok(bytes) = create.bytes.clone() else {
         drop(made);
         drop(path);
         return Err(Stop::Memory);
@@ -176,7 +176,7 @@ pub(crate) fn set(alloc: Global, store: &mut Store, set: &SetData) -> Result<Cha
     if has_other_version(store, id, set.version) {
         return Err(Stop::Refused(Refusal::BadVersion));
     }
-    store.put_data(id, set.bytes.copied(alloc)?)?;
+    store.put_data(id, set.bytes.clone()?)?;
     match store.stat(id) {
         Some(stat) => Ok(ChangeReply::Set(stat)),
         None => unreachable!(),

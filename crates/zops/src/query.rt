@@ -5,8 +5,9 @@ ghost use Rattle.zcalls.specs.Step.{query_reply};
 ghost use Rattle.zcalls.specs.declared.call.Query.TheVariants.{GetData, Exists, GetChildren};
 
 use std::alloc::Global;
+use zalloc::Memory;
 use zcalls::{Names, Query, Refusal, Reply};
-use zpath::{Memory, Path};
+use zpath::Path;
 use zstore::Store;
 
 /// Answers a query.
@@ -31,7 +32,7 @@ fn get_data(alloc: Global, store: &Store, path: &Path) -> Result<Reply, Memory>
     let (Some(node), Some(stat)) = (store.node(id), store.stat(id)) else {
         unreachable!();
     };
-    Ok(Reply::Data(node.bytes.copied(alloc)?, stat))
+    Ok(Reply::Data(node.bytes.clone()?, stat))
 }
 
 // Returns the stat of the node at a path.

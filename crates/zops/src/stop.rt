@@ -5,8 +5,8 @@ ghost use Rattle.zops.specs.declared.stop.Stop.TheVariants.{Memory as no_memory}
 ghost use Rattle.zops.specs.declared.stop.Halt.TheVariants.{Memory as no_memory_left};
 
 use std::alloc::AllocFailed;
+use zalloc::Memory;
 use zcalls::Refusal;
-use zpath::Memory;
 
 /// Why a part did nothing.
 #[derive(Clone, Copy, Debug, PartialEq, Eq)]

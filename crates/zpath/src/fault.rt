@@ -71,10 +71,10 @@ impl<T: Drop> From<AllocFailed<T>> for PathFault {
     }
 }
 
-impl From<memory::Memory> for PathFault {
+impl From<zalloc::Memory> for PathFault {
     ghost from_gives = { λ _ fault. fault ≡ Memory };
 
-    fn from(_error: memory::Memory) -> PathFault {
+    fn from(_error: zalloc::Memory) -> PathFault {
         PathFault::Memory
     }
 }

@@ -11,7 +11,6 @@ ghost use Rattle.zpath.specs.Numbered.{numbered_path, is_over, numbered_fault, I
 
 use crate::fault::PathFault;
 use crate::list::NameList;
-use crate::memory::Memory;
 use crate::name::Name;
 use crate::{numbered, quick, scan};
 use arrayvec::ArrayVec;
@@ -21,6 +20,7 @@ use std::fmt;
 use std::hash::{Hash, Hasher};
 use std::marker::Model;
 use std::sync::Arc;
+use zalloc::Memory;
 
 /// An absolute path: the names from the root down.
 ///
@@ -119,7 +119,7 @@ impl Path {
         if let Some(fault) = scan::child_fault(self.names(), name) {
             return Err(fault);
         }
-        let last = name.copied(alloc)?;
+        let last = name.clone()?;
         let names = NameList::with_last(alloc, self.names(), last)?;
         Ok(Path::of(alloc, names)?)
     }
@@ -149,13 +149,6 @@ impl Path {
         let name = last.numbered(alloc, counter)?;
         let names = NameList::with_last(alloc, front, name)?;
         Ok(Path::of(alloc, names)?)
-    }
-
-    /// Returns a copy of the path that shares its list of names, or `Memory`.
-    pub fn copied(&self, _alloc: Global) -> Result<Path, Memory>
-        ensures { IfOk result (λ copy. copy ≡ self.now) }
-    {
-        Ok(self.front(self.depth)?)
     }
 
     // Makes the path with a list's names.

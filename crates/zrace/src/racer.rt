@@ -108,7 +108,7 @@ fn version_of(client: &mut Client, path: Path) -> Option<u64>
 }
 
 fn create(alloc: Global, path: &Path) -> Option<Call> {
-    let path = path.copied(alloc).ok()?;
+    let path = path.clone().ok()?;
     let bytes = Data::empty(alloc);
     Some(Call::Update(Update::Create(Create {
         path,
@@ -118,7 +118,7 @@ fn create(alloc: Global, path: &Path) -> Option<Call> {
 }
 
 fn set(alloc: Global, path: &Path) -> Option<Call> {
-    let path = path.copied(alloc).ok()?;
+    let path = path.clone().ok()?;
     let bytes = Data::empty(alloc);
     Some(Call::Update(Update::SetData(SetData {
         path,

@@ -37,6 +37,7 @@ pub use promises::HandsBack;
 pub use ticker::Ticker;
 pub use ticks::Ticks;
 pub use untraced::Untraced;
+pub use zalloc::Memory;
 pub use zcalls::{
     Call, Check, ClientId, Create, Data, DataFault, Delete, Expected, Kind, Multi, Part, PartReply,
     Query, Refusal, Reply, SessionId, SetData, Stat, Ttl, Update,
@@ -44,7 +45,7 @@ pub use zcalls::{
 pub use zclient::BeginFault;
 pub use zconsole::ends::{Closed, Console};
 pub use zconsole::outcome::OrderOutcome;
-pub use zpath::{Memory, Path, PathFault};
+use zpath::{Path, PathFault};
 pub use zprotocol::{JoinFault, RetireFault, ServerId};
 pub use zthreads::{Gate, Open};
 pub use ztraces::Stamp;

@@ -10,13 +10,13 @@ ghost use Rattle.zthreads.specs.Owned.{master_desk, server_desk};
 ghost use Rattle.zcaller.specs.Callers.{caller_desk};
 
 use std::alloc::Global;
+use zalloc::Memory;
 use zbells::Bells;
 use zcaller::Caller;
 use zcalls::ClientId;
 use zclient::ClientCore;
 use zdesks::{Desk, Stamped};
 use zmaster::Master;
-use zpath::Memory;
 use zprotocol::{Process, ServerId};
 use zrings::ends::{Rx, Tx};
 use zserver::Server;

@@ -15,8 +15,8 @@ use crate::servers::Servers;
 use memchr::memchr;
 use std::alloc::Global;
 use std::marker::Model;
+use zalloc::Memory;
 use zdevices::{Sink, write_all};
-use zpath::Memory;
 use zworld::World;
 
 /// Plays a script, line by line, on a world with every possible client.

@@ -15,7 +15,7 @@ use crate::taken::Taken;
 use std::alloc::Global;
 use std::marker::Model;
 use std::mem::replace;
-use zpath::Memory;
+use zalloc::Memory;
 use zprotocol::{Message, Out, Process, ServerId};
 
 /// One server of the chain, or a spare one. It doesn't know its own number: no row of its table

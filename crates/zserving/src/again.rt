@@ -8,10 +8,11 @@ use crate::numbers::long_of;
 use crate::wish::Wish;
 use crate::wishes::{tells, waits};
 use std::alloc::Global;
+use zalloc::Memory;
 use zcalls::{Call, Query, Refusal, Reply};
 use zevents::EventKind;
 use zjute::SetWatches;
-use zpath::{Memory, Path};
+use zpath::Path;
 use zwatches::Kind;
 
 /// Adds the watches that are set again: those of data, those that wait for a node, and those of

@@ -7,8 +7,8 @@ ghost use Rattle.zserving.specs.Looking.{look_at};
 
 use crate::seeing::seen;
 use std::alloc::Global;
+use zalloc::Memory;
 use zcalls::{Call, Query, Reply};
-use zpath::Memory;
 use ztables::Tables;
 use ztree::Zxid;
 use zwatches::Place;
@@ -28,7 +28,7 @@ pub fn looks_at(alloc: Global, places: &[Place]) -> Result<Vec<Call>, Memory>
 fn add_look(alloc: Global, place: &Place, calls: &mut Vec<Call>) -> Result<(), Memory>
     ensures { OnOk result (calls.new.items ≡ calls.old.items ++ look_at place.now ∷ []) }
 {
-    let path = place.path.copied(alloc)?;
+    let path = place.path.clone()?;
     calls.push(Call::Query(Query::Exists(path)))?;
     Ok(())
 }

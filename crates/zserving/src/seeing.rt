@@ -6,9 +6,10 @@ ghost use Rattle.zserving.specs.Looking as table;
 ghost use Rattle.zserving.specs.Looking.{seen_at};
 
 use std::alloc::Global;
+use zalloc::Memory;
 use zcalls::{Refusal, Reply, Stat};
 use zevents::{Event, EventKind};
-use zpath::{Memory, Path};
+use zpath::Path;
 use ztree::Zxid;
 use zwatches::{Kind, Place};
 
@@ -70,7 +71,7 @@ fn see_node(
 fn add(alloc: Global, kind: EventKind, path: &Path, events: &mut Vec<Event>) -> Result<(), Memory>
     ensures { OnOk result (events.new.items ≡ events.old.items ++ event kind path.now ∷ []) }
 {
-    let path = path.copied(alloc)?;
+    let path = path.clone()?;
     events.push(Event { kind, path })?;
     Ok(())
 }

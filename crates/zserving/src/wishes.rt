@@ -8,10 +8,11 @@ ghost use Rattle.zserving.specs.declared.wish.Wish.TheVariants as wish;
 use crate::again::add_all_again;
 use crate::wish::Wish;
 use std::alloc::Global;
+use zalloc::Memory;
 use zcalls::{Call, Query, Refusal, Reply};
 use zevents::{Event, EventKind};
 use zjute::{Asked, Look};
-use zpath::{Memory, Path};
+use zpath::Path;
 use zwatches::Kind;
 
 /// Returns the watches that a request asks for, by its calls and their replies.
@@ -117,7 +118,7 @@ pub(crate) fn waits(
 ) -> Result<(), Memory>
     ensures { OnOk result (list.new.items ≡ list.old.items ++ wish.Waits kind path.now ∷ []) }
 {
-    let path = path.copied(alloc)?;
+    let path = path.clone()?;
     list.push(Wish::Waits(kind, path))?;
     Ok(())
 }
@@ -132,7 +133,7 @@ pub(crate) fn tells(
     ensures { OnOk result
         (list.new.items ≡ list.old.items ++ wish.Tells (event kind path.now) ∷ []) }
 {
-    let path = path.copied(alloc)?;
+    let path = path.clone()?;
     list.push(Wish::Tells(Event { kind, path }))?;
     Ok(())
 }

@@ -9,7 +9,7 @@ use crate::row::SessionRow;
 use crate::table::Table;
 use std::alloc::Global;
 use std::collections::HashMap;
-use zpath::Memory;
+use zalloc::Memory;
 use zslots::{Id, Slots};
 use ztree::SessionId;
 

@@ -12,7 +12,7 @@ use crate::limits::MAX_SLOTS;
 use slab::Slab;
 use std::alloc::Global;
 use std::marker::Model;
-use zpath::Memory;
+use zalloc::Memory;
 
 /// An item with the generation of its Id.
 #[derive(Drop)]

@@ -11,8 +11,9 @@ ghost use Rattle.zstates.specs.Texts.{machine_of};
 ghost use Rattle.zstates.specs.support.Tables.{NodesAreLeft, tree_in};
 
 use std::alloc::Global;
+use zalloc::Memory;
 use zops::{Machine, RestoreFault, Restoring};
-use zpath::{Memory, Path};
+use zpath::Path;
 use ztree::SessionId;
 
 /// Returns a machine with the same tree.

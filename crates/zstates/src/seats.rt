@@ -5,9 +5,9 @@ ghost use Rattle.zstates.specs.support.Tables.{GetsSeat, KeepsSeats, password_at
 
 use crate::entries::no_password;
 use std::alloc::Global;
+use zalloc::Memory;
 use zcalls::Reply;
 use zops::Machine;
-use zpath::Memory;
 use zsittings::{Password, Sittings};
 use ztree::SessionId;
 use ztree::limits::MAX_SESSIONS;

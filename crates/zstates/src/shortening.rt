@@ -10,7 +10,7 @@ ghost use Rattle.zstates.specs.support.Writing.{IsRecordWritten};
 use crate::state::State;
 use std::alloc::Global;
 use std::marker::Model;
-use zpath::Memory;
+use zalloc::Memory;
 use zrecords::{Record, Row, write_records};
 use zsittings::Password;
 use zsnapshots::Writing;

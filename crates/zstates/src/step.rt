@@ -8,9 +8,9 @@ ghost use Rattle.zstates.specs.support.Tables.{IsReady, tree_in};
 
 use crate::fresh::fresh;
 use std::alloc::Global;
+use zalloc::Memory;
 use zcalls::{CallNumber, Entry, Reply, Update};
 use zops::{MAX_APPLIED, Machine};
-use zpath::Memory;
 use ztree::ClientId;
 
 /// Applies an update. A machine that counted as many entries as it can is made anew before that.

@@ -12,8 +12,9 @@ ghost use Rattle.zstore.specs.Restored.{rooted_tree, with_row, with_session_row,
 use crate::restore_fault::RestoreFault;
 use crate::store::Store;
 use std::alloc::Global;
+use zalloc::Memory;
 use znodes::Id;
-use zpath::{Memory, Path};
+use zpath::Path;
 use ztree::limits::{MAX_NODES, MAX_SESSIONS};
 use ztree::{Node, Session, SessionId, Zxid};
 

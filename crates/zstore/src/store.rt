@@ -6,8 +6,8 @@ ghost use Rattle.std.specs.FinMap as finite;
 use crate::log::Log;
 use std::alloc::Global;
 use std::marker::Model;
+use zalloc::Memory;
 use znodes::Nodes;
-use zpath::Memory;
 use zsessions::Sessions;
 use ztree::{Data, Node, Zxid};
 

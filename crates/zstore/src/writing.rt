@@ -13,8 +13,9 @@ ghost use Rattle.ztree.specs.Lawful.{IsPersistent, IsOwner};
 
 use crate::store::Store;
 use crate::undo::Undo;
+use zalloc::Memory;
 use znodes::{Content, Id, Marks};
-use zpath::{Memory, Path};
+use zpath::Path;
 use ztree::{Data, Node};
 
 impl Store {

@@ -38,7 +38,7 @@ fn copies_data(rt: HostRuntime) {
 // Returns whether a copy of data has the bytes of the text.
 fn is_copied(rt: &impl Abort, alloc: Global, text: &str) -> bool {
     let data = data(rt, alloc, text);
-    let copy = data.copied(alloc).expect(rt, "there is memory");
+    let copy = data.clone().expect(rt, "there is memory");
     copy.as_slice() == text.as_bytes()
 }
 

@@ -6,9 +6,10 @@ ghost use Rattle.zpath.specs.declared.limits.TheConstants.{MAX_TEXT_LEN};
 ghost use Rattle.ztables.specs.Telling as table;
 
 use std::alloc::Global;
+use zalloc::Memory;
 use zevents::Event;
 use zjute::{Bytes, KeeperState, WatcherEvent, WriteError, write_event};
-use zpath::{Memory, Path};
+use zpath::Path;
 
 // Returns an event as a frame.
 pub(crate) fn event_frame(alloc: Global, event: &Event) -> Result<Vec<u8>, Memory>

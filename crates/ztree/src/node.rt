@@ -3,7 +3,7 @@
 use crate::node_data::Data;
 use crate::zxid::Zxid;
 use std::alloc::Global;
-use zpath::Memory;
+use zalloc::Memory;
 
 /// A znode: the fields of the stat structure (ZooKeeper Programmer's Guide, "ZooKeeper Stat
 /// Structure"), its data, its TTL, and the counter that this project's profile gives each node.
@@ -115,7 +115,7 @@ impl Node {
         ensures { IfOk result (λ copy. copy ≡ self.now) }
     {
         Ok(Node {
-            bytes: self.bytes.copied(alloc)?,
+            bytes: self.bytes.clone()?,
             czxid: self.czxid,
             mzxid: self.mzxid,
             pzxid: self.pzxid,

@@ -11,7 +11,7 @@ use crate::place::Place;
 use crate::search::row_to_place;
 use crate::watch::Watch;
 use std::alloc::Global;
-use zpath::Memory;
+use zalloc::Memory;
 
 // Whether a watch of the kind was set where the node was.
 fn is_of_node(kind: Kind) -> bool
@@ -40,7 +40,7 @@ fn add_place(alloc: Global, places: &mut Vec<Place>, row: &Watch) -> Result<(), 
     if !is_of_node(row.kind) || is_last(places, row) {
         return Ok(());
     }
-    let path = row.path.copied(alloc)?;
+    let path = row.path.clone()?;
     let kind = row.kind;
     places.push(Place { path, kind })?;
     Ok(())

@@ -39,7 +39,7 @@ pub(crate) fn set_in(
     if rows.len() >= MAX_WATCHES {
         return Err(WatchFault::Full);
     }
-    let path = path.copied(alloc)?;
+    let path = path.clone()?;
     let watch = Watch {
         path,
         kind,

@@ -17,8 +17,9 @@ use crate::setting::set_in;
 use crate::watch::Watch;
 use std::alloc::Global;
 use std::marker::Model;
+use zalloc::Memory;
 use zjute::EventKind;
-use zpath::{Memory, Path};
+use zpath::Path;
 
 /// A set of watches, at most `MAX_WATCHES`.
 #[derive(Drop)]

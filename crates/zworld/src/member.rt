@@ -11,7 +11,7 @@ use crate::life::Life;
 use std::alloc::Global;
 use std::marker::Model;
 use std::mem::replace;
-use zpath::Memory;
+use zalloc::Memory;
 use zprotocol::{Message, Out, Process, ServerId};
 use zserver::{Server, Snapshot, Stopped, Taken};
 

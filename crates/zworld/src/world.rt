@@ -19,7 +19,7 @@ use crate::did::Did;
 use crate::processes::Processes;
 use std::alloc::Global;
 use std::marker::Model;
-use zpath::Memory;
+use zalloc::Memory;
 use zprotocol::ServerId;
 use zserver::Snapshot;
 use zworld_model::{CallEvent, Event, Settled};

@@ -1,4 +1,4 @@
-//! The error for out of memory, shared by every layer.
+//! The error.
 
 use std::alloc::{AllocError, AllocFailed};
 use thiserror::Error;
