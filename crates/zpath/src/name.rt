@@ -72,6 +72,13 @@ impl Name {
     {
         self.text.as_str()
     }
+
+    /// An invariant of every name: its bytes are a name's. The function does nothing.
+    pub(crate) fn keeps_its_form(&self)
+        ensures { IsName self.now }
+    {
+        let _ = &self.text;
+    }
 }
 
 impl fmt::Display for Name {

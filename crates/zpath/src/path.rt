@@ -119,6 +119,7 @@ impl Path {
         if let Some(fault) = scan::child_fault(self.names(), name) {
             return Err(fault);
         }
+        name.keeps_its_form();
         let last = name.clone()?;
         let names = NameList::with_last(alloc, self.names(), last)?;
         Ok(Path::of(alloc, names)?)
