@@ -51,7 +51,7 @@ fn shares_an_entry(rt: &impl Abort, alloc: Global) -> bool {
         update: Update::Open(9),
     };
     let first = SharedEntry::new(alloc, entry).expect(rt, "there is memory");
-    let second = first.copied(alloc).expect(rt, "there is memory");
+    let second = first.clone().expect(rt, "there is memory");
     drop(first);
     let shown = second.entry();
     shown.client == client(3)
