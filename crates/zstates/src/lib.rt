@@ -6,7 +6,7 @@
 //!
 //! ```text
 //! let mut state = State::read(alloc, text)?;
-//! let reply = state.apply(update, password)?;
+//! let (reply, update) = state.apply(update, password)?;
 //! let mut shortening = Shortening::new(&state)?;
 //! while let Some(piece) = shortening.next_piece()? { .. }
 //! ```
