@@ -34,6 +34,7 @@ impl<D: Device> Journal<D> {
         ensures open { OnOk result (IsOpen self.old × IsOpen self.new) }
         ensures failed { IsErrOf result PutError.Failed
             → D.faults (device_of self.old) < D.faults (device_of self.new) }
+        ensures faults { D.faults (device_of self.old) ≤ D.faults (device_of self.new) }
         ensures left { IfErr result (λ e. IsLeftBy e self.old self.new) }
         ensures closed { (IsOpen self.old → ⊥) → IsErrOf result PutError.Closed }
         ensures not_text { IsErrOf result PutError.NotText → ⊥ }
@@ -42,7 +43,7 @@ impl<D: Device> Journal<D> {
         if !self.is_open {
             return Err(PutError::Closed);
         }
-        self.is_open = false;
+        self.is_open = false; // until it has its head
         begin_file(&mut self.device, self.servers)?;
         self.renewed_end = HEAD_END;
         self.is_open = true;
@@ -69,6 +70,7 @@ impl<D: Device> Journal<D> {
         ensures open { OnOk result (IsOpen self.old × IsOpen self.new) }
         ensures failed { IsErrOf result PutError.Failed
             → D.faults (device_of self.old) < D.faults (device_of self.new) }
+        ensures faults { D.faults (device_of self.old) ≤ D.faults (device_of self.new) }
         ensures left { IfErr result (λ e. IsLeftBy e self.old self.new) }
         ensures closed { (IsOpen self.old → ⊥) → IsErrOf result PutError.Closed }
         ensures not_text { IsErrOf result PutError.NotText → IsText batch.now → ⊥ }
@@ -85,7 +87,7 @@ impl<D: Device> Journal<D> {
         }
         let block = block_of(self.alloc, batch)?;
         let block = block.as_slice();
-        self.is_open = false;
+        self.is_open = false; // until the block is written
         add_open_block(&mut self.device, block)?;
         self.renewed_end += block.len();
         self.is_open = true;
@@ -109,6 +111,7 @@ impl<D: Device> Journal<D> {
         ensures open { OnOk result (IsOpen self.old × IsOpen self.new) }
         ensures failed { IsErrOf result PutError.Failed
             → D.faults (device_of self.old) < D.faults (device_of self.new) }
+        ensures faults { D.faults (device_of self.old) ≤ D.faults (device_of self.new) }
         ensures left { IfErr result (λ e. IsLeftBy e self.old self.new) }
         ensures closed { (IsOpen self.old → ⊥) → IsErrOf result PutError.Closed }
         ensures not_text { IsErrOf result PutError.NotText → ⊥ }
@@ -117,7 +120,7 @@ impl<D: Device> Journal<D> {
         if !self.is_open {
             return Err(PutError::Closed);
         }
-        self.is_open = false;
+        self.is_open = false; // until the place is taken
         close_and_take(&mut self.device)?;
         self.end = self.renewed_end;
         self.is_open = true;
