@@ -15,8 +15,8 @@ use crate::reading::HEAD_END;
 use crate::{Device, Journal, PutError};
 
 impl<D: Device> Journal<D> {
-    /// Begins a new file beside this one, for as many servers. It has no batch yet. An unfinished
-    /// one of before counts for nothing. The file of the journal is untouched, also by a crash.
+    /// Begins a new file beside this one, for as many servers and with no batch yet. It takes the
+    /// place of an unfinished one. The journal's own file stays as it is, whatever crash comes.
     pub fn begin_renewal(&mut self) -> Result<(), PutError>
         requires { IsSound D.seen D.may_leave self.old }
         ensures begun { (servers : ℕ) (batches : List (List ℕ))
@@ -50,8 +50,8 @@ impl<D: Device> Journal<D> {
         Ok(())
     }
 
-    /// Puts a batch into the new file, behind its others. The file of the journal is untouched, also
-    /// by a crash. So a renewal takes its batches one at a time, and the whole is never in memory.
+    /// Puts a batch into the new file, behind its others. The journal's own file stays as it is,
+    /// whatever crash comes. Batches come one at a time, so they are never all in memory.
     pub fn put_renewed(&mut self, batch: &[u8]) -> Result<(), PutError>
         requires { IsInRenewal D.seen D.may_leave D.beside self.old }
         ensures added { (servers : ℕ) (batches next : List (List ℕ)) → IsOpen self.old
@@ -96,8 +96,8 @@ impl<D: Device> Journal<D> {
 
     /// Closes the new file, and puts it in the place of the old one. At `Ok` it is on the disk with
     /// its name: from then on every crash leaves its batches, and no others. A crash meanwhile
-    /// leaves the old file or the new one, whole. At a fault the journal takes nothing more; a file
-    /// that is opened again is one of the two.
+    /// leaves the old file or the new one, whole. After a fault the journal takes nothing more, and
+    /// the file that is opened again is one of the two.
     pub fn end_renewal(&mut self) -> Result<(), PutError>
         requires { IsInRenewal D.seen D.may_leave D.beside self.old }
         ensures renewed { (servers : ℕ) (batches next : List (List ℕ)) → IsOpen self.old
