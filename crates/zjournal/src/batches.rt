@@ -10,8 +10,8 @@ use crate::OpenError;
 use crate::checksum::checked;
 use std::alloc::Global;
 
-/// Reads the batches that begin at `start`. Returns their texts, one behind the other, and where the
-/// last one ends.
+/// Reads the batches that begin at `start`. Returns their texts, one behind the other, and where
+/// the last one ends.
 pub fn batches(alloc: Global, bytes: &[u8], start: usize) -> Result<(Vec<u8>, usize), OpenError>
     requires { start ≤ length bytes.now }
     ensures ok { IfOk result (λ read. (batches : List (List ℕ))

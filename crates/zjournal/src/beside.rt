@@ -36,7 +36,7 @@ fn add<D: Device>(device: &mut D, bytes: &[u8]) -> Result<(), DeviceError>
     device.add_beside(bytes)
 }
 
-/// Appends an open gate and a block to the new file. The closed gate at the block's end is left out.
+/// Appends an open gate and a block to the new file, but not the closed gate at the block's end.
 pub fn add_open_block<D: Device>(device: &mut D, block: &[u8]) -> Result<(), DeviceError>
     requires some { 0 < length block.now }
     requires durable { Only (D.seen device.old) (D.may_leave device.old) }

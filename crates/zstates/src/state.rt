@@ -101,8 +101,8 @@ impl State {
         Ok(&self.machine)
     }
 
-    /// An invariant of every state: each session of the tree has its seat, and a
-    /// chain can begin with the tree. The function does nothing.
+    /// Tells a caller's proof what holds of every state: each session of the tree has its seat, and
+    /// a chain can begin with the tree. The function does nothing.
     pub fn keeps_held(&self)
         ensures { IsHeld self.now.state }
     {
