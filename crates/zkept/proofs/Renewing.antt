@@ -1,9 +1,9 @@
 -- A journal that is shortened, piece by piece.
-use Rattle.std.proofs.Common.{◌≡◌, inl, inr, ⊎_elim, ◌∙◌, ℕ, ◌+◌, ◌<◌, ◌-◌, List, [], ◌∷◌, ◌++◌, length, take, drop, sym, ap, subst, arith, append_assoc, append-nil}
+use Rattle.std.proofs.Common.{◌≡◌, inl, inr, ⊎_elim, ◌∙◌, ℕ, ◌+◌, ◌<◌, ◌≤◌, ◌^◌, ◌-◌, List, [], ◌∷◌, ◌++◌, length, take, drop, sym, ap, subst, arith, append_assoc, append-nil}
 use Rattle.std.proofs.lemmas.List.{take-append-drop, drop-drop, drop_all}
 use Rattle.zjournal.specs.Device.{LeavesOnly}
 use Rattle.zjournal.specs.Journal.{IsAtRest, Keeps, IsOpen, device_of}
-use Rattle.zjournal.specs.Renewal.{IsRenewing, IsInRenewal, IsOldOrNew}
+use Rattle.zjournal.specs.Renewal.{IsRenewing, IsInRenewal, IsOldOrNew, renewed_size_of}
 use Rattle.zjournal.specs.Scan.{joined}
 use Rattle.zjournal.specs.declared.journal.Journal.{Journal}
 use Rattle.zjournal.proofs.Moments.{joined_runs, started, weaker}
@@ -15,7 +15,7 @@ use Rattle.zstates.specs.States.{State}
 use Rattle.zstates.specs.Texts.{snapshot_records, snapshot_text, IsKeepable, IsTextOf}
 use Rattle.zstates.proofs.Apart.{snapshots_keep}
 use Rattle.zkept.specs.Kept.{KeepsState}
-use Rattle.zkept.specs.Shortening.{IsOldOrState}
+use Rattle.zkept.specs.Shortening.{IsOldOrState, IsTooLong}
 use Rattle.zkept.proofs.Serving.{joined-more}
 
 -- ---- pieces
@@ -88,6 +88,12 @@ module _ {D : Type 0} (seen : D → List ℕ) (may_leave : D → List ℕ → Ty
     leaves_more new run =
         weaker moment left_since (device_of old) (device_of new) (Keeps servers batches) (IsOldOrState servers batches s)
         (joined_runs moment left_since (device_of old) (device_of now) (device_of new) (Keeps servers batches) (going.leaves servers batches rest) run) (λ file keeps. inl keeps)
+
+    -- the new file is full before its end
+    pub too_long : 2 ^ 60 ≤ renewed_size_of now → IsTooLong servers s
+    too_long full =
+        let so_far = going.so_far servers batches rest in
+        (so_far.0, text_left text, sym so_far.2, subst (λ (n : ℕ). 2 ^ 60 ≤ n) so_far.1.size full)
 
     -- and the end
     module _ (all : IsAllWritten text) where

@@ -1,4 +1,4 @@
-//! A machine with the tree of another, that cached no reply and applied no entry.
+//! A machine with the tree of another one. It has cached no reply, and applied no entry.
 
 ghost use Rattle.std.specs.Prelude.{◌≡◌, [], false, Some, IfOk, OnOk};
 ghost use Rattle.std.specs.FinMap.{entries, get, keys};

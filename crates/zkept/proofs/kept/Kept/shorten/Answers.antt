@@ -1,4 +1,4 @@
-use Rattle.std.proofs.Common.{true, refl}
+use Rattle.std.proofs.Common.{true, refl, rules}
 use Rattle.zjournal.specs.Journal.{device_of}
 use Rattle.zjournal.proofs.Moments.{weaker}
 use Rattle.zkept.specs.declared.kept.Kept.{Kept}
@@ -41,7 +41,7 @@ returns-clause-kept g c servers batches is_open serving =
     let next = c.in_ok-shorten.ensures.kept servers batches serving.takes serving.rest in (
       next.0,
       shortened_serves g.D.Device.seen g.D.Device.may_leave servers batches old new serving next.0 refl refl next.1 c.in_ok-shorten.ensures.open.1 next.3,
-      next.2,
+      search (rules, next.2),
     )
 
 pub returns-clause-sound : goal.returns-clause-sound
