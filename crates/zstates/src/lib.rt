@@ -22,6 +22,7 @@ mod fault;
 mod fresh;
 pub mod laws;
 mod lines;
+mod measuring;
 mod reading;
 mod rows;
 mod seats;
