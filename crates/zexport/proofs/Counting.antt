@@ -3,19 +3,22 @@ use Rattle.std.proofs.Common.{◌≡◌, ℕ, ◌+◌, ◌*◌, ◌<◌, ◌≤�
 use Rattle.std.specs.Prelude.{nat_lt, if◌then◌else◌}
 use Rattle.std.specs.List.{AllByRecursion, count_by, flat_map, sum_by}
 use Rattle.std.specs.FinMap as finite
-use Rattle.std.specs.FinMap.{FinMap, IsAntisymmetric, entries, get, insert, keys, len-entries}
+use Rattle.std.specs.Ordering.{is_eq}
+use Rattle.std.specs.FinMap.{entries, find, get, get-entries, insert, keys, len-entries}
 use Rattle.std.proofs.lemmas.List.Concat.{flat_map-append}
 use Rattle.zpath.specs.Grammar.{path_cmp}
 use Rattle.ztree.specs.declared.limits.TheConstants.{MAX_DATA, MAX_NODES}
 use Rattle.ztree.specs.declared.node.Node.{Node}
 use Rattle.ztree.specs.Tree.{Nodes, Path, Tree}
+use Rattle.ztree.specs.Lawful.{AllNodes}
 use Rattle.ztree.proofs.Maps.{is_there, same_some}
 use Rattle.ztree.proofs.Sorted.{paths_total, same_path}
 use Rattle.zstore.proofs.Left.{Left, left_all, left_is, left_next}
 use Rattle.zcalls.specs.Part.{is_owned}
 use Rattle.zexport.specs.declared.counts.TreeCounts.{TreeCounts}
 use Rattle.zexport.specs.Counts.{bytes_of, counts_of, has_counted, is_ephemeral}
-use Rattle.zexport.specs.Export.{ended, export_lines, export_text, lines_for}
+use Rattle.zexport.specs.Export.{ended, export_text, lines_for}
+use Rattle.zexport.specs.Laws.{IsWithinLimits}
 use Rattle.zexport.specs.support.Counting.{counted, HasRoom}
 
 -- ---- the rows of a map that are left, by their keys
@@ -66,21 +69,38 @@ none_left nodes (e ∷ rows) left = absurd (cc left.named)
 
 -- ---- what was written
 
--- the lines of the nodes that are left are still to be written
+-- nodes within their limits
+abbrev pub AreWithin : List (Path × Node) → Type 0
+AreWithin = AllByRecursion (λ (e : Path × Node). IsWithinLimits e.1)
+
+found_within : (es : List (Path × Node)) (q : Path) (n : Node) → AreWithin es → find path_cmp q es ≡ Some n → IsWithinLimits n
+found_within [] q n are found = cc
+found_within (e ∷ es) q n are found = by (is_eq (path_cmp q e.0)) found
+  where
+    by : (b : Bool) → cond b (Some e.1) (find path_cmp q es) ≡ Some n → IsWithinLimits n
+    by true here = subst IsWithinLimits (same_some e.1 n here) are.0
+    by false later = found_within es q n are.1 later
+
+all_within : (nodes : Nodes) → AreWithin (entries nodes) → AllNodes IsWithinLimits nodes
+all_within nodes are path n at = found_within (entries nodes) path n are (sym (get-entries nodes path) ∙ at)
+
+-- The lines of the nodes that are left are still to be written. All nodes are within their limits if
+-- these are.
 pub record IsWriting (t : Tree) (written : List ℕ) (paths : List Path) : Type 0 where
   pub rows : List (Path × Node)
   pub left : AreLeft t.nodes paths rows
+  pub within : AreWithin rows → AllNodes IsWithinLimits t.nodes
   pub all : export_text t ≡ written ++ flat_map ended (flat_map lines_for rows)
 
 flat_map-two : (a b : List (List ℕ)) → flat_map ended (a ++ b) ≡ flat_map ended a ++ flat_map ended b
 flat_map-two a b = flat_map-append ended a b
 
 pub writing_all : (t : Tree) (paths : List Path) → paths ≡ keys t.nodes → IsWriting t [] paths
-writing_all t paths named = record { rows = entries t.nodes; left = all_left t.nodes paths named; all = refl }
+writing_all t paths named = record { rows = entries t.nodes; left = all_left t.nodes paths named; within = all_within t.nodes; all = refl }
 
-pub writing_next : (t : Tree) (written : List ℕ) (path : Path) (paths : List Path) (n : Node) (text : List ℕ) → get t.nodes path ≡ Some n → text ≡ flat_map ended (lines_for (path, n))
+pub writing_next : (t : Tree) (written : List ℕ) (path : Path) (paths : List Path) (n : Node) (text : List ℕ) → get t.nodes path ≡ Some n → IsWithinLimits n → text ≡ flat_map ended (lines_for (path, n))
     → IsWriting t written (path ∷ paths) → IsWriting t (written ++ text) paths
-writing_next t written path paths n text got is w =
+writing_next t written path paths n text got limits is w =
     let first = first_of t.nodes path paths w.rows w.left in
     let same = same_some first.n n (sym first.at ∙ got) in
     let more = flat_map lines_for first.more in
@@ -90,6 +110,7 @@ writing_next t written path paths n text got is w =
     record {
       rows = first.more;
       left = first.left;
+      within = λ more. w.within (subst AreWithin (sym (first.is ∙ ap (λ m. (path, m) ∷ first.more) same)) (limits, more));
       all = w.all ∙ ap (λ (x : List ℕ). written ++ x) split ∙ sym (append_assoc written text (flat_map ended more));
     }
 
@@ -101,15 +122,18 @@ writing_done t written w =
     let none = none_left t.nodes w.rows w.left in
     sym (w.all ∙ ap (λ rows. written ++ flat_map ended (flat_map lines_for rows)) none ∙ append-nil written)
 
+pub writing_within : (t : Tree) (written : List ℕ) → IsWriting t written [] → AllNodes IsWithinLimits t.nodes
+writing_within t written w = w.within (subst AreWithin (sym (none_left t.nodes w.rows w.left)) tt)
+
 -- what was written is a prefix of all
 pub writing_front : (t : Tree) (written : List ℕ) (paths : List Path) → IsWriting t written paths → (more : List ℕ) × (export_text t ≡ written ++ more)
 writing_front t written paths w = (flat_map ended (flat_map lines_for w.rows), w.all)
 
 -- and so is a prefix of the next node's lines behind it
-pub writing_part : (t : Tree) (written : List ℕ) (path : Path) (paths : List Path) (n : Node) (text front back : List ℕ) → get t.nodes path ≡ Some n → text ≡ flat_map ended (lines_for (path, n))
+pub writing_part : (t : Tree) (written : List ℕ) (path : Path) (paths : List Path) (n : Node) (text front back : List ℕ) → get t.nodes path ≡ Some n → IsWithinLimits n → text ≡ flat_map ended (lines_for (path, n))
     → text ≡ front ++ back → IsWriting t written (path ∷ paths) → (more : List ℕ) × (export_text t ≡ (written ++ front) ++ more)
-writing_part t written path paths n text front back got is split w =
-    let next = writing_next t written path paths n text got is w in
+writing_part t written path paths n text front back got limits is split w =
+    let next = writing_next t written path paths n text got limits is w in
     let more = flat_map ended (flat_map lines_for next.rows) in
     (back ++ more, next.all ∙ ap (λ (x : List ℕ). (written ++ x) ++ more) split ∙ ap (λ (x : List ℕ). x ++ more) (sym (append_assoc written front back)) ∙ append_assoc (written ++ front) back more)
 

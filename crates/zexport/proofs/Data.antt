@@ -1,6 +1,6 @@
 -- The text of data is a word, and is read as the data.
 use Rattle.std.proofs.Common.{◌≡◌, ℕ, zero, suc, ◌<◌, ◌≤◌, ◌+◌, ◌*◌, ◌/◌, ◌%◌, ◌-◌, Bool, true, false, not, ◌&&◌, ◌||◌, cond, List, [], ◌∷◌, ◌++◌, length, length-append, codes, slice_index, replicate, Some, Ok, refl, sym, ap, ◌∙◌, arith}
-use Rattle.std.specs.Prelude.{nat_le, nat_lt}
+use Rattle.std.specs.Prelude.{nat_eq, nat_le, nat_lt}
 use Rattle.std.specs.List.{AllByRecursion}
 use Rattle.std.specs.Str.{bytes_eq}
 use Rattle.std.proofs.lemmas.Bool.{leb-true}
@@ -13,8 +13,10 @@ use Rattle.base64.proofs.Tables.{all_below_at, are_tables_alphabet, is_alphabet_
 use Rattle.base64.proofs.EngineFacts.{decode_of-encode_of}
 use Rattle.base64.proofs.RoundTrip.{length-encode_symbols}
 use Rattle.zpath.specs.Grammar.{is_empty}
+use Rattle.zpath.proofs.NameTests.{not_above}
 use Rattle.ztree.specs.declared.limits.TheConstants.{MAX_DATA}
 use Rattle.zlines.specs.LineWords.{data_of, data_text, full_data}
+use Rattle.zlines.proofs.Numerals.{filled}
 use Rattle.zexport.proofs.Words.{AreMarks, IsMark, IsWord, marks-append}
 
 abbrev table : List ℕ
@@ -80,7 +82,7 @@ never true = refl
 never false = refl
 
 not_a_dash : (text : List ℕ) → HasTwo text → bytes_eq text (codes "-") ≡ false
-not_a_dash text two = rw two.is (never _)
+not_a_dash text two = rw two.is (never (nat_eq two.first 45))
 
 some_bytes : (text : List ℕ) → HasTwo text → 0 < length text
 some_bytes text two = rw two.is (omega arith)
@@ -89,19 +91,21 @@ some_bytes text two = rw two.is (omega arith)
 
 kept : (bytes : List ℕ) → is_empty bytes ≡ false → length bytes ≤ MAX_DATA → full_data (Ok bytes) ≡ Some bytes
 kept bytes some short =
-    let few : nat_lt MAX_DATA (length bytes) ≡ false = grind (arith, nat_tests) in
+    let few : nat_lt MAX_DATA (length bytes) ≡ false = not_above MAX_DATA (length bytes) short in
     rw (some, few) refl
 
-nothing : (bytes : List ℕ) → is_empty bytes ≡ true → bytes ≡ []
+pub nothing : (bytes : List ℕ) → is_empty bytes ≡ true → bytes ≡ []
 nothing [] e = refl
-nothing (b ∷ bytes) e = grind (arith, nat_tests)
+nothing (b ∷ bytes) e = let some = filled (b ∷ bytes) (omega arith) in cc
 
 pub data_of-text : (bytes : List ℕ) → IsBytes bytes → length bytes ≤ MAX_DATA → data_of (data_text bytes) ≡ Some bytes
 data_of-text bytes are short = by (is_empty bytes) refl
   where
     by : (b : Bool) → is_empty bytes ≡ b → data_of (cond b (codes "-") (encode_of standard bytes)) ≡ Some bytes
     by true e = ap Some (sym (nothing bytes e))
-    by false e = rw (not_a_dash (encode_of standard bytes) (two_symbols bytes e), decode_of-encode_of standard bytes refl are) (kept bytes e short)
+    by false e =
+        ap (λ b. cond b (Some []) (full_data (decode_of standard (encode_of standard bytes)))) (not_a_dash (encode_of standard bytes) (two_symbols bytes e))
+        ∙ ap full_data (decode_of-encode_of standard bytes refl are) ∙ kept bytes e short
 
 pub data_word : (bytes : List ℕ) → IsBytes bytes → IsWord (data_text bytes)
 data_word bytes are = by (is_empty bytes) refl
@@ -127,4 +131,5 @@ data_length bytes short = by (is_empty bytes)
         let both = length-append (encode_symbols table bytes) (replicate (padding_len (length bytes)) 61) in
         let padding = length-replicate (padding_len (length bytes)) 61 in
         let few = padding_few (length bytes) in
-        omega (arith, symbols, both, padding, few)
+        let all : length (encode_symbols table bytes ++ replicate (padding_len (length bytes)) 61) ≤ 90000 = omega (arith, symbols, both, padding, few, short) in
+        all

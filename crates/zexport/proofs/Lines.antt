@@ -10,7 +10,7 @@ use Rattle.zpath.specs.declared.limits.TheConstants.{MAX_TEXT_LEN}
 use Rattle.zpath.specs.Grammar.{has_bad_byte, is_name_byte, segment_of, text_of, IsName, IsPath}
 use Rattle.zpath.specs.Faults.{fault_of, names_of}
 use Rattle.zpath.proofs.Spelling.{names_of-text_of, text_has_no_fault}
-use Rattle.ztree.specs.declared.limits.TheConstants.{MAX_TTL}
+use Rattle.ztree.specs.declared.limits.TheConstants.{MAX_DATA, MAX_TTL}
 use Rattle.ztree.specs.declared.node.Node.{Node}
 use Rattle.ztree.specs.Tree.{Path}
 use Rattle.zcalls.specs.declared.call.Call.TheVariants.{Update}
@@ -57,7 +57,7 @@ kind_of-text ttl few = by (ttl == 0) refl
     by false e = timed ttl (grind (arith, nat_tests)) few
 
 digits_marks : (n : ℕ) → n < 2 ^ 64 → AreMarks (decimal n)
-digits_marks = decimal_by_steps (λ n ds. AreMarks ds) one more
+digits_marks n small = decimal_by_steps (λ n ds. AreMarks ds) one more n small
   where
     one : (n : ℕ) → n < 10 → AreMarks ((48 + n) ∷ [])
     one n small = ((omega arith, omega arith), tt)
@@ -105,7 +105,7 @@ segments_marks (name ∷ names) are =
 pub path_word : (path : Path) → IsPath path → IsWord (text_of path)
 path_word [] is = record { some = omega arith; marks = ((omega arith, omega arith), tt) }
 path_word (name ∷ names) is = record {
-  some = omega (arith, length-append (segment_of name) (flat_map segment_of names));
+  some = omega arith;
   marks = segments_marks (name ∷ names) is.names;
 }
 
@@ -158,7 +158,7 @@ module _ (path : Path) (n : Node) (is : IsPath path) (within : IsWithinLimits n)
       (well_formed (codes "1") create_words create_are create_short) (words_of-spaced (codes "1") create_words create_are)
       (kind_of-text n.ttl within.ttl) (text_has_no_fault path is) (names_of-text_of path is) (data_of-text n.bytes within.bytes within.short)
 
-module _ (bytes : List ℕ) (are_bytes : IsBytes bytes) (short : length bytes ≤ 65536) where
+module _ (bytes : List ℕ) (are_bytes : IsBytes bytes) (short : length bytes ≤ MAX_DATA) where
   abbrev set_words : List Word
   set_words = codes "set" ∷ codes "/" ∷ codes "any" ∷ data_text bytes ∷ []
 

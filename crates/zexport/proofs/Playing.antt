@@ -38,6 +38,7 @@ use Rattle.zlines.specs.Line.{line_of}
 use Rattle.zops.proofs.Creating.{created-done}
 use Rattle.zexport.specs.Export.{create_line, export_lines, lines_for, root_lines, set_line}
 use Rattle.zexport.specs.Laws.{after_line, after_lines, said_of, ExportsMakeNoEphemerals, ExportsMakeTheirTree, HasLines, IsWithinLimits, said_if}
+use Rattle.zexport.proofs.Data.{nothing}
 use Rattle.zexport.proofs.Lines.{create_read, kind_for, set_read}
 use Rattle.zexport.proofs.Shown.{Mirrors, kept, kept_there, len-changed, made_unowned, mirrors_more, mirrors_owned, not_shown, owner_none, same_said, shown, shown-changed, shown_of, unowned}
 
@@ -61,9 +62,8 @@ no_long_name (name ∷ names) are = rw (not_above MAX_NAME_LEN (length name) are
 not_over : (path : Path) → IsPath path → is_over path ≡ false
 not_over path is = rw (no_long_name path is.names, not_above MAX_TEXT_LEN (length (text_of path)) is.short) refl
 
-nothing : (bytes : List ℕ) → is_empty bytes ≡ true → bytes ≡ []
-nothing [] e = refl
-nothing (b ∷ bytes) e = grind (arith, nat_tests)
+under : (limit n : ℕ) → n < limit → nat_le limit n ≡ false
+under limit n h = grind (arith, nat_tests)
 
 len-more : (nodes : Nodes) (path : Path) (n : Node) (most : ℕ) → finite.len nodes < most → finite.len (finite.insert nodes path n) ≤ most
 len-more nodes path n most few = len-insert-most paths_total same_path nodes path n most few
@@ -86,30 +86,31 @@ plain_kind ttl = by (ttl == 0) refl
 abbrev with_one : Tree → Path → List ℕ → ℕ → Tree
 with_one u path bytes ttl = with_next_zxid (with_node u path bytes 0 ttl false)
 
+-- no test of a create holds
+record CanCome (u : Tree) (path : Path) : Type 0 where
+  below : is_root path ≡ false
+  above : not (has_node u.nodes (parent_of path)) ≡ false
+  persistent : node_has is_owned u.nodes (parent_of path) ≡ false
+  fits : is_over path ≡ false
+  free : has_node u.nodes path ≡ false
+  few : nat_le MAX_NODES (finite.len u.nodes) ≡ false
+  young : nat_le (ZXID_BOUND - 1) u.zxid ≡ false
+
 module _ (u : Tree) (path : Path) (bytes : List ℕ) (ttl : ℕ) (k : Kind) (plain : IsPlain k ttl) where
   abbrev create : Create
   create = record { path = path; kind = k; bytes = bytes }
 
-  record CanCome : Type 0 where
-    below : is_root path ≡ false
-    above : not (has_node u.nodes (parent_of path)) ≡ false
-    persistent : node_has is_owned u.nodes (parent_of path) ≡ false
-    fits : is_over path ≡ false
-    free : has_node u.nodes path ≡ false
-    few : nat_le MAX_NODES (finite.len u.nodes) ≡ false
-    young : nat_le (ZXID_BOUND - 1) u.zxid ≡ false
-
   made_there : made_path u.nodes k path ≡ path
   made_there = rw plain.named refl
 
-  not_refused : CanCome → first_that_holds (create_refusals u 1 create) ≡ None
+  not_refused : CanCome u path → first_that_holds (create_refusals u 1 create) ≡ None
   not_refused can = first_that_holds-none (create_refusals u 1 create)
       (plain.there u.sessions 1, (can.below, (can.above, (can.persistent, (rw plain.named refl, (ap is_over made_there ∙ can.fits, (ap (has_node u.nodes) made_there ∙ can.free, (can.few, tt))))))))
 
-  done : CanCome → create_step u 1 create ≡ Ok (with_node u path bytes 0 ttl false, Created path)
+  done : CanCome u path → create_step u 1 create ≡ Ok (with_node u path bytes 0 ttl false, Created path)
   done can = rw (plain.named, plain.nobodys, plain.lives) at (created-done u 1 create (not_refused can))
 
-  pub step_create : CanCome → (step u 1 (act.Create create)).0 ≡ with_one u path bytes ttl
+  pub step_create : CanCome u path → (step u 1 (act.Create create)).0 ≡ with_one u path bytes ttl
   unfolding step
   step_create can = rw (can.young, done can) refl
 
@@ -170,8 +171,8 @@ module _ (t : Tree) (has : HasLines t) where
         persistent = above_unowned;
         fits = not_over path (has.paths path (is_there _ n is_there_now));
         free = ap is_some (not_shown (finite.get u.nodes path) (made.mirrors path ∙ ap kept free_now));
-        few = let fewer = fewer in let few = made.few in grind (arith, nat_tests, fewer, few);
-        young = let fewer = fewer in let young = made.young in grind (arith, nat_tests, fewer, young);
+        few = let most = fewer in let fewest = made.few in under MAX_NODES (finite.len u.nodes) (omega (arith, most, fewest));
+        young = let most = fewer in let early = made.young in under (ZXID_BOUND - 1) u.zxid (omega (arith, most, early));
       }
 
       comes : after_line u (line_of (create_line path n)) ≡ with_one u path n.bytes n.ttl

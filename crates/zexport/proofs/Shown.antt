@@ -44,14 +44,14 @@ owner_none n e = grind (arith, nat_tests)
 -- a node that is kept is there, and nobody's
 pub kept_there : (o : Option Node) (n : Node) → n.owner ≡ 0 → shown o ≡ kept (Some n) → (m : Node) × (o ≡ Some m)
 kept_there None n nobodys e =
-    let is : None ≡ Some (0, said_of n) = e ∙ ap (λ b. cond b None (Some (0, said_of n))) (unowned n nobodys) in
+    let is : ◌≡◌ {A = Option Shown} None (Some (0, said_of n)) = e ∙ ap (λ b. cond b None (Some (0, said_of n))) (unowned n nobodys) in
     cc
 kept_there (Some m) n nobodys e = (m, refl)
 
 -- no node of the second map has an owner
 pub made_unowned : (o : Option Node) (found : Option Node) (m : Node) → shown o ≡ kept found → o ≡ Some m → m.owner ≡ 0
 made_unowned o None m e is =
-    let clash : Some (shown_of m) ≡ None = sym (ap shown is) ∙ e in
+    let clash : ◌≡◌ {A = Option Shown} (Some (shown_of m)) None = sym (ap shown is) ∙ e in
     cc
 made_unowned o (Some n) m e is = by (is_owned n) (sym (ap shown is) ∙ e)
   where

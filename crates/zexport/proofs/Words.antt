@@ -3,8 +3,10 @@ use Rattle.std.proofs.Common.{◌≡◌, ℕ, ◌<◌, ◌≤◌, ◌+◌, Bool,
 use Rattle.std.specs.List.{AllByRecursion, list_any, sum_by}
 use Rattle.std.proofs.lemmas.Bool.Decides.{nat_tests}
 use Rattle.zpath.specs.Grammar.{is_empty}
+use Rattle.zpath.proofs.NameTests.{not_above}
 use Rattle.zlines.specs.declared.limits.TheConstants.{MAX_LINE}
 use Rattle.zlines.specs.LineWords.{Word, words_of, is_plain, is_long, is_malformed}
+use Rattle.zlines.proofs.Numerals.{filled}
 use Rattle.zlines.proofs.Spacing.{has_odd}
 
 -- visible bytes
@@ -65,15 +67,12 @@ plain_spaced : (word : Word) (words : List Word) → AreWords (word ∷ words) �
 plain_spaced word [] are = plain_marks word are.0.marks
 plain_spaced word (next ∷ words) are = plain_append word (32 ∷ spaced next words) are.0.marks (plain_spaced next words are.1)
 
-filled : (word : Word) → 0 < length word → is_empty word ≡ false
-filled word some = grind (arith, nat_tests)
-
 none_empty : (words : List Word) → AreWords words → list_any is_empty words ≡ false
 none_empty [] are = refl
 none_empty (word ∷ words) are = rw (filled word are.0.some) (none_empty words are.1)
 
 short_line : (line : List ℕ) → length line ≤ MAX_LINE → is_long line ≡ false
-short_line line short = grind (arith, nat_tests)
+short_line line short = not_above MAX_LINE (length line) short
 
 pub well_formed : (word : Word) (words : List Word) → AreWords (word ∷ words) → length (spaced word words) ≤ MAX_LINE → is_malformed (spaced word words) ≡ false
 well_formed word words are short =
