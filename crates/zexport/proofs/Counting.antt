@@ -15,7 +15,7 @@ use Rattle.ztree.proofs.Maps.{is_there, same_some}
 use Rattle.ztree.proofs.Sorted.{paths_total, same_path}
 use Rattle.zstore.proofs.Left.{Left, left_all, left_is, left_next}
 use Rattle.zcalls.specs.Part.{is_owned}
-use Rattle.zexport.specs.declared.counts.TreeCounts.{TreeCounts}
+use Rattle.zexport.specs.declared.tally.TreeCounts.{TreeCounts}
 use Rattle.zexport.specs.Counts.{bytes_of, counts_of, has_counted, is_ephemeral}
 use Rattle.zexport.specs.Export.{ended, export_text, lines_for}
 use Rattle.zexport.specs.Laws.{IsWithinLimits}

@@ -4,3 +4,4 @@ pub mod Lines
 pub mod Shown
 pub mod Playing
 pub mod Counting
+pub mod Worked

@@ -1,5 +1,5 @@
 -- The lines of a tree are read as the calls that they are to be.
-use Rattle.std.proofs.Common.{◌≡◌, ℕ, zero, suc, ◌<◌, ◌≤◌, ◌+◌, ◌^◌, Bool, true, false, not, ◌&&◌, ◌||◌, cond, List, [], ◌∷◌, ◌++◌, length, length-append, codes, slice_index, Some, None, Ok, decimal, refl, sym, ap, subst, ◌∙◌, arith}
+use Rattle.std.proofs.Common.{◌≡◌, ℕ, zero, suc, ◌<◌, ◌≤◌, ◌+◌, ◌%◌, ◌^◌, Bool, true, false, not, ◌&&◌, ◌||◌, cond, List, [], ◌∷◌, ◌++◌, length, length-append, codes, slice_index, Some, None, Ok, decimal, refl, sym, ap, subst, ◌∙◌, append_assoc, arith}
 use Rattle.std.specs.Prelude.{nat_le, nat_lt, ◌==◌, if◌then◌else◌}
 use Rattle.std.specs.Fmt.{IsBoundedDecimal}
 use Rattle.std.specs.List.{AllByRecursion, flat_map}
@@ -151,7 +151,7 @@ module _ (path : Path) (n : Node) (is : IsPath path) (within : IsWithinLimits n)
 
   create_is : create_line path n ≡ spaced (codes "1") create_words
   unfolding create_line
-  create_is = refl
+  create_is = simp append_assoc
 
   pub create_read : line_of (create_line path n) ≡ Ok (Call (record { client = 1; call = Update (act.Create (record { path = path; kind = kind_for n.ttl; bytes = n.bytes })) }))
   create_read = ap line_of create_is ∙ read_create (spaced (codes "1") create_words) (text_of path) (kind_text n.ttl) (data_text n.bytes) path (kind_for n.ttl) n.bytes

@@ -110,7 +110,7 @@ module _ (u : Tree) (path : Path) (bytes : List ℕ) (ttl : ℕ) (k : Kind) (pla
   done : CanCome u path → create_step u 1 create ≡ Ok (with_node u path bytes 0 ttl false, Created path)
   done can = rw (plain.named, plain.nobodys, plain.lives) at (created-done u 1 create (not_refused can))
 
-  pub step_create : CanCome u path → (step u 1 (act.Create create)).0 ≡ with_one u path bytes ttl
+  step_create : CanCome u path → (step u 1 (act.Create create)).0 ≡ with_one u path bytes ttl
   unfolding step
   step_create can = rw (can.young, done can) refl
 
@@ -303,7 +303,7 @@ module _ (t : Tree) (has : HasLines t) where
       by true none = root_without (nothing own.root.bytes none)
       by false some = subst (IsMade first) (sym set_comes) root_with
 
-  pub all_made : IsMade t.nodes (after_lines opening_tree (export_lines t))
+  all_made : IsMade t.nodes (after_lines opening_tree (export_lines t))
   all_made =
       let made = made_all first own.rows (left_next paths_total same_path t.nodes finite.empty ([], own.root) own.rows left_root)
       (ap is_some (get-insert-here paths_total same_path finite.empty [] own.root)) (after_lines opening_tree (root_lines own.root.bytes)) made_root in

@@ -1,6 +1,6 @@
 -- Words of visible bytes, with a space between each two: what such a line is cut into.
 use Rattle.std.proofs.Common.{◌≡◌, ℕ, ◌<◌, ◌≤◌, ◌+◌, Bool, true, false, eqb, not, ◌||◌, List, [], ◌∷◌, ◌++◌, length, length-append, refl, arith}
-use Rattle.std.specs.List.{AllByRecursion, list_any, sum_by}
+use Rattle.std.specs.List.{AllByRecursion, list_any}
 use Rattle.std.proofs.lemmas.Bool.Decides.{nat_tests}
 use Rattle.zpath.specs.Grammar.{is_empty}
 use Rattle.zpath.proofs.NameTests.{not_above}
@@ -79,8 +79,13 @@ well_formed word words are short =
     rw (short_line (spaced word words) short, plain_spaced word words are, words_of-spaced word words are) (none_empty (word ∷ words) are)
 
 -- how long it is
-pub length-spaced : (word : Word) (words : List Word) → length (spaced word words) ≡ length word + sum_by (λ w. 1 + length w) words
+abbrev pub line_length : List Word → ℕ
+line_length [] = 0
+line_length (word ∷ words) = (1 + length word) + line_length words
+
+pub length-spaced : (word : Word) (words : List Word) → length (spaced word words) ≡ length word + line_length words
 length-spaced word [] = omega arith
 length-spaced word (next ∷ words) =
     let more = length-spaced next words in
-    omega (arith, length-append word (32 ∷ spaced next words), more)
+    let all : length (word ++ 32 ∷ spaced next words) ≡ length word + ((1 + length next) + line_length words) = omega (arith, length-append word (32 ∷ spaced next words), more) in
+    all

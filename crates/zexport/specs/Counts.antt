@@ -6,7 +6,7 @@ use Rattle.std.specs.FinMap.{entries}
 use Rattle.ztree.specs.declared.node.Node.{Node}
 use Rattle.ztree.specs.Tree.{Path, Tree}
 use Rattle.zcalls.specs.Part.{is_owned}
-use Rattle.zexport.specs.declared.counts.TreeCounts.{TreeCounts}
+use Rattle.zexport.specs.declared.tally.TreeCounts.{TreeCounts}
 
 -- the bytes of a node's data
 abbrev pub bytes_of : Path × Node → ℕ

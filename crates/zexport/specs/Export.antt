@@ -16,7 +16,7 @@ kind_text ttl = if ttl == 0 then codes "p" else codes "t:" ++ decimal ttl
 
 -- client 1 creates the node
 unfoldable pub create_line : Path → Node → List ℕ
-create_line path n = codes "1 create " ++ text_of path ++ codes " " ++ kind_text n.ttl ++ codes " " ++ data_text n.bytes
+create_line path n = codes "1 create " ++ text_of path ++ 32 ∷ kind_text n.ttl ++ 32 ∷ data_text n.bytes
 
 -- client 1 writes the root's data
 unfoldable pub set_line : List ℕ → List ℕ

@@ -1,7 +1,7 @@
 -- What is told of a tree and of the folder that keeps it. This is the project's profile.
 use Rattle.std.specs.Prelude.{ℕ, List, ◌++◌, codes}
 use Rattle.std.specs.Fmt.{decimal}
-use Rattle.zexport.specs.declared.counts.TreeCounts.{TreeCounts}
+use Rattle.zexport.specs.declared.tally.TreeCounts.{TreeCounts}
 use Rattle.zexport.specs.declared.stat.FolderStat.{FolderStat}
 
 -- What an export leaves out, since no line makes it. A later sequential create may find the name that

@@ -9,16 +9,16 @@
 //! tree again, as far as lines can say it (`laws`).
 #![tactic(auto)]
 
-mod counts;
 mod export;
 mod fault;
 pub mod laws;
 mod line;
 mod rows;
 mod stat;
+mod tally;
 
-pub use counts::{TreeCounts, counts};
 pub use export::write_export;
 pub use fault::ExportFault;
 pub use stat::{FolderStat, write_left_out, write_stat};
+pub use tally::{TreeCounts, counts};
 pub use zops::Machine;

@@ -44,7 +44,7 @@ fn write_root(bytes: &[u8], out: &mut String) -> Result<(), Memory>
 fn write_set(bytes: &[u8], out: &mut String) -> Result<(), Memory>
     ensures { OnOk result (Writes out.old out.new (set_line bytes.now)) }
 {
-    out.push_str("1 set / any ")?;
+    write!(out, "1 set / any ")?;
     write_data(bytes, out)
 }
 

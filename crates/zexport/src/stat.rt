@@ -4,7 +4,7 @@ ghost use Rattle.std.specs.Prelude.{◌≡◌, OnOk};
 ghost use Rattle.zlines.specs.Texts.{Writes};
 ghost use Rattle.zexport.specs.Texts.{left_out_text, stat_text};
 
-use crate::counts::TreeCounts;
+use crate::tally::TreeCounts;
 use zalloc::Memory;
 
 /// How large a folder is.

@@ -2,7 +2,7 @@
 use Rattle.std.specs.Prelude.{ℕ, ◌+◌, ◌≤◌, ◌^◌, length, nat_lt, if◌then◌else◌}
 use Rattle.ztree.specs.declared.node.Node.{Node}
 use Rattle.zcalls.specs.Part.{is_owned}
-use Rattle.zexport.specs.declared.counts.TreeCounts.{TreeCounts}
+use Rattle.zexport.specs.declared.tally.TreeCounts.{TreeCounts}
 
 -- the counts with one node more, but for the number of nodes
 abbrev pub counted : Node → TreeCounts → TreeCounts

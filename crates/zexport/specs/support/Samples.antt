@@ -5,7 +5,7 @@ use Rattle.ztree.specs.declared.node.Node.{Node}
 use Rattle.ztree.specs.declared.session.Session.{Session}
 use Rattle.ztree.specs.Tree.{Tree, new_node}
 use Rattle.ztree.specs.support.Samples.{a, at_a, at_a_b, b}
-use Rattle.zexport.specs.declared.counts.TreeCounts.{TreeCounts}
+use Rattle.zexport.specs.declared.tally.TreeCounts.{TreeCounts}
 use Rattle.zexport.specs.declared.stat.FolderStat.{FolderStat}
 
 -- a node of change 3 with this data, this owner and this TTL

@@ -1,5 +1,5 @@
 use Rattle.zexport.proofs.Counting.{IsCounting}
-use Rattle.zexport.proofs.counts.counts.Given as goal
+use Rattle.zexport.proofs.tally.counts.Given as goal
 
 -- the nodes that weren't gone over are still to be counted
 abbrev pub invariant-loop-path : goal.invariant-loop-path
