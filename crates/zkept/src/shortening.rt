@@ -78,8 +78,8 @@ impl<D: Device> Kept<D> {
     }
 }
 
-// Writes the text of the state beside the journal's file, and puts it in its place.
-fn shorten<D: Device>(
+/// Writes the text of the state beside the journal's file, and puts it in its place.
+pub(crate) fn shorten<D: Device>(
     alloc: Global,
     journal: &mut Journal<D>,
     state: &State,

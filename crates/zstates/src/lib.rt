@@ -23,6 +23,7 @@ mod fault;
 mod fresh;
 pub mod laws;
 mod lines;
+mod measuring;
 mod reading;
 mod rows;
 mod seats;

@@ -89,9 +89,9 @@ impl State {
         Ok((reply, update))
     }
 
-    // Returns its machine, if it has memory.
-    pub(crate) fn machine(&self) -> Result<&Machine, Memory>
-        ensures tree { IfOk result (λ m. tree_in m.now ≡ self.now.state.tree) }
+    /// Returns a machine that has its tree; or `Memory`.
+    pub fn machine(&self) -> Result<&Machine, Memory>
+        ensures tree { IfOk result (λ m. m.now.state.service.plain ≡ self.now.state.tree) }
         ensures whole { IfOk result (λ m. m.now.is_broken ≡ false) }
         ensures sound { OnOk result (self.now.is_broken ≡ false) }
     {
