@@ -1,8 +1,9 @@
-use Rattle.std.proofs.Common.{◌≡◌, ℕ, ◌+◌, ◌++◌, [], true, false, Some, sym, subst, ◌∙◌, arith}
+use Rattle.std.proofs.Common.{◌≡◌, ℕ, List, ◌+◌, ◌++◌, [], true, false, Some, sym, subst, ◌∙◌, arith}
+use Rattle.std.proofs.lemmas.List.{nil_from_length}
 use Rattle.std.specs.FinMap.{get}
 use Rattle.ztree.proofs.Maps.{is_there}
 use Rattle.zexport.specs.support.Counting.{text_for}
-use Rattle.zexport.proofs.Counting.{IsWriting, writing_all, writing_next, writing_part, writing_there}
+use Rattle.zexport.proofs.Counting.{IsWriting, writing_all, writing_done, writing_next, writing_part, writing_there, writing_within}
 use Rattle.zexport.proofs.export.write_export.Goals as goal
 
 pub loop-path-init : goal.loop-path-init
@@ -25,6 +26,19 @@ unreachable-requires g c =
 
 pub loop-path-preserved : goal.loop-path-preserved
 loop-path-preserved g c =
+    let t = c.args.machine.now.state.service.plain in
+    let so_far = c.loop-path.invariant in
+    let left = subst (IsWriting t so_far.0) c.in-Some.ensures.steps.0 so_far.3 in
+    let found = rw c.in-Some-node.is at c.node.ensures.node in
+    let n = c.in-Some-node.node.now in (
+      so_far.0 ++ text_for c.in-Some.path n,
+      g.met.K.Sink.took_both _ _ _ _ _ so_far.1 c.in-Ok.ensures.took,
+      g.met.K.Sink.failed_both _ _ _ 0 0 so_far.2 c.in-Ok.ensures.sound,
+      writing_next t so_far.0 c.in-Some.path c.next.new.self.rest.items n found c.in-Ok.ensures.within left,
+    )
+
+pub loop-path-preserved-in-Ok : goal.loop-path-preserved-in-Ok
+loop-path-preserved-in-Ok g c =
     let t = c.args.machine.now.state.service.plain in
     let so_far = c.loop-path.invariant in
     let left = subst (IsWriting t so_far.0) c.in-Some.ensures.steps.0 so_far.3 in
@@ -59,5 +73,20 @@ returns-in-Err-clause-unsayable g c is has =
     let found = rw c.in-Some-node.is at c.node.ensures.node in
     c.in-Err.ensures.unsayable is (has.within c.in-Some.path c.in-Some-node.node.now found)
 
+pub returns-clause-took : goal.returns-clause-took
+returns-clause-took g c =
+    let t = c.args.machine.now.state.service.plain in
+    let so_far = c.loop-path.invariant in
+    let none : c.loop-path.path-iterator.rest.items ≡ [] = nil_from_length _ (omega (arith, c.in-None.ensures.steps.0, c.loop-path.path-iterator.rest.ok)) in
+    subst (λ (x : List ℕ). g.K.Sink.took c.args.sink.now x c.loop-path.sink) (writing_done t so_far.0 (subst (IsWriting t so_far.0) none so_far.3)) so_far.1
+
 pub returns-clause-has_lines : goal.returns-clause-has_lines
-returns-clause-has_lines g c = ?
+returns-clause-has_lines g c =
+    let t = c.args.machine.now.state.service.plain in
+    let so_far = c.loop-path.invariant in
+    let none : c.loop-path.path-iterator.rest.items ≡ [] = nil_from_length _ (omega (arith, c.in-None.ensures.steps.0, c.loop-path.path-iterator.rest.ok)) in
+    record {
+      lawful = c.keeps_lawful.ensures.lawful;
+      paths = c.keeps_lawful.ensures.paths;
+      within = writing_within t so_far.0 (subst (IsWriting t so_far.0) none so_far.3);
+    }
