@@ -1,11 +1,14 @@
 -- The nodes of a tree, gone over by their paths: what was counted and written, and what is left.
-use Rattle.std.proofs.Common.{◌≡◌, ℕ, ◌+◌, ◌*◌, ◌<◌, ◌≤◌, ◌^◌, Bool, true, false, cond, List, [], ◌∷◌, ◌++◌, length, map, Some, refl, sym, ap, subst, ◌∙◌, append_assoc, append-nil, arith}
+use Rattle.std.proofs.Common.{◌≡◌, ℕ, ◌+◌, ◌*◌, ◌<◌, ◌≤◌, ◌^◌, Bool, true, false, cond, List, [], ◌∷◌, ◌++◌, length, map, Option, Some, refl, sym, ap, subst, ◌∙◌, append_assoc, append-nil, arith}
 use Rattle.std.specs.Prelude.{nat_lt, if◌then◌else◌}
 use Rattle.std.specs.List.{AllByRecursion, count_by, flat_map, sum_by}
 use Rattle.std.specs.FinMap as finite
 use Rattle.std.specs.Ordering.{is_eq}
-use Rattle.std.specs.FinMap.{entries, find, get, get-entries, insert, keys, len-entries}
+use Rattle.std.specs.FinMap.{FinMap, entries, find, get, get-entries, insert, keys, len-entries}
+use Rattle.std.proofs.lemmas.List.{length-map}
 use Rattle.std.proofs.lemmas.List.Concat.{flat_map-append}
+use Rattle.std.proofs.lemmas.List.Sums.{sum_by-cons}
+use Rattle.std.specs.declared.cmp.Ordering.{Ordering}
 use Rattle.zpath.specs.Grammar.{path_cmp}
 use Rattle.ztree.specs.declared.limits.TheConstants.{MAX_DATA, MAX_NODES}
 use Rattle.ztree.specs.declared.node.Node.{Node}
@@ -19,7 +22,7 @@ use Rattle.zexport.specs.declared.tally.TreeCounts.{TreeCounts}
 use Rattle.zexport.specs.Counts.{bytes_of, counts_of, has_counted, is_ephemeral}
 use Rattle.zexport.specs.Export.{ended, export_text, lines_for}
 use Rattle.zexport.specs.Laws.{IsWithinLimits}
-use Rattle.zexport.specs.support.Counting.{counted, HasRoom}
+use Rattle.zexport.specs.support.Counting.{counted, text_for, HasRoom}
 
 -- ---- the rows of a map that are left, by their keys
 
@@ -73,13 +76,13 @@ none_left nodes (e ∷ rows) left = absurd (cc left.named)
 abbrev pub AreWithin : List (Path × Node) → Type 0
 AreWithin = AllByRecursion (λ (e : Path × Node). IsWithinLimits e.1)
 
+found_here : (b : Bool) (n m : Node) (later : Option Node) → (later ≡ Some n → IsWithinLimits n) → IsWithinLimits m → cond b (Some m) later ≡ Some n → IsWithinLimits n
+found_here true n m later further here found = subst IsWithinLimits (same_some m n found) here
+found_here false n m later further here found = further found
+
 found_within : (es : List (Path × Node)) (q : Path) (n : Node) → AreWithin es → find path_cmp q es ≡ Some n → IsWithinLimits n
 found_within [] q n are found = cc
-found_within (e ∷ es) q n are found = by (is_eq (path_cmp q e.0)) found
-  where
-    by : (b : Bool) → cond b (Some e.1) (find path_cmp q es) ≡ Some n → IsWithinLimits n
-    by true here = subst IsWithinLimits (same_some e.1 n here) are.0
-    by false later = found_within es q n are.1 later
+found_within (e ∷ es) q n are found = found_here (is_eq (path_cmp q e.0)) n e.1 (find path_cmp q es) (found_within es q n are.1) are.0 found
 
 all_within : (nodes : Nodes) → AreWithin (entries nodes) → AllNodes IsWithinLimits nodes
 all_within nodes are path n at = found_within (entries nodes) path n are (sym (get-entries nodes path) ∙ at)
@@ -92,26 +95,40 @@ pub record IsWriting (t : Tree) (written : List ℕ) (paths : List Path) : Type 
   pub within : AreWithin rows → AllNodes IsWithinLimits t.nodes
   pub all : export_text t ≡ written ++ flat_map ended (flat_map lines_for rows)
 
-flat_map-two : (a b : List (List ℕ)) → flat_map ended (a ++ b) ≡ flat_map ended a ++ flat_map ended b
-flat_map-two a b = flat_map-append ended a b
-
 pub writing_all : (t : Tree) (paths : List Path) → paths ≡ keys t.nodes → IsWriting t [] paths
 writing_all t paths named = record { rows = entries t.nodes; left = all_left t.nodes paths named; within = all_within t.nodes; all = refl }
 
-pub writing_next : (t : Tree) (written : List ℕ) (path : Path) (paths : List Path) (n : Node) (text : List ℕ) → get t.nodes path ≡ Some n → IsWithinLimits n → text ≡ flat_map ended (lines_for (path, n))
-    → IsWriting t written (path ∷ paths) → IsWriting t (written ++ text) paths
-writing_next t written path paths n text got limits is w =
+-- the next of them, and what is left behind its lines
+record IsNext (t : Tree) (written : List ℕ) (path : Path) (paths : List Path) (n : Node) (rows : List (Path × Node)) : Type 0 where
+  more : List (Path × Node)
+  left : AreLeft t.nodes paths more
+  is : rows ≡ (path, n) ∷ more
+  all : export_text t ≡ (written ++ text_for path n) ++ flat_map ended (flat_map lines_for more)
+
+next_of : (t : Tree) (written : List ℕ) (path : Path) (paths : List Path) (n : Node) → get t.nodes path ≡ Some n → (w : IsWriting t written (path ∷ paths)) → IsNext t written path paths n w.rows
+next_of t written path paths n got w =
     let first = first_of t.nodes path paths w.rows w.left in
     let same = same_some first.n n (sym first.at ∙ got) in
-    let more = flat_map lines_for first.more in
-    let split : flat_map ended (flat_map lines_for w.rows) ≡ text ++ flat_map ended more =
-    ap (λ rows. flat_map ended (flat_map lines_for rows)) first.is ∙ flat_map-two (lines_for (path, first.n)) more
-    ∙ ap (λ m. flat_map ended (lines_for (path, m)) ++ flat_map ended more) same ∙ ap (λ (x : List ℕ). x ++ flat_map ended more) (sym is) in
+    let more = flat_map ended (flat_map lines_for first.more) in
+    let is : w.rows ≡ (path, n) ∷ first.more = first.is ∙ ap (λ (m : Node). (path, m) ∷ first.more) same in
     record {
-      rows = first.more;
+      more = first.more;
       left = first.left;
-      within = λ more. w.within (subst AreWithin (sym (first.is ∙ ap (λ m. (path, m) ∷ first.more) same)) (limits, more));
-      all = w.all ∙ ap (λ (x : List ℕ). written ++ x) split ∙ sym (append_assoc written text (flat_map ended more));
+      is = is;
+      all = w.all ∙ ap (λ (x : List ℕ). written ++ x)
+          (ap (λ (rows : List (Path × Node)). flat_map ended (flat_map lines_for rows)) is ∙ flat_map-append ended (lines_for (path, n)) (flat_map lines_for first.more))
+          ∙ sym (append_assoc written (text_for path n) more);
+    }
+
+pub writing_next : (t : Tree) (written : List ℕ) (path : Path) (paths : List Path) (n : Node) → get t.nodes path ≡ Some n → IsWithinLimits n
+    → IsWriting t written (path ∷ paths) → IsWriting t (written ++ text_for path n) paths
+writing_next t written path paths n got limits w =
+    let next = next_of t written path paths n got w in
+    record {
+      rows = next.more;
+      left = next.left;
+      within = λ more. w.within (subst AreWithin (sym next.is) (limits, more));
+      all = next.all;
     }
 
 pub writing_there : (t : Tree) (written : List ℕ) (path : Path) (paths : List Path) → IsWriting t written (path ∷ paths) → (n : Node) × (get t.nodes path ≡ Some n)
@@ -130,11 +147,11 @@ pub writing_front : (t : Tree) (written : List ℕ) (paths : List Path) → IsWr
 writing_front t written paths w = (flat_map ended (flat_map lines_for w.rows), w.all)
 
 -- and so is a prefix of the next node's lines behind it
-pub writing_part : (t : Tree) (written : List ℕ) (path : Path) (paths : List Path) (n : Node) (text front back : List ℕ) → get t.nodes path ≡ Some n → IsWithinLimits n → text ≡ flat_map ended (lines_for (path, n))
-    → text ≡ front ++ back → IsWriting t written (path ∷ paths) → (more : List ℕ) × (export_text t ≡ (written ++ front) ++ more)
-writing_part t written path paths n text front back got limits is split w =
-    let next = writing_next t written path paths n text got limits is w in
-    let more = flat_map ended (flat_map lines_for next.rows) in
+pub writing_part : (t : Tree) (written : List ℕ) (path : Path) (paths : List Path) (n : Node) (front back : List ℕ) → get t.nodes path ≡ Some n
+    → text_for path n ≡ front ++ back → IsWriting t written (path ∷ paths) → (more : List ℕ) × (export_text t ≡ (written ++ front) ++ more)
+writing_part t written path paths n front back got split w =
+    let next = next_of t written path paths n got w in
+    let more = flat_map ended (flat_map lines_for next.more) in
     (back ++ more, next.all ∙ ap (λ (x : List ℕ). (written ++ x) ++ more) split ∙ ap (λ (x : List ℕ). x ++ more) (sym (append_assoc written front back)) ∙ append_assoc (written ++ front) back more)
 
 -- ---- what was counted
@@ -152,6 +169,10 @@ pub record IsCounting (t : Tree) (c : TreeCounts) (paths : List Path) : Type 0 w
   pub ephemerals : c.ephemerals + count_by is_ephemeral rows ≡ (counts_of t).ephemerals
   pub counters : c.counters + count_by has_counted rows ≡ (counts_of t).counters
   pub others : c ≡ record (counts_of t) { bytes = c.bytes; ephemerals = c.ephemerals; counters = c.counters }
+
+-- how many keys a map has
+pub len_keys : {K X : Type 0} {R : K → K → Ordering} (m : FinMap R X) (ks : List K) → ks ≡ keys m → length ks ≡ finite.len m
+len_keys {K = K} {X = X} m ks is = ap (λ (l : List K). length l) is ∙ length-map (entries m) (λ (e : K × X). e.0) ∙ sym (len-entries m)
 
 pub counting_all : (t : Tree) (c : TreeCounts) (paths : List Path) → paths ≡ keys t.nodes → finite.len t.nodes ≤ MAX_NODES
     → c ≡ record (counts_of t) { bytes = 0; ephemerals = 0; counters = 0 } → IsCounting t c paths
@@ -184,9 +205,8 @@ counting_room t c path paths counting =
 pub counting_there : (t : Tree) (c : TreeCounts) (path : Path) (paths : List Path) → IsCounting t c (path ∷ paths) → (n : Node) × (get t.nodes path ≡ Some n)
 counting_there t c path paths counting = let first = first_of t.nodes path paths counting.rows counting.left in (first.n, first.at)
 
-count_more : (b : Bool) (before rest all : ℕ) → before + (cond b (1 + rest) rest) ≡ all → (before + cond b 1 0) + rest ≡ all
-count_more true before rest all e = omega (arith, e)
-count_more false before rest all e = omega (arith, e)
+add_up : (before x rest sum all : ℕ) → sum ≡ x + rest → before + sum ≡ all → (before + x) + rest ≡ all
+add_up before x rest sum all one e = omega (arith, one, e)
 
 count_few : (b : Bool) (before done : ℕ) → before ≤ done → before + cond b 1 0 ≤ done + 1
 count_few true before done few = omega (arith, few)
@@ -201,6 +221,8 @@ counting_next t c path paths n got short counting =
     let few : counting.done + length ((path, n) ∷ first.more) ≤ MAX_NODES = subst (λ rows. counting.done + length rows ≤ MAX_NODES) is counting.few in
     let bytes_few = counting.bytes_few in
     let bytes : c.bytes + sum_by bytes_of ((path, n) ∷ first.more) ≡ (counts_of t).bytes = subst (λ rows. c.bytes + sum_by bytes_of rows ≡ (counts_of t).bytes) is counting.bytes in
+    let ephemerals : c.ephemerals + count_by is_ephemeral ((path, n) ∷ first.more) ≡ (counts_of t).ephemerals = subst (λ rows. c.ephemerals + count_by is_ephemeral rows ≡ (counts_of t).ephemerals) is counting.ephemerals in
+    let counters : c.counters + count_by has_counted ((path, n) ∷ first.more) ≡ (counts_of t).counters = subst (λ rows. c.counters + count_by has_counted rows ≡ (counts_of t).counters) is counting.counters in
     record {
       rows = first.more;
       left = first.left;
@@ -209,11 +231,12 @@ counting_next t c path paths n got short counting =
       bytes_few = omega (arith, bytes_few, short);
       ephemerals_few = count_few (is_owned n) c.ephemerals counting.done counting.ephemerals_few;
       counters_few = count_few (nat_lt 0 n.seq) c.counters counting.done counting.counters_few;
-      bytes = omega (arith, bytes);
-      ephemerals = count_more (is_owned n) c.ephemerals (count_by is_ephemeral first.more) (counts_of t).ephemerals
-          (subst (λ rows. c.ephemerals + count_by is_ephemeral rows ≡ (counts_of t).ephemerals) is counting.ephemerals);
-      counters = count_more (nat_lt 0 n.seq) c.counters (count_by has_counted first.more) (counts_of t).counters
-          (subst (λ rows. c.counters + count_by has_counted rows ≡ (counts_of t).counters) is counting.counters);
+      bytes = add_up c.bytes (length n.bytes) (sum_by bytes_of first.more) (sum_by bytes_of ((path, n) ∷ first.more)) (counts_of t).bytes
+          (sum_by-cons bytes_of (path, n) first.more) bytes;
+      ephemerals = add_up c.ephemerals (cond (is_owned n) 1 0) (count_by is_ephemeral first.more) (count_by is_ephemeral ((path, n) ∷ first.more)) (counts_of t).ephemerals
+          (sum_by-cons (λ (e : Path × Node). cond (is_ephemeral e) 1 0) (path, n) first.more) ephemerals;
+      counters = add_up c.counters (cond (nat_lt 0 n.seq) 1 0) (count_by has_counted first.more) (count_by has_counted ((path, n) ∷ first.more)) (counts_of t).counters
+          (sum_by-cons (λ (e : Path × Node). cond (has_counted e) 1 0) (path, n) first.more) counters;
       others = ap (counted n) counting.others;
     }
 

@@ -6,12 +6,14 @@ ghost use Rattle.zdevices.specs.Device.{Between, Failed, TookBeginning};
 ghost use Rattle.zexport.specs.declared.fault.ExportFault.TheVariants.{Ttl, Write};
 ghost use Rattle.zexport.specs.Export.{export_text};
 ghost use Rattle.zexport.specs.Laws.{HasLines, IsWithinLimits};
+ghost use Rattle.zexport.specs.support.Counting.{text_for};
 
 use crate::fault::ExportFault;
 use crate::line::write_lines;
 use std::alloc::Global;
 use zdevices::{Sink, write_all};
 use zops::Machine;
+use zpath::Path;
 use ztree::Node;
 use ztree::limits::MAX_TTL;
 
@@ -42,16 +44,39 @@ pub fn write_export<K: Sink>(
         let Some(node) = machine.node(&path) else {
             unreachable!()
         };
-        if !is_within(node) {
-            return Err(ExportFault::Ttl);
-        }
-        text.clear();
-        write_lines(&path, node, &mut text)?;
-        if write_all(sink, text.as_bytes()).is_err() {
-            return Err(ExportFault::Write);
+        match write_next(&path, node, &mut text, sink) {
+            Ok(()) => {}
+            Err(fault) => return Err(fault),
         }
     }
     Ok(())
+}
+
+// Writes the lines of one node.
+fn write_next<K: Sink>(
+    path: &Path,
+    node: &Node,
+    text: &mut String,
+    sink: &mut K,
+) -> Result<(), ExportFault>
+    ensures took { OnOk result (K.took sink.old (text_for path.now node.now) sink.new) }
+    ensures sound { OnOk result (K.failed sink.old 0 sink.new) }
+    ensures beginning { TookBeginning (Between K.took sink.old sink.new)
+        (text_for path.now node.now) }
+    ensures failed { IfErr result (λ fault.
+        fault ≡ Write → Failed (Between K.failed sink.old sink.new)) }
+    ensures within { OnOk result (IsWithinLimits node.now) }
+    ensures unsayable { IfErr result (λ fault. fault ≡ Ttl → IsWithinLimits node.now → ⊥) }
+{
+    if !is_within(node) {
+        return Err(ExportFault::Ttl);
+    }
+    text.clear();
+    write_lines(path, node, text)?;
+    match write_all(sink, text.as_bytes()) {
+        Ok(()) => Ok(()),
+        Err(_) => Err(ExportFault::Write),
+    }
 }
 
 // Returns whether a line can say the node's TTL. Its data is within its limit.

@@ -45,7 +45,8 @@ fn write_set(bytes: &[u8], out: &mut String) -> Result<(), Memory>
     ensures { OnOk result (Writes out.old out.new (set_line bytes.now)) }
 {
     write!(out, "1 set / any ")?;
-    write_data(bytes, out)
+    write_data(bytes, out)?;
+    Ok(())
 }
 
 // Appends the line that creates a node.

@@ -2,7 +2,7 @@
 
 ghost use Rattle.std.specs.Prelude.{◌≡◌, OnOk};
 ghost use Rattle.zlines.specs.Texts.{Writes};
-ghost use Rattle.zexport.specs.Texts.{left_out_text, stat_text};
+ghost use Rattle.zexport.specs.Texts.{around, left_out_text, stat_text};
 
 use crate::tally::TreeCounts;
 use zalloc::Memory;
@@ -22,22 +22,19 @@ pub struct FolderStat {
 pub fn write_left_out(counts: &TreeCounts, out: &mut String) -> Result<(), Memory>
     ensures { OnOk result (Writes out.old out.new (left_out_text counts.now)) }
 {
-    write!(
+    let c = counts;
+    write_around(
+        "zk: export: ephemeral nodes left out: ",
+        c.ephemerals,
+        "\n",
         out,
-        "zk: export: ephemeral nodes left out: {}\n",
-        counts.ephemerals
     )?;
-    write!(out, "zk: export: sessions left out: {}\n", counts.sessions)?;
-    write!(
-        out,
-        "zk: export: versions begin again at 0, zxids too (the last is {}), and ticks (it is {})\n",
-        counts.changes, counts.ticks
-    )?;
-    write!(
-        out,
-        "zk: export: counters of sequential names begin again at 0 (above 0: {}): a name may be taken\n",
-        counts.counters
-    )?;
+    write_around("zk: export: sessions left out: ", c.sessions, "\n", out)?;
+    let zxids = "zk: export: versions begin again at 0, zxids too (the last is ";
+    write_around(zxids, c.changes, ")", out)?;
+    write_around(", and ticks (it is ", c.ticks, ")\n", out)?;
+    let counters = "zk: export: counters of sequential names begin again at 0 (above 0: ";
+    write_around(counters, c.counters, "): a name may be taken\n", out)?;
     Ok(())
 }
 
@@ -45,15 +42,21 @@ pub fn write_left_out(counts: &TreeCounts, out: &mut String) -> Result<(), Memor
 pub fn write_stat(stat: &FolderStat, out: &mut String) -> Result<(), Memory>
     ensures { OnOk result (Writes out.old out.new (stat_text stat.now)) }
 {
-    write!(out, "nodes: {}\n", stat.tree.nodes)?;
-    write!(out, "bytes of data: {}\n", stat.tree.bytes)?;
-    write!(out, "sessions: {}\n", stat.tree.sessions)?;
-    write!(out, "changes: {}\n", stat.tree.changes)?;
-    write!(out, "bytes of the journal: {}\n", stat.journal)?;
-    write!(
-        out,
-        "bytes of the snapshot with which it begins: {}\n",
-        stat.snapshot
-    )?;
+    write_around("nodes: ", stat.tree.nodes, "\n", out)?;
+    write_around("bytes of data: ", stat.tree.bytes, "\n", out)?;
+    write_around("sessions: ", stat.tree.sessions, "\n", out)?;
+    write_around("changes: ", stat.tree.changes, "\n", out)?;
+    write_around("bytes of the journal: ", stat.journal, "\n", out)?;
+    let snapshot = "bytes of the snapshot with which it begins: ";
+    write_around(snapshot, stat.snapshot, "\n", out)?;
+    Ok(())
+}
+
+// Appends a number, with a text in front of it and one behind it.
+#[tactic(auto, unfolding(crate::specs::Texts::around))]
+fn write_around(front: &str, number: u64, back: &str, out: &mut String) -> Result<(), Memory>
+    ensures { OnOk result (Writes out.old out.new (around front.now number back.now)) }
+{
+    write!(out, "{front}{number}{back}")?;
     Ok(())
 }
