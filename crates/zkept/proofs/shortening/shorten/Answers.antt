@@ -1,8 +1,11 @@
-use Rattle.std.proofs.Common.{inl, arith}
+use Rattle.std.proofs.Common.{◌≡◌, inl, arith, sym, ap, subst, ◌∙◌, Err}
+use Rattle.std.specs.Prelude.{IsErrOf}
+use Rattle.zkept.specs.declared.fault.CommitFault.TheVariants as commit
+use Rattle.std.proofs.lemmas.Result.{err_from_is_err_and}
 use Rattle.zjournal.specs.Journal.{Keeps, device_of}
 use Rattle.zjournal.proofs.Moments.{weaker}
 use Rattle.zkept.specs.Shortening.{IsOldOrState}
-use Rattle.zkept.proofs.Renewing.{begun, goes_on, leaves_more, leaves_new, leaves_old, piece_shorter, rest_now, stays_old, text_is, text_keeps}
+use Rattle.zkept.proofs.Renewing.{begun, goes_on, leaves_more, leaves_new, leaves_old, piece_shorter, put_full, rest_now, stays_old, text_is, text_keeps, too_long}
 use Rattle.zkept.proofs.shortening.shorten.Goals as goal
 
 pub returns-in_err-text-clause-any_moment : goal.returns-in_err-text-clause-any_moment
@@ -30,21 +33,26 @@ returns-in_err-piece-clause-any_moment g c servers batches rest =
 pub returns-in_err-put_piece-clause-any_moment : goal.returns-in_err-put_piece-clause-any_moment
 returns-in_err-put_piece-clause-any_moment g c servers batches rest =
     leaves_more g.D.Device.seen g.D.Device.may_leave g.D.Device.beside g.D.Device.moment g.D.Device.left_since c.args.state.now.state c.args.journal.now c.loop-text.journal c.loop-text.text c.loop-text.invariant.0 servers batches
-    rest c.put_piece.new.self
+    rest c.put_piece.new.journal
     (c.put_piece.ensures.any_moment servers batches
     (rest_now g.D.Device.seen g.D.Device.may_leave g.D.Device.beside g.D.Device.moment g.D.Device.left_since c.args.state.now.state c.args.journal.now c.loop-text.journal c.loop-text.text c.loop-text.invariant.0 servers batches
     rest))
 
 pub loop-text-preserved : goal.loop-text-preserved
 loop-text-preserved g c = (
-  goes_on g.D.Device.seen g.D.Device.may_leave g.D.Device.beside g.D.Device.moment g.D.Device.left_since c.args.state.now.state c.args.journal.now c.loop-text.journal c.put_piece.new.self c.loop-text.text c.next_piece.new.self
+  goes_on g.D.Device.seen g.D.Device.may_leave g.D.Device.beside g.D.Device.moment g.D.Device.left_since c.args.state.now.state c.args.journal.now c.loop-text.journal c.put_piece.new.journal c.loop-text.text c.next_piece.new.self
       c.in-Some.piece.items c.deref.result.now c.loop-text.invariant.0 (rw c.in-Some.is at c.in_ok-piece.ensures.piece) c.deref.ensures.value c.in_ok-put_piece.ensures.open.1 c.in_ok-put_piece.ensures.renewing
       c.in_ok-put_piece.ensures.added c.put_piece.ensures.any_moment,
   omega (arith, c.loop-text.invariant.1, c.put_piece.ensures.faults),
 )
 
 pub returns-in_err-put_piece-clause-full : goal.returns-in_err-put_piece-clause-full
-returns-in_err-put_piece-clause-full g c servers batches rest is = ?
+returns-in_err-put_piece-clause-full g c servers batches rest is =
+    let p = err_from_is_err_and c.from_residual-in_err-put_piece.result c.from_residual-in_err-put_piece.ensures.1 in
+    let told : Err p.0 ≡ Err commit.Full = subst (λ r. IsErrOf r commit.Full) p.1 is in
+    let full : p.0 ≡ commit.Full = cc told in
+    too_long g.D.Device.seen g.D.Device.may_leave g.D.Device.beside g.D.Device.moment g.D.Device.left_since c.args.state.now.state c.args.journal.now c.loop-text.journal c.loop-text.text c.loop-text.invariant.0 servers batches rest
+    (c.in_err-put_piece.ensures.full (ap Err (put_full c.in_err-put_piece.field-0.0 (sym p.2 ∙ full))))
 
 pub loop-text-smaller : goal.loop-text-smaller
 loop-text-smaller g c =

@@ -46,4 +46,4 @@ returns-clause-time g c =
 pub returns-clause-durable : goal.returns-clause-durable
 returns-clause-durable g c =
     let sound : (replay c.args.self.now.log.events).has_failed ≡ false = search rules in
-    taken_only c.args.self.now.log.events sound _ (search rules)
+    taken_only c.args.self.now.log.events sound c.sync_folder.new.self.log.events (search rules)
