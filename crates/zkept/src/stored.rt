@@ -89,6 +89,7 @@ impl<D: Device> Stored<D> {
             → LeavesOnly D.moment D.left_since (file_of self.old) (file_of self.new)
             (KeepsState servers (state_of self.old)) }
     {
-        shorten(self.alloc, &mut self.journal, &self.state)
+        shorten(self.alloc, &mut self.journal, &self.state)?;
+        Ok(())
     }
 }

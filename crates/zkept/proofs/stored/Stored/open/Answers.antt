@@ -23,14 +23,18 @@ returns-clause-any_moment_err g c batches stands =
     (c.in-Err-open.ensures.any_moment_err batches
     (subst (λ n. StandsFor n batches (g.D.Device.seen c.look.new.device)) (sym c.number.ensures.same) (subst (StandsFor c.args.servers batches) (sym c.look.ensures.seen) stands))))
 
-pub returns-in-Err-look-clause-any_moment_err : goal.returns-in-Err-look-clause-any_moment_err
-returns-in-Err-look-clause-any_moment_err g c batches stands =
-    weaker g.D.Device.moment g.D.Device.left_since c.args.device c.look.new.device (λ file. file ≡ g.D.Device.seen c.args.device) (StandsFor c.args.servers batches)
-    c.look.ensures.any_moment (λ file is. subst (StandsFor c.args.servers batches) (sym is) stands)
-
 pub returns-in-Ok-open-clause-stored : goal.returns-in-Ok-open-clause-stored
 returns-in-Ok-open-clause-stored g c =
     let opened = c.in-Ok-open.ensures.journal in
     let kept : Stored g.row.D.Denot = record { alloc = c.args.alloc; state = c.in-Ok.state; journal = c.in-Ok-open.journal } in
-    (opened.0, stores g.D.Device.seen g.D.Device.may_leave c.args.servers c.number.result (g.D.Device.seen c.args.device) (g.D.Device.seen c.look.new.device) kept
-    c.number.ensures.same c.look.ensures.seen c.in-Ok.ensures.keeps.batches c.in-Ok.ensures.keeps.stands c.in-Ok.ensures.keeps.text c.in-Ok.ensures.whole opened.0 opened.1 opened.2 opened.3)
+    let is = stores g.D.Device.seen g.D.Device.may_leave c.args.servers c.number.result (g.D.Device.seen c.args.device) (g.D.Device.seen c.look.new.device) kept
+    c.number.ensures.same c.look.ensures.seen c.in-Ok.ensures.keeps.batches c.in-Ok.ensures.keeps.stands c.in-Ok.ensures.keeps.text c.in-Ok.ensures.whole opened.0 opened.1 opened.2 opened.3 in
+    (opened.0, is.0, is.1)
+
+pub returns-in-Ok-open-clause-good : goal.returns-in-Ok-open-clause-good
+returns-in-Ok-open-clause-good g c =
+    let opened = c.in-Ok-open.ensures.journal in
+    let kept : Stored g.row.D.Denot = record { alloc = c.args.alloc; state = c.in-Ok.state; journal = c.in-Ok-open.journal } in
+    let is = stores g.D.Device.seen g.D.Device.may_leave c.args.servers c.number.result (g.D.Device.seen c.args.device) (g.D.Device.seen c.look.new.device) kept
+    c.number.ensures.same c.look.ensures.seen c.in-Ok.ensures.keeps.batches c.in-Ok.ensures.keeps.stands c.in-Ok.ensures.keeps.text c.in-Ok.ensures.whole opened.0 opened.1 opened.2 opened.3 in
+    (c.args.servers, opened.0, is.1)
