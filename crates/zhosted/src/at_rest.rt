@@ -1,16 +1,18 @@
 //! A folder that no server has open: its journal is shortened, its tree is written as lines, or it
 //! is told how large it is.
 
-ghost use Rattle.std.specs.Prelude.{◌≡◌, false, OnOk};
+ghost use Rattle.std.specs.Prelude.{◌≡◌, false, string_bytes, IfOk, OnOk};
 ghost use Rattle.zjournal.specs.Device.{Only};
+ghost use Rattle.zexport.specs.Texts.{stat_text};
 ghost use Rattle.zhosted.specs.AtRest.{IsExported, IsStatTold};
 
 use crate::fault::HostedFault;
 use crate::hosted::unkept;
 use std::alloc::Global;
+use zalloc::Memory;
 use zcli::tell;
 use zdevices::{Sink, write_all};
-use zexport::{ExportFault, Machine, counts, write_export, write_left_out, write_stat};
+use zexport::{ExportFault, FolderStat, Machine, counts, write_export, write_left_out, write_stat};
 use zjournal::Device;
 use zkept::{OpenFault, ServerId, Stored, folder_stat, look};
 use zpipe::ServeFault;
@@ -108,14 +110,23 @@ pub(crate) fn stat<D: Device, K: Sink>(
         Ok(stat) => stat,
         Err(fault) => return Err(unread(fault)),
     };
-    let mut text = String::new(alloc);
-    if write_stat(&stat, &mut text).is_err() {
-        return Err(HostedFault::Serve(ServeFault::Memory));
-    }
+    let text = match stat_lines(alloc, &stat) {
+        Ok(text) => text,
+        Err(_) => return Err(HostedFault::Serve(ServeFault::Memory)),
+    };
     match write_all(sink, text.as_bytes()) {
         Ok(()) => Ok(()),
         Err(_) => Err(HostedFault::Serve(ServeFault::Write)),
     }
+}
+
+// Returns the lines of the numbers.
+fn stat_lines(alloc: Global, stat: &FolderStat) -> Result<String, Memory>
+    ensures { IfOk result (λ text. string_bytes text ≡ stat_text stat.now) }
+{
+    let mut text = String::new(alloc);
+    write_stat(stat, &mut text)?;
+    Ok(text)
 }
 
 // Why a file isn't read. A journal that keeps no changes is a script's.
