@@ -1,0 +1,149 @@
+//! A drill: lines are taken, and the states that they come to are compared.
+
+ghost use Rattle.std.specs.Prelude.{IfOk, OnOk};
+
+use crate::folder::Folder;
+use crate::pair::Pair;
+use crate::trouble::Trouble;
+use std::alloc::Global;
+use zcalls::{Call, CallNumber, ClientId, Entry, Update};
+use zlines::{Line, LineFault, Request, read_line};
+use zstates::{Password, is_open, no_password};
+
+/// The machines and the folder, and what was compared.
+#[derive(Drop)]
+pub(crate) struct Drill {
+    alloc: Global,
+    pub(crate) pair: Pair,
+    folder: Folder,
+    changes: usize,
+    // How many states were compared, and the most rows that one of them had.
+    states: usize,
+    most: usize,
+    // The rows of the one that was compared last, and how many changes there were since.
+    rows: usize,
+    since: usize,
+}
+
+impl Drill {
+    ghost use Rattle.zstates_drill.specs.Pair.{IsWhole};
+
+    /// Begins with the initial tree.
+    pub(crate) fn new(alloc: Global) -> Result<Drill, Trouble>
+        ensures { IfOk result (λ drill. IsWhole drill.pair) }
+    {
+        let pair = Pair::new(alloc)?;
+        let folder = Folder::new(alloc)?;
+        Ok(Drill {
+            alloc,
+            pair,
+            folder,
+            changes: 0,
+            states: 0,
+            most: 0,
+            rows: 0,
+            since: 0,
+        })
+    }
+
+    /// Returns how many changes there were, how many states were compared, and the most rows that
+    /// one of them had.
+    pub(crate) fn told(&self) -> (usize, usize, usize) {
+        (self.changes, self.states, self.most)
+    }
+
+    /// Takes a line of a script.
+    pub(crate) fn take(&mut self, line: &[u8]) -> Result<(), Trouble>
+        requires { IsWhole self.old.pair }
+        ensures { OnOk result (IsWhole self.new.pair) }
+    {
+        match read_line(self.alloc, line) {
+            Ok(Line::Call(request)) => self.request(request),
+            Ok(Line::Begin(request)) => self.request(request),
+            Ok(Line::Retry(client)) => self.retry(client),
+            Err(LineFault::Memory) => Err(Trouble::Memory),
+            _ => Ok(()),
+        }
+    }
+
+    // Takes a call; a query changes nothing.
+    fn request(&mut self, request: Request) -> Result<(), Trouble>
+        requires { IsWhole self.old.pair }
+        ensures { OnOk result (IsWhole self.new.pair) }
+    {
+        let Request { client, call } = request;
+        match call {
+            Call::Update(update) => self.update(client, update),
+            Call::Query(_) => Ok(()),
+        }
+    }
+
+    // Takes an update, as one with a number that is above those of all before it.
+    fn update(&mut self, client: ClientId, update: Update) -> Result<(), Trouble>
+        requires { IsWhole self.old.pair }
+        ensures { OnOk result (IsWhole self.new.pair) }
+    {
+        let Some(number) = self.pair.next() else {
+            return Err(Trouble::Full);
+        };
+        let password = self.password(&update);
+        self.folder.apply(update.copied(self.alloc)?, password)?;
+        self.enter(Entry {
+            client,
+            number,
+            update,
+        })
+    }
+
+    // Takes a client's last number once more, which is answered with its reply.
+    fn retry(&mut self, client: ClientId) -> Result<(), Trouble>
+        requires { IsWhole self.old.pair }
+        ensures { OnOk result (IsWhole self.new.pair) }
+    {
+        match self.pair.last(client) {
+            Some(number) => self.enter(Entry {
+                client,
+                number,
+                update: Update::Tick,
+            }),
+            None => Ok(()),
+        }
+    }
+
+    // Gives the machines an entry, and compares the state if it is time to.
+    fn enter(&mut self, entry: Entry) -> Result<(), Trouble>
+        requires { IsWhole self.old.pair }
+        ensures { OnOk result (IsWhole self.new.pair) }
+    {
+        self.pair.apply(&entry)?;
+        drop(entry);
+        self.changes = self.changes.saturating_add(1);
+        self.since = self.since.saturating_add(1);
+        if self.since.saturating_mul(16) < self.rows {
+            return Ok(());
+        }
+        self.compare()
+    }
+
+    /// Compares the state with what is read of it.
+    pub(crate) fn compare(&mut self) -> Result<(), Trouble>
+        requires { IsWhole self.old.pair }
+        ensures { OnOk result (IsWhole self.new.pair) }
+    {
+        self.rows = self.pair.compare()?;
+        self.folder.compare()?;
+        self.most = self.most.max(self.rows);
+        self.states = self.states.saturating_add(1);
+        self.since = 0;
+        Ok(())
+    }
+
+    // Returns a password of its own for a session that is opened.
+    fn password(&self, update: &Update) -> Password {
+        if is_open(update) {
+            Password::new([(self.changes % 251) as u8; 16])
+        } else {
+            no_password()
+        }
+    }
+}
