@@ -42,6 +42,7 @@ const GROUPS: u64 = 60;
 const LONG: u64 = 2_000;
 
 /// Numbers that look drawn, each by the one before it (Knuth's linear congruence).
+#[derive(Drop)]
 pub(crate) struct Chance {
     number: u64,
 }
