@@ -10,6 +10,9 @@ use zstates::{Password, ReadFault, Shortening, State, add_entry};
 /// The time of the state.
 pub(crate) const TIME: u64 = 1;
 
+// More pieces than it has.
+const MANY: usize = 9;
+
 /// Returns the text that keeps it: a snapshot with the session and the node, and a tick behind it.
 pub(crate) fn worked_text(alloc: Global) -> Result<Vec<u8>, Memory> {
     let mut text = begun_text(alloc)?;
@@ -31,12 +34,13 @@ fn open(state: &mut State) -> Result<(), Memory> {
 }
 
 fn make(alloc: Global, state: &mut State) -> Result<(), Memory> {
-    drop(state.apply(create(alloc)?, password())?);
+    drop(state.apply(create(alloc, "/a")?, password())?);
     Ok(())
 }
 
-fn create(alloc: Global) -> Result<Update, Memory> {
-    let Ok(path) = Path::parse(alloc, "/a") else {
+/// Returns an update that makes a node without data.
+pub(crate) fn create(alloc: Global, path: &str) -> Result<Update, Memory> {
+    let Ok(path) = Path::parse(alloc, path) else {
         return Err(Memory);
     };
     Ok(Update::Create(Create {
@@ -61,7 +65,10 @@ pub(crate) fn password() -> Password {
 pub(crate) fn snapshot(alloc: Global, state: &State) -> Result<Vec<u8>, Memory> {
     let mut shortening = Shortening::new(state)?;
     let mut text = Vec::new(alloc);
-    while let Some(piece) = shortening.next_piece()? {
+    for _ in 0..MANY {
+        let Some(piece) = shortening.next_piece()? else {
+            break;
+        };
         text.extend_from_slice(&piece)?;
     }
     Ok(text)

@@ -1,6 +1,6 @@
 //! A state for which memory runs out.
 
-use crate::states::{TIME, keeps, password, snapshot, worked_text};
+use crate::states::{TIME, create, keeps, password, snapshot, worked_text};
 use std::alloc::Global;
 use zalloc::Memory;
 use zcalls::{Reply, Update};
@@ -70,23 +70,32 @@ fn is_fresh(state: &State) -> Result<bool, Memory> {
     Ok(is_so)
 }
 
-/// Applies an open to a state. Where it has no memory, it answers `Memory` for good.
+/// Applies a create to a state. Where it has no memory, it answers `Memory` for good.
 pub(crate) fn entry_is_applied(alloc: Global) -> Ended {
-    let Some(mut state) = worked(alloc) else {
+    let Ok(update) = create(alloc, "/b") else {
         return Ended::NotBegun;
     };
-    let ended = match opens(&mut state) {
-        Ok(is_open) => Ended::done(is_open),
-        Err(Memory) => Ended::refused(opens(&mut state).is_err() && state.seats().is_err()),
+    let Some(mut state) = worked(alloc) else {
+        drop(update);
+        return Ended::NotBegun;
+    };
+    let ended = match applies(&mut state, update) {
+        Ok(is_made) => Ended::done(is_made),
+        Err(Memory) => Ended::refused(is_broken(&mut state)),
     };
     drop(state);
     ended
 }
 
-// Returns whether a session is opened.
-fn opens(state: &mut State) -> Result<bool, Memory> {
-    let reply = state.apply(Update::Open(5), password())?;
-    let is_open = matches!(&reply, Reply::Opened(_, 5));
+// Returns whether the state answers `Memory` to everything.
+fn is_broken(state: &mut State) -> bool {
+    applies(state, Update::Tick).is_err() && state.seats().is_err()
+}
+
+// Applies an update; returns whether it made a node.
+fn applies(state: &mut State, update: Update) -> Result<bool, Memory> {
+    let reply = state.apply(update, password())?;
+    let is_made = matches!(&reply, Reply::Created(_));
     drop(reply);
-    Ok(is_open)
+    Ok(is_made)
 }

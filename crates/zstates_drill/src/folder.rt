@@ -6,6 +6,9 @@ use zcalls::Update;
 use zrecords::write_records;
 use zstates::{Password, Shortening, State, add_entry};
 
+// More pieces than any snapshot has.
+const MANY: usize = 10_000;
+
 /// A state, and the text that keeps it: the snapshot of when they were compared last, and the
 /// entries since.
 #[derive(Drop)]
@@ -58,7 +61,10 @@ fn read_again(alloc: Global, text: &[u8], wanted: &[u8]) -> Result<State, Troubl
 fn snapshot(alloc: Global, state: &State) -> Result<Vec<u8>, Trouble> {
     let mut shortening = Shortening::new(state)?;
     let mut text = Vec::new(alloc);
-    while let Some(piece) = shortening.next_piece()? {
+    for _ in 0..MANY {
+        let Some(piece) = shortening.next_piece()? else {
+            break;
+        };
         text.extend_from_slice(&piece)?;
     }
     Ok(text)

@@ -10,6 +10,9 @@ use zrecords::{Record, write_records};
 use zstates::{Password, Shortening, State, add_entry};
 use ztree::SessionId;
 
+// More pieces than any state here has.
+const MANY: usize = 100;
+
 /// An entry.
 #[derive(Clone, Copy)]
 pub(crate) enum Step {
@@ -78,12 +81,13 @@ pub(crate) fn password(step: Step) -> Password {
 pub(crate) fn snapshot(rt: &impl Abort, alloc: Global, state: &State) -> (Vec<u8>, usize) {
     let mut shortening = Shortening::new(state).expect(rt, "there is memory");
     let mut text = Vec::new(alloc);
-    let mut pieces = 0usize;
-    while let Some(piece) = shortening.next_piece().expect(rt, "there is memory") {
+    for pieces in 0..MANY {
+        let Some(piece) = shortening.next_piece().expect(rt, "there is memory") else {
+            return (text, pieces);
+        };
         text.extend_from_slice(&piece).expect(rt, "there is memory");
-        pieces = pieces.saturating_add(1);
     }
-    (text, pieces)
+    (text, MANY)
 }
 
 /// Appends the text of entries.
