@@ -94,7 +94,8 @@ fn is_broken(state: &mut State) -> bool {
 
 // Applies an update; returns whether it made a node.
 fn applies(state: &mut State, update: Update) -> Result<bool, Memory> {
-    let reply = state.apply(update, password())?;
+    let (reply, update) = state.apply(update, password())?;
+    drop(update);
     let is_made = matches!(&reply, Reply::Created(_));
     drop(reply);
     Ok(is_made)

@@ -46,7 +46,7 @@ fn entries_behind_a_snapshot_are_applied(rt: HostRuntime) {
 fn an_entry_is_answered(rt: HostRuntime) {
     let mut state = State::read(rt.alloc(), b"").expect(&rt, "nothing keeps the first state");
     let reply = state.apply(Update::Open(10), password(Step::Open(1)));
-    assert!(rt; matches!(reply, Ok(Reply::Opened(_, 10))));
+    assert!(rt; matches!(reply, Ok((Reply::Opened(_, 10), _))));
 }
 
 #[test]
