@@ -58,11 +58,23 @@ impl Drill {
         ensures { OnOk result (IsWhole self.new.pair) }
     {
         match read_line(self.alloc, line) {
-            Ok(Line::Call(request)) => self.request(request),
-            Ok(Line::Begin(request)) => self.request(request),
-            Ok(Line::Retry(client)) => self.retry(client),
+            Ok(asked) => self.asked(asked),
             Err(LineFault::Memory) => Err(Trouble::Memory),
-            _ => Ok(()),
+            Err(_) => Ok(()),
+        }
+    }
+
+    // Takes what a line asks for.
+    fn asked(&mut self, asked: Line) -> Result<(), Trouble>
+        requires { IsWhole self.old.pair }
+        ensures { OnOk result (IsWhole self.new.pair) }
+    {
+        match asked {
+            Line::Call(request) => self.request(request),
+            Line::Begin(request) => self.request(request),
+            Line::Retry(client) => self.retry(client),
+            Line::Take(_, _) | Line::Ignore(_, _) => Ok(()),
+            Line::Fail(_) | Line::Join(_) | Line::Retire(_) | Line::Settle => Ok(()),
         }
     }
 

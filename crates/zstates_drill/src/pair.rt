@@ -44,8 +44,10 @@ impl Pair {
     pub(crate) fn last(&self, client: ClientId) -> Option<CallNumber>
         requires { IsWhole self.now }
     {
-        let (number, _) = self.machine.kept(client)?;
-        Some(number)
+        match self.machine.kept(client) {
+            Some(kept) => Some(kept.0),
+            None => None,
+        }
     }
 
     /// Gives both an entry. They answer alike.
