@@ -6,7 +6,8 @@ use Rattle.std.specs.Ordering.{int_eq}
 use Rattle.ztree.specs.Tree.{Path}
 use Rattle.zcalls.specs.declared.limits.TheConstants.{MAX_PARTS}
 use Rattle.zcalls.specs.declared.call.Kind.{Kind}
-use Rattle.zcalls.specs.declared.call.Kind.TheVariants.{Persistent, PersistentSequential, PersistentWithTtl, PersistentSequentialWithTtl, Ephemeral, EphemeralSequential}
+use Rattle.zcalls.specs.declared.call.Lifetime.TheVariants.{Persistent, WithTtl, Ephemeral}
+use Rattle.zcalls.specs.Part.{named, sequential}
 use Rattle.zcalls.specs.declared.call.Create.{Create}
 use Rattle.zcalls.specs.declared.call.Part.{Part}
 use Rattle.zcalls.specs.declared.call.Part.TheVariants as part
@@ -70,24 +71,24 @@ module _ (session : ℕ) where
   Calls = AllByRecursion (CallIsFor session)
 
   abbrev Made : Create → Type 0
-  Made create = IsForSession session create.kind
+  Made create = IsForSession session create.kind.lifetime
 
-  kind_for : (flags : ℤ) (kind : Kind) → kind_in session flags ≡ Ok kind → IsForSession session kind
+  kind_for : (flags : ℤ) (kind : Kind) → kind_in session flags ≡ Ok kind → IsForSession session kind.lifetime
   kind_for flags =
       let P = IsForSession session in
-      choice P (int_eq flags (pos 0)) (Ok Persistent) _ (done P Persistent tt)
-      (choice P (int_eq flags (pos 1)) (Ok (Ephemeral session)) _ (done P (Ephemeral session) refl)
-      (choice P (int_eq flags (pos 2)) (Ok PersistentSequential) _ (done P PersistentSequential tt)
-      (choice P (int_eq flags (pos 3)) (Ok (EphemeralSequential session)) _ (done P (EphemeralSequential session) refl)
+      choice P (int_eq flags (pos 0)) (Ok (named Persistent)) _ (done P (named Persistent) tt)
+      (choice P (int_eq flags (pos 1)) (Ok (named (Ephemeral session))) _ (done P (named (Ephemeral session)) refl)
+      (choice P (int_eq flags (pos 2)) (Ok (sequential Persistent)) _ (done P (sequential Persistent) tt)
+      (choice P (int_eq flags (pos 3)) (Ok (sequential (Ephemeral session))) _ (done P (sequential (Ephemeral session)) refl)
       (choice P (int_eq flags (pos 4)) (Err (Refused Unimplemented)) (Err (Refused BadArguments)) (never P (Refused Unimplemented)) (never P (Refused BadArguments))))))
 
-  timed_for : (ticks : ℕ) (flags : ℤ) (kind : Kind) → timed_kind_in ticks flags ≡ Ok kind → IsForSession session kind
+  timed_for : (ticks : ℕ) (flags : ℤ) (kind : Kind) → timed_kind_in ticks flags ≡ Ok kind → IsForSession session kind.lifetime
   timed_for ticks flags =
       let P = IsForSession session in
-      choice P (int_eq flags (pos 5)) (Ok (PersistentWithTtl ticks)) _ (done P (PersistentWithTtl ticks) tt)
-      (choice P (int_eq flags (pos 6)) (Ok (PersistentSequentialWithTtl ticks)) (Err (Refused BadArguments)) (done P (PersistentSequentialWithTtl ticks) tt) (never P (Refused BadArguments)))
+      choice P (int_eq flags (pos 5)) (Ok (named (WithTtl ticks))) _ (done P (named (WithTtl ticks)) tt)
+      (choice P (int_eq flags (pos 6)) (Ok (sequential (WithTtl ticks))) (Err (Refused BadArguments)) (done P (sequential (WithTtl ticks)) tt) (never P (Refused BadArguments)))
 
-  node_for : (kind : Kind) (create : AskedCreate) → IsForSession session kind → (made : Create) → node_in kind create ≡ Ok made → Made made
+  node_for : (kind : Kind) (create : AskedCreate) → IsForSession session kind.lifetime → (made : Create) → node_in kind create ≡ Ok made → Made made
   node_for kind create is =
       behind Made (path_in create.path) _
       (λ path. choice Made (has_open_acl create.acls) (then_means (data_in create.bytes) (λ bytes. Ok (record { path = path; kind = kind; bytes = bytes }))) (Err (Refused InvalidAcl))
@@ -95,12 +96,12 @@ module _ (session : ℕ) where
       (never Made (Refused InvalidAcl)))
 
   create_for : (create : AskedCreate) (made : Create) → create_in session create ≡ Ok made → Made made
-  create_for create = through (IsForSession session) Made (kind_in session create.flags) (λ kind. node_in kind create) (kind_for create.flags) (λ kind. node_for kind create)
+  create_for create = through (λ (k : Kind). IsForSession session k.lifetime) Made (kind_in session create.flags) (λ kind. node_in kind create) (kind_for create.flags) (λ kind. node_for kind create)
 
   timed_create_for : (tick : ℕ) (timed : CreateTtl) (made : Create) → timed_create_in tick timed ≡ Ok made → Made made
   timed_create_for tick timed =
       behind Made (ttl_in tick timed.ttl) (λ ticks. then_means (timed_kind_in ticks timed.create.flags) (λ kind. node_in kind timed.create))
-      (λ ticks. through (IsForSession session) Made (timed_kind_in ticks timed.create.flags) (λ kind. node_in kind timed.create) (timed_for ticks timed.create.flags) (λ kind. node_for kind timed.create))
+      (λ ticks. through (λ (k : Kind). IsForSession session k.lifetime) Made (timed_kind_in ticks timed.create.flags) (λ kind. node_in kind timed.create) (timed_for ticks timed.create.flags) (λ kind. node_for kind timed.create))
 
   made_part : (m : Meaning Create) → ((made : Create) → m ≡ Ok made → Made made) → (p : Part) → then_means m (λ create. Ok (part.Create create)) ≡ Ok p → PartIsFor session p
   made_part m for = through Made (PartIsFor session) m (λ create. Ok (part.Create create)) for (λ create is. done (PartIsFor session) (part.Create create) is)

@@ -2,7 +2,7 @@
 
 use std::alloc::Global;
 use zalloc::Memory;
-use zcalls::{Call, Create, Data, Kind, Query, Reply, Update};
+use zcalls::{Call, Create, Data, Kind, Lifetime, Query, Reply, Update};
 use zliterals::{client, server};
 use zpath::Path;
 use zprotocol::Process;
@@ -111,7 +111,7 @@ fn creates(alloc: Global) -> Result<Call, Memory> {
     match Path::parse(alloc, "/a") {
         Ok(path) => Ok(Call::Update(Update::Create(Create {
             path,
-            kind: Kind::Persistent,
+            kind: Kind::named(Lifetime::Persistent),
             bytes: Data::empty(alloc),
         }))),
         Err(_) => Err(Memory),

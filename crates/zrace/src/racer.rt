@@ -10,7 +10,7 @@ use crate::keeping::keep;
 use std::alloc::Global;
 use std::snapshot::Snapshot;
 use std::thread::Promise;
-use zcalls::{Call, Create, Data, Expected, Kind, Query, Reply, SetData, Update};
+use zcalls::{Call, Create, Data, Expected, Kind, Lifetime, Query, Reply, SetData, Update};
 use zpath::Path;
 use zprotocol::ServerId;
 use zrun::{Client, Patience};
@@ -112,7 +112,7 @@ fn create(alloc: Global, path: &Path) -> Option<Call> {
     let bytes = Data::empty(alloc);
     Some(Call::Update(Update::Create(Create {
         path,
-        kind: Kind::Persistent,
+        kind: Kind::named(Lifetime::Persistent),
         bytes,
     })))
 }

@@ -5,7 +5,7 @@ ghost use Rattle.zrecords.specs.Fields.{content as content_form, path as path_fo
 ghost use Rattle.zrecords.specs.Fields.{version as version_form, node_kind};
 
 use std::alloc::{AllocError, Global};
-use zcalls::{Data, Expected, Kind};
+use zcalls::{Data, Expected, Kind, Lifetime};
 use zforms::{put_sized, put_u8, put_u64};
 use zpath::Path;
 
@@ -51,22 +51,22 @@ pub(crate) fn put_kind(out: &mut Vec<u8>, kind: Kind) -> Result<(), AllocError>
     ensures text { OnOk result (out.new.items ≡ out.old.items ++ node_kind.spell kind) }
     ensures fits { OnOk result (node_kind.Fits kind) }
 {
-    match kind {
-        Kind::Persistent => put_u8(out, 0),
-        Kind::PersistentSequential => put_u8(out, 1),
-        Kind::PersistentWithTtl(ttl) => {
+    match (kind.lifetime, kind.is_sequential) {
+        (Lifetime::Persistent, false) => put_u8(out, 0),
+        (Lifetime::Persistent, true) => put_u8(out, 1),
+        (Lifetime::WithTtl(ttl), false) => {
             put_u8(out, 2)?;
             put_u64(out, ttl.ticks())
         }
-        Kind::PersistentSequentialWithTtl(ttl) => {
+        (Lifetime::WithTtl(ttl), true) => {
             put_u8(out, 3)?;
             put_u64(out, ttl.ticks())
         }
-        Kind::Ephemeral(session) => {
+        (Lifetime::Ephemeral(session), false) => {
             put_u8(out, 4)?;
             put_u64(out, session.number())
         }
-        Kind::EphemeralSequential(session) => {
+        (Lifetime::Ephemeral(session), true) => {
             put_u8(out, 5)?;
             put_u64(out, session.number())
         }

@@ -3,8 +3,8 @@
 use std::alloc::Global;
 use std::process::Abort;
 use zcalls::{
-    Check, Create, Data, Delete, Entry, Expected, Kind, Multi, Names, Part, PartReply, Query,
-    Replies, Reply, SetData, SharedEntry, Update,
+    Check, Create, Data, Delete, Entry, Expected, Kind, Lifetime, Multi, Names, Part, PartReply,
+    Query, Replies, Reply, SetData, SharedEntry, Update,
 };
 use zliterals::{call_number, client};
 use zpath::{Name, Path};
@@ -32,13 +32,13 @@ fn path(rt: &impl Abort, alloc: Global, text: &str) -> Path {
 fn copies_an_update(rt: &impl Abort, alloc: Global) -> bool {
     let update = Update::Create(Create {
         path: path(rt, alloc, "/a/b"),
-        kind: Kind::PersistentSequential,
+        kind: Kind::sequential(Lifetime::Persistent),
         bytes: Data::empty(alloc),
     });
     let copy = update.copied(alloc).expect(rt, "there is memory");
     drop(update);
     let is_so = matches!(&copy, Update::Create(wanted)
-        if wanted.path.names().len() == 2 && wanted.kind == Kind::PersistentSequential);
+        if wanted.path.names().len() == 2 && wanted.kind == Kind::sequential(Lifetime::Persistent));
     drop(copy);
     is_so
 }
