@@ -1,6 +1,8 @@
 //! Calls, and parts of a multi, each made in one line.
 
 ghost use Rattle.std.specs.Prelude.{◌≡◌};
+ghost use Rattle.zcalls.specs.Part.{named};
+ghost use Rattle.zcalls.specs.declared.call.Lifetime.TheVariants.{Persistent};
 
 use crate::call::{Call, Check, Create, Delete, Expected, Kind, Lifetime, Query, SetData, Update};
 use crate::multi::Multi;

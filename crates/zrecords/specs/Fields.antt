@@ -1,6 +1,6 @@
 -- Forms of what calls are made of: paths, data, versions and kinds of nodes. Numbers have the
 -- highest byte first. A tag keeps its meaning in every later version.
-use Rattle.std.specs.Prelude.{ℕ, ◌<◌, ◌≤◌, ◌&&◌, List, Result, Ok, Err, is_some, nat_lt, nat_le, if◌then◌else◌}
+use Rattle.std.specs.Prelude.{ℕ, Bool, true, false, ◌<◌, ◌≤◌, ◌&&◌, List, Result, Ok, Err, is_some, nat_lt, nat_le, if◌then◌else◌}
 use Rattle.std.specs.Int.{Width, w8, w64}
 use Rattle.zforms.specs.declared.fault.Fault.{Fault}
 use Rattle.zforms.specs.declared.fault.Fault.TheVariants.{Invalid}
