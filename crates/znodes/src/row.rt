@@ -80,7 +80,7 @@ impl Copied for Row {
             drop(path);
             return Err(Memory);
         };
-        let Ok(key) = copied_key(self.alloc, &self.key) else {
+        let Ok(key) = copied_key(&self.key) else {
             drop(path);
             drop(node);
             return Err(Memory);
@@ -99,7 +99,7 @@ impl Copied for Row {
     }
 }
 
-fn copied_key(alloc: Global, key: &Option<Path>) -> Result<Option<Path>, Memory>
+fn copied_key(key: &Option<Path>) -> Result<Option<Path>, Memory>
     ensures { IfOk result (λ copy. copy ≡ key.now) }
 {
     match key {
