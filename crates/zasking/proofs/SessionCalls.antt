@@ -1,5 +1,5 @@
 -- A request's calls act for the session of its connection alone.
-use Rattle.std.proofs.Common.{◌≡◌, ℕ, Bool, true, false, if◌then◌else◌, List, [], ◌∷◌, Option, Ok, Err, refl, subst}
+use Rattle.std.proofs.Common.{◌≡◌, ℕ, List, [], ◌∷◌, Option, Ok, Err, refl}
 use Rattle.std.specs.Prelude.{ℤ, pos, nat_lt, length, Some, None}
 use Rattle.std.specs.List.{AllByRecursion}
 use Rattle.std.specs.Ordering.{int_eq}
@@ -23,47 +23,12 @@ use Rattle.zjute.specs.declared.part.Part.{Part as AskedPart}
 use Rattle.zjute.specs.declared.part.Part.TheVariants as of_multi
 use Rattle.zjute.specs.declared.part.LookPart.{LookPart}
 use Rattle.zjute.specs.declared.part.LookPart.TheVariants as of_look
-use Rattle.zasking.specs.declared.fault.Unasked.{Unasked}
 use Rattle.zasking.specs.declared.fault.Unasked.TheVariants.{Refused}
 use Rattle.zasking.specs.declared.limits.TheConstants.{MAX_PATHS}
 use Rattle.zasking.specs.Asking.{Meaning, then_means, each_in, path_in, data_in, has_open_acl, kind_in, ttl_in, timed_kind_in}
 use Rattle.zasking.specs.Requests.{node_in, create_in, timed_create_in, delete_in, check_in, set_in, part_in, one, one_of_parts, multi_in, query_in, look_in, looks_in, watch_in, watched_in, look_alone, create_alone}
+use Rattle.zasking.proofs.Meanings.{choice, done, each_for, never, behind, through}
 use Rattle.zasking.specs.Laws.{IsForSession, PartIsFor, CallIsFor, CallsAreForTheirSession}
-
--- the steps of a meaning: what is done, what is refused, a choice, and what goes on
-abbrev meant : {A : Type 0} → A → Meaning A
-meant x = Ok x
-
-abbrev unmeant : {A : Type 0} → Unasked → Meaning A
-unmeant fault = Err fault
-
-done : {A : Type 0} (P : A → Type 0) (y : A) → P y → (x : A) → meant y ≡ meant x → P x
-done P y p x e = let same : y ≡ x = cc in subst P same p
-
-never : {A : Type 0} (P : A → Type 0) (fault : Unasked) (x : A) → unmeant fault ≡ meant x → P x
-never P fault x e = cc
-
-choice : {A : Type 0} (P : A → Type 0) (test : Bool) (m n : Meaning A) → ((x : A) → m ≡ Ok x → P x) → ((x : A) → n ≡ Ok x → P x) → (x : A) → (if test then m else n) ≡ Ok x → P x
-choice P true m n first second = first
-choice P false m n first second = second
-
-through : {A B : Type 0} (P : A → Type 0) (Q : B → Type 0) (m : Meaning A) (next : A → Meaning B)
-    → ((x : A) → m ≡ Ok x → P x) → ((x : A) → P x → (y : B) → next x ≡ Ok y → Q y) → (y : B) → then_means m next ≡ Ok y → Q y
-through P Q (Err fault) next first second y e = cc
-through P Q (Ok x) next first second y e = second x (first x refl) y e
-
--- what goes on, whatever was read
-behind : {A B : Type 0} (Q : B → Type 0) (m : Meaning A) (next : A → Meaning B) → ((x : A) (y : B) → next x ≡ Ok y → Q y) → (y : B) → then_means m next ≡ Ok y → Q y
-behind Q m next on = through (λ x. Unit {0}) Q m next (λ x e. tt) (λ x p. on x)
-
--- each of a list
-each_for : {A B : Type 0} (P : B → Type 0) (means : A → Meaning B) → ((x : A) (y : B) → means x ≡ Ok y → P y)
-    → (xs : List A) (ys : List B) → each_in means xs ≡ Ok ys → AllByRecursion P ys
-each_for P means each [] = done (AllByRecursion P) [] tt
-each_for P means each (x ∷ xs) =
-    through P (AllByRecursion P) (means x) (λ y. then_means (each_in means xs) (λ ys. Ok (y ∷ ys))) (each x)
-    (λ y is. through (AllByRecursion P) (AllByRecursion P) (each_in means xs) (λ ys. Ok (y ∷ ys)) (each_for P means each xs)
-    (λ ys are. done (AllByRecursion P) (y ∷ ys) (is, are)))
 
 module _ (session : ℕ) where
   abbrev Calls : List Call → Type 0
