@@ -45,7 +45,7 @@ pub use zcalls::{
 pub use zclient::BeginFault;
 pub use zconsole::ends::{Closed, Console};
 pub use zconsole::outcome::OrderOutcome;
-use zpath::{Path, PathFault};
+pub use zpath::{Path, PathFault};
 pub use zprotocol::{JoinFault, RetireFault, ServerId};
 pub use zthreads::{Gate, Open};
 pub use ztraces::Stamp;
