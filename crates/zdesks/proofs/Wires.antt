@@ -170,7 +170,7 @@ module _ (who : Self) (b : Books) (s : TreeStanding) (deeds : List TreeDeed) whe
         traced = a.traced;
         told = a.told;
         taken = each_set P Q b.ins k r' a.taken
-            (e ∙ ap (λ l. l ++ m ∷ []) (a.taken k r at ∙ append-nil (T k)) ∙ ap (λ x. T k ++ (if x then m ∷ [] else [])) (sym (same_self (process_at k))))
+            (e ∙ ap (λ l. l ++ m ∷ []) (a.taken k r at ∙ append-nil (T k)) ∙ ap (λ x. T k ++ (if x then m ∷ [] else [])) (sym (same_itself (process_at k))))
             (λ j y ne h. h ∙ ap (λ x. T j ++ (if x then m ∷ [] else [])) (sym (apart j k ne)));
         others = λ p out.
             let out' : IsOutside p (length b.ins) = λ i l. out i (let n = length-set b.ins k r' in omega arith) in
