@@ -46,7 +46,7 @@ pub(crate) fn data_of(alloc: Global, bytes: &Option<Bytes>) -> Result<Data, Unas
     ensures fault { IfErr result (IsUnasked (data_in bytes.now)) }
 {
     let Some(bytes) = bytes else {
-        return Ok(Data::empty(alloc));
+        return Ok(Data::empty());
     };
     let bytes = Vec::from_slice(alloc, bytes.as_slice())?;
     match Data::new(alloc, bytes) {

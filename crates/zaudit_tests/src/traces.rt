@@ -25,7 +25,7 @@ fn creates(alloc: Global) -> Result<Call, Fail> {
     Ok(Call::Update(Update::Create(Create {
         path: Path::parse(alloc, "/a")?,
         kind: Kind::Persistent,
-        bytes: Data::empty(alloc),
+        bytes: Data::empty(),
     })))
 }
 
@@ -89,7 +89,7 @@ fn event(alloc: Global, seen: Seen) -> Result<CallEvent, Fail> {
         Seen::Told(made) => Ok(CallEvent::Answer(
             c,
             second,
-            Reply::Data(Data::empty(alloc), stat(made)),
+            Reply::Data(Data::empty(), stat(made)),
         )),
     }
 }

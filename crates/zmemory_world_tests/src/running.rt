@@ -88,7 +88,7 @@ fn events(alloc: Global) -> Result<Vec<Event>, Memory> {
 
 fn add_events(events: &mut Vec<Event>, alloc: Global) -> Result<(), Memory> {
     add_call(events, creates(alloc)?)?;
-    add_call(events, Call::Query(Query::GetChildren(Path::root(alloc))))
+    add_call(events, Call::Query(Query::GetChildren(Path::root())))
 }
 
 // The call begins, is taken by the server, and its answer by the client.
@@ -112,7 +112,7 @@ fn creates(alloc: Global) -> Result<Call, Memory> {
         Ok(path) => Ok(Call::Update(Update::Create(Create {
             path,
             kind: Kind::Persistent,
-            bytes: Data::empty(alloc),
+            bytes: Data::empty(),
         }))),
         Err(_) => Err(Memory),
     }

@@ -76,7 +76,7 @@ impl Row {
 impl Copied for Row {
     fn copied(&self) -> Result<Row, Memory> {
         let path = self.path.clone()?;
-        let Ok(node) = self.node.copied(self.alloc) else {
+        let Ok(node) = self.node.copied() else {
             drop(path);
             return Err(Memory);
         };

@@ -103,7 +103,7 @@ pub(crate) fn create(
     if has_no_owner(store, client, create.kind) {
         return Err(Stop::Refused(Refusal::SessionGone));
     }
-    let Some(above) = create.path.parent(alloc)? else {
+    let Some(above) = create.path.parent()? else {
         return Err(Stop::Refused(Refusal::NodeExists));
     };
     let Some(parent) = store.find(&above) else {
@@ -164,7 +164,7 @@ pub(crate) fn delete(store: &mut Store, delete: &Delete) -> Result<ChangeReply, 
 }
 
 /// Writes a node's data. On an error the store is unchanged.
-pub(crate) fn set(alloc: Global, store: &mut Store, set: &SetData) -> Result<ChangeReply, Stop>
+pub(crate) fn set(store: &mut Store, set: &SetData) -> Result<ChangeReply, Stop>
     requires ready { IsReadyForPart store.old }
     ensures done { IfOk result (IsDone (set_step store.old.tree set.now) store.old store.new) }
     ensures stopped { IfErr result (IsStop (set_step store.old.tree set.now)) }

@@ -109,7 +109,7 @@ fn version_of(client: &mut Client, path: Path) -> Option<u64>
 
 fn create(alloc: Global, path: &Path) -> Option<Call> {
     let path = path.clone().ok()?;
-    let bytes = Data::empty(alloc);
+    let bytes = Data::empty();
     Some(Call::Update(Update::Create(Create {
         path,
         kind: Kind::Persistent,
@@ -119,7 +119,7 @@ fn create(alloc: Global, path: &Path) -> Option<Call> {
 
 fn set(alloc: Global, path: &Path) -> Option<Call> {
     let path = path.clone().ok()?;
-    let bytes = Data::empty(alloc);
+    let bytes = Data::empty();
     Some(Call::Update(Update::SetData(SetData {
         path,
         bytes,

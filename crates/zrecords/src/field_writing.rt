@@ -24,8 +24,8 @@ pub fn put_path(alloc: Global, out: &mut Vec<u8>, path: &Path) -> Result<(), All
     ensures text { OnOk result (out.new.items ≡ out.old.items ++ path_form.spell path.now) }
     ensures fits { OnOk result (path_form.Fits path.now) }
 {
-    // A path's text is short, and the clause of `names` says so.
-    let _ = path.names();
+    // So its text is short.
+    path.keeps_its_form();
     let text = path.to_string(alloc)?;
     put_sized(out, text.as_bytes())
 }

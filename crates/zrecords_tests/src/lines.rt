@@ -32,7 +32,7 @@ fn multi(alloc: Global) -> Option<Multi> {
     let version = Expected::Exactly(0);
     parts.push(Part::Delete(Delete { path, version })).ok()?;
     let path = Path::parse(alloc, "/b").ok()?;
-    let bytes = Data::empty(alloc);
+    let bytes = Data::empty();
     let version = Expected::Exactly(u64::MAX);
     parts
         .push(Part::SetData(SetData {

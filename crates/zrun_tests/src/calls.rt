@@ -18,7 +18,7 @@ pub fn create(alloc: Global, path: &str) -> Option<Call> {
     Some(Call::Update(Update::Create(Create {
         path: Path::parse(alloc, path).ok()?,
         kind: Kind::Persistent,
-        bytes: Data::empty(alloc),
+        bytes: Data::empty(),
     })))
 }
 
@@ -26,7 +26,7 @@ pub fn create(alloc: Global, path: &str) -> Option<Call> {
 pub fn set(alloc: Global, path: &str) -> Option<Call> {
     Some(Call::Update(Update::SetData(SetData {
         path: Path::parse(alloc, path).ok()?,
-        bytes: Data::empty(alloc),
+        bytes: Data::empty(),
         version: Expected::Any,
     })))
 }

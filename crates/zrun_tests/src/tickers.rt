@@ -34,7 +34,7 @@ fn create_of(client: &mut Client, alloc: Global, session: SessionId) -> Option<b
     ensures { SameClient client.old client.new }
 {
     let path = Path::parse(alloc, "/held").ok()?;
-    let call = Call::create_as(path, Kind::Ephemeral(session), Data::empty(alloc));
+    let call = Call::create_as(path, Kind::Ephemeral(session), Data::empty());
     Some(ask(client, call).is_some())
 }
 

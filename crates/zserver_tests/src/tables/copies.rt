@@ -33,7 +33,7 @@ fn copies_an_update(rt: &impl Abort, alloc: Global) -> bool {
     let update = Update::Create(Create {
         path: path(rt, alloc, "/a/b"),
         kind: Kind::PersistentSequential,
-        bytes: Data::empty(alloc),
+        bytes: Data::empty(),
     });
     let copy = update.copied(alloc).expect(rt, "there is memory");
     drop(update);
@@ -61,7 +61,7 @@ fn shares_an_entry(rt: &impl Abort, alloc: Global) -> bool {
 
 fn copies_a_query(rt: &impl Abort, alloc: Global) -> bool {
     let query = Query::GetChildren(path(rt, alloc, "/a"));
-    let copy = query.copied(alloc).expect(rt, "there is memory");
+    let copy = query.copied().expect(rt, "there is memory");
     drop(query);
     let is_so = matches!(&copy, Query::GetChildren(path) if path.names().len() == 1);
     drop(copy);
@@ -92,7 +92,7 @@ fn checks(rt: &impl Abort, alloc: Global, texts: &[&str]) -> Vec<Part> {
 
 fn copies_a_delete(rt: &impl Abort, alloc: Global) -> bool {
     let delete = Part::Delete(Delete {
-        path: Path::root(alloc),
+        path: Path::root(),
         version: Expected::Exactly(7),
     });
     let copy = delete.copied(alloc).expect(rt, "there is memory");
@@ -104,8 +104,8 @@ fn copies_a_delete(rt: &impl Abort, alloc: Global) -> bool {
 
 fn copies_a_set(rt: &impl Abort, alloc: Global) -> bool {
     let set = Part::SetData(SetData {
-        path: Path::root(alloc),
-        bytes: Data::empty(alloc),
+        path: Path::root(),
+        bytes: Data::empty(),
         version: Expected::Any,
     });
     let copy = set.copied(alloc).expect(rt, "there is memory");
