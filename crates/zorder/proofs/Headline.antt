@@ -38,7 +38,7 @@ pub every_history_is_explained : EveryHistoryIsExplained
 every_history_is_explained = every_history_from_is_explained opening_tree opening_can_start
 
 -- what events lead to with losses is alike to what they lead to
-losses_alike : (v : World (KeptState Tree)) (events : List Event) (w : World (KeptState Tree)) → LeadWithLosses v events w → IsAlike (run kept_tree v events) w
+pub losses_alike : (v : World (KeptState Tree)) (events : List Event) (w : World (KeptState Tree)) → LeadWithLosses v events w → IsAlike (run kept_tree v events) w
 losses_alike v [] w h = h
 losses_alike v (event ∷ events) w (u, first, rest) =
     alike_through _ _ w (stay_alike kept_tree (happens kept_tree v event) u events first) (losses_alike u events w rest)

@@ -1,5 +1,6 @@
 pub mod Runs
 pub mod Headline
+pub mod TailTrees
 pub mod CutRuns
 pub mod Tails
 pub mod Told

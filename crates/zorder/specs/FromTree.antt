@@ -7,6 +7,7 @@ use Rattle.zprotocol.specs.server.Machine.{kept_tree_from}
 use Rattle.zworld_model.specs.declared.event.Event.{Event}
 use Rattle.zworld_model.specs.World.{World}
 use Rattle.zworld_model.specs.FromTree.{CanStart, IsExplainedFrom, opening_world_from, world_after_from}
+use Rattle.zworld_model.specs.Rest.{IsExplainedTo, TailHolds}
 use Rattle.zorder.specs.Headline.{LeadWithLosses}
 use Rattle.zorder.specs.Cuts.{Stays, run_with_cuts}
 
@@ -28,3 +29,17 @@ abbrev pub EveryHistoryFromWithCutsIsExplained : Type 0
 EveryHistoryFromWithCutsIsExplained =
     (t : Tree) → CanStart t → (servers clients : ℕ) (steps : List (Stays × Event))
     → IsExplainedFrom t (run_with_cuts (kept_tree_from t) (opening_world_from t servers clients) steps).history
+
+-- Whatever tree the tail holds after a list of events, the history of the run is linearizable by an
+-- order that leaves that tree
+abbrev pub HistoriesLeadToTheTail : Type 0
+HistoriesLeadToTheTail =
+    (t : Tree) → CanStart t → (servers clients : ℕ) (events : List Event) (u : Tree)
+    → TailHolds (world_after_from t servers clients events) u
+    → IsExplainedTo t (world_after_from t servers clients events).history u
+
+-- the same holds where failed servers lose what they held
+abbrev pub HistoriesWithLossesLeadToTheTail : Type 0
+HistoriesWithLossesLeadToTheTail =
+    (t : Tree) → CanStart t → (servers clients : ℕ) (events : List Event) (w : World (KeptState Tree)) (u : Tree)
+    → LeadWithLosses (opening_world_from t servers clients) events w → TailHolds w u → IsExplainedTo t w.history u

@@ -6,6 +6,8 @@ ghost use Rattle.zorder.specs.FromTree.{
   EveryHistoryFromIsExplained,
   EveryHistoryFromWithCutsIsExplained,
   EveryHistoryFromWithLossesIsExplained,
+  HistoriesLeadToTheTail,
+  HistoriesWithLossesLeadToTheTail,
 };
 ghost use Rattle.zorder.specs.Headline.{
   EveryHistoryIsExplained,
@@ -40,4 +42,12 @@ pub fn every_history_from_a_tree_is_explained()
     ensures history { EveryHistoryFromIsExplained }
     ensures losses { EveryHistoryFromWithLossesIsExplained }
     ensures cuts { EveryHistoryFromWithCutsIsExplained }
+{}
+
+/// A chain begins with a tree, and its tail holds another one after some events. Then the history so
+/// far is linearizable by an order of calls that leads from the first tree to the second. So a chain
+/// that begins with the second tree goes on where this one was.
+pub fn histories_lead_to_the_tail()
+    ensures history { HistoriesLeadToTheTail }
+    ensures losses { HistoriesWithLossesLeadToTheTail }
 {}

@@ -6,6 +6,8 @@ pub mod FirstCallsFrom
 pub mod Starts
 pub mod Orders
 pub mod Lives
+pub mod Rest
+mod RestRows
 pub mod Tables
 pub mod Alike
 pub mod Retiring

@@ -3,6 +3,7 @@ pub mod LegalOrder
 pub mod PlainTree
 pub mod FromTree
 pub mod Lives
+pub mod Rest
 pub mod Links
 pub mod World
 pub mod Events

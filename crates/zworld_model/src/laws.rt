@@ -15,6 +15,8 @@ ghost use Rattle.zworld_model.specs.Alike.{RetiredHaveFailed};
 ghost use Rattle.zprotocol.specs.server.Machine.{kept_tree};
 ghost use Rattle.zworld_model.specs.FromTree.{EventsForgetTheStart, RunsForgetTheStart};
 ghost use Rattle.zworld_model.specs.Lives.{TwoLivesAreOne, TheSecondLifeLeavesTheTree};
+ghost use Rattle.zworld_model.specs.Rest.{AlikeTailsHoldTheSame, AlikeWorldsRestAlike};
+ghost use Rattle.zworld_model.specs.Rest.{HistoriesEnd, HistoriesGoOn};
 ghost use Rattle.zworld_model.specs.support.Learning.{DoneIsLearnt, IdleIsPassed, PassBegins};
 ghost use Rattle.zworld_model.specs.support.Learning.{PassesEnd, ReadingIsLearnt};
 ghost use Rattle.zworld_model.specs.Laws.{FittingOutcomesAreRead, LinksAreVisited, QuietIsQuiet};
@@ -104,4 +106,17 @@ pub fn runs_forget_the_start()
 pub fn two_lives_are_one()
     ensures explained { TwoLivesAreOne }
     ensures leaves { TheSecondLifeLeavesTheTree }
+{}
+
+/// Where one history leads from a tree to a second one, and another from there on, both are one
+/// history from the first tree on. So it is with any number of histories.
+pub fn histories_go_on()
+    ensures on { HistoriesGoOn }
+    ensures end { HistoriesEnd }
+{}
+
+/// Worlds that are equal up to failed servers are at rest with the same trees.
+pub fn alike_worlds_rest_alike()
+    ensures rest { AlikeWorldsRestAlike }
+    ensures tails { AlikeTailsHoldTheSame }
 {}

@@ -4,6 +4,7 @@ mod beginnings;
 mod joins;
 mod orders;
 mod repairs;
+mod rests;
 mod retirements;
 mod runs;
 mod scenarios;

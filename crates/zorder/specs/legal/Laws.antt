@@ -7,6 +7,8 @@ use Rattle.zprotocol.specs.server.Machine.{plain_from}
 use Rattle.zworld_model.specs.History.{History}
 use Rattle.zworld_model.specs.PlainTree.{IsExplained, service_of}
 use Rattle.zworld_model.specs.FromTree.{CanStart, IsExplainedFrom}
+use Rattle.zworld_model.specs.Rest.{IsExplainedTo}
+use Rattle.zcalls.specs.Acts.{after_log}
 use Rattle.zorder.specs.legal.Items.{Item, Replays, AreCommitted, TimesRise, AreBegunInTime, AreAnsweredInTime, EventsDiffer}
 
 -- a history is linearizable over the plain tree where a list of items and a committed log fit it
@@ -22,3 +24,11 @@ ItemsExplainFrom =
     (t : Tree) → CanStart t → (history : History) (committed : List Entry) (items : List Item)
     → AreCommitted (plain_from t) committed items → Replays (service_of (plain_from t)) t items → TimesRise items
     → AreBegunInTime history items → AreAnsweredInTime items 0 history → EventsDiffer history → IsExplainedFrom t history
+
+-- and by an order that leaves the tree of the committed log
+abbrev pub ItemsExplainTo : Type 0
+ItemsExplainTo =
+    (t : Tree) → CanStart t → (history : History) (committed : List Entry) (items : List Item)
+    → AreCommitted (plain_from t) committed items → Replays (service_of (plain_from t)) t items → TimesRise items
+    → AreBegunInTime history items → AreAnsweredInTime items 0 history → EventsDiffer history
+    → IsExplainedTo t history (after_log (plain_from t) committed).plain

@@ -9,6 +9,8 @@ use Rattle.zcalls.specs.Kept.{Plain}
 use Rattle.zcalls.proofs.Among.{test}
 use Rattle.zworld_model.specs.LegalOrder.{Service, operation_step, replies_from, states_from}
 use Rattle.zworld_model.specs.PlainTree.{service_of, call_step}
+use Rattle.zworld_model.specs.Lives.{state_after}
+use Rattle.zorder.proofs.legal_lemmas.acts.ActedLogs.{after_items}
 use Rattle.zorder.specs.legal.Items.{Item, is_update, updates_of, Replays, TimesRise}
 
 -- some queries of a list are left out
@@ -83,6 +85,13 @@ module _ {P : Type 0} (plain : Plain P) where
   kept_replays is kept (Keep i is' kept' more) p h = (h.0, kept_replays is' kept' more (operation_step (service_of plain) p i.operation).0 h.1)
   kept_replays is kept (Skip i is' kept' query more) p h =
       kept_replays is' kept' more p (subst (λ q. Replays (service_of plain) q is') (query_leaves p i.operation i.operation.call query) h.1)
+
+  -- and leads where the list does
+  pub kept_leads : (is kept : List Item) → Keeps is kept → (p : P) → state_after (service_of plain) p (map (λ i. i.operation) kept) ≡ after_items plain p is
+  kept_leads is kept None p = refl
+  kept_leads is kept (Keep i is' kept' more) p = kept_leads is' kept' more (operation_step (service_of plain) p i.operation).0
+  kept_leads is kept (Skip i is' kept' query more) p =
+      kept_leads is' kept' more p ∙ ap (λ q. after_items plain q is') (sym (query_leaves p i.operation i.operation.call query))
 
 -- and is in time
 pub kept_rises : (is kept : List Item) → Keeps is kept → TimesRise is → TimesRise kept

@@ -11,11 +11,13 @@ use Rattle.zworld_model.specs.declared.history.CallEvent.TheVariants.{Begin, Ans
 use Rattle.zworld_model.specs.History.{History, IsUpdate, HasBegun, IsAnswered, EndsBefore}
 use Rattle.zworld_model.specs.LegalOrder.{operation_step, IsReplayed, IsLegalOrder, replies_from}
 use Rattle.zworld_model.specs.PlainTree.{service_of}
+use Rattle.zworld_model.specs.Lives.{state_after}
+use Rattle.zorder.proofs.legal_lemmas.acts.ActedLogs.{after_items}
 use Rattle.zorder.specs.legal.Items.{Item, is_update, updates_of, Replays, IsItemOf, IsGiven, IsGivenBy, IsAnsweredBy, AreAnsweredInTime, IsSameEvent, TimesRise, AreBegunInTime, EventsDiffer}
 use Rattle.zorder.proofs.legal_lemmas.lists.Members.{among_mid, among_insert, among_inserted, among_take}
 use Rattle.zorder.proofs.legal_lemmas.lists.Places.{before_second}
 use Rattle.zorder.proofs.legal_lemmas.lists.Distinct.{no_two_insert, only_one, no_two_map, no_two_of_map}
-use Rattle.zorder.proofs.legal_lemmas.order.KeptItems.{Keeps, keep_one, keep_updates, kept_among, kept_replays, kept_rises, earlier_is_first, replayed, states_lawful, operation_among, operations_before}
+use Rattle.zorder.proofs.legal_lemmas.order.KeptItems.{Keeps, keep_one, keep_updates, kept_among, kept_leads, kept_replays, kept_rises, earlier_is_first, replayed, states_lawful, operation_among, operations_before}
 use Rattle.zorder.proofs.legal_lemmas.order.KeptItems.KeepsOne.{Already, Put}
 
 -- two items are of one call
@@ -167,18 +169,24 @@ module _ {P : Type 0} (Lawful : P → Type 0) (plain : Plain P) (history : Histo
     lawful = states_lawful Lawful (service_of plain) keeps plain.opening (order_of kept) opened;
   }
 
--- The items make a legal order.
+-- The items make a legal order, which leads where they do.
 module _ {P : Type 0} (Lawful : P → Type 0) (plain : Plain P) where
+  abbrev HasOrder : History → List Item → Type 0
+  HasOrder history items =
+      (order : List Operation) × IsLegalOrder Lawful (service_of plain) history order
+      × (state_after (service_of plain) plain.opening order ≡ after_items plain plain.opening items)
+
   of_chosen : (history : History) (items : List Item)
       → Lawful plain.opening → ((p : P) (o : Operation) → Lawful p → Lawful (operation_step (service_of plain) p o).0)
       → Replays (service_of plain) plain.opening items → TimesRise items → AreBegunInTime history items → EventsDiffer history
-      → Chosen items 0 history → (order : List Operation) × IsLegalOrder Lawful (service_of plain) history order
+      → Chosen items 0 history → HasOrder history items
   of_chosen history items opened keeps replays rise begun once chosen =
       let kept = chosen.kept in (
         order_of kept,
         orders Lawful plain history kept
             (λ i a. begun i (kept_among items kept chosen.keeps i a)) (kept_rises items kept chosen.keeps rise) chosen.in_time once chosen.once
             (kept_replays plain items kept chosen.keeps plain.opening replays) chosen.either opened keeps,
+        kept_leads plain items kept chosen.keeps plain.opening,
       )
 
   -- the calls of what is kept are a legal order
@@ -186,7 +194,7 @@ module _ {P : Type 0} (Lawful : P → Type 0) (plain : Plain P) where
       → Lawful plain.opening → ((p : P) (o : Operation) → Lawful p → Lawful (operation_step (service_of plain) p o).0)
       → NoTwo AreOneUpdate (updates_of items)
       → Replays (service_of plain) plain.opening items → TimesRise items → AreBegunInTime history items → AreAnsweredInTime items 0 history → EventsDiffer history
-      → (order : List Operation) × IsLegalOrder Lawful (service_of plain) history order
+      → HasOrder history items
   legal_order history items opened keeps updates replays rise begun in_time once =
       let has_begun : (i : Item) → Among i items → HasBegun history i.operation = λ i a. among_take i.time history _ (begun i a).1 in
       let all = keep_updates items in

@@ -1,6 +1,6 @@
 -- The items explain their history, over the plain tree.
 use Rattle.std.specs.List.{AllByRecursion}
-use Rattle.std.proofs.Common.{◌≡◌, List, [], ◌∷◌, refl, sym, subst}
+use Rattle.std.proofs.Common.{◌≡◌, List, [], ◌∷◌, refl, sym, ap, ◌∙◌, subst}
 use Rattle.ztree.specs.Tree.{Tree, opening_tree}
 use Rattle.ztree.specs.Lawful.{IsLawful}
 use Rattle.zcalls.specs.declared.call.Call.{Call}
@@ -17,7 +17,10 @@ use Rattle.zprotocol.specs.server.Machine.{plain_from}
 use Rattle.zworld_model.specs.PlainTree.{service_of}
 use Rattle.zworld_model.specs.FromTree.{CanStart}
 use Rattle.zworld_model.proofs.FirstCallsFrom.{opening_can_start}
-use Rattle.zorder.specs.legal.Laws.{ItemsExplain, ItemsExplainFrom}
+use Rattle.zcalls.specs.Kept.{nothing_kept}
+use Rattle.zcalls.specs.Acts.{after_log}
+use Rattle.zorder.specs.legal.Laws.{ItemsExplain, ItemsExplainFrom, ItemsExplainTo}
+use Rattle.zorder.proofs.legal_lemmas.acts.ActedLogs.{after_items, after_calls, acted_leads, items_lead}
 use Rattle.zorder.proofs.legal_lemmas.order.LegalOrders.{legal_order}
 
 -- a call keeps a tree good
@@ -49,11 +52,19 @@ lawful_order t history order legal = record {
 }
 
 -- over the plain tree that begins with a tree, whose every state is lawful
+pub items_explain_to : ItemsExplainTo
+items_explain_to t can history committed items acted replays rising in_time answered once =
+    let plain = plain_from t in
+    let found = legal_order IsGood plain history items (good_start t can) call_good
+    (subst (NoTwo AreOneUpdate) (sym acted) (acted_entries_once plain committed)) replays rising in_time answered once in
+    let leads : after_items plain t items ≡ (after_log plain committed).plain =
+    items_lead plain t items ∙ ap (after_calls plain t) acted ∙ acted_leads plain (nothing_kept t) committed in
+    (found.0, lawful_order t history found.0 found.1, sym leads ∙ sym found.2)
+
 pub items_explain_from : ItemsExplainFrom
 items_explain_from t can history committed items acted replays rising in_time answered once =
-    let found = legal_order IsGood (plain_from t) history items (good_start t can) call_good
-    (subst (NoTwo AreOneUpdate) (sym acted) (acted_entries_once (plain_from t) committed)) replays rising in_time answered once in
-    (found.0, lawful_order t history found.0 found.1)
+    let to = items_explain_to t can history committed items acted replays rising in_time answered once in
+    (to.0, to.1)
 
 -- over the plain tree
 pub items_explain : ItemsExplain
