@@ -7,7 +7,7 @@ ghost use Rattle.zprotocol.specs.master.Table.{config_posts, join_fault, join_st
 ghost use Rattle.zprotocol.specs.master.Table.{retire_fault, retire_step};
 ghost use Rattle.zprotocol.specs.Posts.{PutsInRoom};
 ghost use Rattle.ztree.specs.declared.limits.TheConstants.{MAX_CLIENTS};
-ghost use Rattle.zmaster.specs.Staying.{is_staying};
+ghost use Rattle.zmaster.specs.Staying.{is_settled, is_staying};
 ghost use Rattle.zmaster.specs.declared.limits.TheConstants.{MAX_POSTS};
 
 use crate::chain::{
@@ -237,6 +237,13 @@ impl Knowledge {
     {
         self.retiring = Some(server);
         out.put_reserved(Process::Server(server), Message::Retire);
+    }
+
+    /// Returns whether no server is joining or leaving.
+    pub(crate) fn is_settled(&self) -> bool
+        ensures { result ≡ is_settled self.now }
+    {
+        self.joining.is_none() && self.retiring.is_none()
     }
 
     /// Returns whether the server is a member that has the state and wasn't ordered to leave.

@@ -6,7 +6,7 @@ ghost use Rattle.zprotocol.specs.master.Table.{join_fault, join_step, retire_fau
 ghost use Rattle.zprotocol.specs.master.Table.{master_step};
 ghost use Rattle.zprotocol.specs.Posts.{PutsInRoom};
 ghost use Rattle.ztree.specs.declared.limits.TheConstants.{MAX_CLIENTS};
-ghost use Rattle.zmaster.specs.Staying.{is_staying};
+ghost use Rattle.zmaster.specs.Staying.{is_settled, is_staying};
 ghost use Rattle.zmaster.specs.declared.limits.TheConstants.{MAX_POSTS};
 
 use crate::knowledge::Knowledge;
@@ -105,6 +105,13 @@ impl Master {
         ensures { result ≡ is_staying self.now server }
     {
         self.known.is_staying(server)
+    }
+
+    /// Returns whether no server is joining or leaving.
+    pub fn is_settled(&self) -> bool
+        ensures { result ≡ is_settled self.now }
+    {
+        self.known.is_settled()
     }
 
     /// Orders a member to leave, or returns why it can't. It allocates nothing.

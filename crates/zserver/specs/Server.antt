@@ -2,10 +2,11 @@
 -- Van Renesse and Schneider, "Chain Replication for Supporting High Throughput and Availability"
 -- (OSDI 2004), section 2: servers are fail-stop, and a request may be ignored. The order to leave
 -- is this project's profile.
-use Rattle.std.specs.Prelude.{◌≡◌, ◌⊎◌, ℕ, true, Option, None, Some}
+use Rattle.std.specs.Prelude.{◌≡◌, ◌⊎◌, ℕ, true, false, is_none, Option, None, Some}
 use Rattle.std.specs.Option.{option_map}
 use Rattle.ztree.specs.Tree.{Tree}
 use Rattle.zcalls.specs.Kept.{KeptState, nothing_kept}
+use Rattle.zops.specs.Machine.{MachineView}
 use Rattle.zprotocol.specs.declared.process.Process.{Process}
 use Rattle.zprotocol.specs.Posts.{OutView, Puts}
 use Rattle.zprotocol.specs.server.Machine.{kept_tree, kept_tree_from}
@@ -58,6 +59,12 @@ first_view_from t pred succ = member (kept_tree_from t) (first_neighbour pred) (
 -- a snapshot with which a chain can begin: no entry was applied, and no reply is cached
 abbrev pub IsFresh : Transfer (KeptState Tree) → Type 0
 IsFresh snapshot = snapshot ≡ record { last = 0; machine = nothing_kept snapshot.machine.plain }
+
+-- a server with this view is the tail, and holds this machine, which never ran out of memory
+pub record HasAtTail (v : TreeView) (m : MachineView) : Type 0 where
+  pub machine : v.machine ≡ Some m.state.service
+  pub is_last : is_none v.succ ≡ true
+  pub whole : m.is_broken ≡ false
 
 -- the effect of a message: what the server table says, or none where it was unheard
 abbrev pub taken_result : Taken → TreeView → Process → TreeMessage → TreeResult

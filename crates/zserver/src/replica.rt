@@ -1,10 +1,10 @@
 //! What a server knows.
 
-ghost use Rattle.std.specs.Prelude.{◌≡◌, true, is_some, IfOk, OnErr, OnOk};
-ghost use Rattle.zprotocol.specs.server.View.{spare};
+ghost use Rattle.std.specs.Prelude.{◌≡◌, true, false, is_some, IfNone, IfOk, IfSome, OnErr, OnOk};
+ghost use Rattle.zprotocol.specs.server.View.{is_tail, spare};
 ghost use Rattle.zprotocol.specs.Posts.{Puts};
 ghost use Rattle.zprotocol.specs.server.Table.{ack_posts, last_number};
-ghost use Rattle.zserver.specs.Server.{first_neighbour, first_view, first_view_from, IsFresh};
+ghost use Rattle.zserver.specs.Server.{first_neighbour, first_view, first_view_from, HasAtTail, IsFresh};
 
 use crate::neighbour::Neighbour;
 use crate::sent::Sent;
@@ -95,6 +95,17 @@ impl Replica {
             pred: None,
             succ: None,
         }
+    }
+
+    /// Returns its machine where it is the tail.
+    pub(crate) fn tail_machine(&self) -> Option<&Machine>
+        ensures some { IfSome result (λ m. HasAtTail self.now m.now) }
+        ensures none { IfNone result (is_tail self.now ≡ false) }
+    {
+        if self.succ.is_some() {
+            return None;
+        }
+        self.machine.as_ref()
     }
 
     /// Returns the number of its last entry, where it has the state.

@@ -1,11 +1,12 @@
 //! The server.
 
-ghost use Rattle.std.specs.Prelude.{◌≡◌, false, None, Some, Err, IfOk, IfErr, OnErr, OnOk};
+ghost use Rattle.std.specs.Prelude.{◌≡◌, false, None, Some, Err, IfOk, IfErr, IfNone, IfSome};
+ghost use Rattle.std.specs.Prelude.{OnErr, OnOk};
 ghost use Rattle.zprotocol.specs.server.Table.{is_retirement};
-ghost use Rattle.zprotocol.specs.server.View.{spare};
+ghost use Rattle.zprotocol.specs.server.View.{is_tail, spare};
 ghost use Rattle.zserver.specs.declared.stopped.Stopped.{Stopped};
 ghost use Rattle.zserver.specs.Server.{first_view, first_view_from, running, IsFresh};
-ghost use Rattle.zserver.specs.Server.{BecomesAt, PutsAt};
+ghost use Rattle.zserver.specs.Server.{BecomesAt, HasAtTail, PutsAt};
 ghost use Rattle.zserver.specs.Server.{IsHeardOr, MayBeUnheard, IsStoppedAt};
 
 use crate::replica::Replica;
@@ -16,6 +17,7 @@ use std::alloc::Global;
 use std::marker::Model;
 use std::mem::replace;
 use zalloc::Memory;
+use zops::Machine;
 use zprotocol::{Message, Out, Process, ServerId};
 
 /// One server of the chain, or a spare one. It doesn't know its own number: no row of its table
@@ -76,6 +78,17 @@ impl Server {
     {
         Server {
             replica: Ok(Replica::spare(alloc)),
+        }
+    }
+
+    /// Returns its machine where it is the tail: it has one, and no successor.
+    pub fn tail_machine(&self) -> Option<&Machine>
+        ensures some { IfSome result (λ m. HasAtTail self.now.view m.now) }
+        ensures none { IfNone result (is_tail self.now.view ≡ false) }
+    {
+        match &self.replica {
+            Ok(replica) => replica.tail_machine(),
+            Err(_) => None,
         }
     }
 

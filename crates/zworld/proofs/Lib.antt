@@ -17,3 +17,4 @@ pub mod Passes
 pub mod Going
 pub mod Settled
 pub mod Needs
+mod Rests

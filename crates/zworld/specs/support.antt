@@ -7,3 +7,4 @@ pub mod Settled
 pub mod Settling
 pub mod Stepped
 pub mod Past
+pub mod Resting

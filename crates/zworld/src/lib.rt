@@ -17,6 +17,7 @@ mod member;
 mod opening;
 mod post;
 mod processes;
+mod resting;
 mod retirements;
 mod rows;
 mod settling;

@@ -1,9 +1,10 @@
 //! One of the servers.
 
-ghost use Rattle.std.specs.Prelude.{◌≡◌, true, false, None, IfOk};
+ghost use Rattle.std.specs.Prelude.{◌≡◌, true, false, None, IfNone, IfOk, IfSome};
 ghost use Rattle.zworld.specs.Held.{bystander, gone_member, owes, is_gone};
 ghost use Rattle.zworld.specs.declared.life.Life.TheVariants.{Owing};
 ghost use Rattle.zworld.specs.support.Members.{Takes};
+ghost use Rattle.zworld.specs.support.Resting.{HasTail, HasNoTail};
 ghost use Rattle.zserver.specs.Server.{IsFresh};
 ghost use Rattle.zworld.specs.support.Opening.{first_member, first_member_from};
 
@@ -12,6 +13,7 @@ use std::alloc::Global;
 use std::marker::Model;
 use std::mem::replace;
 use zalloc::Memory;
+use zops::Machine;
 use zprotocol::{Message, Out, Process, ServerId};
 use zserver::{Server, Snapshot, Stopped, Taken};
 
@@ -94,6 +96,17 @@ impl Member {
         match &self.life {
             Life::Owing => true,
             Life::Running(_) | Life::Gone => false,
+        }
+    }
+
+    /// Returns its machine where it runs and is the tail.
+    pub(crate) fn tail_machine(&self) -> Option<&Machine>
+        ensures some { IfSome result (λ m. HasTail self.now m.now) }
+        ensures none { IfNone result (HasNoTail self.now) }
+    {
+        match &self.life {
+            Life::Running(server) => server.tail_machine(),
+            Life::Owing | Life::Gone => None,
         }
     }
 

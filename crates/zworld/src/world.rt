@@ -1,11 +1,14 @@
 //! The world.
 
 ghost use Rattle.std.specs.Prelude.{◌≡◌, ◌≤◌, [], true, false, IfOk, IsErr, OnErr, OnOk};
+ghost use Rattle.std.specs.Prelude.{IfNone, IfSome, IsNone};
+ghost use Rattle.ztree.specs.Tree.{Tree};
 ghost use Rattle.ztree.specs.declared.limits.TheConstants.{MAX_CLIENTS};
 ghost use Rattle.zprotocol.specs.server.Machine.{kept_tree};
 ghost use Rattle.zworld_model.specs.PlainTree.{IsExplained};
 ghost use Rattle.zserver.specs.Server.{IsFresh};
 ghost use Rattle.zworld_model.specs.FromTree.{CanStart, opening_world_from};
+ghost use Rattle.zworld_model.specs.Rest.{RestsWith};
 ghost use Rattle.zworld_model.specs.World.{opening_world};
 ghost use Rattle.zworld_model.specs.declared.settled.Settled.TheVariants.{Quiet};
 ghost use Rattle.zworld.specs.Did.{HasCause, is_idle};
@@ -20,6 +23,7 @@ use crate::processes::Processes;
 use std::alloc::Global;
 use std::marker::Model;
 use zalloc::Memory;
+use zops::Machine;
 use zprotocol::ServerId;
 use zserver::Snapshot;
 use zworld_model::{CallEvent, Event, Settled};
@@ -152,6 +156,23 @@ impl World {
         ensures { result ≡ is_last (world_in self.now) server }
     {
         self.processes.is_last(server)
+    }
+
+    /// Returns the tail's machine where the world is at rest: no message can be delivered, no client
+    /// waits for a reply, no server is joining or leaving, and a server that runs is the tail. So
+    /// its tree is the one that the calls so far have left. After `Memory` there is none.
+    pub fn machine_at_rest(&self) -> Option<&Machine>
+        ensures some { IfSome result (λ m. RestsWith (world_in self.now)
+            m.now.state.service.plain) }
+        ensures whole { IfSome result (λ m. m.now.is_broken ≡ false) }
+        ensures none { IsSound self.now → IfNone result
+            ((t : Tree) → RestsWith (world_in self.now) t → ⊥) }
+        ensures sound { self.now.is_broken ≡ true → IsNone result }
+    {
+        if self.is_broken || !self.processes.is_still() {
+            return None;
+        }
+        self.processes.tail_machine()
     }
 
     /// Does one event, and returns what became of it. The first `Memory` comes only at an enabled
