@@ -13,7 +13,9 @@ FOLDER = "DIR"
 SYNC = ("batch", "never")
 # The options of each command, and what each takes: a number in a range, one of some words, a form.
 OPTIONS = {
-    "script": {"servers": (1, 16), "data": FOLDER, "sync": SYNC},
+    "script": {
+        "servers": (1, 16), "data": FOLDER, "sync": SYNC, "journal": (1, 1048576),
+    },
     "race": {"servers": (1, 16), "clients": (1, 31), "rounds": (1, 1000), "halt": (0, 16)},
     "serve": {
         "servers": (1, 16), "tick": (10, 3600000), "listen": ADDRESS, "data": FOLDER, "sync": SYNC,
@@ -21,6 +23,8 @@ OPTIONS = {
     },
     "compact": {"data": FOLDER},
 }
+# From so many MiB on the file of a folder is shortened, where nothing else is said.
+JOURNAL = 64
 # The servers of a race that doesn't name them.
 RACE_SERVERS = 3
 
@@ -84,7 +88,8 @@ def program_of(command, words):
     if command != "script" or "data" not in given:
         return command, [command, *words]
     servers = ["--servers", str(given["servers"])] if "servers" in given else []
-    return "data", [given["data"], given.get("sync", SYNC[0]), command, *servers]
+    long = str(given.get("journal", JOURNAL))
+    return "data", [given["data"], given.get("sync", SYNC[0]), long, command, *servers]
 
 
 def read(command, words):

@@ -37,7 +37,11 @@ def tried(test, *given):
 
 def words(program, folder, servers=1, mode="batch"):
     """The words that ./zk turns 'script --data FOLDER --sync MODE --servers N' into."""
-    return [program, folder, mode, "script", "--servers", str(servers)]
+    return [program, folder, mode, str(words.long), "script", "--servers", str(servers)]
+
+
+# from so many MiB on a life shortens its file
+words.long = 64
 
 
 def run(program, folder, text, servers=1, mode="batch", **given):

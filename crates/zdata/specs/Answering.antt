@@ -2,10 +2,11 @@
 use Rattle.std.specs.Prelude.{◌≡◌, ◌⊎◌, ℕ, List, [], ◌∷◌, ◌++◌, map, true}
 use Rattle.zdevices.specs.Device.{IsBeginning}
 use Rattle.zdurable.specs.declared.durable.Durable.{Durable}
-use Rattle.zscript.specs.Line.{ScriptState}
-use Rattle.zdurable.specs.Batches.{is_whole}
-use Rattle.zdurable.specs.Durable.{IsServing, state_in, world_in}
-use Rattle.zdurable.specs.Lives.{Told, AreTold, batches_of, kept_from}
+use Rattle.zscript.specs.Script.{lines_of}
+use Rattle.zdurable.specs.Batches.{is_whole, kept}
+use Rattle.zdurable.specs.Durable.{BeginsAnew, IsServing, state_in, world_in}
+use Rattle.zdurable.specs.Lives.{Told}
+use Rattle.zdurable.specs.Played.{AreAnswered}
 use Rattle.zjournal.specs.Scan.{joined}
 
 -- the bytes of these batches, and their answers
@@ -15,20 +16,24 @@ asked_in told = joined (map (λ batch. batch.0) told)
 abbrev pub answers_in : List Told → List ℕ
 answers_in told = joined (map (λ batch. batch.1) told)
 
--- what is kept of them, from a state on
-abbrev pub kept_in : ScriptState → List Told → List (List ℕ)
-kept_in s told = kept_from s (batches_of told)
+-- a batch of whole lines was played and kept, and nothing else was
+pub record TellsOne {D : Type 0} (seen : D → List ℕ) (may_leave : D → List ℕ → Type 0) (batch : Told) (old new : Durable D) : Type 0 where
+  pub whole : is_whole batch.0 ≡ true
+  pub answered : AreAnswered (world_in old) (lines_of batch.0) (world_in new) batch.1
+  pub keeps : (servers : ℕ) (batches : List (List ℕ)) → IsServing seen may_leave servers batches old
+      → IsServing seen may_leave servers (batches ++ kept (state_in old) batch.0 ∷ []) new
 
--- each of them is whole lines
-abbrev pub AreWhole : List Told → Type 0
-AreWhole [] = Unit {0}
-AreWhole (batch ∷ more) = (is_whole batch.0 ≡ true) × AreWhole more
+-- the service is as it was, or its file was shortened, and it begins anew
+abbrev pub IsSameOrAnew : {D : Type 0} → (D → List ℕ) → (D → List ℕ → Type 0) → Durable D → Durable D → Type 0
+IsSameOrAnew seen may_leave old new =
+    (new ≡ old)
+    ⊎ ((servers : ℕ) (batches : List (List ℕ)) → IsServing seen may_leave servers batches old → BeginsAnew seen may_leave servers old new)
 
--- these batches were played and kept, one after the other, and nothing else was
-pub record Tells {D : Type 0} (seen : D → List ℕ) (may_leave : D → List ℕ → Type 0) (told : List Told) (old new : Durable D) : Type 0 where
-  pub whole : AreWhole told
-  pub worlds : AreTold (world_in old) told (world_in new)
-  pub keeps : (servers : ℕ) (batches : List (List ℕ)) → IsServing seen may_leave servers batches old → IsServing seen may_leave servers (batches ++ kept_in (state_in old) told) new
+-- these batches were told, one after the other. Behind each the file may have been shortened
+abbrev pub Tells : {D : Type 0} → (D → List ℕ) → (D → List ℕ → Type 0) → List Told → Durable D → Durable D → Type 0
+Tells seen may_leave [] old new = new ≡ old
+Tells {D} seen may_leave (batch ∷ more) old new =
+    (told next : Durable D) × TellsOne seen may_leave batch old told × IsSameOrAnew seen may_leave told next × Tells seen may_leave more next new
 
 -- the bytes that were asked are these, where a last line may have got its LF
 abbrev pub IsAskedBy : List ℕ → List Told → Type 0

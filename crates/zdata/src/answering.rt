@@ -6,23 +6,26 @@ ghost use Rattle.zdevices.specs.Device.{Between};
 ghost use Rattle.zdurable.specs.Batches.{is_whole};
 ghost use Rattle.zdurable.specs.Durable.{IsOpen, IsSound};
 ghost use Rattle.zdurable.specs.Lives.{Told};
-ghost use Rattle.zdata.specs.Answering.{AnswersAll, AnswersSome, Tells, IsAskedBy};
+ghost use Rattle.zdata.specs.Answering.{AnswersAll, AnswersSome, IsAskedBy, IsSameOrAnew};
+ghost use Rattle.zdata.specs.Answering.{Tells, TellsOne};
 ghost use Rattle.zdata.specs.Answering.{asked_in, answers_in};
 ghost use Rattle.zdata.specs.Faults.{IsOfAnswering};
 
 use crate::fault::DataFault;
 use memchr::memrchr;
 use std::alloc::Global;
-use zdurable::Durable;
+use zdurable::{CommitFault, Durable};
 use zjournal::Device;
 use zscript::limits::BLOCK;
 use zscript::{Sink, Source, write_all};
 
 /// Answers all lines of a source. A last line may lack its LF. The whole lines that one read
-/// brought are a batch: it is played and kept, and then answered.
+/// brought are a batch: it is played and kept, and then answered. Behind that the file is shortened,
+/// if it is long (`Durable::is_long`, from `least` bytes on) and the world is at rest.
 pub fn answer_all<D: Device, S: Source, K: Sink>(
     alloc: Global,
     service: &mut Durable<D>,
+    least: usize,
     source: &mut S,
     sink: &mut K,
 ) -> Result<(), DataFault>
@@ -37,7 +40,7 @@ pub fn answer_all<D: Device, S: Source, K: Sink>(
     ensures fault { IfErr result IsOfAnswering }
 {
     let mut block = vec![in alloc; 0; BLOCK]?;
-    answer_blocks(alloc, service, source, sink, &mut block)?;
+    answer_blocks(alloc, service, least, source, sink, &mut block)?;
     Ok(())
 }
 
@@ -45,6 +48,7 @@ pub fn answer_all<D: Device, S: Source, K: Sink>(
 fn answer_blocks<D: Device, S: Source, K: Sink>(
     alloc: Global,
     service: &mut Durable<D>,
+    least: usize,
     source: &mut S,
     sink: &mut K,
     block: &mut [u8],
@@ -66,10 +70,10 @@ fn answer_blocks<D: Device, S: Source, K: Sink>(
             return Err(DataFault::Read);
         };
         if count == 0 {
-            answer_rest(service, begun, sink)?;
+            answer_rest(service, least, begun, sink)?;
             return Ok(());
         }
-        hear(service, &mut begun, &block[..count], sink)?;
+        hear(service, least, &mut begun, &block[..count], sink)?;
     }
 }
 
@@ -77,6 +81,7 @@ fn answer_blocks<D: Device, S: Source, K: Sink>(
 // follows the last LF is kept.
 fn hear<D: Device, K: Sink>(
     service: &mut Durable<D>,
+    least: usize,
     begun: &mut Vec<u8>,
     bytes: &[u8],
     sink: &mut K,
@@ -97,7 +102,7 @@ fn hear<D: Device, K: Sink>(
         return Ok(());
     };
     begun.extend_from_slice(&bytes[..place + 1])?;
-    answer(service, begun, sink)?;
+    answer(service, least, begun, sink)?;
     begun.clear();
     begun.extend_from_slice(&bytes[place + 1..])?;
     Ok(())
@@ -106,6 +111,7 @@ fn hear<D: Device, K: Sink>(
 // Answers a last line without LF, if it has a byte.
 fn answer_rest<D: Device, K: Sink>(
     service: &mut Durable<D>,
+    least: usize,
     begun: Vec<u8>,
     sink: &mut K,
 ) -> Result<(), DataFault>
@@ -123,13 +129,14 @@ fn answer_rest<D: Device, K: Sink>(
         return Ok(());
     }
     begun.push(b'\n')?;
-    answer(service, &begun, sink)?;
+    answer(service, least, &begun, sink)?;
     Ok(())
 }
 
-// Plays, keeps and answers a batch of whole lines.
+// Plays, keeps and answers a batch of whole lines. Then the file is shortened, if it is to be.
 fn answer<D: Device, K: Sink>(
     service: &mut Durable<D>,
+    least: usize,
     lines: &[u8],
     sink: &mut K,
 ) -> Result<(), DataFault>
@@ -144,9 +151,45 @@ fn answer<D: Device, K: Sink>(
         (Between K.took sink.old sink.new) service.old) }
     ensures fault { IfErr result IsOfAnswering }
 {
+    tell_batch(service, lines, sink)?;
+    shorten_if_long(service, least)?;
+    Ok(())
+}
+
+// Plays, keeps and answers a batch of whole lines.
+fn tell_batch<D: Device, K: Sink>(
+    service: &mut Durable<D>,
+    lines: &[u8],
+    sink: &mut K,
+) -> Result<(), DataFault>
+    requires whole { is_whole lines.now ≡ true }
+    requires open { IsOpen service.old }
+    requires sound { IsSound D.seen D.may_leave service.old }
+    ensures done { OnOk result ((answers : List ℕ) × TellsOne D.seen D.may_leave
+        (lines.now, answers) service.old service.new × K.took sink.old answers sink.new) }
+    ensures open { OnOk result (IsOpen service.new) }
+    ensures sound { IsSound D.seen D.may_leave service.new }
+    ensures some { OnErr result (AnswersSome D.seen D.may_leave
+        (Between K.took sink.old sink.new) service.old) }
+    ensures fault { IfErr result IsOfAnswering }
+{
     let answers = service.commit(lines)?;
     if write_all(sink, answers.as_bytes()).is_err() {
         return Err(DataFault::Write);
+    }
+    Ok(())
+}
+
+// Shortens the file of a service, if it is long and the world is at rest.
+fn shorten_if_long<D: Device>(service: &mut Durable<D>, least: usize) -> Result<(), CommitFault>
+    requires open { IsOpen service.old }
+    requires sound { IsSound D.seen D.may_leave service.old }
+    ensures anew { OnOk result (IsSameOrAnew D.seen D.may_leave service.old service.new) }
+    ensures open { OnOk result (IsOpen service.new) }
+    ensures sound { IsSound D.seen D.may_leave service.new }
+{
+    if service.is_long(least) {
+        let _ = service.shorten()?;
     }
     Ok(())
 }

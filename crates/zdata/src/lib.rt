@@ -6,6 +6,7 @@
 #![tactic(auto)]
 
 mod answering;
+mod compacting;
 mod fault;
 mod program;
 mod words;

@@ -7,6 +7,7 @@ ghost use Rattle.zjournal.specs.Device.{Only};
 ghost use Rattle.zdata.specs.Faults.{IsOfService};
 
 use crate::answering::answer_all;
+use crate::compacting::{compact, compacted};
 use crate::fault::DataFault;
 use crate::words::data_settings;
 use std::alloc::Global;
@@ -52,24 +53,41 @@ fn run<R: Files<File = File> + Copy, S: Source, K: Sink, F: Sink>(
     let [_, folder, ..] = words else {
         return Err(DataFault::Words(WordsFault::BadWords));
     };
+    if let Some(servers) = compacted(words) {
+        return shorten(alloc, files, folder, servers, sink);
+    }
     let asked = data_settings(alloc, words)?;
     let device = FileDevice::open(alloc, files, folder, asked.mode)?;
     tell_opening(alloc, asked.mode, device.waiting(), faults);
     let service = opened(alloc, device, asked.servers)?;
-    answer(alloc, service, source, sink)
+    answer(alloc, service, asked.long, source, sink)
+}
+
+// Shortens the file of a folder.
+fn shorten<R: Files<File = File> + Copy, K: Sink>(
+    alloc: Global,
+    files: &R,
+    folder: &str,
+    servers: Servers,
+    sink: &mut K,
+) -> Result<(), DataFault> {
+    let device = FileDevice::open(alloc, files, folder, SyncMode::Batch)?;
+    let mut service = opened(alloc, device, servers)?;
+    compact(alloc, &mut service, sink)
 }
 
 // Answers all lines (`answer_all`).
 fn answer<R: Files<File = File> + Copy, S: Source, K: Sink>(
     alloc: Global,
     mut service: Durable<FileDevice<R>>,
+    long: usize,
     source: &mut S,
     sink: &mut K,
 ) -> Result<(), DataFault>
     requires open { IsOpen service }
     requires sound { IsSound seen_of MayLeaveOf service }
 {
-    answer_all(alloc, &mut service, source, sink)
+    answer_all(alloc, &mut service, long, source, sink)
 }
 
 // Opens the service of a file.

@@ -1,8 +1,7 @@
 -- What is kept of lines stands for them.
-use Rattle.std.proofs.Common.{◌≡◌, ℕ, Bool, true, false, if◌then◌else◌, List, [], ◌∷◌, ◌++◌, map, append_assoc, refl, sym, ap, ◌∙◌, ◌==◌, arith}
+use Rattle.std.proofs.Common.{◌≡◌, ℕ, Bool, true, false, if◌then◌else◌, List, [], ◌∷◌, ◌++◌, map, append_assoc, refl, sym, ap, ◌∙◌, ◌==◌, arith, eqb-true}
 use Rattle.std.specs.Prelude.{◌||◌, not}
 use Rattle.std.specs.List.{list_any}
-use Rattle.std.proofs.lemmas.Bool.Decides.{nat_tests}
 use mathlib.Core.Bool.{true≢false}
 use Rattle.zjournal.specs.Blocks.{IsText}
 use Rattle.zlines.specs.LineWords.{is_plain, is_long, is_malformed, words_of}
@@ -11,7 +10,8 @@ use Rattle.zlines.specs.Line.{line_of}
 use Rattle.zscript.specs.Line.{ScriptState, script_state, effect_of, answer, after, answers, effect_text, forgotten}
 use Rattle.zscript.specs.Script.{lines_of}
 use Rattle.zscript.specs.support.Lines.{IsPart}
-use Rattle.zdurable.specs.Batches.{kept_line, kept_lines, kept, is_whole}
+use Rattle.zdurable.specs.Batches.{edge, has, kept_line, kept_lines, kept, is_whole}
+use Rattle.zdurable.specs.Starts.{begins_with_edge}
 use Rattle.zdurable.specs.Played.{after_lines}
 use Rattle.zdurable.specs.Refused.{played_lines}
 use Rattle.zdurable.proofs.Lines.{ArePart, lines-line, lines-part, whole-line}
@@ -21,18 +21,18 @@ or_true : (a b : Bool) → b ≡ true → (a || b) ≡ true
 or_true true b is = refl
 or_true false b is = is
 
--- a byte 0 isn't plain
-zero_is_odd : (line : List ℕ) → list_any (λ (byte : ℕ). byte == 0) line ≡ true → list_any (λ (byte : ℕ). not (is_plain byte)) line ≡ true
-zero_is_odd [] is = is
-zero_is_odd (b ∷ line) is = by (b == 0) refl is (zero_is_odd line)
+-- a byte that isn't plain
+odd_byte : (byte : ℕ) → is_plain byte ≡ false → (line : List ℕ) → has byte line ≡ true → list_any (λ (b : ℕ). not (is_plain b)) line ≡ true
+odd_byte byte odd [] is = is
+odd_byte byte odd (b ∷ line) is = by (b == byte) refl is (odd_byte byte odd line)
   where
-    by : (t : Bool) → (b == 0) ≡ t → (t || list_any (λ (byte : ℕ). byte == 0) line) ≡ true
-        → (list_any (λ (byte : ℕ). byte == 0) line ≡ true → list_any (λ (byte : ℕ). not (is_plain byte)) line ≡ true)
-        → (not (is_plain b) || list_any (λ (byte : ℕ). not (is_plain byte)) line) ≡ true
-    by true zero_is rest more =
-        let none : b ≡ 0 = grind (arith, nat_tests, zero_is) in
-        rw none refl
-    by false other rest more = or_true (not (is_plain b)) (list_any (λ (byte : ℕ). not (is_plain byte)) line) (more rest)
+    by : (t : Bool) → (b == byte) ≡ t → (t || has byte line) ≡ true → (has byte line ≡ true → list_any (λ (c : ℕ). not (is_plain c)) line ≡ true)
+        → (not (is_plain b) || list_any (λ (c : ℕ). not (is_plain c)) line) ≡ true
+    by true same rest more =
+        let one : b ≡ byte = eqb-true b byte same in
+        let here : not (is_plain b) ≡ true = ap (λ n. not (is_plain n)) one ∙ ap not odd in
+        rw here refl
+    by false other rest more = or_true (not (is_plain b)) (list_any (λ (c : ℕ). not (is_plain c)) line) (more rest)
 
 middle : (a b c : Bool) → b ≡ true → (a || b || c) ≡ true
 middle true b c is = refl
@@ -40,19 +40,20 @@ middle false true c is = refl
 middle false false c is = absurd (true≢false (sym is))
 
 -- so a line with one is a bad line, as an empty line is
-malformed : (line : List ℕ) → list_any (λ (byte : ℕ). byte == 0) line ≡ true → is_malformed line ≡ true
-malformed line is = middle (is_long line) (list_any (λ (byte : ℕ). not (is_plain byte)) line) (list_any is_empty (words_of line)) (zero_is_odd line is)
+malformed : (byte : ℕ) → is_plain byte ≡ false → (line : List ℕ) → has byte line ≡ true → is_malformed line ≡ true
+malformed byte odd line is = middle (is_long line) (list_any (λ (b : ℕ). not (is_plain b)) line) (list_any is_empty (words_of line)) (odd_byte byte odd line is)
 
 same_effect : (s : ScriptState) (line : List ℕ) → is_malformed line ≡ true → effect_of s [] ≡ effect_of s line
 unfolding effect_of line_of
 same_effect s line bad = rw bad refl
 
 pub kept-effect : (s : ScriptState) (line : List ℕ) → effect_of s (kept_line line) ≡ effect_of s line
-kept-effect s line = by (list_any (λ (byte : ℕ). byte == 0) line) refl
+kept-effect s line = by (has 0 line) refl (has edge line) refl
   where
-    by : (t : Bool) → list_any (λ (byte : ℕ). byte == 0) line ≡ t → effect_of s (if t then [] else line) ≡ effect_of s line
-    by true is = same_effect s line (malformed line is)
-    by false is = refl
+    by : (zero : Bool) → has 0 line ≡ zero → (one : Bool) → has edge line ≡ one → effect_of s (if zero || one then [] else line) ≡ effect_of s line
+    by true is one also = same_effect s line (malformed 0 refl line is)
+    by false is true also = same_effect s line (malformed edge refl line also)
+    by false is false also = refl
 
 pub kept-answer : (s : ScriptState) (line : List ℕ) → answer s (kept_line line) ≡ answer s line
 unfolding answer
@@ -74,7 +75,7 @@ kept-after_lines (line ∷ lines) s = ap (λ t. after_lines t (map kept_line lin
 
 -- the lines of what is kept
 part-kept : (line : List ℕ) → IsPart line → IsPart (kept_line line)
-part-kept line part = by (list_any (λ (byte : ℕ). byte == 0) line)
+part-kept line part = by (has 0 line || has edge line)
   where
     by : (t : Bool) → IsPart (if t then [] else line)
     by true = tt
@@ -101,21 +102,22 @@ pub whole-kept : (s : ScriptState) (batch : List ℕ) → is_whole (kept s batch
 whole-kept s batch = whole-lines (played_lines s (lines_of batch))
 
 -- and have no byte 0
-text-line : (line more : List ℕ) → list_any (λ (byte : ℕ). byte == 0) line ≡ false → IsText more → IsText (line ++ 10 ∷ more)
+text-line : (line more : List ℕ) → has 0 line ≡ false → IsText more → IsText (line ++ 10 ∷ more)
 text-line [] more none text = (omega arith, text)
 text-line (b ∷ line) more none text = by (b == 0) refl none (λ rest. text-line line more rest text)
   where
-    by : (t : Bool) → (b == 0) ≡ t → (t || list_any (λ (byte : ℕ). byte == 0) line) ≡ false
-        → (list_any (λ (byte : ℕ). byte == 0) line ≡ false → IsText (line ++ 10 ∷ more)) → IsText (b ∷ line ++ 10 ∷ more)
+    by : (t : Bool) → (b == 0) ≡ t → (t || has 0 line) ≡ false
+        → (has 0 line ≡ false → IsText (line ++ 10 ∷ more)) → IsText (b ∷ line ++ 10 ∷ more)
     by true is rest texts = absurd (true≢false rest)
     by false is rest texts = ((λ none_is. true≢false (sym (ap (λ (n : ℕ). n == 0) none_is) ∙ is)), texts rest)
 
 text-kept_line : (line more : List ℕ) → IsText more → IsText (kept_line line ++ 10 ∷ more)
-text-kept_line line more text = by (list_any (λ (byte : ℕ). byte == 0) line) refl
+text-kept_line line more text = by (has 0 line) refl (has edge line)
   where
-    by : (t : Bool) → list_any (λ (byte : ℕ). byte == 0) line ≡ t → IsText ((if t then [] else line) ++ 10 ∷ more)
-    by true is = (omega arith, text)
-    by false is = text-line line more is text
+    by : (t : Bool) → has 0 line ≡ t → (u : Bool) → IsText ((if t || u then [] else line) ++ 10 ∷ more)
+    by true is u = (omega arith, text)
+    by false is true = (omega arith, text)
+    by false is false = text-line line more is text
 
 text-lines : (lines : List (List ℕ)) → IsText (kept_lines lines)
 text-lines [] = tt
@@ -123,6 +125,27 @@ text-lines (line ∷ lines) = text-kept_line line (kept_lines lines) (text-lines
 
 pub text-kept : (s : ScriptState) (batch : List ℕ) → IsText (kept s batch)
 text-kept s batch = text-lines (played_lines s (lines_of batch))
+
+-- and begin with no edge
+free-line : (line more : List ℕ) → has edge line ≡ false → begins_with_edge (line ++ 10 ∷ more) ≡ false
+free-line [] more none = refl
+free-line (b ∷ line) more none = by (b == edge) none
+  where
+    by : (t : Bool) → (t || has edge line) ≡ false → t ≡ false
+    by true none = none
+    by false none = refl
+
+free-lines : (lines : List (List ℕ)) → begins_with_edge (kept_lines lines) ≡ false
+free-lines [] = refl
+free-lines (line ∷ lines) = by (has 0 line) (has edge line) refl
+  where
+    by : (t u : Bool) → has edge line ≡ u → begins_with_edge ((if t || u then [] else line) ++ 10 ∷ kept_lines lines) ≡ false
+    by true u is = refl
+    by false true is = refl
+    by false false is = free-line line (kept_lines lines) is
+
+pub free-kept : (s : ScriptState) (batch : List ℕ) → begins_with_edge (kept s batch) ≡ false
+free-kept s batch = free-lines (played_lines s (lines_of batch))
 
 -- one more line
 pub kept_lines-more : (lines : List (List ℕ)) (line : List ℕ) → kept_lines (lines ++ line ∷ []) ≡ kept_lines lines ++ (kept_line line ++ 10 ∷ [])

@@ -1,14 +1,22 @@
 -- What is kept of a batch of lines.
-use Rattle.std.specs.Prelude.{ℕ, ◌==◌, List, [], ◌∷◌, ◌++◌, Bool, true, if◌then◌else◌}
+use Rattle.std.specs.Prelude.{ℕ, ◌==◌, List, [], ◌∷◌, ◌++◌, Bool, true, if◌then◌else◌, ◌||◌}
 use Rattle.std.specs.List.{list_any}
 use Rattle.zscript.specs.Line.{ScriptState}
 use Rattle.zscript.specs.Script.{lines_of}
 use Rattle.zdurable.specs.Refused.{played_lines}
 
--- a line, or an empty line in place of one with a byte 0. Both are bad lines: they are answered
--- alike, and change nothing
+-- the byte that stands before and behind a snapshot (Starts.antt)
+abbrev pub edge : ℕ
+edge = 1
+
+-- the byte is among these
+abbrev pub has : ℕ → List ℕ → Bool
+has byte bytes = list_any (λ b. b == byte) bytes
+
+-- a line, or an empty line in place of one with a byte 0 or an edge. Both are bad lines: they are
+-- answered alike, and change nothing
 abbrev pub kept_line : List ℕ → List ℕ
-kept_line line = if list_any (λ byte. byte == 0) line then [] else line
+kept_line line = if has 0 line || has edge line then [] else line
 
 -- lines, each with its LF
 abbrev pub kept_lines : List (List ℕ) → List ℕ

@@ -6,7 +6,9 @@ use Rattle.zjournal.specs.declared.fault.OpenError.TheVariants as fault
 use Rattle.zjournal.specs.Faults.{IsOfContent, IsSuch}
 use Rattle.zjournal.specs.Journal.{StandsFor}
 use Rattle.zjournal.specs.Scan.{joined}
-use Rattle.zdurable.specs.Batches.{is_whole}
+use Rattle.zdurable.specs.Starts.{IsNoScript}
+use Rattle.zstates.specs.declared.fault.ReadFault.{ReadFault}
+use Rattle.zstates.specs.declared.fault.ReadFault.TheVariants as read
 use Rattle.zdurable.specs.declared.fault.OpenFault.{OpenFault}
 use Rattle.zdurable.specs.declared.fault.OpenFault.TheVariants as opening
 use Rattle.zdurable.specs.declared.fault.CommitFault.{CommitFault}
@@ -39,8 +41,19 @@ IsOfPlaying opening.NotLines = Unit {0}
 abbrev pub IsSuchFile : ℕ → List ℕ → OpenFault → Type 0
 IsSuchFile servers file (opening.Journal e) = IsSuch servers file e
 IsSuchFile servers file opening.Memory = Unit {0}
-IsSuchFile servers file opening.NotLines = (batches : List (List ℕ)) × StandsFor servers batches file × (is_whole (joined batches) ≡ false)
+IsSuchFile servers file opening.NotLines = (batches : List (List ℕ)) × StandsFor servers batches file × IsNoScript (joined batches)
 
 -- the disk failed while the service was opened
 abbrev pub disk_failed : OpenFault
 disk_failed = opening.Journal fault.Failed
+
+-- what a fault of reading is to who opens
+abbrev pub read_fault : ReadFault → OpenFault
+read_fault read.Memory = opening.Memory
+read_fault read.NotRecords = opening.NotLines
+
+-- the text is such as the fault says; memory says nothing of it, and no fault is the journal's
+abbrev pub IsSuchText : List ℕ → OpenFault → Type 0
+IsSuchText text (opening.Journal e) = ⊥
+IsSuchText text opening.Memory = Unit {0}
+IsSuchText text opening.NotLines = IsNoScript text

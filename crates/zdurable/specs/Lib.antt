@@ -1,7 +1,9 @@
 pub mod Batches
+pub mod Starts
 pub mod Durable
 pub mod Faults
 pub mod Laws
+pub mod Eras
 pub mod Lives
 pub mod Played
 pub mod Playing

@@ -1,12 +1,14 @@
--- The lives of a service, each from its opening to its crash or its end. A crash is the moment at
--- which the power goes, the machine stops or the process is killed.
+-- The lives of a service, each from its opening, or the last shortening of its file, to its crash,
+-- its end or the next shortening. A crash is the moment at which the power goes, the machine stops or
+-- the process is killed.
 use Rattle.std.specs.Prelude.{◌≡◌, ℕ, List, [], ◌∷◌, ◌++◌, map, length, not, Option, None, Some, Bool, true, false}
 use Rattle.zjournal.specs.Journal.{StandsFor, IsWithOrWithout}
 use Rattle.zjournal.specs.Scan.{joined}
 use Rattle.zscript.specs.Line.{ServiceWorld, ScriptState, script_state, answers}
-use Rattle.zscript.specs.Script.{opening_of, lines_of}
+use Rattle.zscript.specs.Script.{lines_of}
 use Rattle.zdurable.specs.Batches.{kept}
-use Rattle.zdurable.specs.Played.{after_lines, ArePlayed, AreAnswered}
+use Rattle.zdurable.specs.Starts.{LeadsTo}
+use Rattle.zdurable.specs.Played.{after_lines, AreAnswered}
 use Rattle.zdurable.specs.Refused.{played_lines, told_lines}
 
 -- a batch that was told: its bytes, and the answers
@@ -49,8 +51,7 @@ IsLeft servers s batches (Some batch) file = IsWithOrWithout servers batches (ke
 -- a life that found a file which stands for these batches, and left this file
 pub record IsLife (servers : ℕ) (found : List (List ℕ)) (life : Life) (left : List ℕ) : Type 0 where
   pub opened : ServiceWorld
-  pub answered : List ℕ
-  pub played : ArePlayed (opening_of servers) (lines_of (joined found)) opened answered
+  pub leads : LeadsTo servers (joined found) opened
   pub closed : ServiceWorld
   pub tells : AreTold opened life.told closed
   pub leaves : IsLeft servers (script_state closed []) (found ++ kept_from (script_state opened []) (batches_of life.told)) life.under_way left

@@ -1,12 +1,8 @@
 -- Lines that were played, one after the other, where memory sufficed.
-use Rattle.std.specs.Prelude.{◌≡◌, ℕ, List, [], ◌∷◌}
-use Rattle.zscript.specs.Line.{ServiceWorld, ScriptState, script_state, after, answers}
+use Rattle.std.specs.Prelude.{◌≡◌, ℕ, List, []}
+use Rattle.zscript.specs.Line.{ServiceWorld, script_state, answers}
+pub use Rattle.zscript.specs.FromTree.{after_lines}
 use Rattle.zdurable.specs.Refused.{played_lines, told_lines}
-
--- the state after some lines
-abbrev pub after_lines : ScriptState → List (List ℕ) → ScriptState
-after_lines s [] = s
-after_lines s (line ∷ lines) = after_lines (after s line) lines
 
 -- these lines lead from one world to another, and this is the text of their answers, where no
 -- server runs out of memory

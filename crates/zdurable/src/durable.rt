@@ -8,15 +8,19 @@ ghost use Rattle.zjournal.specs.Journal.{IsAtRest, IsWithOrWithout, StandsFor, d
 ghost use Rattle.zjournal.specs.Journal as state;
 ghost use Rattle.zjournal.specs.Puts as puts;
 ghost use Rattle.zscript.specs.Script.{lines_of};
-ghost use Rattle.zdurable.specs.Batches.{kept};
+ghost use Rattle.std.specs.Prelude.{true};
+ghost use Rattle.zscript.specs.Done.{world_between};
+ghost use Rattle.zdurable.specs.Batches.{is_whole, kept};
 ghost use Rattle.zdurable.specs.Durable.{IsOpen, IsServing, IsSound, disk_of, state_in, world_in};
-ghost use Rattle.zdurable.specs.Faults.{IsLeftBy, IsOfPlaying, IsSuchFile, disk_failed};
+ghost use Rattle.zdurable.specs.Faults.{IsLeftBy, IsOfPlaying, IsSuchFile, IsSuchText, disk_failed};
+ghost use Rattle.zdurable.specs.Starts.{LeadsTo};
 ghost use Rattle.zdurable.specs.Played.{AreAnswered};
 ghost use Rattle.zdurable.specs.declared.limits.TheConstants.{MAX_BATCH};
 
 use crate::fault::{CommitFault, OpenFault};
 use crate::limits::MAX_BATCH;
 use crate::playing::{is_whole, play, replayed};
+use crate::starts::begun;
 use std::alloc::Global;
 use zjournal::{Device, Journal, PutError, read_text};
 use zscript::Servers;
@@ -25,16 +29,20 @@ use zworld::World;
 /// A service whose lines are kept.
 #[derive(Drop)]
 pub struct Durable<D: Device> {
-    alloc: Global,
-    world: World,
-    journal: Journal<D>,
-    is_open: bool,
+    pub(crate) alloc: Global,
+    pub(crate) servers: Servers,
+    pub(crate) world: World,
+    pub(crate) journal: Journal<D>,
+    // How many bytes the file had behind its last shortening since the service was opened.
+    pub(crate) shortened: usize,
+    pub(crate) is_open: bool,
 }
 
 impl<D: Device> Durable<D> {
-    /// Opens the service of a file that a crash may have left, or of a new one: it plays the file's
-    /// lines again. Where a line finds no memory, the file stays untouched. Opening may crash, too,
-    /// and then the file stands for the same lines. An `Err` hands the device back.
+    /// Opens the service of a file that a crash may have left, or of a new one. Its chain begins with
+    /// the tree of the file's snapshot, or else with the initial one, and the file's lines are played
+    /// again. Where one finds no memory, the file stays untouched. Opening may crash, too, and then
+    /// the file stands for the same lines. An `Err` hands the device back.
     pub fn open(alloc: Global, device: D, servers: Servers) -> Result<Durable<D>, (OpenFault, D)>
         // After a restart, what is read is what is on the disk.
         requires durable { Only (D.seen device) (D.may_leave device) }
@@ -61,18 +69,18 @@ impl<D: Device> Durable<D> {
             Ok(text) => text,
             Err(e) => return Err((OpenFault::Journal(e), device)),
         };
-        if !is_whole(&text) {
-            return Err((OpenFault::NotLines, device));
-        }
-        let Ok(world) = replayed(alloc, servers, &text) else {
-            return Err((OpenFault::Memory, device));
+        let world = match played(alloc, servers, &text) {
+            Ok(world) => world,
+            Err(e) => return Err((e, device)),
         };
         drop(text);
         match zjournal::open(alloc, device, servers.count()) {
             Ok((journal, _)) => Ok(Durable {
                 alloc,
+                servers,
                 world,
                 journal,
+                shortened: 0,
                 is_open: true,
             }),
             Err((e, device)) => {
@@ -130,6 +138,21 @@ impl<D: Device> Durable<D> {
         self.is_open = true;
         Ok(answers)
     }
+}
+
+// Returns the world to which a file's text leads.
+fn played(alloc: Global, servers: Servers, text: &[u8]) -> Result<World, OpenFault>
+    ensures world { IfOk result (λ world.
+        (leads : LeadsTo servers text.now (world_between world.held))
+        × (is_whole leads.lines ≡ true)) }
+    ensures fault { IfErr result (IsSuchText text.now) }
+{
+    let (start, lines) = begun(alloc, text)?;
+    if !is_whole(lines) {
+        drop(start);
+        return Err(OpenFault::NotLines);
+    }
+    Ok(replayed(alloc, servers, &start, lines)?)
 }
 
 // Puts a batch into the journal, once.

@@ -3,6 +3,7 @@
 use thiserror::Error;
 use zalloc::Memory;
 use zjournal::{OpenError, PutError};
+use zstates::ReadFault;
 
 /// Why a service isn't opened.
 #[derive(Clone, Copy, Debug, PartialEq, Eq, Error)]
@@ -13,9 +14,35 @@ pub enum OpenFault {
     /// There is no memory to play the file's lines. The file is untouched.
     #[error("out of memory")]
     Memory,
-    /// The journal doesn't hold whole lines. The file is untouched.
+    /// The journal doesn't hold whole lines, with a snapshot or none before them. The file is
+    /// untouched.
     #[error("not a journal of lines")]
     NotLines,
+}
+
+impl From<Memory> for OpenFault {
+    ghost use Rattle.zdurable.specs.declared.fault.OpenFault.TheVariants as fault;
+    ghost use Rattle.std.specs.Prelude.{◌≡◌};
+
+    ghost from_gives = { λ _ e. e ≡ fault.Memory };
+
+    fn from(_: Memory) -> Self {
+        OpenFault::Memory
+    }
+}
+
+impl From<ReadFault> for OpenFault {
+    ghost use Rattle.zdurable.specs.Faults.{read_fault};
+    ghost use Rattle.std.specs.Prelude.{◌≡◌};
+
+    ghost from_gives = { λ cause e. e ≡ read_fault cause };
+
+    fn from(cause: ReadFault) -> Self {
+        match cause {
+            ReadFault::Memory => OpenFault::Memory,
+            ReadFault::NotRecords => OpenFault::NotLines,
+        }
+    }
 }
 
 /// Why a batch isn't answered.

@@ -1,5 +1,6 @@
 //! What holds over all lives of a service. Each function's contract is a law.
 
+ghost use Rattle.zdurable.specs.Eras.{ErasTellOneTree};
 ghost use Rattle.zdurable.specs.Laws.{FilesAreScripts, KeptIsTold, LivesTellOneScript};
 
 use zscript::laws::every_script_is_explained;
@@ -24,3 +25,10 @@ pub fn files_are_scripts()
 {
     every_script_is_explained();
 }
+
+/// The same over all lives and all shortenings. From one shortening to the next, what was told are
+/// answers of one script, whose chain begins with the tree that the shortening kept. All of it, in
+/// order, is explained by one plain tree, as if nothing had been shortened.
+pub fn eras_tell_one_tree()
+    ensures { ErasTellOneTree }
+{}

@@ -18,6 +18,8 @@ pub mod laws;
 pub mod limits;
 mod playing;
 mod rows;
+mod shortening;
+mod starts;
 
 pub use durable::Durable;
 pub use fault::{CommitFault, OpenFault};

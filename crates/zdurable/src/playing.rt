@@ -3,17 +3,21 @@
 ghost use Rattle.std.specs.Prelude.{◌≡◌, ◌<◌, [], ◌∷◌, ◌++◌, List, ℕ, codes, length, IfOk, OnOk, Ok};
 ghost use Rattle.zlines.specs.Texts.{Writes};
 ghost use Rattle.zscript.specs.Done.{AnswersLineActing, world_between};
-ghost use Rattle.zscript.specs.Script.{lines_of, opening_of};
+ghost use Rattle.zscript.specs.FromTree.{opening_from};
+ghost use Rattle.zscript.specs.Script.{lines_of};
 ghost use Rattle.zdurable.specs.Played.{ArePlayed};
 ghost use Rattle.zdurable.specs.Batches.{is_whole, kept_line};
 ghost use Rattle.zdurable.specs.Playing.{PlaysLine, PlaysLines, state_of};
 ghost use Rattle.zdurable.specs.Refused.{is_refused, takes_last};
 
+use crate::limits::EDGE;
 use memchr::memchr;
 use std::alloc::{AllocError, Global};
 use zalloc::Memory;
 use zlines::{Line, LineFault, read_line};
-use zscript::{Servers, answer_line_strictly, script_world};
+use zscript::{Servers, answer_line_strictly};
+use zstates::State;
+use ztree::limits::MAX_CLIENTS;
 use zworld::World;
 
 /// Plays the lines of a batch. Their answers are appended to `answers`, and what is kept of them to
@@ -102,11 +106,11 @@ fn takes_last(world: &World, asked: &Line) -> bool
     }
 }
 
-// Keeps a line, or an empty one in place of one with a byte 0: both are bad lines.
+// Keeps a line, or an empty one in place of one with a byte 0 or an edge: both are bad lines.
 fn keep(line: &[u8], kept: &mut Vec<u8>) -> Result<(), AllocError>
     ensures { OnOk result (kept.new.items ≡ kept.old.items ++ (kept_line line.now ++ 10 ∷ [])) }
 {
-    if line.contains(&0) {
+    if line.contains(&0) || line.contains(&EDGE) {
         kept.push(b'\n')?;
         return Ok(());
     }
@@ -115,17 +119,32 @@ fn keep(line: &[u8], kept: &mut Vec<u8>) -> Result<(), AllocError>
     Ok(())
 }
 
-/// Returns the world that the lines of a text lead to.
-pub(crate) fn replayed(alloc: Global, servers: Servers, text: &[u8]) -> Result<World, Memory>
+/// Returns the world to which the lines of a text lead, on a chain that begins with this tree.
+pub(crate) fn replayed(
+    alloc: Global,
+    servers: Servers,
+    start: &State,
+    text: &[u8],
+) -> Result<World, Memory>
     ensures { IfOk result (λ world. (told : List ℕ)
-        × ArePlayed (opening_of servers) (lines_of text.now) (world_between world.held) told) }
+        × ArePlayed (opening_from start.now.state.tree servers) (lines_of text.now)
+        (world_between world.held) told) }
 {
-    let mut world = script_world(alloc, servers.last())?;
+    let mut world = world_from(alloc, servers, start)?;
     let Ok(()) = replay(alloc, &mut world, text) else {
         drop(world);
         return Err(Memory);
     };
     Ok(world)
+}
+
+/// Returns the world that a script begins in, on a chain that begins with this tree.
+pub(crate) fn world_from(alloc: Global, servers: Servers, start: &State) -> Result<World, Memory>
+    ensures { IfOk result (λ world. world_between world.held
+        ≡ opening_from start.now.state.tree servers) }
+{
+    let snapshot = start.snapshot()?;
+    World::restored(alloc, servers.last(), MAX_CLIENTS, &snapshot)
 }
 
 // Plays the lines of a text again. Their answers were told.

@@ -1,10 +1,12 @@
 //! Worked rows: each function's contract has some, and its body does nothing.
 
 ghost use Rattle.std.specs.Prelude.{◌≡◌, [], ◌∷◌, ◌++◌, List, ℕ, codes, true, false};
+ghost use Rattle.ztree.specs.Tree.{Tree, opening_tree};
 ghost use Rattle.zscript.specs.Line.{ScriptState, after, opening_script};
 ghost use Rattle.zdurable.specs.Batches.{is_whole, kept, kept_lines};
 ghost use Rattle.zdurable.specs.Lives.{AreAmong, marked};
 ghost use Rattle.zdurable.specs.Refused.{is_refused, told_lines};
+ghost use Rattle.zdurable.specs.Starts.{Begins};
 
 /// What is kept of lines: each with its LF, and an empty line in place of one with a byte 0.
 pub fn lines_are_kept()
@@ -13,6 +15,15 @@ pub fn lines_are_kept()
     ensures empty { kept_lines ([] ∷ codes "x" ∷ []) ≡ 10 ∷ codes "x" ++ 10 ∷ [] }
     ensures zero { kept_lines ((97 ∷ []) ∷ (98 ∷ 0 ∷ []) ∷ (99 ∷ []) ∷ [])
         ≡ 97 ∷ 10 ∷ 10 ∷ 99 ∷ 10 ∷ [] }
+    ensures edge { kept_lines ((97 ∷ 1 ∷ []) ∷ []) ≡ 10 ∷ [] }
+{}
+
+/// Texts that begin with a tree, and one that doesn't.
+pub fn texts_begin()
+    ensures nothing { Begins opening_tree [] [] }
+    ensures lines { Begins opening_tree (97 ∷ 10 ∷ []) (97 ∷ 10 ∷ []) }
+    ensures snapshot { Begins opening_tree (97 ∷ 10 ∷ []) (1 ∷ 1 ∷ 97 ∷ 10 ∷ []) }
+    ensures unended { (t : Tree) (lines : List ℕ) → Begins t lines (1 ∷ 97 ∷ []) → ⊥ }
 {}
 
 /// Lines that would take away the last server with the state, and lines that wouldn't.

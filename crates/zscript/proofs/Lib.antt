@@ -1,6 +1,7 @@
 pub mod LongLine
 pub mod Past
 pub mod OneRun
+pub mod FromTree
 pub mod AlikeLines
 pub mod Opening
 pub mod Replies

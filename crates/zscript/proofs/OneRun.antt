@@ -31,7 +31,7 @@ abbrev LeadsFrom : ServiceWorld → Settling (KeptState Tree) → Type 0
 LeadsFrom w s = s.world ≡ run kept_tree w s.events
 
 -- runs one after the other
-run_append : (w : ServiceWorld) (events more : List Event) → run kept_tree w (events ++ more) ≡ run kept_tree (run kept_tree w events) more
+pub run_append : (w : ServiceWorld) (events more : List Event) → run kept_tree w (events ++ more) ≡ run kept_tree (run kept_tree w events) more
 run_append w [] more = refl
 run_append w (event ∷ events) more = run_append (happens kept_tree w event) events more
 
@@ -80,7 +80,7 @@ read_leads : (s : ScriptState) (line : Read Line) → LeadsFrom s.world (read_ef
 read_leads s (Err fault) = refl
 read_leads s (Ok line) = line_leads s line
 
-effect_leads : (s : ScriptState) (line : List ℕ) → LeadsFrom s.world (effect_of s line).did
+pub effect_leads : (s : ScriptState) (line : List ℕ) → LeadsFrom s.world (effect_of s line).did
 unfolding effect_of
 effect_leads s line = read_leads s (line_of line)
 

@@ -2,6 +2,7 @@ pub mod Line
 pub mod Done
 pub mod Histories
 pub mod Promise
+pub mod FromTree
 pub mod Script
 pub mod Devices
 pub mod Outcome

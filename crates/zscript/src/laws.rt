@@ -1,6 +1,7 @@
 //! What holds of the definitions themselves. Each function's contract is a law, and its body does
 //! nothing.
 
+ghost use Rattle.zscript.specs.FromTree.{EveryScriptFromIsExplained, ScriptsLeadToTheTail};
 ghost use Rattle.zscript.specs.Histories.{LinesTellOneRun, AlikeWorldsAnswerAlike};
 ghost use Rattle.zscript.specs.Histories.{AlikeWorldsLeaveOneState, CallsAreAnsweredByTheirReplies};
 ghost use Rattle.zscript.specs.Laws.{UnendedLinesHaveNoAnswer};
@@ -38,4 +39,12 @@ pub fn alike_worlds_answer_alike()
 /// A line without LF has no answer before the source reported its end, whatever failed.
 pub fn unended_lines_have_no_answer()
     ensures { UnendedLinesHaveNoAnswer }
+{}
+
+/// A script's chain may begin with a tree that a snapshot kept. Then what its lines tell is
+/// linearizable from that tree on. Where the tail holds another tree behind them, the order of calls
+/// leads from the one to the other.
+pub fn scripts_lead_from_tree_to_tree()
+    ensures explained { EveryScriptFromIsExplained }
+    ensures leads { ScriptsLeadToTheTail }
 {}

@@ -33,6 +33,10 @@ IsSeated s = ids_of s.seats ≡ keys s.tree.sessions
 abbrev pub opening_state : State
 opening_state = record { tree = opening_tree; seats = [] }
 
+-- a tree whose sessions have no password
+abbrev pub bare_state : Tree → State
+bare_state t = record { tree = t; seats = map (λ id. (id, no_password)) (keys t.sessions) }
+
 -- ---- entries
 
 -- the password of a session among these

@@ -2,7 +2,7 @@
 
 ghost use Rattle.std.specs.Prelude.{◌≡◌, true, false, IfOk, IsErr, OnErr, OnOk};
 ghost use Rattle.zserver.specs.Server.{IsFresh};
-ghost use Rattle.zstates.specs.States.{after_entry, opening_state, reply_to, IsHeld};
+ghost use Rattle.zstates.specs.States.{after_entry, bare_state, opening_state, reply_to, IsHeld};
 ghost use Rattle.zstates.specs.support.Tables.{state_in, tree_in, IsBare};
 
 use crate::fresh::fresh;
@@ -49,6 +49,19 @@ impl State {
         ensures { IfOk result (λ s. s ≡ record { state = opening_state; is_broken = false }) }
     {
         let machine = Machine::new(alloc)?;
+        Ok(State::of(alloc, machine, Sittings::new(alloc)))
+    }
+
+    /// Makes the state with the tree of a machine, whose sessions have no password; or returns
+    /// `Memory`.
+    pub fn bare(alloc: Global, machine: &Machine) -> Result<State, Memory>
+        requires whole { machine.now.is_broken ≡ false }
+        ensures { IfOk result (λ s. s ≡ record {
+          state = bare_state machine.now.state.service.plain;
+          is_broken = false;
+        }) }
+    {
+        let machine = fresh(alloc, machine)?;
         Ok(State::of(alloc, machine, Sittings::new(alloc)))
     }
 

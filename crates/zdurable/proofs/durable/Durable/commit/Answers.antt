@@ -1,4 +1,4 @@
-use Rattle.std.proofs.Common.{◌≡◌, ℕ, List, [], ◌∷◌, ◌++◌, sym, ap, subst, ◌∙◌}
+use Rattle.std.proofs.Common.{◌≡◌, ℕ, List, [], ◌∷◌, ◌++◌, refl, sym, ap, subst, ◌∙◌}
 use Rattle.std.specs.Prelude.{Err, IsErrOf}
 use Rattle.std.proofs.lemmas.Result.{err_from_is_err_and}
 use Rattle.zjournal.specs.Device.{LeavesOnly}
@@ -59,7 +59,7 @@ returns-clause-told g c =
 pub returns-clause-kept : goal.returns-clause-kept
 returns-clause-kept g c servers batches is_open serving =
     let plays = c.in_ok-play.ensures in
-    serves_more g.D.Device.seen g.D.Device.may_leave servers batches c.args.self.now _ c.args.batch.now plays.text serving
+    serves_more g.D.Device.seen g.D.Device.may_leave servers batches c.args.self.now _ c.args.batch.now plays.text serving refl
     (subst (λ batch. IsAtRest g.D.Device.seen g.D.Device.may_leave servers (batches ++ batch ∷ []) c.put.new.journal) (c.deref.ensures.value ∙ c.in_ok-play.ensures.keeps_them ∙ ap (λ (t : List ℕ). t ++ kept (state_in c.args.self.now) c.args.batch.now) c.new-kept.ensures.items) (c.in_ok-put.ensures.kept servers batches serving.takes serving.rest))
     c.in_ok-put.ensures.open.1 plays.answered
 
@@ -69,7 +69,7 @@ returns-clause-sound g c is_open =
     let plays = c.in_ok-play.ensures in (
       was.0,
       was.1 ++ kept (state_in c.args.self.now) c.args.batch.now ∷ [],
-      serves_more g.D.Device.seen g.D.Device.may_leave was.0 was.1 c.args.self.now _ c.args.batch.now plays.text was.2
+      serves_more g.D.Device.seen g.D.Device.may_leave was.0 was.1 c.args.self.now _ c.args.batch.now plays.text was.2 refl
           (subst (λ batch. IsAtRest g.D.Device.seen g.D.Device.may_leave was.0 (was.1 ++ batch ∷ []) c.put.new.journal) (c.deref.ensures.value ∙ c.in_ok-play.ensures.keeps_them ∙ ap (λ (t : List ℕ). t ++ kept (state_in c.args.self.now) c.args.batch.now) c.new-kept.ensures.items) (c.in_ok-put.ensures.kept was.0 was.1 was.2.takes was.2.rest))
           c.in_ok-put.ensures.open.1 plays.answered,
     )

@@ -1,11 +1,10 @@
-use Rattle.std.proofs.Common.{◌≡◌, true, sym, ap, subst, ◌∙◌, arith}
+use Rattle.std.proofs.Common.{◌≡◌, true, refl, sym, ap, subst, ◌∙◌, arith}
 use Rattle.zjournal.specs.Device.{LeavesOnly}
 use Rattle.zjournal.specs.Journal.{StandsFor, device_of}
 use Rattle.zjournal.specs.declared.fault.OpenError.TheVariants.{Failed}
-use Rattle.zscript.specs.Script.{opening_of, lines_of}
-use Rattle.zscript.specs.Done.{world_between}
 use Rattle.zdurable.specs.Batches.{is_whole}
-use Rattle.zdurable.specs.Played.{ArePlayed}
+use Rattle.zdurable.specs.Starts.{LeadsTo}
+use Rattle.zscript.specs.Done.{world_between}
 use Rattle.zdurable.proofs.Serving.{serves, read_then}
 use Rattle.zdurable.proofs.durable.Durable.open.Goals as goal
 
@@ -13,12 +12,10 @@ pub returns-in-Ok-open-clause-serving : goal.returns-in-Ok-open-clause-serving
 returns-in-Ok-open-clause-serving g c =
     let read = c.in-Ok.ensures.text in
     let opened = c.in-Ok-open.ensures.journal in
-    let played = c.in-Ok-replayed.ensures in
     let service = serves g.D.Device.seen g.D.Device.may_leave c.args.servers c.count.result c.count-2.result (g.D.Device.seen c.args.device) (g.D.Device.seen c.read_text.new.device) c.in-Ok.text.items
-    (record { alloc = c.args.alloc; world = c.in-Ok-replayed.world; journal = c.in-Ok-open.journal; is_open = true })
-    c.count.ensures.value c.count-2.ensures.value c.read_text.ensures.seen read.0 read.1 read.2
-    (ap is_whole (sym c.deref.ensures.value) ∙ sym c.is_whole.ensures ∙ c.if-not-is_whole.false)
-    played.0 (subst (λ t. ArePlayed (opening_of c.args.servers) (lines_of t) (world_between c.in-Ok-replayed.world.held) played.0) c.deref-2.ensures.value played.1)
+    (record { alloc = c.args.alloc; servers = c.args.servers; world = c.in-Ok-played.world; journal = c.in-Ok-open.journal; shortened = 0; is_open = true })
+    c.count.ensures.value c.count-2.ensures.value c.read_text.ensures.seen refl read.0 read.1 read.2
+    (subst (λ t. (leads : LeadsTo c.args.servers t (world_between c.in-Ok-played.world.held)) × (is_whole leads.lines ≡ true)) c.deref.ensures.value c.in-Ok-played.ensures.world)
     opened.0 opened.1 opened.2 opened.3 in
     (opened.0, service.0, service.1)
 
@@ -26,12 +23,10 @@ pub returns-in-Ok-open-clause-sound : goal.returns-in-Ok-open-clause-sound
 returns-in-Ok-open-clause-sound g c is_open =
     let read = c.in-Ok.ensures.text in
     let opened = c.in-Ok-open.ensures.journal in
-    let played = c.in-Ok-replayed.ensures in
     let service = serves g.D.Device.seen g.D.Device.may_leave c.args.servers c.count.result c.count-2.result (g.D.Device.seen c.args.device) (g.D.Device.seen c.read_text.new.device) c.in-Ok.text.items
-    (record { alloc = c.args.alloc; world = c.in-Ok-replayed.world; journal = c.in-Ok-open.journal; is_open = true })
-    c.count.ensures.value c.count-2.ensures.value c.read_text.ensures.seen read.0 read.1 read.2
-    (ap is_whole (sym c.deref.ensures.value) ∙ sym c.is_whole.ensures ∙ c.if-not-is_whole.false)
-    played.0 (subst (λ t. ArePlayed (opening_of c.args.servers) (lines_of t) (world_between c.in-Ok-replayed.world.held) played.0) c.deref-2.ensures.value played.1)
+    (record { alloc = c.args.alloc; servers = c.args.servers; world = c.in-Ok-played.world; journal = c.in-Ok-open.journal; shortened = 0; is_open = true })
+    c.count.ensures.value c.count-2.ensures.value c.read_text.ensures.seen refl read.0 read.1 read.2
+    (subst (λ t. (leads : LeadsTo c.args.servers t (world_between c.in-Ok-played.world.held)) × (is_whole leads.lines ≡ true)) c.deref.ensures.value c.in-Ok-played.ensures.world)
     opened.0 opened.1 opened.2 opened.3 in
     (c.args.servers, opened.0, service.1)
 
