@@ -41,7 +41,10 @@ pub(crate) fn compact<D: Device, K: Sink>(
     if is_done {
         write!(text, "{after} bytes, before {before}")?;
     } else {
-        write!(text, "{before} bytes, put off: a call or a server is under way")?;
+        write!(
+            text,
+            "{before} bytes, put off: a call or a server is under way"
+        )?;
     }
     tell(sink, text.as_str());
     Ok(())
