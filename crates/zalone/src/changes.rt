@@ -7,8 +7,8 @@ use crate::made::Made;
 use std::alloc::Global;
 use std::marker::Model;
 use std::mem;
+use zalloc::Memory;
 use zcalls::{Call, Reply};
-use zpath::Memory;
 
 // What was made since it was taken. Where updates aren't kept, it stays empty.
 #[derive(Drop)]

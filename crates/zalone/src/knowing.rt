@@ -4,9 +4,9 @@ ghost use Rattle.std.specs.Prelude.{◌≡◌, false, IfOk};
 ghost use Rattle.zknown.specs.Known.{known_of};
 
 use std::alloc::Global;
+use zalloc::Memory;
 use zknown::Known;
 use zops::Machine;
-use zpath::Memory;
 
 /// Returns what is known of the machine's tree.
 pub(crate) fn known_from(alloc: Global, machine: &Machine) -> Result<Known, Memory>

@@ -11,9 +11,9 @@ use crate::clock::{Clock, Now};
 use crate::parts::{looks_answer, multi_answer};
 use crate::texts::bytes_of;
 use std::alloc::Global;
+use zalloc::Memory;
 use zcalls::{Call, Reply, Update};
 use zjute::{Asked, Body, Bytes, Code, Parts, Results};
-use zpath::Memory;
 
 /// Returns the answer to a request, by its calls and the reply to each. `at` is the zxid and the
 /// tick of the tree behind the calls. The only error is out of memory.

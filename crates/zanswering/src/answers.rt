@@ -12,10 +12,11 @@ use crate::clock::{Clock, Now};
 use crate::stats::{made_stat, stat_told};
 use crate::texts::{bytes_of, data_told, names_told, path_told};
 use std::alloc::Global;
+use zalloc::Memory;
 use zasking::{ALL_PERMISSIONS, code_of};
 use zcalls::{Create, Data, Names, Reply, Stat};
 use zjute::{Acl, Acls, Body, Code};
-use zpath::{Memory, Path};
+use zpath::Path;
 
 /// Returns the answer to a request of one call, by the reply to it.
 pub(crate) fn answer_of(alloc: Global, clock: &Clock, reply: &Reply) -> Result<Answer, Memory>

@@ -12,10 +12,10 @@ use crate::answers::answer_of;
 use crate::clock::{Clock, Now};
 use crate::results::{look_result, part_result};
 use std::alloc::Global;
+use zalloc::Memory;
 use zasking::code_of;
 use zcalls::{Part, PartReply, Reply};
 use zjute::{Body, Code, PartResult, Results};
-use zpath::Memory;
 
 /// Returns the answer to a multi.
 pub(crate) fn multi_answer(

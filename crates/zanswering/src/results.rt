@@ -9,10 +9,11 @@ use crate::clock::{Clock, Now};
 use crate::stats::{made_stat, stat_told};
 use crate::texts::{data_told, names_told, path_told};
 use std::alloc::Global;
+use zalloc::Memory;
 use zasking::code_of;
 use zcalls::{Create, Names, Part, PartReply, Reply};
 use zjute::{Code, PartResult};
-use zpath::{Memory, Path};
+use zpath::Path;
 
 /// Returns the result of a part that was done.
 pub(crate) fn part_result(

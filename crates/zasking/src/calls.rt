@@ -4,8 +4,8 @@ ghost use Rattle.std.specs.Prelude.{◌≡◌, [], ◌∷◌, IfOk};
 
 use std::alloc::Global;
 use std::marker::Model;
+use zalloc::Memory;
 use zcalls::Call;
-use zpath::Memory;
 
 /// The calls that a request means, in the order in which they are made. Many requests mean none or
 /// one.

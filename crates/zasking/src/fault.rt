@@ -3,8 +3,8 @@
 ghost use Rattle.std.specs.Prelude.{◌≡◌};
 
 use std::alloc::{AllocError, AllocFailed};
+use zalloc::Memory;
 use zjute::Code;
-use zpath::Memory;
 
 /// Why a request asks nothing of the service.
 #[derive(Clone, Copy, Debug, PartialEq, Eq)]

@@ -199,7 +199,7 @@ fn names_and_stat(alloc: Global, path: Path) -> Result<Calls, Unasked>
         ≡ QueryOf (GetChildren path) ∷ QueryOf (Exists path) ∷ []) }
     ensures fault { IfErr result (λ fault. fault ≡ Unasked.Memory) }
 {
-    let same = path.copied(alloc)?;
+    let same = path.clone()?;
     let names = Call::Query(Query::GetChildren(path));
     Ok(Calls::two(alloc, names, Call::Query(Query::Exists(same)))?)
 }

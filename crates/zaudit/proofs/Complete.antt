@@ -3,7 +3,7 @@ use Rattle.std.proofs.Common.{◌≡◌, ℕ, true, false, refl, sym, ap, ◌∙
 use Rattle.std.specs.Prelude.{Result, Ok, Err, IfOk}
 use mathlib.Core.Logic.{∥∥₁_elim}
 use mathlib.Core.HLevel.{⊥_prop}
-use Rattle.zpath.specs.declared.memory.Memory as zpath_memory
+use Rattle.zalloc.specs.declared.memory.Memory as zpath_memory
 use Rattle.zprotocol.specs.server.Machine.{kept_tree}
 use Rattle.zworld.specs.Steps.{WorldView, world_in}
 use Rattle.ztraces.specs.Traces.{client_count}

@@ -20,7 +20,7 @@ use zworld::World;
 use zworld_model::CallEvent;
 
 // Returns the initial world of the run.
-fn opened(alloc: Global, traces: &Traces) -> Result<World, zpath::Memory>
+fn opened(alloc: Global, traces: &Traces) -> Result<World, zalloc::Memory>
     ensures opening { IfOk result (λ world. IsAlike (opening_of traces.now) (world_in world)) }
     ensures whole { IfOk result (λ world. world.has_forgotten ≡ false) }
 {

@@ -14,7 +14,7 @@ use zworld::{Did, World};
 use zworld_model::{Event, Outcome};
 
 // Returns the event of the world that a step stands for, if it stands for one.
-fn event_for(alloc: Global, process: Process, act: &Act) -> Result<Option<Event>, zpath::Memory>
+fn event_for(alloc: Global, process: Process, act: &Act) -> Result<Option<Event>, zalloc::Memory>
     ensures { IfOk result (λ event. event ≡ event_of process act.now) }
 {
     match (process, act) {

@@ -35,10 +35,10 @@ impl fmt::Display for AuditFault {
     }
 }
 
-impl From<zpath::Memory> for AuditFault {
+impl From<zalloc::Memory> for AuditFault {
     ghost from_gives = { λ _ fault. fault ≡ Memory };
 
-    fn from(_fault: zpath::Memory) -> AuditFault {
+    fn from(_fault: zalloc::Memory) -> AuditFault {
         AuditFault::Memory
     }
 }

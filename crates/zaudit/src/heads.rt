@@ -9,7 +9,7 @@ use crate::places::{count_of, event_at, head_of};
 use std::alloc::Global;
 use std::cmp::Reverse;
 use std::collections::BinaryHeap;
-use zpath::Memory;
+use zalloc::Memory;
 use ztraces::{TraceEvent, Traces};
 
 /// The next event of a trace: its timestamp, and the place of the trace. A heap of them has the

@@ -86,7 +86,7 @@ pub(crate) fn replay(alloc: Global, traces: &Traces, world: &mut World) -> Resul
 }
 
 // Returns a vector of n zeros.
-fn zeros(alloc: Global, n: usize) -> Result<Vec<usize>, zpath::Memory>
+fn zeros(alloc: Global, n: usize) -> Result<Vec<usize>, zalloc::Memory>
     requires { n ≤ PROCESSES }
     ensures { IfOk result (λ read. read.items ≡ replicate n 0) }
 {

@@ -9,7 +9,7 @@ use std::sync::atomic::AtomicU64;
 use std::sync::atomic::Ordering::SeqCst;
 use std::sync::{Arc, Wait};
 use std::time::Duration;
-use zpath::Memory;
+use zalloc::Memory;
 
 /// How long a thread of a cluster sleeps at most, in milliseconds. So a ring that is lost costs no
 /// more.

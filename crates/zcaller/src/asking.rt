@@ -13,10 +13,10 @@ ghost use Rattle.zcaller.specs.Callers.{MayRefuse};
 ghost use Rattle.zcaller.specs.Steps.{Begins, Moves, SendsAgain};
 
 use std::alloc::Global;
+use zalloc::Memory;
 use zcalls::{Call, CallNumber, ClientId};
 use zclient::{BeginFault, ClientCore};
 use zdesks::Desk;
-use zpath::Memory;
 use ztraces::{Act, Stamp};
 use zworld_model::CallEvent;
 

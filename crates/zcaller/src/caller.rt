@@ -11,10 +11,10 @@ ghost use Rattle.zdesks.specs.Endings.{LeavesNothing, SameWires};
 use crate::asking::{begin_at, retry_at};
 use crate::hearing::{front_of, hear_or_keep};
 use std::alloc::Global;
+use zalloc::Memory;
 use zcalls::{Call, CallNumber, ClientId, Reply};
 use zclient::{BeginFault, ClientCore};
 use zdesks::{Desk, Ending, Stamped};
-use zpath::Memory;
 use zprotocol::{Process, ServerId};
 use ztraces::Stamp;
 

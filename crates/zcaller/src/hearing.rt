@@ -13,10 +13,10 @@ ghost use Rattle.zcaller.specs.Steps.{answer_event, Heard, MayHear, Moves, Moves
 
 use std::alloc::Global;
 use std::mem::replace;
+use zalloc::Memory;
 use zcalls::{ClientId, Reply};
 use zclient::ClientCore;
 use zdesks::{Desk, Stamped};
-use zpath::Memory;
 use zprotocol::{MAX_SERVERS, Message, Process};
 use zserver::Snapshot;
 use ztraces::{Act, Stamp};

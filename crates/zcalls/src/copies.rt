@@ -7,28 +7,29 @@ use crate::listed::{Names, Replies};
 use crate::multi::Multi;
 use crate::reply::{PartReply, Reply};
 use std::alloc::Global;
-use zpath::{Memory, Name};
+use zalloc::Memory;
+use zpath::Name;
 
 impl Create {
     /// Returns a copy of the create.
-    pub fn copied(&self, alloc: Global) -> Result<Create, Memory>
+    pub fn copied(&self) -> Result<Create, Memory>
         ensures { IfOk result (λ copy. copy ≡ self.now) }
     {
         Ok(Create {
-            path: self.path.copied(alloc)?,
+            path: self.path.clone()?,
             kind: self.kind,
-            bytes: self.bytes.copied(alloc)?,
+            bytes: self.bytes.clone()?,
         })
     }
 }
 
 impl Delete {
     /// Returns a copy of the delete.
-    pub fn copied(&self, alloc: Global) -> Result<Delete, Memory>
+    pub fn copied(&self) -> Result<Delete, Memory>
         ensures { IfOk result (λ copy. copy ≡ self.now) }
     {
         Ok(Delete {
-            path: self.path.copied(alloc)?,
+            path: self.path.clone()?,
             version: self.version,
         })
     }
@@ -36,12 +37,12 @@ impl Delete {
 
 impl SetData {
     /// Returns a copy of the set.
-    pub fn copied(&self, alloc: Global) -> Result<SetData, Memory>
+    pub fn copied(&self) -> Result<SetData, Memory>
         ensures { IfOk result (λ copy. copy ≡ self.now) }
     {
         Ok(SetData {
-            path: self.path.copied(alloc)?,
-            bytes: self.bytes.copied(alloc)?,
+            path: self.path.clone()?,
+            bytes: self.bytes.clone()?,
             version: self.version,
         })
     }
@@ -49,11 +50,11 @@ impl SetData {
 
 impl Check {
     /// Returns a copy of the check.
-    pub fn copied(&self, alloc: Global) -> Result<Check, Memory>
+    pub fn copied(&self) -> Result<Check, Memory>
         ensures { IfOk result (λ copy. copy ≡ self.now) }
     {
         Ok(Check {
-            path: self.path.copied(alloc)?,
+            path: self.path.clone()?,
             version: self.version,
         })
     }
@@ -65,10 +66,10 @@ impl Part {
         ensures { IfOk result (λ copy. copy ≡ self.now) }
     {
         match self {
-            Part::Create(wanted) => Ok(Part::Create(wanted.copied(alloc)?)),
-            Part::Delete(wanted) => Ok(Part::Delete(wanted.copied(alloc)?)),
-            Part::SetData(wanted) => Ok(Part::SetData(wanted.copied(alloc)?)),
-            Part::Check(wanted) => Ok(Part::Check(wanted.copied(alloc)?)),
+            Part::Create(wanted) => Ok(Part::Create(wanted.copied()?)),
+            Part::Delete(wanted) => Ok(Part::Delete(wanted.copied()?)),
+            Part::SetData(wanted) => Ok(Part::SetData(wanted.copied()?)),
+            Part::Check(wanted) => Ok(Part::Check(wanted.copied()?)),
         }
     }
 }
@@ -102,9 +103,9 @@ impl Update {
         ensures { IfOk result (λ copy. copy ≡ self.now) }
     {
         match self {
-            Update::Create(wanted) => Ok(Update::Create(wanted.copied(alloc)?)),
-            Update::Delete(wanted) => Ok(Update::Delete(wanted.copied(alloc)?)),
-            Update::SetData(wanted) => Ok(Update::SetData(wanted.copied(alloc)?)),
+            Update::Create(wanted) => Ok(Update::Create(wanted.copied()?)),
+            Update::Delete(wanted) => Ok(Update::Delete(wanted.copied()?)),
+            Update::SetData(wanted) => Ok(Update::SetData(wanted.copied()?)),
             Update::Multi(multi) => Ok(Update::Multi(multi.copied(alloc)?)),
             Update::Open(timeout) => Ok(Update::Open(*timeout)),
             Update::Ping(session) => Ok(Update::Ping(*session)),
@@ -116,13 +117,13 @@ impl Update {
 
 impl Query {
     /// Returns a copy of the query.
-    pub fn copied(&self, alloc: Global) -> Result<Query, Memory>
+    pub fn copied(&self) -> Result<Query, Memory>
         ensures { IfOk result (λ copy. copy ≡ self.now) }
     {
         match self {
-            Query::GetData(path) => Ok(Query::GetData(path.copied(alloc)?)),
-            Query::Exists(path) => Ok(Query::Exists(path.copied(alloc)?)),
-            Query::GetChildren(path) => Ok(Query::GetChildren(path.copied(alloc)?)),
+            Query::GetData(path) => Ok(Query::GetData(path.clone()?)),
+            Query::Exists(path) => Ok(Query::Exists(path.clone()?)),
+            Query::GetChildren(path) => Ok(Query::GetChildren(path.clone()?)),
         }
     }
 }
@@ -134,7 +135,7 @@ impl Call {
     {
         match self {
             Call::Update(update) => Ok(Call::Update(update.copied(alloc)?)),
-            Call::Query(query) => Ok(Call::Query(query.copied(alloc)?)),
+            Call::Query(query) => Ok(Call::Query(query.copied()?)),
         }
     }
 }
@@ -145,7 +146,7 @@ impl PartReply {
         ensures { IfOk result (λ copy. copy ≡ self.now) }
     {
         match self {
-            PartReply::Created(path) => Ok(PartReply::Created(path.copied(alloc)?)),
+            PartReply::Created(path) => Ok(PartReply::Created(path.clone()?)),
             PartReply::Deleted => Ok(PartReply::Deleted),
             PartReply::Set(stat) => Ok(PartReply::Set(*stat)),
             PartReply::Checked => Ok(PartReply::Checked),
@@ -188,7 +189,7 @@ fn copied_names(alloc: Global, names: &[Name]) -> Result<Vec<Name>, Memory>
 {
     let mut copy = Vec::new(alloc);
     for name in names {
-        copy.push(name.copied(alloc)?)?;
+        copy.push(name.clone()?)?;
     }
     Ok(copy)
 }
@@ -199,7 +200,7 @@ impl Reply {
         ensures { IfOk result (λ copy. copy ≡ self.now) }
     {
         match self {
-            Reply::Created(path) => Ok(Reply::Created(path.copied(alloc)?)),
+            Reply::Created(path) => Ok(Reply::Created(path.clone()?)),
             Reply::Deleted => Ok(Reply::Deleted),
             Reply::Set(stat) => Ok(Reply::Set(*stat)),
             Reply::Multi(replies) => Ok(Reply::Multi(replies.copied(alloc)?)),
@@ -207,7 +208,7 @@ impl Reply {
             Reply::Pinged => Ok(Reply::Pinged),
             Reply::Closed => Ok(Reply::Closed),
             Reply::Ticked(tick, ended, removed) => Ok(Reply::Ticked(*tick, *ended, *removed)),
-            Reply::Data(bytes, stat) => Ok(Reply::Data(bytes.copied(alloc)?, *stat)),
+            Reply::Data(bytes, stat) => Ok(Reply::Data(bytes.clone()?, *stat)),
             Reply::Exists(stat) => Ok(Reply::Exists(*stat)),
             Reply::Children(names) => Ok(Reply::Children(names.copied(alloc)?)),
             Reply::Refused(refusal) => Ok(Reply::Refused(*refusal)),

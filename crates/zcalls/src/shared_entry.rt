@@ -3,10 +3,10 @@
 ghost use Rattle.std.specs.Prelude.{◌≡◌, IfOk};
 
 use crate::call::Entry;
-use std::alloc::Global;
+use std::alloc::{AllocError, Global};
 use std::marker::Model;
 use std::sync::Arc;
-use zpath::Memory;
+use zalloc::Memory;
 
 /// A shared log entry. A server that stores, applies and forwards an entry holds it once, and so
 /// does the chain.
@@ -40,11 +40,13 @@ impl SharedEntry {
     {
         &self.entry
     }
+}
 
-    /// Returns a copy that shares the entry, or `Memory`.
-    pub fn copied(&self, _alloc: Global) -> Result<SharedEntry, Memory>
-        ensures { IfOk result (λ shared. shared ≡ self.now) }
-    {
+impl Clone for SharedEntry {
+    ghost is_clone = { λ shared copy. copy ≡ shared };
+
+    /// Returns a copy that shares the entry.
+    fn clone(&self) -> Result<Self, AllocError> {
         Ok(SharedEntry {
             entry: Arc::try_clone(&self.entry)?,
         })

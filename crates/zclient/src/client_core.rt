@@ -9,8 +9,8 @@ ghost use Rattle.zclient.specs.Core.{IsBeginFault, IsResend, reply_of, sent_to};
 
 use std::alloc::Global;
 use std::marker::Model;
+use zalloc::Memory;
 use zcalls::{Call, CallNumber, MAX_CALL_NUMBER, Reply};
-use zpath::Memory;
 use zprotocol::{BeginFault, Epoch, Message, Out, Process, ServerId};
 
 /// What a client knows: the number of its last call, its outstanding call, and the ends of the
@@ -278,7 +278,7 @@ fn send_call<T: Drop>(
         }
         Call::Query(query) => {
             if let Some(tail) = tail {
-                let copy = query.copied(alloc)?;
+                let copy = query.copied()?;
                 out.put_reserved(Process::Server(*tail), Message::Query(number, copy));
             }
         }

@@ -12,8 +12,8 @@ use crossbeam_channel::{Pass, RuledReceiver, RuledSender, bounded_with};
 use std::alloc::Global;
 use std::sync::Wait;
 use thiserror::Error;
+use zalloc::Memory;
 use zbells::Bells;
-use zpath::Memory;
 use zprotocol::{Process, ServerId};
 use zrings::ends::{Rx, Tx, link, told};
 

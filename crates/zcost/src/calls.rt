@@ -40,9 +40,9 @@ impl Calls {
     /// Returns the call that makes the node.
     pub fn first(&self) -> Result<Entry, Trouble> {
         let create = Create {
-            path: self.path.copied(self.alloc)?,
-            kind: zcalls::Kind::Persistent,
-            bytes: self.bytes.copied(self.alloc)?,
+            path: self.path.clone()?,
+            kind: zcalls::Kind::named(zcalls::Lifetime::Persistent),
+            bytes: self.bytes.clone()?,
         };
         self.entry(0, Update::Create(create))
     }
@@ -50,8 +50,8 @@ impl Calls {
     /// Returns the update with this number, counted from 1.
     pub fn update(&self, number: u64) -> Result<Entry, Trouble> {
         let set = SetData {
-            path: self.path.copied(self.alloc)?,
-            bytes: self.bytes.copied(self.alloc)?,
+            path: self.path.clone()?,
+            bytes: self.bytes.clone()?,
             version: Expected::Any,
         };
         self.entry(number, Update::SetData(set))
@@ -74,7 +74,7 @@ impl Calls {
 
     /// Returns the query.
     pub fn query(&self) -> Result<Query, Trouble> {
-        Ok(Query::GetData(self.path.copied(self.alloc)?))
+        Ok(Query::GetData(self.path.clone()?))
     }
 
     /// Makes the calls of an order, and drops each. None is answered.

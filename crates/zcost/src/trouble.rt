@@ -2,7 +2,8 @@
 
 use std::alloc::{AllocError, AllocFailed};
 use thiserror::Error;
-use zpath::{Memory, PathFault};
+use zalloc::Memory;
+use zpath::PathFault;
 use zserver::Stopped;
 
 /// Why an order wasn't obeyed.

@@ -1,8 +1,8 @@
 //! Why a service isn't opened, and why it doesn't take a batch.
 
 use thiserror::Error;
+use zalloc::Memory;
 use zjournal::{OpenError, PutError};
-use zpath::Memory;
 
 /// Why a service isn't opened.
 #[derive(Clone, Copy, Debug, PartialEq, Eq, Error)]

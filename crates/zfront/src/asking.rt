@@ -6,8 +6,8 @@ ghost use Rattle.zfront.specs.Front.{Asks};
 
 use crate::inner::Inner;
 use std::mem;
+use zalloc::Memory;
 use zcalls::{Call, Reply};
-use zpath::Memory;
 
 impl Inner {
     // Makes calls in their order, and returns their replies. Where one gets no reply it is late, and

@@ -6,10 +6,10 @@ ghost use Rattle.zfront.specs.Front.{with_tables};
 ghost use Rattle.zfront.specs.Greeting.{Greets, GreetsUnless, opened, opening, Opens};
 
 use crate::inner::Inner;
+use zalloc::Memory;
 use zasking::{TickLength, ticks_asked};
 use zcalls::{Call, Reply, Update};
 use zjute::{ConnectRequest, ReadError, read_connect};
-use zpath::Memory;
 use zserving::{Opened, come_back, is_ahead, welcome};
 use zsittings::Password;
 

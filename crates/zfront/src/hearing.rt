@@ -9,8 +9,8 @@ ghost use Rattle.zfront.specs.Front.{HearsIf, HearsOf, IsReady, Looks, LooksBy, 
 ghost use Rattle.zfront.specs.Front.{takes_nodes, Tidies, tidied};
 
 use crate::inner::Inner;
+use zalloc::Memory;
 use zcalls::{Call, Reply};
-use zpath::Memory;
 use zserving::{absorb, look, looks_at};
 use zwatches::Place;
 

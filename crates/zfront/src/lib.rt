@@ -24,10 +24,10 @@ mod word;
 mod words;
 
 pub use front::Front;
+pub use zalloc::Memory;
 pub use zalone::Made;
 pub use zanswering::Clock;
 pub use zasking::TickLength;
-pub use zpath::Memory;
 pub use zpieces::Piece;
 pub use zprotocol::ServerId;
 pub use zserver::Snapshot;

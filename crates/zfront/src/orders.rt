@@ -5,9 +5,9 @@ ghost use Rattle.zfront.specs.Orders.{Hears, IsGiven, IsRefused, Obeys, SettlesA
 ghost use Rattle.zfront.specs.Orders as table;
 
 use crate::inner::Inner;
+use zalloc::Memory;
 use zalone::{Did, Order};
 use zlines::{Line, LineFault, read_line};
-use zpath::Memory;
 use zprotocol::{JoinFault, RetireFault};
 use zworld::IdleCause;
 

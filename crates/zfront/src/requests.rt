@@ -8,11 +8,11 @@ ghost use Rattle.zfront.specs.Front.{with_tables};
 ghost use Rattle.zfront.specs.Requests.{Acts, EndsIf, Makes, Serves, touched_by};
 
 use crate::inner::Inner;
+use zalloc::Memory;
 use zanswering::Answer;
 use zasking::{Unasked, calls_of};
 use zcalls::{Call, Reply};
 use zjute::{Body, Code, ReadError, Request, read_request};
-use zpath::Memory;
 use zserving::{Done, answer, reply};
 use ztree::SessionId;
 

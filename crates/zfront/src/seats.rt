@@ -4,7 +4,7 @@ ghost use Rattle.std.specs.Prelude.{◌≡◌, IfOk};
 ghost use Rattle.zfront.specs.Restoring.{tables_of};
 
 use std::alloc::Global;
-use zpath::Memory;
+use zalloc::Memory;
 use zsittings::Password;
 use ztables::Tables;
 use ztree::SessionId;

@@ -5,8 +5,8 @@ ghost use Rattle.zfront.specs.Ticking.{ping, tick_calls, Ticks, TicksBy, TicksIf
 
 use crate::inner::Inner;
 use std::alloc::Global;
+use zalloc::Memory;
 use zcalls::{Call, Reply, Update};
-use zpath::Memory;
 use ztree::SessionId;
 
 impl Inner {

@@ -8,7 +8,7 @@ ghost use Rattle.zfront.specs.Words as table;
 
 use crate::inner::Inner;
 use crate::word::Word;
-use zpath::Memory;
+use zalloc::Memory;
 use zpieces::Phase;
 
 impl Inner {

@@ -10,9 +10,9 @@ ghost use Rattle.zgather.specs.Left.{CutsNoMore, traces_of};
 
 use crate::keeping::{is_any_cut, keep, keep_clients, keep_servers};
 use std::alloc::Global;
+use zalloc::Memory;
 use zdesks::Ending;
 use zmesh::{Mesh, are_told};
-use zpath::Memory;
 use zprotocol::ServerId;
 use ztraces::{ClientTrace, Traces};
 

@@ -6,9 +6,9 @@ ghost use Rattle.zdesks.specs.declared.desk.Ending.{Ending};
 ghost use Rattle.zgather.specs.Left.{client_trace_of, ins_of, outs_of, traces_of};
 
 use std::alloc::Global;
+use zalloc::Memory;
 use zdesks::{Ending, Stamped};
 use zmesh::Mesh;
-use zpath::Memory;
 use ztraces::{ClientTrace, Trace};
 
 /// Returns whether one of the traces is cut.

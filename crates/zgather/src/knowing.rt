@@ -6,9 +6,9 @@ ghost use Rattle.zgather.specs.Left.{AreWiredUnlessLost, by_place, is_left_lost}
 
 use crate::keeping::{is_any_lost, keep, keep_clients, keep_servers};
 use std::alloc::Global;
+use zalloc::Memory;
 use zdesks::Ending;
 use zmesh::{Mesh, are_told};
-use zpath::Memory;
 
 /// Returns whether it is known of a run that it was lawful, from what its processes left: the
 /// master, the servers by number, and the clients by number. It isn't known if what one of them did

@@ -1,8 +1,8 @@
 //! Why a service isn't opened, and why it doesn't keep what was made.
 
 use thiserror::Error;
+use zalloc::Memory;
 use zjournal::{OpenError, PutError};
-use zpath::Memory;
 use zstates::ReadFault;
 
 /// Why a service isn't opened.

@@ -4,8 +4,8 @@ ghost use Rattle.std.specs.Prelude.{◌≡◌, false, IfOk};
 ghost use Rattle.zkept.specs.Restored.{clock_at, IsRestoredFrom};
 
 use std::alloc::Global;
+use zalloc::Memory;
 use zfront::{Clock, Front, ServerId, TickLength};
-use zpath::Memory;
 use zstates::State;
 
 /// Returns the clock of a tree that is at this tick now.

@@ -12,8 +12,8 @@ ghost use Rattle.zknown.specs.Known.{with_opened, without_due};
 use crate::sessions::SessionTable;
 use std::alloc::Global;
 use std::marker::Model;
+use zalloc::Memory;
 use zcalls::{Call, Reply, Update};
-use zpath::Memory;
 use ztree::{ClientId, Session, SessionId, Zxid};
 
 /// What the only client of a service knows of its tree, from its calls and their replies: the zxid

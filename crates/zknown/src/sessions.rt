@@ -11,7 +11,7 @@ ghost use Rattle.zknown.specs.support.Entries.{due_among};
 use std::alloc::Global;
 use std::collections::BTreeMap;
 use std::marker::Model;
-use zpath::Memory;
+use zalloc::Memory;
 use ztree::{Session, SessionId};
 
 // A session under each id.

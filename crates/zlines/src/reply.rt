@@ -12,8 +12,9 @@ ghost use Rattle.zlines.specs.Reply.{reply_text, removed_text, parts_text, part_
 use crate::stat_text::write_stat_behind;
 use base64::engine::general_purpose::STANDARD;
 use itoa::Buffer;
+use zalloc::Memory;
 use zcalls::{PartReply, Refusal, Reply, Stat};
-use zpath::{Memory, Name};
+use zpath::Name;
 
 /// Appends the text of a reply, without a line end.
 pub fn write_reply(reply: &Reply, out: &mut String) -> Result<(), Memory>

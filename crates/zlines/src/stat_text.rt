@@ -10,8 +10,8 @@ ghost use Rattle.zlines.specs.declared.stat_text.TheConstants.{NUMBER_ROOM, FRON
 
 use itoa::write_digits;
 use std::str;
+use zalloc::Memory;
 use zcalls::Stat;
-use zpath::Memory;
 
 // The most bytes of a number with the space before it.
 const NUMBER_ROOM: usize = 21;

@@ -6,7 +6,7 @@ ghost use Rattle.zlinks.specs.Places.{holds, ShowsFront};
 use std::alloc::Global;
 use std::collections::VecDeque;
 use std::marker::Model;
-use zpath::Memory;
+use zalloc::Memory;
 use zprotocol::Message;
 
 /// The messages on the way from one process to another, the front first.

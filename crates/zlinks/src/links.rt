@@ -12,7 +12,7 @@ use crate::lone::Lone;
 use crate::row::Row;
 use std::alloc::Global;
 use std::marker::Model;
-use zpath::Memory;
+use zalloc::Memory;
 use zprotocol::{Message, PROCESSES, Process};
 
 /// The channels between all processes: a row for each sender, with a queue for each receiver, and

@@ -9,7 +9,7 @@ use crate::held::Held;
 use crate::link::Link;
 use std::alloc::Global;
 use std::marker::Model;
-use zpath::Memory;
+use zalloc::Memory;
 use zprotocol::{Message, PROCESSES};
 
 /// The channels from one process, by the places of the receivers, and which of them are non-empty.

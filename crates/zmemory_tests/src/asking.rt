@@ -2,16 +2,17 @@
 
 use crate::machines::{can_be_copied, machine};
 use std::alloc::Global;
+use zalloc::Memory;
 use zcalls::{Query, Reply};
 use zops::Machine;
-use zpath::{Memory, Path};
+use zpath::Path;
 use zstories::Ended;
 
 /// Asks it for the names beneath the root.
 pub(crate) fn children_are_told(alloc: Global) -> Ended {
     match machine(alloc) {
         Ok(machine) => {
-            let query = Query::GetChildren(Path::root(alloc));
+            let query = Query::GetChildren(Path::root());
             let ended = tells(&machine, &query);
             drop(machine);
             drop(query);

@@ -3,10 +3,10 @@
 use crate::taking::has_put;
 use crate::values::{create, path};
 use std::alloc::Global;
+use zalloc::Memory;
 use zcalls::{Call, Query, Update};
 use zclient::{BeginFault, ClientCore};
 use zliterals::{epoch, server};
-use zpath::Memory;
 use zprotocol::{Message, Out, Process};
 use zstories::Ended;
 

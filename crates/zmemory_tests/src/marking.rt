@@ -3,7 +3,7 @@
 ghost use Rattle.std.specs.Prelude.{◌≡◌, IsSome};
 
 use std::alloc::Global;
-use zpath::Memory;
+use zalloc::Memory;
 use zstore::Store;
 use zstories::Ended;
 

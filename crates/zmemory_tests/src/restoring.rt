@@ -5,8 +5,8 @@ ghost use Rattle.std.specs.Prelude.{◌≡◌, false, IfOk};
 use crate::machines::first_entry;
 use crate::values::create;
 use std::alloc::Global;
+use zalloc::Memory;
 use zops::Machine;
-use zpath::Memory;
 use zsnapshots::{Loading, RowFault, Writing};
 use zstories::Ended;
 

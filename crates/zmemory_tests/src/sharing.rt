@@ -2,7 +2,7 @@
 
 use crate::values::two_bytes;
 use std::alloc::Global;
-use zpath::Memory;
+use zalloc::Memory;
 use zstories::Ended;
 
 /// Makes data of two bytes.

@@ -1,8 +1,8 @@
 //! A world for which there is no memory: nothing is left of it, and another one can begin.
 
 use std::alloc::Global;
+use zalloc::Memory;
 use zliterals::server;
-use zpath::Memory;
 use zstories::Ended;
 use zworld::World;
 

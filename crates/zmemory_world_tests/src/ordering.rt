@@ -2,8 +2,8 @@
 
 use crate::running::is_broken;
 use std::alloc::Global;
+use zalloc::Memory;
 use zliterals::server;
-use zpath::Memory;
 use zstories::Ended;
 use zworld::{Did, World};
 use zworld_model::Event;

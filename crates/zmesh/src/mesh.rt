@@ -5,7 +5,7 @@ ghost use Rattle.zrings.specs.Ends.{put_of};
 ghost use Rattle.zmesh.specs.Woven.{AreBlankIns, AreBlankOuts, AreWide, AreWoven, HasRowMore, in_rings};
 
 use std::alloc::Global;
-use zpath::Memory;
+use zalloc::Memory;
 use zrings::ends::{Rx, Tx, link};
 
 /// The ends of all channels, by process and then by the place of the other process.

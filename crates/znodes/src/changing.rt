@@ -10,7 +10,8 @@ ghost use Rattle.znodes.specs.NodesView.{Adds, Takes, CanReturn, Returns};
 use crate::linking::{cut_child, cut_owned, cut_timed, put_child, put_owned, set_key, take_key};
 use crate::nodes::Nodes;
 use crate::row::Row;
-use zpath::{Memory, Path};
+use zalloc::Memory;
+use zpath::Path;
 use zslots::Id;
 use zslots::limits::GIVEN_BOUND;
 use ztree::Node;
@@ -33,7 +34,7 @@ impl Nodes {
             drop(node);
             return Err(Memory);
         }
-        let Ok(key) = path.copied(self.alloc) else {
+        let Ok(key) = path.clone() else {
             drop(path);
             drop(node);
             return Err(Memory);
@@ -95,8 +96,8 @@ impl Nodes {
         };
         let owner = row.node.owner;
         let ttl = row.node.ttl;
-        // This bounds the number of rows, so the lists have room: no list has all rows.
-        let _ = self.slots.len();
+        // No list has all rows, so each can grow.
+        self.slots.keeps_countable();
         put_child(&mut self.slots, Some(parent), id);
         put_owned(&mut self.slots, &mut self.owners, owner, id);
         match take_key(&mut self.slots, id) {

@@ -11,7 +11,8 @@ ghost use Rattle.znodes.specs.support.Reading.{name_at, names_at, AreNamesOf};
 use crate::nodes::Nodes;
 use crate::row::Row;
 use std::alloc::Global;
-use zpath::{Memory, Name};
+use zalloc::Memory;
+use zpath::Name;
 use zslots::{Id, List, Slots};
 
 impl Nodes {
@@ -37,19 +38,19 @@ fn last_names(alloc: Global, slots: &Slots<Row>, list: List<0>) -> Result<Vec<Na
     let mut names = Vec::with_capacity(alloc, list.len())?;
     let mut at = list.first();
     while let Some(id) = at {
-        push_name(alloc, slots, id, &mut names)?;
+        push_name(slots, id, &mut names)?;
         at = list.next(slots, id);
     }
     Ok(names)
 }
 
 // Appends the last name of a row's path.
-fn push_name(alloc: Global, slots: &Slots<Row>, id: Id, names: &mut Vec<Name>) -> Result<(), Memory>
+fn push_name(slots: &Slots<Row>, id: Id, names: &mut Vec<Name>) -> Result<(), Memory>
     ensures { OnOk result
         (names.new.items ≡ names.old.items ++ names_at slots.now.items (id ∷ [])) }
 {
     if let Some(name) = last_name(slots, id) {
-        names.push(name.copied(alloc)?)?;
+        names.push(name.clone()?)?;
     }
     Ok(())
 }

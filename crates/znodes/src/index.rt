@@ -9,7 +9,8 @@ ghost use Rattle.std.specs.Map.{keys_of};
 use std::alloc::Global;
 use std::collections::HashMap;
 use std::marker::Model;
-use zpath::{Memory, Path};
+use zalloc::Memory;
+use zpath::Path;
 use zslots::Id;
 
 /// The Ids by path.
@@ -115,7 +116,7 @@ fn keys_of_all(alloc: Global, ids: &HashMap<Path, Id>) -> Result<Vec<Path>, Memo
 {
     let mut paths = Vec::with_capacity(alloc, ids.len())?;
     for (path, _) in ids {
-        paths.push(path.copied(alloc)?)?;
+        paths.push(path.clone()?)?;
     }
     Ok(paths)
 }

@@ -6,7 +6,7 @@ ghost use Rattle.std.specs.FinMap.{empty, get, insert, remove};
 use std::alloc::Global;
 use std::collections::BTreeMap;
 use std::marker::Model;
-use zpath::Memory;
+use zalloc::Memory;
 use zslots::List;
 
 // A list for each session that may own nodes.

@@ -5,7 +5,7 @@ ghost use Rattle.std.specs.FinMap.{get, insert, remove};
 ghost use Rattle.ztree.specs.Tree.{ephemerals};
 
 use crate::nodes::Nodes;
-use zpath::Memory;
+use zalloc::Memory;
 
 impl Nodes {
     /// Allows a session to own nodes. After `Memory` nothing has changed.

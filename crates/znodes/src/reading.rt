@@ -8,7 +8,8 @@ ghost use Rattle.znodes.specs.NodesView.{path_of, node_of, AtPath, AtNode, IsUnd
 
 use crate::nodes::Nodes;
 use crate::row::Row;
-use zpath::{Memory, Path};
+use zalloc::Memory;
+use zpath::Path;
 use zslots::Id;
 use ztree::Node;
 

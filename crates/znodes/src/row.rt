@@ -4,7 +4,8 @@ ghost use Rattle.std.specs.Prelude.{◌≡◌, IfOk};
 
 use std::alloc::Global;
 use std::mem::size_of;
-use zpath::{Memory, Path};
+use zalloc::Memory;
+use zpath::Path;
 use zslots::{Copied, Id, Linked, Links, List, Slots};
 use ztree::Node;
 
@@ -74,12 +75,12 @@ impl Row {
 
 impl Copied for Row {
     fn copied(&self) -> Result<Row, Memory> {
-        let path = self.path.copied(self.alloc)?;
-        let Ok(node) = self.node.copied(self.alloc) else {
+        let path = self.path.clone()?;
+        let Ok(node) = self.node.copied() else {
             drop(path);
             return Err(Memory);
         };
-        let Ok(key) = copied_key(self.alloc, &self.key) else {
+        let Ok(key) = copied_key(&self.key) else {
             drop(path);
             drop(node);
             return Err(Memory);
@@ -98,11 +99,11 @@ impl Copied for Row {
     }
 }
 
-fn copied_key(alloc: Global, key: &Option<Path>) -> Result<Option<Path>, Memory>
+fn copied_key(key: &Option<Path>) -> Result<Option<Path>, Memory>
     ensures { IfOk result (λ copy. copy ≡ key.now) }
 {
     match key {
-        Some(key) => Ok(Some(key.copied(alloc)?)),
+        Some(key) => Ok(Some(key.clone()?)),
         None => Ok(None),
     }
 }

@@ -10,7 +10,7 @@ ghost use Rattle.znodes.specs.support.Reading.{is_stale_row, AreStaleOf, AddsSta
 use crate::nodes::Nodes;
 use crate::row::Row;
 use std::alloc::Global;
-use zpath::Memory;
+use zalloc::Memory;
 use zslots::{Id, List, Slots};
 
 impl Nodes {

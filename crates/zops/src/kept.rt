@@ -9,8 +9,8 @@ ghost use Rattle.zops.specs.support.Places.{clients_from};
 
 use std::alloc::Global;
 use std::marker::Model;
+use zalloc::Memory;
 use zcalls::{CallNumber, Reply};
-use zpath::Memory;
 use ztree::ClientId;
 use ztree::limits::MAX_CLIENTS;
 

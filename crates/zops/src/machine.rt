@@ -10,8 +10,8 @@ use crate::query::answer;
 use crate::update::update;
 use std::alloc::Global;
 use std::marker::Model;
+use zalloc::Memory;
 use zcalls::{Entry, Query, Reply, Update};
-use zpath::Memory;
 use zstore::Store;
 
 /// A state machine: the tree, the last reply to each client, and the calls on them.
@@ -142,7 +142,7 @@ impl Machine {
         } else {
             self.store.keeps_lawful();
             self.store.keeps_paths();
-            answer(self.alloc, &self.store, query)
+            answer(&self.store, query)
         }
     }
 

@@ -8,8 +8,9 @@ ghost use Rattle.zops.specs.Restored.{IsOfUpdate};
 ghost use Rattle.zops.specs.RestoredLaws.{IsSettled};
 
 use crate::machine::Machine;
+use zalloc::Memory;
 use zcalls::{CallNumber, Reply};
-use zpath::{Memory, Path};
+use zpath::Path;
 use zstore::{ClientId, Node, Session, SessionId, Zxid};
 
 impl Machine {

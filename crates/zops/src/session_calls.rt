@@ -13,9 +13,9 @@ ghost use Rattle.zcalls.specs.Step.{granted_timeout, due_next, update_result};
 ghost use Rattle.zcalls.specs.declared.call.Update.TheVariants.{Open, Ping, Close};
 ghost use Rattle.zcalls.specs.declared.reply.Reply.TheVariants as reply;
 
+use zalloc::Memory;
 use zcalls::limits::{MAX_TIMEOUT, MIN_TIMEOUT};
 use zcalls::{Refusal, Reply};
-use zpath::Memory;
 use zstore::{Id, Store};
 use ztree::limits::MAX_SESSIONS;
 use ztree::{ClientId, SessionId};

@@ -4,9 +4,9 @@ ghost use Rattle.std.specs.Prelude.{◌≡◌};
 ghost use Rattle.zops.specs.declared.stop.Stop.TheVariants.{Memory as no_memory};
 ghost use Rattle.zops.specs.declared.stop.Halt.TheVariants.{Memory as no_memory_left};
 
-use std::alloc::AllocFailed;
+use std::alloc::{AllocError, AllocFailed};
+use zalloc::Memory;
 use zcalls::Refusal;
-use zpath::Memory;
 
 /// Why a part did nothing.
 #[derive(Clone, Copy, Debug, PartialEq, Eq)]
@@ -21,6 +21,14 @@ impl From<Memory> for Stop {
     ghost from_gives = { λ _ stop. stop ≡ no_memory };
 
     fn from(_memory: Memory) -> Stop {
+        Stop::Memory
+    }
+}
+
+impl From<AllocError> for Stop {
+    ghost from_gives = { λ _ stop. stop ≡ no_memory };
+
+    fn from(_refused: AllocError) -> Stop {
         Stop::Memory
     }
 }

@@ -12,8 +12,8 @@ use crate::run::run;
 use crate::session_calls::{close, open, ping, tick};
 use crate::stop::{Halt, Stop};
 use std::alloc::Global;
+use zalloc::Memory;
 use zcalls::{Multi, Refusal, Replies, Reply, Update};
-use zpath::Memory;
 use zstore::Store;
 use ztree::ClientId;
 use ztree::limits::{TICK_BOUND, ZXID_BOUND};
@@ -37,7 +37,7 @@ pub(crate) fn update(
     let did = match update {
         Update::Create(wanted) => create(alloc, store, client, wanted),
         Update::Delete(wanted) => delete(store, wanted),
-        Update::SetData(wanted) => set(alloc, store, wanted),
+        Update::SetData(wanted) => set(store, wanted),
         Update::Multi(parts) => return multi(alloc, store, client, parts),
         Update::Open(ticks) => return open(store, client, *ticks),
         Update::Ping(session) => return Ok(ping(store, client, *session)),

@@ -3,7 +3,6 @@
 ghost use Rattle.std.specs.Prelude.{◌≡◌};
 ghost use Rattle.zpath.specs.declared.fault.PathFault.TheVariants.{Memory};
 
-use crate::memory;
 use std::alloc::{AllocError, AllocFailed};
 use std::fmt;
 use thiserror::Error;
@@ -71,10 +70,10 @@ impl<T: Drop> From<AllocFailed<T>> for PathFault {
     }
 }
 
-impl From<memory::Memory> for PathFault {
+impl From<zalloc::Memory> for PathFault {
     ghost from_gives = { λ _ fault. fault ≡ Memory };
 
-    fn from(_error: memory::Memory) -> PathFault {
+    fn from(_error: zalloc::Memory) -> PathFault {
         PathFault::Memory
     }
 }

@@ -12,7 +12,6 @@ mod fault;
 pub mod laws;
 mod limits;
 mod list;
-mod memory;
 mod name;
 mod numbered;
 mod path;
@@ -23,6 +22,5 @@ mod text;
 
 pub use fault::PathFault;
 pub use limits::{COUNTER_DIGITS, MAX_DEPTH, MAX_NAME_LEN, MAX_TEXT_LEN};
-pub use memory::Memory;
 pub use name::Name;
 pub use path::Path;

@@ -2,9 +2,9 @@
 
 ghost use Rattle.std.specs.Prelude.{◌≡◌, ◌++◌, [], ◌∷◌, IfOk};
 
-use crate::memory::Memory;
 use crate::name::Name;
 use std::alloc::Global;
+use zalloc::Memory;
 
 // One or two names are stored inline, so that a shared list of them takes one allocation.
 #[derive(Debug, Drop)]
@@ -23,7 +23,7 @@ impl NameList {
     {
         match front {
             [] => Ok(NameList::One([last])),
-            [first] => Ok(NameList::Two([first.copied(alloc)?, last])),
+            [first] => Ok(NameList::Two([first.clone()?, last])),
             _ => Ok(NameList::Many(with_last(alloc, front, last)?)),
         }
     }
@@ -44,7 +44,7 @@ fn with_last(alloc: Global, front: &[Name], last: Name) -> Result<Vec<Name>, Mem
 {
     let mut names = Vec::with_capacity(alloc, front.len() + 1)?;
     for name in front {
-        names.push(name.copied(alloc)?)?;
+        names.push(name.clone()?)?;
     }
     names.push(last)?;
     Ok(names)

@@ -10,7 +10,6 @@ ghost use Rattle.zpath.specs.Numbered.{digits};
 ghost use Rattle.zpath.specs.declared.limits.TheConstants.{COUNTER_DIGITS, MAX_NAME_LEN};
 
 use crate::limits::COUNTER_DIGITS;
-use crate::memory::Memory;
 use crate::numbered::push_digits;
 use crate::text::Text;
 use arrayvec::ArrayString;
@@ -19,6 +18,7 @@ use std::cmp::Ordering;
 use std::fmt;
 use std::hash::{Hash, Hasher};
 use std::marker::Model;
+use zalloc::Memory;
 
 /// A name: 1 to `MAX_NAME_LEN` visible bytes without a slash, and neither `.` nor `..`.
 ///
@@ -73,13 +73,11 @@ impl Name {
         self.text.as_str()
     }
 
-    /// Returns a copy of the name, or `Memory`.
-    pub fn copied(&self, _alloc: Global) -> Result<Name, Memory>
-        ensures copy { IfOk result (λ copy. copy ≡ self.now) }
-        ensures name { IsName self.now }
+    /// An invariant of every name: its bytes are a name's. The function does nothing.
+    pub(crate) fn keeps_its_form(&self)
+        ensures { IsName self.now }
     {
-        let text = self.text.clone()?;
-        Ok(Name { text })
+        let _ = &self.text;
     }
 }
 

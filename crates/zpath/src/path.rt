@@ -11,7 +11,6 @@ ghost use Rattle.zpath.specs.Numbered.{numbered_path, is_over, numbered_fault, I
 
 use crate::fault::PathFault;
 use crate::list::NameList;
-use crate::memory::Memory;
 use crate::name::Name;
 use crate::{numbered, quick, scan};
 use arrayvec::ArrayVec;
@@ -21,6 +20,7 @@ use std::fmt;
 use std::hash::{Hash, Hasher};
 use std::marker::Model;
 use std::sync::Arc;
+use zalloc::Memory;
 
 /// An absolute path: the names from the root down.
 ///
@@ -49,7 +49,7 @@ impl Path {
     ghost use Rattle.zpath.specs.support.Lists.{items_of};
 
     /// Returns the root, which has no names. Allocates nothing.
-    pub fn root(_alloc: Global) -> Path
+    pub fn root() -> Path
         ensures { result ≡ [] }
     {
         Path {
@@ -72,7 +72,7 @@ impl Path {
         }
         let rest = scan::faultless_rest(text)?;
         if rest.is_empty() {
-            return Ok(Path::root(alloc));
+            return Ok(Path::root());
         }
         let names = scan::names_after(alloc, rest)?;
         Ok(Path::of(alloc, names)?)
@@ -89,6 +89,13 @@ impl Path {
         }
     }
 
+    /// An invariant of every path: its names are a path's. The function does nothing.
+    pub fn keeps_its_form(&self)
+        ensures { IsPath self.now }
+    {
+        let _ = self.names();
+    }
+
     /// Returns the last name, or `None` at the root.
     pub fn name(&self) -> Option<&Name>
         ensures root { IfNone result (self.now ≡ []) }
@@ -98,7 +105,7 @@ impl Path {
     }
 
     /// Returns the path without its last name, or `None` at the root.
-    pub fn parent(&self, _alloc: Global) -> Result<Option<Path>, Memory>
+    pub fn parent(&self) -> Result<Option<Path>, Memory>
         ensures root { IfOk result (λ parent. IfNone parent (self.now ≡ [])) }
         ensures path { IsPath self.now }
         ensures front { IfOk result (λ parent. IfSome parent (IsFrontOf self.now)) }
@@ -119,7 +126,8 @@ impl Path {
         if let Some(fault) = scan::child_fault(self.names(), name) {
             return Err(fault);
         }
-        let last = name.copied(alloc)?;
+        name.keeps_its_form();
+        let last = name.clone()?;
         let names = NameList::with_last(alloc, self.names(), last)?;
         Ok(Path::of(alloc, names)?)
     }
@@ -149,13 +157,6 @@ impl Path {
         let name = last.numbered(alloc, counter)?;
         let names = NameList::with_last(alloc, front, name)?;
         Ok(Path::of(alloc, names)?)
-    }
-
-    /// Returns a copy of the path that shares its list of names, or `Memory`.
-    pub fn copied(&self, _alloc: Global) -> Result<Path, Memory>
-        ensures { IfOk result (λ copy. copy ≡ self.now) }
-    {
-        Ok(self.front(self.depth)?)
     }
 
     // Makes the path with a list's names.

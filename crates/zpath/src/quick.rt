@@ -13,10 +13,10 @@ ghost use Rattle.zpath.specs.declared.limits.TheConstants.{MAX_DEPTH};
 
 use crate::limits::{MAX_DEPTH, MAX_NAME_LEN};
 use crate::list::NameList;
-use crate::memory::Memory;
 use crate::name::Name;
 use arrayvec::ArrayVec;
 use std::alloc::Global;
+use zalloc::Memory;
 
 // Whether every name is plain: not empty, not too long, without a bad byte and without a leading
 // dot. There may be at most `MAX_DEPTH` names. Pushes their lengths onto `lens`.

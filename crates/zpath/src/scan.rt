@@ -13,9 +13,9 @@ ghost use Rattle.zpath.specs.declared.limits.TheConstants.{MAX_TEXT_LEN};
 use crate::fault::PathFault;
 use crate::limits::{MAX_DEPTH, MAX_NAME_LEN, MAX_TEXT_LEN};
 use crate::list::NameList;
-use crate::memory::Memory;
 use crate::name::Name;
 use std::alloc::Global;
+use zalloc::Memory;
 
 fn is_dots(name: &str) -> bool
     ensures { result ≡ is_dots name.now }

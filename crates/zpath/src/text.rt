@@ -2,9 +2,9 @@
 
 ghost use Rattle.std.specs.Prelude.{◌≡◌, ◌++◌, IfOk};
 
-use crate::memory::Memory;
 use arrayvec::ArrayString;
 use std::alloc::{AllocError, Global};
+use zalloc::Memory;
 
 // The most bytes that are stored inline.
 const IN_PLACE: usize = 16;

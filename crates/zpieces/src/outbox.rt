@@ -8,7 +8,7 @@ use crate::piece::Piece;
 use std::alloc::Global;
 use std::collections::VecDeque;
 use std::marker::Model;
-use zpath::Memory;
+use zalloc::Memory;
 
 /// The pieces that are still to be sent, in the order in which they came.
 #[derive(Drop)]

@@ -9,7 +9,7 @@ use crate::phase::Phase;
 use crate::table::StreamTable;
 use std::alloc::Global;
 use std::marker::Model;
-use zpath::Memory;
+use zalloc::Memory;
 use zsittings::Password;
 
 /// The streams of all connections, each under its connection's number.

@@ -11,7 +11,7 @@ use std::alloc::Global;
 use std::collections::BTreeMap;
 use std::marker::Model;
 use std::mem;
-use zpath::Memory;
+use zalloc::Memory;
 
 // A stream under each connection's number.
 #[derive(Drop)]

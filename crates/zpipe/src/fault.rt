@@ -4,7 +4,7 @@ ghost use Rattle.std.specs.Prelude.{◌≡◌};
 
 use std::alloc::{AllocError, AllocFailed};
 use thiserror::Error;
-use zpath::Memory;
+use zalloc::Memory;
 
 /// What ended a service before its host did.
 #[derive(Clone, Copy, Debug, PartialEq, Eq, Error)]

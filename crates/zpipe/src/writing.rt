@@ -5,8 +5,8 @@ ghost use Rattle.zpipe.specs.Outputs.{OutputView, output};
 ghost use Rattle.zpipe.specs.Outputs.OutputView.{Piece as OfPiece, End};
 
 use crate::limits::MAX_PIECE;
+use zalloc::Memory;
 use zforms::{put_flag, put_sized, put_u8, put_u32};
-use zpath::Memory;
 use zpieces::Piece;
 
 /// Writes a piece. No memory is wanted for one of more than `MAX_PIECE` bytes.

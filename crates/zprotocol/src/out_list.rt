@@ -6,7 +6,7 @@ use crate::{Message, Process};
 use std::alloc::Global;
 use std::collections::VecDeque;
 use std::marker::Model;
-use zpath::Memory;
+use zalloc::Memory;
 
 /// The outgoing messages, each with its receiver, and the room reserved for more.
 #[derive(Drop)]

@@ -9,7 +9,7 @@ use crate::plan::Race;
 use crate::runner::Seat;
 use std::alloc::Global;
 use std::sync::Arc;
-use zpath::Memory;
+use zalloc::Memory;
 use zwords::tickets::{Pass, Tickets};
 
 /// Room for all racing clients, and for the nodes' versions.

@@ -8,7 +8,7 @@ ghost use Rattle.zrun.specs.Clients.{SameClient};
 use crate::racer::{Racer, Seen};
 use std::alloc::Global;
 use std::sync::Arc;
-use zpath::Memory;
+use zalloc::Memory;
 use zprotocol::ServerId;
 use zrun::Client;
 use zwords::tickets::{Pass, Tickets};

@@ -5,7 +5,7 @@ ghost use Rattle.zrecords.specs.declared.fault.RecordFault.TheVariants.{Memory a
 
 use std::alloc::AllocFailed;
 use thiserror::Error;
-use zpath::Memory;
+use zalloc::Memory;
 
 /// Why no records were read.
 #[derive(Clone, Copy, Debug, PartialEq, Eq, Error)]

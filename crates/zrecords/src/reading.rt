@@ -12,8 +12,8 @@ use base64::DecodeAllocError;
 use base64::engine::general_purpose::STANDARD;
 use memchr::memchr;
 use std::alloc::Global;
+use zalloc::Memory;
 use zforms::ReadError;
-use zpath::Memory;
 
 /// Reads the record whose line stands in front of the text, with what follows the line. Returns
 /// `None` where no record's line stands there.

@@ -8,7 +8,7 @@ use crate::record::Record;
 use crate::record_writing::put_record;
 use base64::engine::general_purpose::STANDARD;
 use std::alloc::{AllocError, Global};
-use zpath::Memory;
+use zalloc::Memory;
 
 /// Appends the text of the records to a log. At `Memory` the log is what it was.
 ///

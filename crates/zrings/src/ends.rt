@@ -9,7 +9,7 @@ ghost use Rattle.zrings.specs.declared.ends.TheConstants.{RING};
 use rtrb::{Consumer, Producer, PushError, RingBuffer};
 use std::alloc::{AllocFailed, Global};
 use std::collections::VecDeque;
-use zpath::Memory;
+use zalloc::Memory;
 
 /// The capacity of the ring, in messages. Only memory bounds the outbox.
 pub const RING: usize = 64;

@@ -10,8 +10,8 @@ use crate::posts::ClientPost;
 use crate::supply::HaltPost;
 use std::alloc::Global;
 use std::snapshot::Snapshot;
+use zalloc::Memory;
 use zcalls::ClientId;
-use zpath::Memory;
 
 /// The clients of one run that aren't handed out. Each has the place of its number.
 #[derive(Drop)]

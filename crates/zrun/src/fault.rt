@@ -5,10 +5,11 @@ ghost use Rattle.std.specs.Prelude.{◌≡◌};
 use crate::faults::{StartFault, Unanswered};
 use std::alloc::{AllocError, AllocFailed};
 use thiserror::Error;
+use zalloc::Memory;
 use zcalls::{DataFault, Refusal, Reply};
 use zclient::BeginFault;
 use zconsole::ends::Closed;
-use zpath::{Memory, PathFault};
+use zpath::PathFault;
 
 /// Any fault of a program that uses a cluster. Each fault on the way turns into it, so `?` serves.
 /// A reply that isn't the one that was wanted turns into it, too.

@@ -3,8 +3,8 @@
 ghost use Rattle.std.specs.Prelude.{◌≡◌};
 
 use thiserror::Error;
+use zalloc::Memory;
 use zclient::BeginFault;
-use zpath::Memory;
 
 /// Why no cluster was started. None of its threads is left running.
 #[derive(Clone, Copy, Debug, Drop, PartialEq, Eq, Error)]

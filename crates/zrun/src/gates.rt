@@ -4,7 +4,7 @@ ghost use Rattle.std.specs.Prelude.{◌≡◌, IfOk, length};
 ghost use Rattle.zprotocol.specs.declared.limits.TheConstants.{MAX_SERVERS};
 
 use std::alloc::Global;
-use zpath::Memory;
+use zalloc::Memory;
 use zprotocol::MAX_SERVERS;
 use zthreads::Open;
 

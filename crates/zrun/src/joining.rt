@@ -14,8 +14,8 @@ use crate::clients::Clients;
 use crate::promises::SameServer;
 use std::alloc::Global;
 use std::thread::{PromisedHandle, Threads};
+use zalloc::Memory;
 use zdesks::Ending;
-use zpath::Memory;
 use zthreads::ServerThread;
 use ztraces::Trace;
 

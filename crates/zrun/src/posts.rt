@@ -15,11 +15,11 @@ use crate::supply::{HaltPost, Supply};
 use std::alloc::Global;
 use std::snapshot::Snapshot;
 use std::time::Duration;
+use zalloc::Memory;
 use zbells::Bells;
 use zcaller::Caller;
 use zcalls::ClientId;
 use zconsole::ends::{Console, Inbox};
-use zpath::Memory;
 use zprotocol::{MAX_SERVERS, ServerId};
 use zthreads::{MasterThread, ServerThread};
 

@@ -8,11 +8,11 @@ ghost use Rattle.zmesh.specs.Woven.{AreBlankIns, AreBlankOuts, AreWide};
 use crate::opening::Ends;
 use std::alloc::Global;
 use std::sync::Arc;
+use zalloc::Memory;
 use zbells::Bells;
 use zconsole::ends::{Console, Inbox};
 use zdesks::Stamped;
 use zmesh::{Mesh, weave};
-use zpath::Memory;
 use zrings::ends::{Rx, Tx};
 use zwords::halts::{Halt, HaltSeat};
 

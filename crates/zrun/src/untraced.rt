@@ -14,10 +14,10 @@ use std::alloc::Global;
 use std::sync::Wait;
 use std::thread::Threads;
 use std::time::Duration;
+use zalloc::Memory;
 use zbells::SLEEP_MILLIS;
 use zconsole::ends::Console;
 use zgather::is_known;
-use zpath::Memory;
 use zprotocol::ServerId;
 use zthreads::Gate;
 

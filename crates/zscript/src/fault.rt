@@ -45,10 +45,10 @@ impl fmt::Display for PlayFault {
     }
 }
 
-impl From<zpath::Memory> for PlayFault {
+impl From<zalloc::Memory> for PlayFault {
     ghost from_gives = { λ _ fault. fault ≡ Memory };
 
-    fn from(_fault: zpath::Memory) -> PlayFault {
+    fn from(_fault: zalloc::Memory) -> PlayFault {
         PlayFault::Memory
     }
 }

@@ -8,9 +8,9 @@ ghost use Rattle.zscript.specs.Line.{taken_text, is_answer_to};
 ghost use Rattle.zscript.specs.support.Effects.{cause_text, did_text, begun_text, called_text};
 ghost use Rattle.zscript.specs.support.Effects.{WritesFault, taken_lines, own_call};
 
+use zalloc::Memory;
 use zcalls::{CallNumber, ClientId};
 use zlines::{LineFault, write_reply};
-use zpath::Memory;
 use zprotocol::{BeginFault, JoinFault, RetireFault};
 use zworld::{Did, IdleCause};
 use zworld_model::{CallEvent, Settled};

@@ -9,9 +9,9 @@ ghost use Rattle.zserver.specs.support.Replicas.{applied_result, next_number};
 use crate::neighbour::is_neighbour;
 use crate::replica::Replica;
 use crate::snapshot::Snapshot;
+use zalloc::Memory;
 use zcalls::{Entry, Reply, SharedEntry};
 use zops::Machine;
-use zpath::Memory;
 use zprotocol::{Epoch, LogNumber, MAX_LOG_NUMBER, Message, Out, Process, ServerId};
 
 impl Replica {
@@ -97,7 +97,7 @@ impl Replica {
         ensures silent { OnErr result (out.new.posts ≡ out.old.posts) }
     {
         out.reserve(1)?;
-        self.sent.push((n, entry.copied(self.alloc)?))?;
+        self.sent.push((n, entry.clone()?))?;
         let reply = self.apply(entry.entry())?;
         drop(reply);
         if let Some(succ) = &self.succ {

@@ -9,8 +9,8 @@ use crate::neighbour::{Neighbour, is_neighbour};
 use crate::replica::Replica;
 use crate::snapshot::Snapshot;
 use std::alloc::Global;
+use zalloc::Memory;
 use zops::Machine;
-use zpath::Memory;
 use zprotocol::{Epoch, Message, Out, Process, ServerId};
 
 impl Replica {

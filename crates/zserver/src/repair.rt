@@ -10,7 +10,7 @@ use crate::neighbour::{Neighbour, is_neighbour};
 use crate::replica::{Replica, acknowledge};
 use crate::sent::send_above;
 use crate::snapshot::Snapshot;
-use zpath::Memory;
+use zalloc::Memory;
 use zprotocol::{Epoch, LogNumber, Message, Out, Process, ServerId};
 
 impl Replica {

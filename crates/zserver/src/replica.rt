@@ -11,8 +11,8 @@ use crate::sent::Sent;
 use crate::snapshot::{Snapshot, log_number};
 use std::alloc::Global;
 use std::marker::Model;
+use zalloc::Memory;
 use zops::Machine;
-use zpath::Memory;
 use zprotocol::{Epoch, LogNumber, Message, Out, Process, ServerId};
 
 /// What a running server knows. Its machine, if it has one, never ran out of memory. The machine

@@ -9,8 +9,8 @@ use crate::neighbour::Neighbour;
 use crate::snapshot::Snapshot;
 use std::alloc::Global;
 use std::collections::VecDeque;
+use zalloc::Memory;
 use zcalls::SharedEntry;
-use zpath::Memory;
 use zprotocol::{LogNumber, Message, Out, Process};
 
 /// The entries, each with its number in the log.
@@ -31,7 +31,7 @@ fn copies_above(
         if e.0.number() <= n.number() {
             continue;
         }
-        copies.push_back((e.0, e.1.copied(alloc)?))?;
+        copies.push_back((e.0, e.1.clone()?))?;
     }
     Ok(copies)
 }

@@ -5,8 +5,8 @@ ghost use Rattle.zserver.specs.support.Replicas.{transfer_of};
 
 use std::alloc::Global;
 use std::marker::Model;
+use zalloc::Memory;
 use zops::Machine;
-use zpath::Memory;
 use zprotocol::LogNumber;
 
 /// The whole state of a server, as it is handed to one that has none. Its machine has never run out

@@ -8,8 +8,8 @@ ghost use Rattle.zserver.specs.Server.{BecomesAt, PutsAt, IsHeardOr, MayBeUnhear
 use crate::replica::Replica;
 use crate::snapshot::Snapshot;
 use crate::taken::Taken;
+use zalloc::Memory;
 use zcalls::Entry;
-use zpath::Memory;
 use zprotocol::{Message, Out, Process};
 
 impl Replica {

@@ -4,9 +4,9 @@ ghost use Rattle.std.specs.Prelude.{◌≡◌, OnOk};
 ghost use Rattle.zserving.specs.Replying.{absorbed, absorbed_all};
 
 use std::alloc::Global;
+use zalloc::Memory;
 use zcalls::{Call, Reply};
 use zevents::events_of;
-use zpath::Memory;
 use ztables::Tables;
 
 /// Tells the events of a call that was answered, and notes whether it made an ephemeral node.

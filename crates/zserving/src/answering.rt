@@ -9,11 +9,11 @@ use crate::replying::reply;
 use crate::watching::grant_all;
 use crate::wishes::wishes;
 use std::alloc::Global;
+use zalloc::Memory;
 use zanswering::{Clock, Now, answer_to};
 use zcalls::{Call, Reply};
 use zjute::{Body, Code, Request};
 use zknown::Known;
-use zpath::Memory;
 use ztables::Tables;
 
 /// A request whose calls were all answered.

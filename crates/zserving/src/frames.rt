@@ -7,13 +7,13 @@ ghost use Rattle.zjute.specs.Frames.{frame};
 
 use crate::numbers::long_of;
 use std::alloc::Global;
+use zalloc::Memory;
 use zanswering::Answer;
 use zjute::{
     Body, Bytes, Code, ConnectRequest, ConnectResponse, WriteError, write_connect_response,
     write_reply,
 };
 use zknown::Known;
-use zpath::Memory;
 use zsittings::Password;
 
 /// Returns whether a connection is closed behind an answer with this code.

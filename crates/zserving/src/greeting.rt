@@ -7,10 +7,10 @@ ghost use Rattle.zserving.specs.Greeting.{came_back, returned, turned_away, welc
 use crate::frames::response_frame;
 use crate::numbers::long_of;
 use std::alloc::Global;
+use zalloc::Memory;
 use zasking::{TickLength, millis_told};
 use zjute::ConnectRequest;
 use zknown::Known;
-use zpath::Memory;
 use zsittings::Password;
 use ztables::Tables;
 use ztree::SessionId;

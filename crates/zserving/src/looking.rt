@@ -7,8 +7,8 @@ ghost use Rattle.zserving.specs.Looking.{look_at};
 
 use crate::seeing::seen;
 use std::alloc::Global;
+use zalloc::Memory;
 use zcalls::{Call, Query, Reply};
-use zpath::Memory;
 use ztables::Tables;
 use ztree::Zxid;
 use zwatches::Place;
@@ -19,16 +19,16 @@ pub fn looks_at(alloc: Global, places: &[Place]) -> Result<Vec<Call>, Memory>
 {
     let mut calls = Vec::new(alloc);
     for place in places {
-        add_look(alloc, place, &mut calls)?;
+        add_look(place, &mut calls)?;
     }
     Ok(calls)
 }
 
 // Adds the call by which a place is looked at.
-fn add_look(alloc: Global, place: &Place, calls: &mut Vec<Call>) -> Result<(), Memory>
+fn add_look(place: &Place, calls: &mut Vec<Call>) -> Result<(), Memory>
     ensures { OnOk result (calls.new.items ≡ calls.old.items ++ look_at place.now ∷ []) }
 {
-    let path = place.path.copied(alloc)?;
+    let path = place.path.clone()?;
     calls.push(Call::Query(Query::Exists(path)))?;
     Ok(())
 }

@@ -5,9 +5,9 @@ ghost use Rattle.zserving.specs.Replying.{replied};
 
 use crate::frames::{answer_frame, ends_connection};
 use std::alloc::Global;
+use zalloc::Memory;
 use zanswering::Answer;
 use zknown::Known;
-use zpath::Memory;
 use ztables::Tables;
 
 /// Tells the answer to the request with this number, as a frame. A client that isn't who it says is

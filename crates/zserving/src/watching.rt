@@ -5,7 +5,8 @@ ghost use Rattle.zwatches.specs.Watches.{watch, is_full};
 ghost use Rattle.zserving.specs.Watching.{granted, granted_all, lacks_room, some_lacked, waiting};
 
 use crate::wish::Wish;
-use zpath::{Memory, Path};
+use zalloc::Memory;
+use zpath::Path;
 use ztables::Tables;
 use zwatches::{Kind, WatchFault};
 

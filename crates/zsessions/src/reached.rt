@@ -7,7 +7,7 @@ ghost use Rattle.zsessions.specs.support.Rows.{row_links, due_at, AreReached, Ap
 
 use crate::row::SessionRow;
 use std::alloc::Global;
-use zpath::Memory;
+use zalloc::Memory;
 use zslots::{Id, List, Slots};
 use ztree::SessionId;
 

@@ -9,7 +9,7 @@ ghost use Rattle.zsessions.specs.Deadlines.{with_deadline, renewed_if, is_held_b
 use crate::table::Table;
 use std::alloc::Global;
 use std::marker::Model;
-use zpath::Memory;
+use zalloc::Memory;
 use zslots::limits::GIVEN_BOUND;
 use ztree::{ClientId, Session, SessionId};
 

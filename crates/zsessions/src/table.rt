@@ -19,7 +19,7 @@ use crate::row::SessionRow;
 use std::alloc::Global;
 use std::collections::HashMap;
 use std::marker::Model;
-use zpath::Memory;
+use zalloc::Memory;
 use zslots::{Id, Links, List, Slots};
 use ztree::{ClientId, Session, SessionId};
 

@@ -8,7 +8,7 @@ ghost use Rattle.zsittings.specs.support.Entries.{touched_among};
 use crate::sitting::Sitting;
 use std::alloc::Global;
 use std::collections::BTreeMap;
-use zpath::Memory;
+use zalloc::Memory;
 use ztree::SessionId;
 
 /// Returns the ids of the touched entries, in order; or `Memory`.

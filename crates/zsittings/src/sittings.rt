@@ -13,7 +13,7 @@ use crate::sitting::Sitting;
 use crate::table::SittingTable;
 use std::alloc::Global;
 use std::marker::Model;
-use zpath::Memory;
+use zalloc::Memory;
 use ztree::SessionId;
 
 /// Which session has which connection, and by which password another may take it up. Only `open`,

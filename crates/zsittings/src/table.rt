@@ -9,7 +9,7 @@ use crate::sitting::Sitting;
 use std::alloc::Global;
 use std::collections::BTreeMap;
 use std::marker::Model;
-use zpath::Memory;
+use zalloc::Memory;
 use ztree::SessionId;
 
 // A sitting under each session's id.

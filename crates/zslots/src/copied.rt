@@ -4,7 +4,7 @@ ghost use Rattle.std.specs.Prelude.{◌≡◌, IfOk};
 
 use crate::slots::{Slot, Slots};
 use std::alloc::AllocError;
-use zpath::Memory;
+use zalloc::Memory;
 
 /// An item that can be copied.
 pub trait Copied: Sized {

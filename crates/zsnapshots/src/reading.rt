@@ -204,7 +204,7 @@ impl Reading {
             drop(node);
             return Err(RowFault::Unordered);
         }
-        let Ok(copy) = path.copied(alloc) else {
+        let Ok(copy) = path.clone() else {
             drop(path);
             drop(node);
             return Err(RowFault::Memory);

@@ -14,8 +14,9 @@ use crate::header::Header;
 use crate::row_writing::{write_header_row, write_node_row, write_reply_row, write_session_row};
 use std::alloc::{AllocError, Global};
 use std::marker::Model;
+use zalloc::Memory;
 use zops::Machine;
-use zpath::{Memory, Path};
+use zpath::Path;
 use zprotocol::LogNumber;
 use ztree::{ClientId, SessionId};
 

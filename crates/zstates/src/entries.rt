@@ -7,8 +7,8 @@ ghost use Rattle.zstates.specs.Entries.{entry_records, entry_text, HasNoEntry, H
 ghost use Rattle.zstates.specs.Entries.{is_open, no_password};
 
 use std::alloc::{AllocError, Global};
+use zalloc::Memory;
 use zcalls::Update;
-use zpath::Memory;
 use zrecords::{Record, next_record};
 use zsittings::Password;
 

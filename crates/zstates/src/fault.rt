@@ -4,7 +4,7 @@ ghost use Rattle.std.specs.Prelude.{◌≡◌};
 ghost use Rattle.zstates.specs.declared.fault.ReadFault.TheVariants.{Memory as OfMemory};
 
 use thiserror::Error;
-use zpath::Memory;
+use zalloc::Memory;
 
 /// Why a text gives no state.
 #[derive(Clone, Copy, Debug, PartialEq, Eq, Error)]

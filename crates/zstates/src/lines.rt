@@ -6,7 +6,7 @@ ghost use Rattle.zrecords.specs.Records.{Fits, line_of};
 ghost use Rattle.zstates.specs.support.Reading.{HasNoPassword, HasNoRow};
 
 use std::alloc::Global;
-use zpath::Memory;
+use zalloc::Memory;
 use zrecords::{Record, Row, next_record};
 use zsittings::Password;
 

@@ -6,8 +6,8 @@ ghost use Rattle.std.specs.Vec.{vec_len, vec_capacity};
 use crate::undo::Undo;
 use crate::undoing::{free_all, undo_all};
 use std::alloc::Global;
+use zalloc::Memory;
 use znodes::Nodes;
-use zpath::Memory;
 
 /// The undo log since the savepoint, if one is set. Its memory is allocated when the savepoint is
 /// set.

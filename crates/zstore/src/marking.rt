@@ -4,7 +4,7 @@ ghost use Rattle.std.specs.Prelude.{◌≡◌, None, OnOk, OnErr, IsSome};
 ghost use Rattle.zstore.specs.StoreView.{AtMark, GoesBack, MarksHere, without_mark};
 
 use crate::store::Store;
-use zpath::Memory;
+use zalloc::Memory;
 
 impl Store {
     /// Sets a savepoint, with room to roll back `steps` steps: `add` and `drop_leaf` take two

@@ -8,8 +8,9 @@ ghost use Rattle.zstore.specs.StoreView.{path_of, node_of, data_of, seq_of, ttl_
 use crate::log::Log;
 use crate::store::Store;
 use crate::undoing::free_all;
+use zalloc::Memory;
 use znodes::Id;
-use zpath::{Memory, Name, Path};
+use zpath::{Name, Path};
 use ztree::{Node, SessionId, Stat};
 
 impl Store {

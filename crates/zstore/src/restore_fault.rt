@@ -4,7 +4,7 @@ ghost use Rattle.std.specs.Prelude.{◌≡◌};
 ghost use Rattle.zstore.specs.declared.restore_fault.RestoreFault.TheVariants.{Memory as OfMemory};
 
 use thiserror::Error;
-use zpath::Memory;
+use zalloc::Memory;
 
 /// Why a row isn't put.
 #[derive(Clone, Copy, Debug, PartialEq, Eq, Error)]

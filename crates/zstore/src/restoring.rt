@@ -12,8 +12,9 @@ ghost use Rattle.zstore.specs.Restored.{rooted_tree, with_row, with_session_row,
 use crate::restore_fault::RestoreFault;
 use crate::store::Store;
 use std::alloc::Global;
+use zalloc::Memory;
 use znodes::Id;
-use zpath::{Memory, Path};
+use zpath::Path;
 use ztree::limits::{MAX_NODES, MAX_SESSIONS};
 use ztree::{Node, Session, SessionId, Zxid};
 
@@ -98,8 +99,7 @@ impl Store {
         ensures unmarked { OnOk result (self.new.marked ≡ None) }
         ensures err { OnErr result (self.new ≡ self.old) }
     {
-        // The names of a `Path` are a valid path: reading them brings that into the proof.
-        let _ = path.names();
+        path.keeps_its_form();
         self.nodes.add(parent, path, node)?;
         self.log.stop(&mut self.nodes);
         Ok(())
@@ -145,7 +145,7 @@ impl Store {
             → IsPersistent (get self.now.tree.nodes (parent_of path.now)) → ⊥)) }
     {
         self.keeps_lawful();
-        let Some(above) = path.parent(self.alloc)? else {
+        let Some(above) = path.parent()? else {
             return Ok(None);
         };
         let found = self.find(&above);

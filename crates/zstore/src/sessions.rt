@@ -14,8 +14,8 @@ ghost use Rattle.zstore.specs.StoreView.{AtSession, KeepsIds, ForgetsGone};
 ghost use Rattle.zstore.specs.support.Parts.{tree_without_session, IsOwned};
 
 use crate::store::Store;
+use zalloc::Memory;
 use znodes::Id;
-use zpath::Memory;
 use ztree::{ClientId, Session, SessionId};
 
 impl Store {

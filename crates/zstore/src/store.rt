@@ -6,8 +6,8 @@ ghost use Rattle.std.specs.FinMap as finite;
 use crate::log::Log;
 use std::alloc::Global;
 use std::marker::Model;
+use zalloc::Memory;
 use znodes::Nodes;
-use zpath::Memory;
 use zsessions::Sessions;
 use ztree::{Data, Node, Zxid};
 
@@ -49,7 +49,7 @@ impl Store {
         ensures unmarked { IfOk result (λ s. s.marked ≡ None) }
     {
         let zxid = Zxid::new(0);
-        let root = Node::new(Data::empty(alloc), 0, 0, zxid, 0);
+        let root = Node::new(Data::empty(), 0, 0, zxid, 0);
         Store::rooted(alloc, root, 0, zxid)
     }
 

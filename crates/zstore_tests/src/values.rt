@@ -38,11 +38,11 @@ fn copies_data(rt: HostRuntime) {
 // Returns whether a copy of data has the bytes of the text.
 fn is_copied(rt: &impl Abort, alloc: Global, text: &str) -> bool {
     let data = data(rt, alloc, text);
-    let copy = data.copied(alloc).expect(rt, "there is memory");
+    let copy = data.clone().expect(rt, "there is memory");
     copy.as_slice() == text.as_bytes()
 }
 
 #[test]
 fn has_empty_data(rt: HostRuntime) {
-    assert!(rt; Data::empty(rt.alloc()).as_slice().is_empty());
+    assert!(rt; Data::empty().as_slice().is_empty());
 }

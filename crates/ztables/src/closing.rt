@@ -5,7 +5,7 @@ ghost use Rattle.ztables.specs.Tables.{closed, closing, connection_of, ended, mo
 ghost use Rattle.ztables.specs.Tables.{without_seat};
 
 use crate::tables::Tables;
-use zpath::Memory;
+use zalloc::Memory;
 use zpieces::Piece;
 use ztree::SessionId;
 

@@ -6,7 +6,7 @@ ghost use Rattle.zpieces.specs.Streams.{bytes_of, held_of, opened, phase_of, wit
 ghost use Rattle.ztables.specs.Tables.{is_open, session_in};
 
 use crate::tables::Tables;
-use zpath::Memory;
+use zalloc::Memory;
 use zpieces::Phase;
 use zsittings::Password;
 use ztree::SessionId;

@@ -6,9 +6,10 @@ ghost use Rattle.zpath.specs.declared.limits.TheConstants.{MAX_TEXT_LEN};
 ghost use Rattle.ztables.specs.Telling as table;
 
 use std::alloc::Global;
+use zalloc::Memory;
 use zevents::Event;
 use zjute::{Bytes, KeeperState, WatcherEvent, WriteError, write_event};
-use zpath::{Memory, Path};
+use zpath::Path;
 
 // Returns an event as a frame.
 pub(crate) fn event_frame(alloc: Global, event: &Event) -> Result<Vec<u8>, Memory>
@@ -40,8 +41,8 @@ fn path_told(alloc: Global, path: &Path) -> Result<Bytes, Memory>
     ensures told { IfOk result (λ told. told ≡ text_of path.now) }
     ensures short { IfOk result (λ told. length told ≤ MAX_TEXT_LEN) }
 {
-    // A path's text is short, and the clause of `names` says so.
-    let _ = path.names();
+    // So its text is short.
+    path.keeps_its_form();
     let text = path.to_string(alloc)?;
     let told = Bytes::copied(alloc, text.as_bytes())?;
     Ok(told)

@@ -8,7 +8,7 @@ ghost use Rattle.zsittings.specs.Sittings.{touched_ids, with_changed};
 ghost use Rattle.ztables.specs.Tables.{seated, sitting, taken_up};
 
 use crate::tables::Tables;
-use zpath::Memory;
+use zalloc::Memory;
 use zpieces::Phase;
 use zsittings::Password;
 use ztree::SessionId;

@@ -6,7 +6,7 @@ ghost use Rattle.zpieces.specs.Outbox.{first_of};
 ghost use Rattle.ztables.specs.Tables.{operator_sent, sent};
 
 use crate::tables::Tables;
-use zpath::Memory;
+use zalloc::Memory;
 use zpieces::Piece;
 
 impl Tables {

@@ -6,8 +6,8 @@ ghost use Rattle.ztables.specs.Sweeping.{gone, is_gone, made_one, some_made_one,
 
 use crate::tables::Tables;
 use std::alloc::Global;
+use zalloc::Memory;
 use zknown::Known;
-use zpath::Memory;
 use ztree::SessionId;
 
 impl Tables {

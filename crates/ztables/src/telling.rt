@@ -8,8 +8,8 @@ ghost use Rattle.ztables.specs.Telling.{unwatched};
 
 use crate::framing::event_frame;
 use crate::tables::Tables;
+use zalloc::Memory;
 use zevents::Event;
-use zpath::Memory;
 
 impl Tables {
     /// Tells events, one after the other, to the connections whose watches they fire. Such a watch

@@ -7,7 +7,8 @@ ghost use Rattle.zwatches.specs.Places.{node_places};
 ghost use Rattle.zwatches.specs.Watches.{watch, is_full, IsSetFault};
 
 use crate::tables::Tables;
-use zpath::{Memory, Path};
+use zalloc::Memory;
+use zpath::Path;
 use zwatches::{Kind, Place, WatchFault};
 
 impl Tables {

@@ -2,8 +2,7 @@
 
 use crate::node_data::Data;
 use crate::zxid::Zxid;
-use std::alloc::Global;
-use zpath::Memory;
+use zalloc::Memory;
 
 /// A znode: the fields of the stat structure (ZooKeeper Programmer's Guide, "ZooKeeper Stat
 /// Structure"), its data, its TTL, and the counter that this project's profile gives each node.
@@ -111,11 +110,11 @@ impl Node {
     }
 
     /// Returns a copy of the node, or `Memory`.
-    pub fn copied(&self, alloc: Global) -> Result<Node, Memory>
+    pub fn copied(&self) -> Result<Node, Memory>
         ensures { IfOk result (λ copy. copy ≡ self.now) }
     {
         Ok(Node {
-            bytes: self.bytes.copied(alloc)?,
+            bytes: self.bytes.clone()?,
             czxid: self.czxid,
             mzxid: self.mzxid,
             pzxid: self.pzxid,

@@ -5,11 +5,10 @@ ghost use Rattle.ztree.specs.declared.limits.TheConstants.{MAX_DATA};
 ghost use Rattle.ztree.specs.declared.node_data.DataFault.TheVariants.{TooLong};
 
 use crate::limits::MAX_DATA;
-use std::alloc::Global;
+use std::alloc::{AllocError, Global};
 use std::marker::Model;
 use std::sync::Arc;
 use thiserror::Error;
-use zpath::Memory;
 
 /// A znode's data: at most 65,536 bytes, read and written as a whole.
 // All copies share the bytes. Empty data takes no allocation.
@@ -68,7 +67,7 @@ impl Data {
     }
 
     /// Returns empty data. Allocates nothing.
-    pub fn empty(_alloc: Global) -> Data
+    pub fn empty() -> Data
         ensures { result ≡ [] }
     {
         Data { bytes: None }
@@ -84,11 +83,13 @@ impl Data {
             None => &[],
         }
     }
+}
 
-    /// Returns a copy that shares the bytes, or `Memory`.
-    pub fn copied(&self, _alloc: Global) -> Result<Data, Memory>
-        ensures { IfOk result (λ d. d ≡ self.now) }
-    {
+impl Clone for Data {
+    ghost is_clone = { λ d copy. copy ≡ d };
+
+    /// Returns a copy that shares the bytes.
+    fn clone(&self) -> Result<Self, AllocError> {
         let bytes = match &self.bytes {
             Some(bytes) => Some(Arc::try_clone(bytes)?),
             None => None,

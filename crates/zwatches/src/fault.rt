@@ -5,7 +5,7 @@ ghost use Rattle.zwatches.specs.declared.fault.WatchFault.TheVariants.{Memory as
 
 use std::alloc::{AllocError, AllocFailed};
 use thiserror::Error;
-use zpath::Memory;
+use zalloc::Memory;
 
 /// Why a watch isn't set.
 #[derive(Clone, Copy, Debug, PartialEq, Eq, Error)]

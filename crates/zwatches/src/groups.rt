@@ -12,8 +12,9 @@ use crate::kind::Kind;
 use crate::search::rows_at;
 use crate::watch::Watch;
 use std::alloc::Global;
+use zalloc::Memory;
 use zjute::EventKind;
-use zpath::{Memory, Name};
+use zpath::Name;
 
 // Adds the connections of the rows of a place.
 fn tell_at(rows: &[Watch], told: &mut Vec<u32>, names: &[Name], kind: Kind) -> Result<(), Memory>

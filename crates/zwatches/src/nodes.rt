@@ -11,7 +11,7 @@ use crate::place::Place;
 use crate::search::row_to_place;
 use crate::watch::Watch;
 use std::alloc::Global;
-use zpath::Memory;
+use zalloc::Memory;
 
 // Whether a watch of the kind was set where the node was.
 fn is_of_node(kind: Kind) -> bool
@@ -34,13 +34,13 @@ fn is_last(places: &[Place], row: &Watch) -> bool
 }
 
 // Adds the place of a row, unless it is there or isn't a node's.
-fn add_place(alloc: Global, places: &mut Vec<Place>, row: &Watch) -> Result<(), Memory>
+fn add_place(places: &mut Vec<Place>, row: &Watch) -> Result<(), Memory>
     ensures { OnOk result (places.new.items ≡ with_row places.old.items row.now) }
 {
     if !is_of_node(row.kind) || is_last(places, row) {
         return Ok(());
     }
-    let path = row.path.copied(alloc)?;
+    let path = row.path.clone()?;
     let kind = row.kind;
     places.push(Place { path, kind })?;
     Ok(())
@@ -52,7 +52,7 @@ fn list_places(alloc: Global, rows: &[Watch]) -> Result<Vec<Place>, Memory>
 {
     let mut places = Vec::new(alloc);
     for row in rows {
-        add_place(alloc, &mut places, row)?;
+        add_place(&mut places, row)?;
     }
     Ok(places)
 }

@@ -63,7 +63,7 @@ fn last_of_two(alloc: Global, names: &[Name]) -> Result<Name, ReadError>
     let [_, name] = names else {
         return Err(ReadError::Fault(Fault::Invalid));
     };
-    match name.copied(alloc) {
+    match name.clone() {
         Ok(name) => Ok(name),
         Err(_) => Err(ReadError::Memory),
     }

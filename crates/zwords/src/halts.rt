@@ -6,7 +6,7 @@ use crate::halt_rule::{Seats, Sees, Sets, Stays};
 use crate::looks::Look;
 use atomic_table::{Seat, Table};
 use std::alloc::Global;
-use zpath::Memory;
+use zalloc::Memory;
 
 /// The right to set and to read the bits of one halt. It is zero-sized.
 #[derive(Drop)]

@@ -8,7 +8,7 @@ use crate::hand::{Deals, Draws, Fair, Hand};
 use crate::limits::MAX_PASSES;
 use atomic_table::{Seat, Table};
 use std::alloc::Global;
-use zpath::Memory;
+use zalloc::Memory;
 
 /// The right to draw from one ticket word, and the count of what was drawn with it.
 #[derive(Drop)]

@@ -6,7 +6,7 @@ ghost use Rattle.zwords_tests.specs.Handed.{AreAllOf, AreOf};
 
 use std::test::Fail;
 use std::thread::{Threads, join};
-use zpath::Memory;
+use zalloc::Memory;
 use zwords::tickets::{Pass, Tickets};
 
 const DRAWS: usize = 1_000;

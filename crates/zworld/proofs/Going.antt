@@ -3,7 +3,7 @@ use Rattle.std.proofs.Common.{◌≡◌, ℕ, Bool, true, false, not, List, [], 
 use Rattle.std.proofs.lemmas.List.{append-nil}
 use Rattle.std.specs.Prelude.{Result, Ok, Err, IfOk, OnErr, is_err}
 use Rattle.ztree.specs.Tree.{Tree, opening_tree}
-use Rattle.zpath.specs.declared.memory.Memory.{Memory}
+use Rattle.zalloc.specs.declared.memory.Memory.{Memory}
 use Rattle.zcalls.specs.Kept.{KeptState}
 use Rattle.zprotocol.specs.server.Machine.{Does, kept_tree, kept_tree_from}
 use Rattle.zworld_model.specs.declared.event.Event.{Event}

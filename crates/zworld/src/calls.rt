@@ -8,8 +8,8 @@ ghost use Rattle.zworld.specs.support.Stepped.{CanHappen, Goes, HasStepped, IsId
 use crate::did::{Did, IdleCause};
 use crate::post::post;
 use crate::processes::Processes;
+use zalloc::Memory;
 use zcalls::{Call, ClientId};
-use zpath::Memory;
 use zprotocol::Process;
 use zworld_model::CallEvent;
 

@@ -7,8 +7,8 @@ ghost use Rattle.zworld.specs.support.Stepped.{CanHappen, HasStepped};
 use crate::did::{Did, IdleCause};
 use crate::post::post;
 use crate::processes::Processes;
+use zalloc::Memory;
 use zmaster::MAX_POSTS;
-use zpath::Memory;
 use zprotocol::{Process, ServerId};
 
 impl Processes {

@@ -6,8 +6,8 @@ ghost use Rattle.zworld.specs.support.Posting.{is_lost, IsPosted};
 
 use crate::member::Member;
 use std::alloc::Global;
+use zalloc::Memory;
 use zlinks::Links;
-use zpath::Memory;
 use zprotocol::{Out, Process};
 use zserver::Snapshot;
 

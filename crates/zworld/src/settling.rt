@@ -15,8 +15,8 @@ ghost use Rattle.zworld.specs.support.Settling.{GoOn, PassesBy, TriesBy, TriesUn
 
 use crate::did::Did;
 use crate::processes::Processes;
+use zalloc::Memory;
 use zcalls::ClientId;
-use zpath::Memory;
 use zprotocol::{MAX_SERVERS, Process};
 use zworld_model::{CallEvent, Settled};
 

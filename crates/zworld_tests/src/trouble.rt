@@ -2,7 +2,8 @@
 
 use std::alloc::{AllocError, AllocFailed};
 use thiserror::Error;
-use zpath::{Memory, PathFault};
+use zalloc::Memory;
+use zpath::PathFault;
 
 /// Why a drill ended early.
 #[derive(Clone, Copy, Debug, PartialEq, Eq, Error)]

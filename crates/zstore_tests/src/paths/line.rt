@@ -41,11 +41,11 @@ fn path(alloc: Global, text: &str) -> Result<String, PathFault> {
 }
 
 fn copy(alloc: Global, text: &str) -> Result<String, PathFault> {
-    shown(alloc, &Path::parse(alloc, text)?.copied(alloc)?)
+    shown(alloc, &Path::parse(alloc, text)?.clone()?)
 }
 
 fn parent(alloc: Global, text: &str) -> Result<String, PathFault> {
-    match Path::parse(alloc, text)?.parent(alloc)? {
+    match Path::parse(alloc, text)?.parent()? {
         Some(parent) => shown(alloc, &parent),
         None => text_of(alloc, "none"),
     }
@@ -57,7 +57,7 @@ fn name(alloc: Global, text: &str) -> Result<String, PathFault> {
     let Some(last) = path.name() else {
         return text_of(alloc, "none");
     };
-    let copy = last.copied(alloc)?;
+    let copy = last.clone()?;
     Ok(format!(in alloc; "{} {copy}", path.names().len())?)
 }
 

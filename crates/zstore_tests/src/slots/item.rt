@@ -1,6 +1,6 @@
 //! An item that stands in two lists, and can be copied.
 
-use zpath::Memory;
+use zalloc::Memory;
 use zslots::{Copied, Linked, Links};
 
 /// A number with the links of lists 0 and 1.

@@ -24,7 +24,7 @@ returns-clause-done c =
     let t = c.args.store.now.tree in
     let fresh = sym (c.has_other_version.ensures set.path c.in-Some.ensures.found) ∙ c.if-has_other_version.false in
     let there = node_there (finite.get t.nodes set.path) (sym c.in-Some.ensures.node) in
-    let tree = c.in_ok-put_data.ensures.tree set.path c.in-Some.ensures.found ∙ ap (with_data_at t set.path) c.in_ok-copied.ensures in
+    let tree = c.in_ok-put_data.ensures.tree set.path c.in-Some.ensures.found ∙ ap (with_data_at t set.path) c.in_ok-clone.ensures.cases in
     let still = ap (λ places. finite.get places c.in-Some.id) c.in_ok-put_data.ensures.same.0 ∙ c.in-Some.ensures.found in
     let told = sym (ap (λ u. stat_at u.nodes set.path) tree) ∙ c.in-Some-stat.ensures.stat set.path still in
     record {

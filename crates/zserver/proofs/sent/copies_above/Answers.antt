@@ -11,8 +11,8 @@ pub loop-e-preserved-then-number : goal.loop-e-preserved-then-number
 loop-e-preserved-then-number c =
     c.loop-e.invariant ∙ above_skips c.args.n c.args.sent.now c.loop-e.e-index c.e-item.result c.loop-e-test.true c.e-item.is (omega arith)
 
-pub returns-in_err-copied-clause-some : goal.returns-in_err-copied-clause-some
-returns-in_err-copied-clause-some c =
+pub returns-in_err-clone-clause-some : goal.returns-in_err-clone-clause-some
+returns-in_err-clone-clause-some c =
     on_err c.from_residual.result
     (above_some c.args.n c.args.sent.now c.loop-e.e-index c.e-item.result c.loop-e-test.true c.e-item.is (omega (arith, c.if-number.false, c.number.ensures.same, c.number-in-loop-e.ensures.same)))
 

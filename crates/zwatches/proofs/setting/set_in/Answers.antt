@@ -50,12 +50,12 @@ returns-in_err-insert-clause-again c = λ there.
 
 pub returns-clause-rows : goal.returns-clause-rows
 returns-clause-rows c =
-    rw (c.in_ok-insert.ensures.items, c.in_ok-path.ensures) (sorted_in c.args.rows.now.items (watch c.args.path.now c.args.kind c.args.connection) c.in-Err.at
+    rw (c.in_ok-insert.ensures.items, c.in_ok-path.ensures.cases) (sorted_in c.args.rows.now.items (watch c.args.path.now c.args.kind c.args.connection) c.in-Err.at
     (gap_at c.deref.result.now c.args.rows.now.items c.names.result.now c.args.path.now c.args.kind c.args.connection c.in-Err.at c.deref.ensures.value c.names.ensures.names c.in-Err.ensures.gap) c.requires)
 
 pub returns-clause-ok : goal.returns-clause-ok
 returns-clause-ok c =
-    rw (c.in_ok-insert.ensures.items, c.in_ok-path.ensures) (set_with c.args.rows.now.items (watch c.args.path.now c.args.kind c.args.connection) c.in-Err.at
+    rw (c.in_ok-insert.ensures.items, c.in_ok-path.ensures.cases) (set_with c.args.rows.now.items (watch c.args.path.now c.args.kind c.args.connection) c.in-Err.at
     (gap_at c.deref.result.now c.args.rows.now.items c.names.result.now c.args.path.now c.args.kind c.args.connection c.in-Err.at c.deref.ensures.value c.names.ensures.names c.in-Err.ensures.gap))
 
 pub returns-clause-room : goal.returns-clause-room

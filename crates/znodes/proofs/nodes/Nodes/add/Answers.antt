@@ -40,7 +40,7 @@ invariant_of-self-2 c =
     let same = c.in-Ok-reserve.ensures.same in
     let threaded = threaded-still s c.args.self.now c.self.view_is c.self.invariant index same in
     let items = c.in-Ok-insert.ensures.items ∙ ap (insert s.slots.items id) c.alone.ensures in
-    threaded-joined (with_index s index) threaded c.insert.new.self id c.args.path c.args.node c.in-Ok.key c.in-Ok.ensures c.in-Ok-insert.ensures.new items
+    threaded-joined (with_index s index) threaded c.insert.new.self id c.args.path c.args.node c.in-Ok.key c.in-Ok.ensures.cases c.in-Ok-insert.ensures.new items
 
 pub put_back-requires-clause-held : goal.put_back-requires-clause-held
 put_back-requires-clause-held c =
@@ -55,7 +55,7 @@ put_back-requires-clause-held c =
     let held = view_of (record (with_index s index) { slots = c.insert.new.self }) in
     let more = roomy s v c.self.view_is c.self.invariant index same in
     let holds =
-    joined (with_index s index) threaded c.insert.new.self id c.args.path c.args.node c.in-Ok.key c.in-Ok.ensures c.in-Ok-insert.ensures.new items
+    joined (with_index s index) threaded c.insert.new.self id c.args.path c.args.node c.in-Ok.key c.in-Ok.ensures.cases c.in-Ok-insert.ensures.new items
     c.in-Ok-insert.ensures.given in
     rw (held-at v w held id c.args.parent c.args.path c.args.node more holds) refl
 
@@ -72,7 +72,7 @@ put_back-requires-clause-fits c =
     let held = view_of (record (with_index s index) { slots = c.insert.new.self }) in
     let more = roomy s v c.self.view_is c.self.invariant index same in
     let holds =
-    joined (with_index s index) threaded c.insert.new.self id c.args.path c.args.node c.in-Ok.key c.in-Ok.ensures c.in-Ok-insert.ensures.new items
+    joined (with_index s index) threaded c.insert.new.self id c.args.path c.args.node c.in-Ok.key c.in-Ok.ensures.cases c.in-Ok-insert.ensures.new items
     c.in-Ok-insert.ensures.given in
     let above = parent-has_node s v c.self.view_is c.self.invariant.linked c.args.parent (parent_of c.args.path) c.requires.parent in
     fits v w held id c.args.parent c.args.path c.args.node more holds c.requires.below_root c.requires.free above c.requires.owner
@@ -90,7 +90,7 @@ put_back-requires-clause-under c =
     let held = view_of (record (with_index s index) { slots = c.insert.new.self }) in
     let more = roomy s v c.self.view_is c.self.invariant index same in
     let holds =
-    joined (with_index s index) threaded c.insert.new.self id c.args.path c.args.node c.in-Ok.key c.in-Ok.ensures c.in-Ok-insert.ensures.new items
+    joined (with_index s index) threaded c.insert.new.self id c.args.path c.args.node c.in-Ok.key c.in-Ok.ensures.cases c.in-Ok-insert.ensures.new items
     c.in-Ok-insert.ensures.given in
     under v w held id c.args.parent c.args.path c.args.node more holds c.requires.parent
 
@@ -107,7 +107,7 @@ returns-clause-added c =
     let held = view_of (record (with_index s index) { slots = c.insert.new.self }) in
     let more = roomy s v c.self.view_is c.self.invariant index same in
     let holds =
-    joined (with_index s index) threaded c.insert.new.self id c.args.path c.args.node c.in-Ok.key c.in-Ok.ensures c.in-Ok-insert.ensures.new items
+    joined (with_index s index) threaded c.insert.new.self id c.args.path c.args.node c.in-Ok.key c.in-Ok.ensures.cases c.in-Ok-insert.ensures.new items
     c.in-Ok-insert.ensures.given in
     let grows = subst (λ room. room ≤ index.room) (ap (λ (u : NodesView). u.room) c.self.view_is) c.in-Ok-reserve.ensures.grows in
     added v w held id c.args.parent c.args.path c.args.node more holds c.put_back.new.self grows c.put_back.ensures

@@ -41,7 +41,7 @@ invariant_of-self-2 c =
     let none = subst (λ (r : ReadingView). wants_session r ≡ false) (sym c.self.view_is) c.requires.sessions in
     let wanted = subst (λ (r : ReadingView). wants_node r ≡ true) (sym c.self.view_is) c.requires.wanted in
     let above = map_above paths_total i.restoring.service.plain.nodes (Some i.path) c.in-Ok.read.0 c.self.invariant.last_path (sym c.is_path_above.ensures ∙ c.if-not-is_path_above.false) in
-    subst (λ (p : Path). IsReading i.header c.put_node.new.self i.sessions (i.nodes - 1) i.replies i.session p i.client) (sym c.in-Ok-copied.ensures)
+    subst (λ (p : Path). IsReading i.header c.put_node.new.self i.sessions (i.nodes - 1) i.replies i.session p i.client) (sym c.in-Ok-clone.ensures.cases)
     (subst (λ (u : MachineState). IsReading i.header u i.sessions (i.nodes - 1) i.replies i.session c.in-Ok.read.0 i.client) (sym c.in_default-put_node.ensures.state)
     (node_kept i.header i.restoring i.sessions i.nodes i.replies i.session i.path i.client c.self.invariant c.in-Ok.read.0 c.in-Ok.read.1 above none wanted c.in_default-put_node.ensures.can.dated))
 
