@@ -14,8 +14,17 @@ MOST = 1000
 DATA = 1 << 16
 
 
+def is_served(server, clients):
+    """Whether there is a place for one more client, which joins these."""
+    try:
+        clients.append(server.client(timeout=40000))
+    except Ended:
+        return False
+    return True
+
+
 def test_many_connections(program):
-    """1,000 connections; one more is closed at once, and who closes one can open another."""
+    """1,000 connections; one more is closed at once, and one that ends leaves a place."""
     limits = resource.getrlimit(resource.RLIMIT_NOFILE)
     resource.setrlimit(resource.RLIMIT_NOFILE, (min(4096, limits[1]), limits[1]))
     with Server(program) as server:
@@ -34,8 +43,8 @@ def test_many_connections(program):
                     want(wire.is_ended(), "one more is closed at once")
             for _ in range(50):
                 clients.pop(0).close()
-                clients.append(server.client(timeout=40000))
-            want_same(clients[-1].exists("/").children, MOST, "there is a place for each that ends")
+                want(until(lambda: is_served(server, clients)), "who ends leaves a place")
+            want_same(clients[-1].exists("/").children, MOST, "which another one has")
             say(f"many connections: {MOST} in {took:.1f} s")
         finally:
             for it in clients:
