@@ -31,7 +31,11 @@ LAST = re.compile(r"(\d+) passed, (\d+) failed\s*$")
 LITTLE = "tools/says-little.txt"
 # The lines in front of a crate that isn't proved that are told again at the end.
 BEFORE = 8
-PROGRAMS = ("zk", "zk_race", "zk_data", "zk_serve")
+# What the tests behind the gate run: what users run, and programs that are tests.
+PROGRAMS = (
+    "zk", "zk_race", "zk_data", "zk_serve", "zstates_drill", "zmemory_tests",
+    "zmemory_world_tests", "zmemory_start_tests", "zmemory_kept_tests",
+)
 
 
 @dataclass

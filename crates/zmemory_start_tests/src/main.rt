@@ -1,5 +1,6 @@
-//! What stands after a refused allocation where a cluster starts, or is joined: no thread but the program's own one, and another cluster
-//! can start. `bench/refusals` refuses each allocation in turn, one a run.
+//! What stands after a refused allocation where a cluster starts, or is joined: no thread but the
+//! program's own one, and another cluster can start. `bench/refusals` refuses each allocation in
+//! turn, one a run.
 #![tactic(auto)]
 
 ghost use Rattle.std.specs.Prelude.{◌≡◌, IfOk, length};
@@ -14,10 +15,9 @@ use zalloc::Memory;
 use zliterals::server;
 use zprotocol::MAX_SERVERS;
 use zrun::{Cluster, Open, StartFault};
-use zstories::{Ended, spend, tell, tell_end};
+use zstories::{Ended, tell, tell_end};
 
 fn main(rt: HostRuntime) -> io::Result<()> {
-    spend(&rt, rt.alloc())?;
     let ended = cluster_starts(rt, rt.alloc());
     tell(&rt, "a cluster starts and is joined", ended)?;
     tell_end(&rt, rt.alloc())

@@ -21,9 +21,7 @@ mod values;
 
 use std::io;
 use stories::tell_all;
-use zstories::spend;
 
 fn main(rt: HostRuntime) -> io::Result<()> {
-    spend(&rt, rt.alloc())?;
     tell_all(&rt, rt.alloc())
 }

@@ -1,6 +1,7 @@
-//! What stands after a refused allocation, in a world and in a script that is played. Each story is one call: where an allocation of it is
-//! refused, it is told, or a server stops, or a query isn't heard, and what is told then is what the contracts say. `bench/refusals`
-//! refuses each allocation in turn, one a run.
+//! What stands after a refused allocation, in a world and in a script that is played. Each story is
+//! one call. Where an allocation of it is refused, it is told, or a server stops, or a query isn't
+//! heard, and what is told then is what the contracts say. `bench/refusals` refuses each allocation
+//! in turn, one a run.
 #![tactic(auto)]
 
 mod beginning;
@@ -13,10 +14,9 @@ use ordering::{server_joins, server_leaves};
 use playing::{plays_over_one, plays_over_three};
 use running::events_are_run;
 use std::io;
-use zstories::{spend, tell, tell_end};
+use zstories::{tell, tell_end};
 
 fn main(rt: HostRuntime) -> io::Result<()> {
-    spend(&rt, rt.alloc())?;
     tell(&rt, "a world begins", world_begins(rt.alloc()))?;
     tell(&rt, "a world runs events", events_are_run(rt.alloc()))?;
     tell(&rt, "a server is to join", server_joins(rt.alloc()))?;
